@@ -1,8 +1,8 @@
 //! Where and why a text is refused, for standard error.
 
-ghost use Rattle.std.specs.Prelude.{◌≡◌, ◌-◌, ◌==◌, OnOk};
+ghost use Rattle.std.specs.Prelude.{◌≡◌, ◌-◌, ◌==◌, ◌++◌, OnOk};
 ghost use Rattle.report.specs.Sink.{CanFail, Writes};
-ghost use Rattle.cli_commands.specs.Telling.{from_line, shown_byte, shown_line, most_shown, excerpt, place_text, reason_text, told};
+ghost use Rattle.cli_commands.specs.Telling.{from_line, shown_byte, shown_line, most_shown, excerpt, place_text, detail_text, reason_text, told};
 
 use crate::place::Place;
 use arrayvec::ArrayVec;
@@ -96,6 +96,17 @@ fn put_place<E: Sink>(err: &mut E, place: Place) -> Result<(), SinkFailed>
     }
 }
 
+/// What comes before a detail, where there is one.
+#[tactic(auto, unfolding(crate::specs::Telling::detail_text))]
+fn before(detail: &[u8]) -> &'static [u8]
+    ensures { result.now ++ detail.now ≡ detail_text detail.now }
+{
+    match detail {
+        [] => b"",
+        [_, ..] => b": ",
+    }
+}
+
 /// Puts what is wrong.
 #[tactic(auto, unfolding(crate::specs::Telling::reason_text))]
 fn put_reason<E: Sink>(
@@ -103,21 +114,33 @@ fn put_reason<E: Sink>(
     kind: &[u8],
     number: u32,
     words: &[u8],
+    detail: &[u8],
 ) -> Result<(), SinkFailed>
     requires { CanFail (E.written err.old) }
     ensures { Writes (E.written err.old) (E.written err.new) result
-        (reason_text kind.now number words.now) }
+        (reason_text kind.now number words.now detail.now) }
 {
     let mut digits = Buffer::new();
     let number = digits.format(number);
+    let between = before(detail);
     put_pieces(
         err,
-        &[b": ", kind, b" ", number.as_bytes(), b": ", words, b"\n"],
+        &[
+            b": ",
+            kind,
+            b" ",
+            number.as_bytes(),
+            b": ",
+            words,
+            between,
+            detail,
+            b"\n",
+        ],
     )
 }
 
-/// Tells a fault or a trap: the name of the file, the place, the kind and the number, the words, and below them the line of
-/// the text.
+/// Tells a fault or a trap: the name of the file, the place, the kind and the number, the words, and what was found there, if
+/// that is told; and below them the line of the text.
 pub fn tell<E: Sink>(
     err: &mut E,
     kind: &[u8],
@@ -126,14 +149,15 @@ pub fn tell<E: Sink>(
     number: u32,
     place: Place,
     words: &[u8],
+    detail: &[u8],
 ) -> Result<(), SinkFailed>
     requires { CanFail (E.written err.old) }
-    ensures text { Writes (E.written err.old) (E.written err.new) result (told kind.now name.now text.now number place words.now) }
+    ensures text { Writes (E.written err.old) (E.written err.new) result (told kind.now name.now text.now number place words.now detail.now) }
     ensures none_waits { OnOk result ((E.written err.new).waiting ≡ 0) }
 {
     put_all(err, name)?;
     put_place(err, place)?;
-    put_reason(err, kind, number, words)?;
+    put_reason(err, kind, number, words, detail)?;
     put_excerpt(err, text, place)?;
     err.flush()
 }

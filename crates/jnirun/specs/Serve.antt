@@ -1,5 +1,5 @@
 -- What the commands do with files, standard output and standard error.
-use Rattle.std.specs.Prelude.{◌≡◌, ℕ, List, Option, Some, None, codes}
+use Rattle.std.specs.Prelude.{◌≡◌, ℕ, List, [], Option, Some, None, codes}
 use Rattle.report.specs.Sink.{Written, StopsWithin}
 use Rattle.cli_commands.specs.declared.command.Command.{Command}
 use Rattle.cli_commands.specs.declared.command.Command.TheVariants.{Check, Run, Work, Replay}
@@ -40,14 +40,14 @@ TextsEarn (Replay p w j) program world order number place = AreRefusedReplays pr
 
 -- ---- standard error
 
--- where and why a text of the command is refused, in some words
-abbrev pub error_text : Command → (program world order : List ℕ) → (number : ℕ) → Place → (words : List ℕ) → List ℕ
-error_text command program world order number place words =
-    told (codes "error") (name_of command (text_at place)) (text_of program world order (text_at place)) number place words
+-- where and why a text of the command is refused, in some words, and what was found there
+abbrev pub error_text : Command → (program world order : List ℕ) → (number : ℕ) → Place → (words detail : List ℕ) → List ℕ
+error_text command program world order number place words detail =
+    told (codes "error") (name_of command (text_at place)) (text_of program world order (text_at place)) number place words detail
 
 -- where and why a trap stopped the run, in some words
 abbrev pub trap_text : Command → (program : List ℕ) → TrapAt → (words : List ℕ) → List ℕ
-trap_text command program trap words = told (codes "trap") (name_of command which.Program) program trap.number (Line which.Program trap.line) words
+trap_text command program trap words = told (codes "trap") (name_of command which.Program) program trap.number (Line which.Program trap.line) words []
 
 -- the trap that stopped the run is told, and without one nothing is
 abbrev pub TellsTrap : Command → (program : List ℕ) → (err err_after : Written) → Option TrapAt → Type 0
@@ -62,9 +62,9 @@ pub data ServesTexts (command : Command) (program world order : List ℕ) (out o
   is_done : (trap : Option TrapAt) → AppendsRun out out_after (TextsWrite command program world order trap) → TellsTrap command program err err_after trap
       → ServesTexts command program world order out out_after err err_after 0
   -- the line of a fault that the texts earn is sent, and the fault is told
-  is_refused : (number : ℕ) (place : Place) (words : List ℕ) → TextsEarn command program world order number place
+  is_refused : (number : ℕ) (place : Place) (words detail : List ℕ) → TextsEarn command program world order number place
       → SendsText out out_after (fault_line number place)
-      → Tells err err_after (error_text command program world order number place words)
+      → Tells err err_after (error_text command program world order number place words detail)
       → ServesTexts command program world order out out_after err err_after 1
   -- memory was refused, and nothing is written
   lacks_memory : out_after ≡ out → Tells err err_after (codes "memory\n") → ServesTexts command program world order out out_after err err_after 3

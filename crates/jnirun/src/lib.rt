@@ -5,6 +5,7 @@
 mod replaying;
 mod run;
 mod serving;
+mod telling;
 mod working;
 
 pub use cli_commands::{

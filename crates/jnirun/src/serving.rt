@@ -8,6 +8,7 @@ ghost use Rattle.jnirun.specs.Serve.{TextsWrite, TextsEarn, passed, TellsTrap, S
 
 use crate::replaying::replay_text;
 use crate::run::run_text;
+use crate::telling::detail_at;
 use crate::working::work_text;
 use cli_commands::{
     Command, DONE, FileFault, Files, Place, REFUSED, Text, Texts, fail, read_texts, say, say_fault,
@@ -86,6 +87,7 @@ fn tell_trap<E: Sink>(command: Command<'_>, program: &[u8], trap: Option<TrapAt>
         u32::from(trap.number),
         Place::Line(Text::Program, trap.line),
         words_of_trap(trap.number),
+        b"",
     );
 }
 
@@ -97,8 +99,9 @@ fn words_of(number: u32) -> &'static [u8] {
     }
 }
 
-/// Writes the line of a fault, and tells where and why a text is refused.
+/// Writes the line of a fault, and tells where and why a text is refused. To tell it the text is read once more.
 fn refuse<O: Sink, E: Sink>(
+    alloc: Global,
     command: Command<'_>,
     texts: &Texts,
     number: u32,
@@ -116,6 +119,7 @@ fn refuse<O: Sink, E: Sink>(
         Ok(()) => {
             let text = place.text();
             let name = command.name_of(text).as_bytes();
+            let detail = detail_at(alloc, texts, place);
             let _ = tell(
                 err,
                 b"error",
@@ -124,6 +128,7 @@ fn refuse<O: Sink, E: Sink>(
                 number,
                 place,
                 words_of(number),
+                detail.as_bytes(),
             );
             REFUSED
         }
@@ -150,7 +155,9 @@ fn serve_texts<O: Sink, E: Sink, R: Threads + Wait + Sync>(
             tell_trap(command, &texts.program, trap, err);
             DONE
         }
-        Err(RunError::Fault(number, place)) => refuse(command, texts, number, place, out, err),
+        Err(RunError::Fault(number, place)) => refuse(
+            alloc, command, texts, number, place, out, err,
+        ),
         Err(RunError::Memory) => fail(err, b"memory\n"),
         Err(RunError::Writer) => fail(err, b"writer\n"),
     }

@@ -3,7 +3,10 @@
 ghost use Rattle.std.specs.Prelude.{◌≡◌};
 ghost use Rattle.parse_lexemes.specs.declared.fault.ParseFault.TheVariants.{Memory};
 
+use crate::first::Fixed;
 use std::alloc::{AllocError, AllocFailed};
+use std::fmt;
+use std::marker::Model;
 use thiserror::Error;
 
 /// What is wrong at a token.
@@ -33,6 +36,59 @@ impl Fault {
     }
 }
 
+/// Where a fault is: contracts see its line, counted from 1, alone. Beside it stands what is told of it.
+#[derive(Drop)]
+pub struct Spot {
+    line: usize,
+    at: usize,
+    wanted: Option<Fixed>,
+}
+
+impl Model for Spot {
+    ghost use Rattle.std.specs.Prelude.{ℕ};
+
+    ghost Value = { ℕ };
+
+    ghost view = { λ s. s.line };
+}
+
+impl Spot {
+    /// A token on this line, before which there are so many, and what alone could come in its place.
+    pub(crate) fn new(line: usize, at: usize, wanted: Option<Fixed>) -> Spot
+        ensures { result ≡ line }
+    {
+        Spot { line, at, wanted }
+    }
+
+    pub fn line(&self) -> usize
+        ensures { result ≡ self.now }
+    {
+        self.line
+    }
+
+    /// How many tokens come before it.
+    pub(crate) fn at(&self) -> usize {
+        self.at
+    }
+
+    /// What alone could come in its place, where there is one such lexeme.
+    pub(crate) fn wanted(&self) -> Option<Fixed> {
+        self.wanted
+    }
+}
+
+impl fmt::Debug for Spot {
+    fn fmt<W: fmt::Write>(&self, f: &mut fmt::Formatter<W>) -> fmt::Result {
+        write!(f, "{}", self.line)
+    }
+}
+
+impl fmt::Display for Spot {
+    fn fmt<W: fmt::Write>(&self, f: &mut fmt::Formatter<W>) -> fmt::Result {
+        write!(f, "{}", self.line)
+    }
+}
+
 /// Why `parse` gave no tree.
 #[derive(Debug, Drop, Error)]
 pub enum ParseFault {
@@ -42,7 +98,7 @@ pub enum ParseFault {
     /// The first fault, and the line of its token, counted from 1. Where the text ends too early
     /// it is the line of the last token, and 1 where there is none.
     #[error("line {line}: {fault:?}")]
-    Found { fault: Fault, line: usize },
+    Found { fault: Fault, line: Spot },
 }
 
 impl ParseFault {

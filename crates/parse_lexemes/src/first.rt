@@ -11,7 +11,7 @@ ghost use Rattle.std.specs.Option.{option_map};
 ghost use Rattle.parse_lexemes.specs.Reading.{rest_of, starts_with, starts_name, text_at, number_at, word_at};
 
 use crate::cursor::{Cursor, Source};
-use crate::fault::{Fault, ParseFault};
+use crate::fault::{Fault, ParseFault, Spot};
 use scan::{Kind, Mark, Token, Word};
 
 /// What always stands for itself.
@@ -145,6 +145,16 @@ fn line_of_end(tokens: &[Token], at: usize) -> usize
     token_in(tokens, tokens.len() - 1).line as usize
 }
 
+/// The fault at the first of these lexemes, in whose place this one alone could come.
+pub fn missing(fixed: Fixed, rest: Cursor<'_>) -> ParseFault
+    ensures { result ≡ fault_at NoForm (views rest.entry) }
+{
+    ParseFault::Found {
+        fault: Fault::NoForm,
+        line: Spot::new(line_at(rest), rest.at, Some(fixed)),
+    }
+}
+
 /// The fault at the first of these lexemes, which can't come there.
 pub fn unexpected(rest: Cursor<'_>) -> ParseFault
     ensures { result ≡ fault_at NoForm (views rest.entry) }
@@ -158,7 +168,7 @@ pub fn fault_at(fault: Fault, rest: Cursor<'_>) -> ParseFault
 {
     ParseFault::Found {
         fault,
-        line: line_at(rest),
+        line: Spot::new(line_at(rest), rest.at, None),
     }
 }
 
@@ -171,7 +181,7 @@ pub fn expect(fixed: Fixed, rest: Cursor<'_>) -> Result<Cursor<'_>, ParseFault>
     if starts_with(fixed, rest) {
         return Ok(rest_of(rest));
     }
-    Err(unexpected(rest))
+    Err(missing(fixed, rest))
 }
 
 #[inline(always)]

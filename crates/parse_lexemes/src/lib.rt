@@ -4,12 +4,13 @@
 mod cursor;
 mod fault;
 mod first;
+mod telling;
 mod type_words;
 
 pub use cursor::{Cursor, Source};
-pub use fault::{Fault, ParseFault};
+pub use fault::{Fault, ParseFault, Spot};
 pub use first::{
-    Fixed, Shape, expect, fault_at, line_at, mark_at, name_at, number_at, rest_of, shape_at, start,
-    starts_name, starts_with, text_at, unexpected, word_at,
+    Fixed, Shape, expect, fault_at, line_at, mark_at, missing, name_at, number_at, rest_of,
+    shape_at, start, starts_name, starts_with, text_at, unexpected, word_at,
 };
 pub use type_words::{element_type, parameter_type, reference_type, result_type, variable_type};

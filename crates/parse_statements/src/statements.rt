@@ -14,7 +14,7 @@ use crate::declarations::{declared, starts_declaration};
 use crate::plain::{parenthesized, plain};
 use parse_expressions::{expect_two, test};
 use parse_lexemes::{
-    Cursor, Fault, Fixed, ParseFault, expect, fault_at, line_at, rest_of, starts_with, unexpected,
+    Cursor, Fault, Fixed, ParseFault, expect, fault_at, line_at, missing, rest_of, starts_with,
 };
 use scan::{Mark, Word};
 use std::alloc::Global;
@@ -283,7 +283,7 @@ pub fn block(
     let mut returned = false;
     'statements: while !starts_with(Fixed::Mark(Mark::CloseBrace), rest) {
         if returned {
-            return Err(unexpected(rest));
+            return Err(missing(Fixed::Mark(Mark::CloseBrace), rest));
         }
         let (stmt, left, after) = statement(alloc, room, free, rest)?;
         returned = is_return(&stmt);

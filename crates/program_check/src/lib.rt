@@ -2,9 +2,11 @@
 #![tactic(auto)]
 
 mod checking;
+mod detail;
 mod fault;
 mod program;
 
 pub use checking::check_text;
+pub use detail::detail_of;
 pub use fault::{RunError, too_long};
 pub use program::read_program;

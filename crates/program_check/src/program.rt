@@ -23,7 +23,7 @@ fn of_scan(fault: ScanFault) -> RunError
         ScanFault::Memory => RunError::Memory,
         ScanFault::Found { fault, line } => RunError::Fault(
             u32::from(fault.number()),
-            Place::Line(Text::Program, line),
+            Place::Line(Text::Program, line.line()),
         ),
     }
 }
@@ -35,7 +35,7 @@ fn of_parse(fault: ParseFault) -> RunError
         ParseFault::Memory => RunError::Memory,
         ParseFault::Found { fault, line } => RunError::Fault(
             u32::from(fault.number()),
-            Place::Line(Text::Program, line),
+            Place::Line(Text::Program, line.line()),
         ),
     }
 }
@@ -47,7 +47,7 @@ fn of_types(fault: TypeFault) -> RunError
         TypeFault::Memory => RunError::Memory,
         TypeFault::Broken(fault) => RunError::Fault(
             fault.rule.number(),
-            Place::Line(Text::Program, fault.line),
+            Place::Line(Text::Program, fault.line.number()),
         ),
     }
 }
@@ -59,7 +59,7 @@ fn of_regions(fault: CheckFault) -> RunError
         CheckFault::Memory => RunError::Memory,
         CheckFault::Broken(fault) => RunError::Fault(
             fault.rule.number(),
-            Place::Line(Text::Program, fault.line),
+            Place::Line(Text::Program, fault.line.number()),
         ),
     }
 }

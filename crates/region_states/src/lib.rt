@@ -4,6 +4,7 @@
 
 pub mod calls;
 pub mod changes;
+pub mod found;
 pub mod holders;
 pub mod names_used;
 pub mod scope;

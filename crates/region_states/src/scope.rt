@@ -56,6 +56,11 @@ impl<'a> Names<'a> {
         self.places.get_index_of(name)
     }
 
+    /// The name of a number.
+    pub fn name_of(&self, number: usize) -> Option<&'a [u8]> {
+        self.places.get_index(number).copied()
+    }
+
     /// Puts a name after the others, of which none is the same.
     pub fn add(&mut self, name: &'a [u8]) -> Result<(), AllocError>
         requires { list_any (bytes_eq name.now) self.old ≡ false }

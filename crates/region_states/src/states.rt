@@ -143,7 +143,7 @@ pub fn known_of<'a>(state: &StaticState<'a>, name: &[u8]) -> Option<VariableStat
 }
 
 /// The answer to a question.
-fn holds(condition: Condition, known: Option<VariableState>) -> bool
+pub(crate) fn holds(condition: Condition, known: Option<VariableState>) -> bool
     ensures { result ≡ condition_holds condition (option_map variable_state known.entry) }
 {
     match known {
@@ -236,7 +236,7 @@ pub fn holds_own(state: &StaticState, count: usize) -> bool
 }
 
 /// Whether a variable is a critical buffer.
-fn is_held_critical(known: VariableState) -> bool
+pub(crate) fn is_held_critical(known: VariableState) -> bool
     ensures { result ≡ is_holder (λ held. is_critical held.0) (variable_state known.entry) }
 {
     match held_of(known) {
@@ -282,7 +282,7 @@ pub fn is_some_in_use(state: &StaticState, name: Option<&[u8]>) -> bool
 }
 
 /// Whether the array variable of a held buffer is of the level of the youngest frame.
-fn is_array_young(state: &StaticState, known: VariableState) -> bool
+pub(crate) fn is_array_young(state: &StaticState, known: VariableState) -> bool
     ensures { result ≡ is_holder (λ held. is_level state.now.frames (state_of state.now held.1)) (variable_state known.entry) }
 {
     match held_of(known) {
@@ -393,7 +393,7 @@ pub fn exchange<'a>(state: &mut StaticState<'a>, facts: &mut Facts<'a>)
 }
 
 /// Whether the same is known of two variables.
-fn is_same_known(a: VariableState, b: VariableState) -> bool
+pub(crate) fn is_same_known(a: VariableState, b: VariableState) -> bool
     ensures { result ≡ same_variable (variable_state a.entry) (variable_state b.entry) }
 {
     match a {

@@ -5,6 +5,7 @@ ghost use Rattle.regions.specs.declared.fault.CheckFault.TheVariants.{Memory};
 ghost use Rattle.region_rules.specs.RegionRules.{region_rule_number};
 ghost use Rattle.regions.specs.Findings.{rule_of};
 
+use details::Line;
 use std::alloc::{AllocError, AllocFailed};
 use thiserror::Error;
 
@@ -60,12 +61,12 @@ impl RegionRule {
     }
 }
 
-/// A rule that is broken, and its line, counted from 1: that of the first token of the statement, or of the closing brace
+/// A rule that is broken, and its line, with what was found there: that of the first token of the statement, or of the closing brace
 /// where a block's or the function's end is reached.
-#[derive(Clone, Copy, Debug)]
+#[derive(Debug, Drop)]
 pub struct RegionFault {
     pub rule: RegionRule,
-    pub line: usize,
+    pub line: Line,
 }
 
 /// Why `check` answers no unit.

@@ -12,6 +12,8 @@ ghost use Rattle.regions.specs.Findings.{rule_of};
 ghost use Rattle.regions.specs.Walks.{WayOrFault, way_value, Goes, Branches, Awaits};
 
 use crate::fault::{CheckFault, RegionFault, RegionRule};
+use crate::telling::ways_detail;
+use details::{Detail, Line};
 use region_states::changes::{take_false, take_true};
 use region_states::states::{Facts, StaticState, exchange, is_as_saved, save};
 use std::alloc::Global;
@@ -31,12 +33,15 @@ pub(crate) struct Branch<'a> {
     pub known: Facts<'a>,
 }
 
-/// The fault of a rule on this line.
-pub(crate) fn refuse(rule: RegionRule, line: usize) -> Result<Way, CheckFault>
+/// The fault of a rule on this line, with what was found there.
+pub(crate) fn refuse(rule: RegionRule, line: usize, detail: Detail) -> Result<Way, CheckFault>
     ensures fault { (after : RegionState) → Goes result after (Err (line, rule_of rule)) }
     ensures never { IfOk result (λ _. ⊥) }
 {
-    Err(CheckFault::Broken(RegionFault { rule, line }))
+    Err(CheckFault::Broken(RegionFault {
+        rule,
+        line: Line::told(line, detail),
+    }))
 }
 
 /// Two ways become one: the first, after which this is known, and the second, which came to this state.
@@ -63,7 +68,7 @@ fn join_ways<'a>(
                 if is_as_saved(known, state) {
                     return Ok(Way::On);
                 }
-                refuse(RegionRule::WaysDiffer, line)
+                refuse(RegionRule::WaysDiffer, line, ways_detail(known, state))
             }
         },
     }

@@ -5,6 +5,7 @@ mod checked;
 mod fault;
 mod joins;
 mod rules;
+mod telling;
 mod walk;
 
 ghost use Rattle.region_rules.specs.FirstFaults.{AcceptedBreaksNothing, AcceptedOrBroken, AcceptedOrFirst, FirstIsBroken, NotBoth, OneFirst, OneFirstOfUnit};

@@ -159,7 +159,7 @@ fn is_mismatched(release: Release, known: Option<VariableState>) -> bool
 }
 
 /// Whether the variable that is released wants another release.
-fn mismatches(state: &StaticState, release: Release) -> bool
+pub(crate) fn mismatches(state: &StaticState, release: Release) -> bool
     ensures { result ≡ some_passes (λ x. is_mismatched (release_value release.entry) (state_of state.now x)) (option_map (λ x. x.now) release.entry.buffer) }
 {
     match release.buffer {
@@ -214,7 +214,7 @@ fn pops_array(state: &StaticState, call: Option<MadeCall>) -> bool
 }
 
 /// Whether a Get is of something else than a local variable.
-fn gets_elsewhere(state: &StaticState, call: Option<MadeCall>) -> bool
+pub(crate) fn gets_elsewhere(state: &StaticState, call: Option<MadeCall>) -> bool
     ensures { result ≡ gets_elsewhere state.now (option_map made_value call.entry) }
 {
     match got(call) {
@@ -233,7 +233,7 @@ fn breaks_array(state: &StaticState, form: &Form, call: Option<MadeCall>) -> boo
 }
 
 /// The number of frames after a call.
-fn frames_after(state: &StaticState, call: Option<MadeCall>) -> usize
+pub(crate) fn frames_after(state: &StaticState, call: Option<MadeCall>) -> usize
     ensures { result ≡ frames_after state.now (option_map made_value call.entry) }
 {
     if popped(call) {

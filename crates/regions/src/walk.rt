@@ -16,6 +16,8 @@ ghost use Rattle.regions.specs.Walks.{WayOrFault, way_value, Goes, Branches, Awa
 use crate::fault::{CheckFault, RegionFault, RegionRule};
 use crate::joins::{Branch, Way, join, no_turn, one_way, refuse, take_else, take_then};
 use crate::rules::{first_broken, is_return};
+use crate::telling::{end_detail, held_detail, statement_detail, unreached_detail};
+use details::Line;
 use region_states::changes::pass;
 use region_states::states::{
     StaticState, VariableState, add, clear, count, holds_own, leave, nothing,
@@ -32,7 +34,7 @@ fn end(state: &mut StaticState, count: usize, way: Way, line: usize) -> Result<W
     match way {
         Way::On => {
             if holds_own(state, count) {
-                return refuse(RegionRule::HeldBuffer, line);
+                return refuse(RegionRule::HeldBuffer, line, held_detail(state, count));
             }
             leave(state, count);
             Ok(Way::On)
@@ -141,7 +143,7 @@ fn stmt_way<'a>(
     ensures names { IfOk result (λ _. names_of state.new ≡ names_of state.old ++ own_names (stmt_tree stmt.now)) }
 {
     match first_broken(state, &stmt.form) {
-        Some(rule) => refuse(rule, stmt.line),
+        Some(rule) => refuse(rule, stmt.line, statement_detail(state, &stmt.form, rule)),
         None => inner_way(alloc, state, stmt.line, &stmt.form),
     }
 }
@@ -162,7 +164,7 @@ fn block_way<'a>(
     for stmt in &block.statements {
         match way {
             Way::On => way = stmt_way(alloc, state, stmt)?,
-            Way::Returned => return refuse(RegionRule::NoReturn, stmt.line),
+            Way::Returned => return refuse(RegionRule::NoReturn, stmt.line, unreached_detail()),
         }
     }
     end(state, count, way, block.end_line)
@@ -199,7 +201,7 @@ fn check_function<'a>(
     match block_way(alloc, state, &f.body)? {
         Way::On => Err(CheckFault::Broken(RegionFault {
             rule: RegionRule::NoReturn,
-            line: f.body.end_line,
+            line: Line::told(f.body.end_line, end_detail(&f.name)),
         })),
         Way::Returned => Ok(()),
     }

@@ -3,6 +3,7 @@
 ghost use Rattle.std.specs.Prelude.{◌≡◌};
 ghost use Rattle.scan.specs.declared.fault.ScanFault.TheVariants.{Memory};
 
+use details::Spot;
 use std::alloc::{AllocError, AllocFailed};
 use thiserror::Error;
 
@@ -44,7 +45,7 @@ pub enum ScanFault {
     Memory,
     /// The first fault of the text, and the line of its first byte, counted from 1.
     #[error("line {line}: {fault:?}")]
-    Found { fault: Fault, line: usize },
+    Found { fault: Fault, line: Spot },
 }
 
 impl ScanFault {

@@ -238,3 +238,15 @@ pub fn has_long_function(checked: &Checked) -> bool
     }
     false
 }
+
+/// The first function that has more than 65,535 steps, for the reader of the fault.
+pub fn long_function(checked: &Checked) -> Option<&Function> {
+    for item in checked.items() {
+        if let Item::Function(function) = item {
+            if is_long_function(function) {
+                return Some(function);
+            }
+        }
+    }
+    None
+}

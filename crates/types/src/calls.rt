@@ -64,7 +64,11 @@ fn address_fits(known: &Known<'_, Sort>, kind: ParameterKind, name: &Name) -> bo
 }
 
 /// Whether an argument fits its parameter.
-fn argument_fits(known: &Known<'_, Sort>, kind: ParameterKind, argument: &Argument) -> bool
+pub(crate) fn argument_fits(
+    known: &Known<'_, Sort>,
+    kind: ParameterKind,
+    argument: &Argument,
+) -> bool
     ensures { result ≡ argument_fits (scope_of known.now) (parameter_value kind) (argument_tree argument.now) }
 {
     match argument {

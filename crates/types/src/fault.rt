@@ -5,7 +5,9 @@ ghost use Rattle.types.specs.declared.fault.TypeFault.TheVariants.{Memory};
 ghost use Rattle.type_rules.specs.SortRules.{sort_rule_number};
 ghost use Rattle.types.specs.Faults.{rule_of, Finds, broken_if};
 
+use details::{Detail, Line};
 use std::alloc::{AllocError, AllocFailed};
+use syntax::Name;
 use thiserror::Error;
 
 /// A rule on names and sorts.
@@ -48,11 +50,11 @@ impl SortRule {
     }
 }
 
-/// A rule that is broken, and the line of the first token of the statement or the function, counted from 1.
-#[derive(Clone, Copy, Debug)]
+/// A rule that is broken, and the line of the first token of the statement or the function, with what was found there.
+#[derive(Debug, Drop)]
 pub struct Fault {
     pub rule: SortRule,
-    pub line: usize,
+    pub line: Line,
 }
 
 /// Why `type_unit` answers no unit.
@@ -85,7 +87,28 @@ pub(crate) fn refuse_if(broken: bool, rule: SortRule, line: usize) -> Result<(),
     ensures { Finds result (broken_if broken (rule_of rule) line) }
 {
     if broken {
-        return Err(TypeFault::Broken(Fault { rule, line }));
+        return Err(TypeFault::Broken(Fault {
+            rule,
+            line: Line::new(line),
+        }));
+    }
+    Ok(())
+}
+
+/// The fault of a rule that a name breaks.
+pub(crate) fn refuse_name_if(
+    broken: bool,
+    rule: SortRule,
+    line: usize,
+    name: &Name,
+) -> Result<(), TypeFault>
+    ensures { Finds result (broken_if broken (rule_of rule) line) }
+{
+    if broken {
+        return Err(TypeFault::Broken(Fault {
+            rule,
+            line: Line::told(line, Detail::of(name.as_bytes())),
+        }));
     }
     Ok(())
 }

@@ -5,18 +5,20 @@ ghost use Rattle.syntax.specs.Parts.{item_name};
 ghost use Rattle.syntax.specs.Views.{block_tree, function_tree, item_tree, result_tree};
 ghost use Rattle.type_rules.specs.SortRules.{DeclaredTwice, has_name, places_of, function_places, item_places};
 ghost use Rattle.type_rules.specs.SortViews.{sort_value};
-ghost use Rattle.types.specs.Faults.{Finds, broken_if, scope_of, found, head_faults, own_places, with_static};
+ghost use Rattle.types.specs.Faults.{Faults, Refuses, Finds, broken_if, scope_of, found, head_faults, own_places, with_static};
 
 use crate::blocks::check_block;
-use crate::fault::{SortRule, TypeFault, refuse_if};
+use crate::fault::{Fault, SortRule, TypeFault, refuse_if, refuse_name_if};
 use crate::scope::{enter, has_name, has_repeated};
+use crate::telling::head_detail;
 use class_rules::mangling::is_mangled;
+use details::Line;
 use std::alloc::{AllocError, Global};
 use syntax::{Function, Item, Name, Static};
 use type_rules::{Known, Sort};
 
-/// The head of a function after items of these names, where its parameters and the statics have those.
-fn check_head(names: &[Name], entry: &[Name], f: &Function) -> Result<(), TypeFault>
+/// The first rule that a function's head breaks after items of these names, where its parameters and the statics have those.
+fn judge_head(names: &[Name], entry: &[Name], f: &Function) -> Result<(), TypeFault>
     ensures { Finds result (head_faults names.now entry.now f.now) }
 {
     refuse_if(
@@ -29,6 +31,32 @@ fn check_head(names: &[Name], entry: &[Name], f: &Function) -> Result<(), TypeFa
         SortRule::DeclaredTwice,
         f.line,
     )
+}
+
+/// A fault of a function's head, with what is told of it.
+fn with_detail(fault: TypeFault, names: &[Name], entry: &[Name], f: &Function) -> TypeFault
+    ensures { (broken : Faults) → Refuses fault broken → Refuses result broken }
+{
+    match fault {
+        TypeFault::Memory => TypeFault::Memory,
+        TypeFault::Broken(fault) => {
+            let detail = head_detail(names, entry, f, fault.rule);
+            TypeFault::Broken(Fault {
+                rule: fault.rule,
+                line: Line::told(fault.line.number(), detail),
+            })
+        }
+    }
+}
+
+/// The head of a function after items of these names, where its parameters and the statics have those.
+fn check_head(names: &[Name], entry: &[Name], f: &Function) -> Result<(), TypeFault>
+    ensures { Finds result (head_faults names.now entry.now f.now) }
+{
+    match judge_head(names, entry, f) {
+        Ok(()) => Ok(()),
+        Err(fault) => Err(with_detail(fault, names, entry, f)),
+    }
 }
 
 /// A function after items of these names, where its parameters and the statics are known and have the names that are taken.
@@ -82,7 +110,12 @@ fn check_static<'a>(
     ensures names { OnOk result (names.new.items ≡ s.now.name ∷ names.old.items) }
     ensures statics { OnOk result (scope_of statics.new ≡ (s.now.name, sort_value Sort.Global) ∷ scope_of statics.old) }
 {
-    refuse_if(has_name(names, &s.name), SortRule::DeclaredTwice, s.line)?;
+    refuse_name_if(
+        has_name(names, &s.name),
+        SortRule::DeclaredTwice,
+        s.line,
+        &s.name,
+    )?;
     statics.declare(&s.name, Sort::Global)?;
     put_first(names, &s.name)?;
     Ok(())

@@ -9,6 +9,7 @@ mod items;
 mod scope;
 mod sort;
 mod statements;
+mod telling;
 mod typed;
 
 pub use fault::{Fault, SortRule, TypeFault};

@@ -13,7 +13,7 @@ ghost use Rattle.type_rules.specs.Sorts.{sort_in, is_unknown, sort_of, has_eleme
 ghost use Rattle.type_rules.specs.SortRules.{is_formed, value_sets, right_side_sets, buffer_begins, test_fits, return_fits, statement_fits, copies_reference, sort_rules, UnknownName, DeclaredTwice, SortMisfit, UnknownFunction, ArgumentCount, ReferenceCopied, BadMode, ReadOnlyWrite, breaks_sort_rule, broken_at};
 ghost use Rattle.types.specs.Called.{function_in, call_of_test, declared};
 ghost use Rattle.type_rules.specs.SortViews.{sort_value};
-ghost use Rattle.types.specs.Faults.{scope_of, Finds, statement_place, refused_of};
+ghost use Rattle.types.specs.Faults.{Faults, Refuses, scope_of, Finds, statement_place, refused_of};
 ghost use Rattle.type_rules.specs.Uses.{right_uses, test_uses, uses};
 
 use crate::calls::{
@@ -21,17 +21,19 @@ use crate::calls::{
     may_be_dropped, may_be_tested,
 };
 use crate::expressions::{has_unknown, is_null, name_sort, sort_of};
-use crate::fault::{SortRule, TypeFault, refuse_if};
+use crate::fault::{Fault, SortRule, TypeFault, refuse_if};
 use crate::scope::{has_name, is_unknown, sort_in};
 use crate::sort::{
     has_elements, is_flag, is_index, is_jint, is_read_only, is_ref, is_truth, is_word,
 };
+use crate::telling::statement_detail;
+use details::Line;
 use jni::{JniFunction, function_named};
 use syntax::{Call, ElementType, Expr, Form, Name, ResultType, RightSide, Stmt, Test};
 use type_rules::{Known, Sort, own_call, variable_sort};
 
 /// The function that a statement calls, if it is known.
-fn function_called(form: &Form) -> Option<JniFunction>
+pub(crate) fn function_called(form: &Form) -> Option<JniFunction>
     ensures { (line : ℕ) → option_map function_value result ≡ function_in (own_call (form_tree line form.now)) }
 {
     match own_call(form) {
@@ -198,7 +200,7 @@ fn element_fits(known: &Known<'_, Sort>, name: &Name, index: &Expr, value: &Expr
 }
 
 /// Whether the parts of a statement fit one another, its call's arguments aside.
-fn statement_fits(
+pub(crate) fn statement_fits(
     known: &Known<'_, Sort>,
     returns: ResultType,
     form: &Form,
@@ -358,9 +360,9 @@ fn check_call(
     check_uses(known, taken, returns, form, function, line)
 }
 
-/// A statement on this line, without the blocks inside it. All rules are judged, in the order of their numbers.
+/// The first rule that a statement on this line breaks, without the blocks inside it. All rules are judged, in the order of their numbers.
 #[tactic(auto, using(crate::proofs::FindsLemmas::finds_rules))]
-fn check_form(
+fn judge_form(
     known: &Known<'_, Sort>,
     taken: &[Name],
     returns: ResultType,
@@ -379,6 +381,43 @@ fn check_form(
     refuse_if(declares_taken(taken, form), SortRule::DeclaredTwice, line)?;
     refuse_if(misfits, SortRule::SortMisfit, line)?;
     check_call(known, taken, returns, form, function, line)
+}
+
+/// A fault of a statement, with what is told of it.
+fn with_detail(
+    fault: TypeFault,
+    known: &Known<'_, Sort>,
+    returns: ResultType,
+    form: &Form,
+) -> TypeFault
+    ensures { (broken : Faults) → Refuses fault broken → Refuses result broken }
+{
+    match fault {
+        TypeFault::Memory => TypeFault::Memory,
+        TypeFault::Broken(fault) => {
+            let detail = statement_detail(known, returns, form, fault.rule);
+            TypeFault::Broken(Fault {
+                rule: fault.rule,
+                line: Line::told(fault.line.number(), detail),
+            })
+        }
+    }
+}
+
+/// A statement on this line, without the blocks inside it.
+fn check_form(
+    known: &Known<'_, Sort>,
+    taken: &[Name],
+    returns: ResultType,
+    form: &Form,
+    line: usize,
+) -> Result<(), TypeFault>
+    ensures { Finds result (refused_of (result_tree returns) (scope_of known.now) taken.now (form_tree line form.now) line sort_rules) }
+{
+    match judge_form(known, taken, returns, form, line) {
+        Ok(()) => Ok(()),
+        Err(fault) => Err(with_detail(fault, known, returns, form)),
+    }
 }
 
 /// A statement of a function with this result, where these names are known and these are taken.

@@ -47,7 +47,7 @@ fn is_name_taken(names: &ObjectNames, line: &Line) -> bool
     }
 }
 
-fn is_known(classes: &ClassTable, names: &ObjectNames, value: Value) -> bool
+pub(crate) fn is_known(classes: &ClassTable, names: &ObjectNames, value: Value) -> bool
     ensures { result ≡ is_known classes.now names.now (value_view value.entry) }
 {
     match value {
@@ -176,7 +176,7 @@ fn held_rule(rule: ClassRule) -> Rule
 }
 
 impl WorldBuilder {
-    fn comes_in_order(&self, line: &Line) -> bool
+    pub(crate) fn comes_in_order(&self, line: &Line) -> bool
         ensures { result ≡ comes_in_order (gathered_of self.now) (line_view line.now) }
     {
         self.part <= part_of(line) && (!is_call(line) || self.part == 2)
@@ -193,7 +193,7 @@ impl WorldBuilder {
     }
 
     /// Whether there may be one more object, thread or call.
-    fn has_place(&self, line: &Line) -> bool
+    pub(crate) fn has_place(&self, line: &Line) -> bool
         ensures { result ≡ has_place (gathered_of self.now) (line_view line.now) }
     {
         match line {

@@ -15,7 +15,7 @@ block-statements-init t c = rw c.new-statements.ensures.items (fills_start c.arg
 
 pub block-returns-then-returned : goal.block-returns-then-returned
 block-returns-then-returned t c =
-    rw c.unexpected.ensures (fills_refuses c.args.room c.statements.free c.statements.statements.items c.statements.returned (views c.statements.rest) (block_at c.args.room c.args.names (views c.args.lexemes)) c.statements.invariant (sym c.starts_with.ensures ∙ c.statements-test.true) c.if-returned.true)
+    rw c.missing.ensures (fills_refuses c.args.room c.statements.free c.statements.statements.items c.statements.returned (views c.statements.rest) (block_at c.args.room c.args.names (views c.args.lexemes)) c.statements.invariant (sym c.starts_with.ensures ∙ c.statements-test.true) c.if-returned.true)
 
 pub block-returns-in_err-stmt : goal.block-returns-in_err-stmt
 block-returns-in_err-stmt t c =

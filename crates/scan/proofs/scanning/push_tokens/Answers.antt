@@ -26,7 +26,7 @@ pub returns-in-Wrong-clause-fault : goal.returns-in-Wrong-clause-fault
 returns-in-Wrong-clause-fault c =
     let e = front_here c.args.text.now c.loop-place.place _ _ c.front_of.ensures c.in-Wrong.is in
     let l = length-drop c.loop-place.place c.args.text.now in
-    (c.loop-place.place, c.loop-place.invariant.filled, fault_here _ c.in-Wrong.fault (omega (arith, l, c.loop-place-test.true)) e, c.loop-place.invariant.line_is)
+    rw c.wrong.ensures (c.loop-place.place, c.loop-place.invariant.filled, fault_here _ c.in-Wrong.fault (omega (arith, l, c.loop-place-test.true)) e, c.loop-place.invariant.line_is)
 
 pub returns-clause-found : goal.returns-clause-found
 returns-clause-found c = subst (λ (l : List Token). Spells c.args.text.now l) (append-nil c.loop-place.tokens.items) (c.loop-place.invariant.back [] (ends (omega (arith, c.loop-place.invariant.within))))

@@ -1,0 +1,96 @@
+//! The name of a statement that a fault is about.
+
+use syntax::{Argument, Call, Expr, Form, Name, RightSide, Test};
+
+/// A question about the names that a statement uses.
+pub trait Question {
+    /// Whether the answer is yes, of a name that stands alone, or that has an index.
+    fn holds(&self, name: &Name, has_index: bool) -> bool;
+}
+
+/// A name, if the answer is yes.
+fn one_name<'f, Q: Question>(name: &'f Name, has_index: bool, question: &Q) -> Option<&'f Name> {
+    if question.holds(name, has_index) {
+        Some(name)
+    } else {
+        None
+    }
+}
+
+fn first_in_expr<'f, Q: Question>(e: &'f Expr, question: &Q) -> Option<&'f Name> {
+    match e {
+        Expr::Number { .. } | Expr::Named(_) => None,
+        Expr::Variable(x) => one_name(x, false, question),
+        Expr::Element(x, i) => match one_name(x, true, question) {
+            Some(x) => Some(x),
+            None => first_in_expr(i, question),
+        },
+        Expr::Prefix(_, a) | Expr::Paren(a) => first_in_expr(a, question),
+        Expr::Binary(_, operands) => match first_in_expr(&operands.0, question) {
+            Some(x) => Some(x),
+            None => first_in_expr(&operands.1, question),
+        },
+    }
+}
+
+fn first_in_argument<'f, Q: Question>(argument: &'f Argument, question: &Q) -> Option<&'f Name> {
+    match argument {
+        Argument::Value(e) => first_in_expr(e, question),
+        Argument::Text(_) => None,
+        Argument::AddressOf(x) => one_name(x, false, question),
+    }
+}
+
+fn first_in_call<'f, Q: Question>(call: &'f Call, question: &Q) -> Option<&'f Name> {
+    for argument in &call.arguments {
+        if let Some(name) = first_in_argument(argument, question) {
+            return Some(name);
+        }
+    }
+    None
+}
+
+fn first_in_right<'f, Q: Question>(right: &'f RightSide, question: &Q) -> Option<&'f Name> {
+    match right {
+        RightSide::Expr(e) => first_in_expr(e, question),
+        RightSide::Call(call) => first_in_call(call, question),
+    }
+}
+
+fn first_in_test<'f, Q: Question>(test: &'f Test, question: &Q) -> Option<&'f Name> {
+    match test {
+        Test::Expr(e) => first_in_expr(e, question),
+        Test::Call(call) => first_in_call(call, question),
+    }
+}
+
+fn first_in_setting<'f, Q: Question>(
+    name: &'f Name,
+    index: &'f Expr,
+    value: &'f Expr,
+    question: &Q,
+) -> Option<&'f Name> {
+    match one_name(name, true, question) {
+        Some(x) => Some(x),
+        None => match first_in_expr(index, question) {
+            Some(x) => Some(x),
+            None => first_in_expr(value, question),
+        },
+    }
+}
+
+/// The first name that a statement uses of which the answer is yes. A name that it declares, or sets as a whole, is not used, and
+/// the statements of its blocks aren't looked at.
+pub fn first_name<'f, Q: Question>(form: &'f Form, question: &Q) -> Option<&'f Name> {
+    match form {
+        Form::Declare(_, _, r)
+        | Form::DeclareBuffer(_, _, r)
+        | Form::DeclareChars(_, r)
+        | Form::Assign(_, r) => first_in_right(r, question),
+        Form::AssignElement(x, i, e) => first_in_setting(x, i, e, question),
+        Form::Perform(call) => first_in_call(call, question),
+        Form::If(test, _) | Form::IfElse(test, _, _) => first_in_test(test, question),
+        Form::PutJint(e) | Form::While(e, _) | Form::Return(Some(e)) => first_in_expr(e, question),
+        Form::DeclareArray(..) | Form::Return(None) => None,
+    }
+}

@@ -1,0 +1,536 @@
+//! What is told of a broken rule: what was found, and what was wanted.
+
+use crate::calls::argument_fits;
+use crate::expressions::{is_null, sort_of};
+use crate::fault::SortRule;
+use crate::scope::{has_name, is_unknown, sort_in};
+use crate::sort::{has_elements, is_index};
+use crate::statements::{declared, function_called, statement_fits};
+use details::{Detail, Question, first_name};
+use jni::{Access, JniFunction, ParameterKind, ResultKind};
+use syntax::{
+    Argument, BinaryOp, Call, Constant, ElementType, Expr, Form, Function, Name, PrefixOp,
+    ResultType, RightSide, Test,
+};
+use type_rules::{Known, Sort, own_call, variable_sort};
+
+/// An element type in C's words.
+fn element_words(element: ElementType) -> &'static [u8] {
+    match element {
+        ElementType::Int => b"jint",
+        ElementType::Short => b"jshort",
+        ElementType::Byte => b"jbyte",
+        ElementType::Char => b"jchar",
+    }
+}
+
+/// An operator in C's words.
+fn operator_words(op: BinaryOp) -> &'static [u8] {
+    match op {
+        BinaryOp::LogicalOr => b" || ",
+        BinaryOp::LogicalAnd => b" && ",
+        BinaryOp::BitOr => b" | ",
+        BinaryOp::BitXor => b" ^ ",
+        BinaryOp::BitAnd => b" & ",
+        BinaryOp::Equal => b" == ",
+        BinaryOp::NotEqual => b" != ",
+        BinaryOp::Less => b" < ",
+        BinaryOp::LessEqual => b" <= ",
+        BinaryOp::Greater => b" > ",
+        BinaryOp::GreaterEqual => b" >= ",
+        BinaryOp::ShiftLeft => b" << ",
+        BinaryOp::ShiftRight => b" >> ",
+        BinaryOp::Add => b" + ",
+        BinaryOp::Subtract => b" - ",
+        BinaryOp::Multiply => b" * ",
+        BinaryOp::Divide => b" / ",
+        BinaryOp::Remainder => b" % ",
+    }
+}
+
+/// A named constant in C's words.
+fn constant_words(constant: Constant) -> &'static [u8] {
+    match constant {
+        Constant::True => b"JNI_TRUE",
+        Constant::False => b"JNI_FALSE",
+        Constant::Commit => b"JNI_COMMIT",
+        Constant::Abort => b"JNI_ABORT",
+        Constant::Null => b"NULL",
+    }
+}
+
+/// Puts a sort in C's words.
+fn with_sort(detail: Detail, sort: Option<Sort>) -> Detail {
+    match sort {
+        Some(Sort::Word) => detail.words(b"uint32_t"),
+        Some(Sort::Jint) => detail.words(b"jint"),
+        Some(Sort::Flag) => detail.words(b"jboolean"),
+        Some(Sort::Truth) => detail.words(b"a truth value"),
+        Some(Sort::Ref) => detail.words(b"a local reference"),
+        Some(Sort::Global) => detail.words(b"a static reference"),
+        Some(Sort::FieldId) => detail.words(b"jfieldID"),
+        Some(Sort::Buffer(element, true)) => detail.words(element_words(element)).words(b" *"),
+        Some(Sort::Buffer(_, false)) => detail.words(b"const jchar *"),
+        Some(Sort::Array(element, _)) => {
+            detail.words(b"an array of ").words(element_words(element))
+        }
+        None => detail.words(b"no value"),
+    }
+}
+
+/// Puts what an expression is.
+fn with_expression(detail: Detail, known: &Known<'_, Sort>, e: &Expr) -> Detail {
+    match e {
+        Expr::Named(constant) => match sort_of(known, e) {
+            Some(sort) => with_sort(detail, Some(sort)),
+            None => detail.words(constant_words(*constant)),
+        },
+        _ => with_sort(detail, sort_of(known, e)),
+    }
+}
+
+/// An expression is found, where this is wanted.
+fn instead(known: &Known<'_, Sort>, e: &Expr, wanted: &[u8]) -> Detail {
+    with_expression(Detail::of(b"found "), known, e)
+        .words(b", wanted ")
+        .words(wanted)
+}
+
+/// What the operand of a prefix has to be.
+fn wanted_after(op: PrefixOp) -> &'static [u8] {
+    match op {
+        PrefixOp::LogicalNot => b"a truth value",
+        PrefixOp::Complement => b"uint32_t",
+        PrefixOp::ToWord | PrefixOp::ToInt => b"uint32_t, jint or jboolean",
+    }
+}
+
+/// What the operands of an operator have to be.
+fn wanted_beside(op: BinaryOp, right: &Expr) -> &'static [u8] {
+    match op {
+        BinaryOp::LogicalOr | BinaryOp::LogicalAnd => b"two truth values",
+        BinaryOp::Equal | BinaryOp::NotEqual => {
+            if is_null(right) {
+                b"the name of a reference, a jfieldID or a buffer"
+            } else {
+                b"two uint32_t, two jint or two jboolean"
+            }
+        }
+        BinaryOp::Less | BinaryOp::LessEqual | BinaryOp::Greater | BinaryOp::GreaterEqual => {
+            b"two uint32_t or two jint"
+        }
+        _ => b"two uint32_t",
+    }
+}
+
+/// The innermost part of an expression whose own parts don't fit each other.
+fn unformed(known: &Known<'_, Sort>, e: &Expr) -> Option<Detail> {
+    match e {
+        Expr::Number { .. } | Expr::Named(_) | Expr::Variable(_) => None,
+        Expr::Paren(a) => unformed(known, a),
+        Expr::Element(x, i) => match unformed(known, i) {
+            Some(detail) => Some(detail),
+            None => unindexed(known, x, i),
+        },
+        Expr::Prefix(op, a) => match unformed(known, a) {
+            Some(detail) => Some(detail),
+            None => match sort_of(known, e) {
+                Some(_) => None,
+                None => Some(instead(known, a, wanted_after(*op))),
+            },
+        },
+        Expr::Binary(op, operands) => match unformed(known, &operands.0) {
+            Some(detail) => Some(detail),
+            None => match unformed(known, &operands.1) {
+                Some(detail) => Some(detail),
+                None => match sort_of(known, e) {
+                    Some(_) => None,
+                    None => Some(unjoined(known, *op, &operands.0, &operands.1)),
+                },
+            },
+        },
+    }
+}
+
+/// What is wrong with an element and its index.
+fn unindexed(known: &Known<'_, Sort>, name: &Name, index: &Expr) -> Option<Detail> {
+    let sort = sort_in(known, name);
+    if !has_elements(sort) {
+        let detail = with_sort(Detail::of(b"found "), sort);
+        return Some(
+            detail
+                .words(b" ")
+                .words(name.as_bytes())
+                .words(b", wanted an array or a buffer"),
+        );
+    }
+    if !is_index(sort_of(known, index)) {
+        return Some(instead(known, index, b"an index: uint32_t or jint"));
+    }
+    None
+}
+
+/// Two operands that don't fit their operator.
+fn unjoined(known: &Known<'_, Sort>, op: BinaryOp, left: &Expr, right: &Expr) -> Detail {
+    let detail = with_expression(Detail::of(b"found "), known, left).words(operator_words(op));
+    with_expression(detail, known, right)
+        .words(b", wanted ")
+        .words(wanted_beside(op, right))
+}
+
+/// An expression doesn't fit where this is wanted.
+fn misfit(known: &Known<'_, Sort>, e: &Expr, wanted: &[u8]) -> Detail {
+    match unformed(known, e) {
+        Some(detail) => detail,
+        None => instead(known, e, wanted),
+    }
+}
+
+/// Puts what a variable of a sort may be set to.
+fn with_right_sides(detail: Detail, sort: Option<Sort>) -> Detail {
+    match sort {
+        Some(Sort::Ref) => detail.words(b"NULL or a call that gives a local reference"),
+        Some(Sort::Global) => detail.words(b"NULL or a call of NewGlobalRef"),
+        Some(Sort::FieldId) => detail.words(b"NULL or a call that gives a jfieldID"),
+        Some(Sort::Buffer(..)) => with_sort(detail.words(b"a call that gives "), sort),
+        Some(Sort::Array(..)) => detail.words(b"an element of the array"),
+        _ => with_sort(detail, sort),
+    }
+}
+
+/// Puts what a call gives.
+fn with_result(detail: Detail, kind: ResultKind) -> Detail {
+    match kind {
+        ResultKind::GivesNothing => detail.words(b"nothing"),
+        ResultKind::GivesInt => detail.words(b"jint"),
+        ResultKind::GivesFlag => detail.words(b"jboolean"),
+        ResultKind::NewLocal => detail.words(b"a local reference"),
+        ResultKind::NewGlobal => detail.words(b"a global reference"),
+        ResultKind::GivesField => detail.words(b"jfieldID"),
+        ResultKind::GivesBuffer(access) => with_access(detail, access),
+    }
+}
+
+/// Puts the type of the buffers of an access.
+fn with_access(detail: Detail, access: Access) -> Detail {
+    match access {
+        Access::ElementsCopy(element) => detail.words(element_words(element)).words(b" *"),
+        Access::ArrayView => detail.words(b"jint *, jshort *, jbyte * or jchar *"),
+        Access::CharsCopy | Access::CharsView => detail.words(b"const jchar *"),
+    }
+}
+
+/// Where alone a frame is pushed.
+const PUSHES: &[u8] =
+    b"PushLocalFrame is called only in `if ((*env)->PushLocalFrame(env, n) == 0)`";
+
+/// A call's result doesn't fit a variable of this sort.
+fn misfit_result(sort: Option<Sort>, function: Option<JniFunction>) -> Detail {
+    match function {
+        None => Detail::none(),
+        Some(JniFunction::PushLocalFrame) => Detail::of(PUSHES),
+        Some(f) => with_sort(
+            with_result(Detail::of(b"found "), f.prototype().result).words(b", wanted "),
+            sort,
+        ),
+    }
+}
+
+/// A right side doesn't fit a variable of this sort.
+fn misfit_right(
+    known: &Known<'_, Sort>,
+    sort: Option<Sort>,
+    right: &RightSide,
+    function: Option<JniFunction>,
+) -> Detail {
+    match right {
+        RightSide::Call(_) => misfit_result(sort, function),
+        RightSide::Expr(e) => match unformed(known, e) {
+            Some(detail) => detail,
+            None => {
+                let detail = with_expression(Detail::of(b"found "), known, e).words(b", wanted ");
+                with_right_sides(detail, sort)
+            }
+        },
+    }
+}
+
+/// A buffer doesn't begin as a right side.
+fn misfit_buffer(
+    known: &Known<'_, Sort>,
+    sort: Sort,
+    right: &RightSide,
+    function: Option<JniFunction>,
+) -> Detail {
+    match right {
+        RightSide::Call(_) => misfit_result(Some(sort), function),
+        RightSide::Expr(e) => {
+            let detail = with_expression(Detail::of(b"found "), known, e);
+            with_right_sides(detail.words(b", wanted NULL or "), Some(sort))
+        }
+    }
+}
+
+/// An element isn't set to such a value.
+fn misfit_element(known: &Known<'_, Sort>, name: &Name, index: &Expr, value: &Expr) -> Detail {
+    match unformed(known, index) {
+        Some(detail) => detail,
+        None => match unindexed(known, name, index) {
+            Some(detail) => detail,
+            None => misfit(known, value, b"jint"),
+        },
+    }
+}
+
+/// A test of an `if` doesn't fit.
+fn misfit_test(known: &Known<'_, Sort>, test: &Test) -> Detail {
+    match test {
+        Test::Expr(e) => misfit(known, e, b"a truth value"),
+        Test::Call(call) => Detail::of(b"found a test of ")
+            .words(call.function.as_bytes())
+            .words(b" for 0, wanted one of PushLocalFrame"),
+    }
+}
+
+/// A returned value doesn't fit the function's result.
+fn misfit_return(known: &Known<'_, Sort>, returns: ResultType, e: &Expr) -> Detail {
+    match returns {
+        ResultType::Void => Detail::of(b"found a value, wanted `return;`"),
+        ResultType::Jint => misfit(known, e, b"jint"),
+        ResultType::Reference(_) => misfit(known, e, b"NULL or the name of a local reference"),
+    }
+}
+
+/// A call's result can't be dropped.
+fn undroppable(call: &Call, function: Option<JniFunction>) -> Detail {
+    match function {
+        Some(JniFunction::PushLocalFrame) => Detail::of(PUSHES),
+        _ => Detail::of(b"found a call of ")
+            .words(call.function.as_bytes())
+            .words(b" alone, wanted a variable that keeps its result"),
+    }
+}
+
+/// The parts of a statement don't fit each other, its call's arguments aside.
+fn misfit_statement(
+    known: &Known<'_, Sort>,
+    returns: ResultType,
+    form: &Form,
+    function: Option<JniFunction>,
+) -> Detail {
+    match form {
+        Form::Declare(t, _, r) => misfit_right(known, Some(variable_sort(*t)), r, function),
+        Form::DeclareBuffer(t, _, r) => misfit_buffer(known, Sort::Buffer(*t, true), r, function),
+        Form::DeclareChars(_, r) => misfit_buffer(
+            known,
+            Sort::Buffer(ElementType::Char, false),
+            r,
+            function,
+        ),
+        Form::DeclareArray(..) => Detail::none(),
+        Form::Assign(x, r) => misfit_right(known, sort_in(known, x), r, function),
+        Form::AssignElement(x, i, e) => misfit_element(known, x, i, e),
+        Form::Perform(call) => undroppable(call, function),
+        Form::PutJint(e) => misfit(known, e, b"jint"),
+        Form::If(test, _) | Form::IfElse(test, _, _) => misfit_test(known, test),
+        Form::While(e, _) => misfit(known, e, b"a truth value"),
+        Form::Return(None) => Detail::of(b"found `return;`, wanted a value"),
+        Form::Return(Some(e)) => misfit_return(known, returns, e),
+    }
+}
+
+/// Puts what an argument is.
+fn with_argument(detail: Detail, known: &Known<'_, Sort>, argument: &Argument) -> Detail {
+    match argument {
+        Argument::Value(e) => with_expression(detail, known, e),
+        Argument::Text(_) => detail.words(b"a string"),
+        Argument::AddressOf(x) => with_sort(detail.words(b"the address of "), sort_in(known, x)),
+    }
+}
+
+/// Puts what a parameter takes.
+fn with_parameter(detail: Detail, kind: ParameterKind) -> Detail {
+    match kind {
+        ParameterKind::Nullable
+        | ParameterKind::NonNull
+        | ParameterKind::ClassObject
+        | ParameterKind::AnyArray
+        | ParameterKind::ObjectArray
+        | ParameterKind::StringObject
+        | ParameterKind::NumberArray(_) => detail.words(b"the name of a reference"),
+        ParameterKind::LocalVariable => detail.words(b"the name of a local reference"),
+        ParameterKind::StaticVariable => detail.words(b"the name of a static"),
+        ParameterKind::FieldID => detail.words(b"the name of a jfieldID"),
+        ParameterKind::IntNumber => detail.words(b"jint"),
+        ParameterKind::TextBytes => detail.words(b"a string"),
+        ParameterKind::ArrayVariable(element) => detail
+            .words(b"the name of an array of ")
+            .words(element_words(element)),
+        ParameterKind::BufferVariable(access) => with_access(detail, access),
+        ParameterKind::Mode => detail.words(b"a release mode"),
+        ParameterKind::IsCopy => detail.words(b"NULL or the address of a jboolean"),
+    }
+}
+
+/// An argument whose own parts don't fit each other.
+fn unformed_argument(known: &Known<'_, Sort>, argument: &Argument) -> Option<Detail> {
+    match argument {
+        Argument::Value(e) => unformed(known, e),
+        Argument::Text(_) | Argument::AddressOf(_) => None,
+    }
+}
+
+/// The first argument of a call that doesn't fit, by its number after `env`.
+fn misfit_call(known: &Known<'_, Sort>, call: &Call, kinds: &[ParameterKind]) -> Detail {
+    for (number, argument) in call.arguments.iter().enumerate() {
+        if let Some(detail) = unformed_argument(known, argument) {
+            return detail;
+        }
+        if let Some(kind) = kinds.get(number) {
+            if !argument_fits(known, *kind, argument) {
+                let detail = Detail::of(call.function.as_bytes())
+                    .words(b", argument ")
+                    .number(number.saturating_add(1))
+                    .words(b" after env: found ");
+                let detail = with_argument(detail, known, argument).words(b", wanted ");
+                return with_parameter(detail, *kind);
+            }
+        }
+    }
+    Detail::none()
+}
+
+/// What doesn't fit in a statement.
+fn misfit_form(known: &Known<'_, Sort>, returns: ResultType, form: &Form) -> Detail {
+    let function = function_called(form);
+    if !statement_fits(known, returns, form, function) {
+        return misfit_statement(known, returns, form, function);
+    }
+    match own_call(form) {
+        None => Detail::none(),
+        Some(call) => match function {
+            None => misfit_call(known, call, &[]),
+            Some(f) => misfit_call(known, call, f.prototype().parameters),
+        },
+    }
+}
+
+/// Whether a name isn't known.
+#[derive(Clone, Copy)]
+struct Unknown<'k, 'a> {
+    known: &'k Known<'a, Sort>,
+}
+
+impl Question for Unknown<'_, '_> {
+    fn holds(&self, name: &Name, _has_index: bool) -> bool {
+        is_unknown(self.known, name)
+    }
+}
+
+/// The first name that a statement sets or uses and that isn't known.
+fn unknown_name<'f>(known: &Known<'_, Sort>, form: &'f Form) -> Option<&'f Name> {
+    match form {
+        Form::Assign(x, _) if is_unknown(known, x) => Some(x),
+        _ => first_name(form, &Unknown { known }),
+    }
+}
+
+/// A name alone.
+fn named(name: Option<&Name>) -> Detail {
+    match name {
+        Some(name) => Detail::of(name.as_bytes()),
+        None => Detail::none(),
+    }
+}
+
+/// The name that a statement declares.
+fn declared_name(form: &Form) -> Option<&Name> {
+    match declared(form) {
+        Some((name, _)) => Some(name),
+        None => None,
+    }
+}
+
+/// How many arguments a call has, and how many its function takes.
+fn miscounted(call: &Call) -> Detail {
+    let detail = Detail::of(call.function.as_bytes());
+    match jni::function_named(call.function.as_bytes()) {
+        None => detail,
+        Some(f) => detail
+            .words(b": found ")
+            .number(call.arguments.len())
+            .words(b" after env, wanted ")
+            .number(f.prototype().parameters.len()),
+    }
+}
+
+/// The name that a reference is set to.
+fn copied(form: &Form) -> Detail {
+    match form {
+        Form::Declare(_, _, RightSide::Expr(Expr::Variable(x)))
+        | Form::Assign(_, RightSide::Expr(Expr::Variable(x))) => Detail::of(x.as_bytes()),
+        _ => Detail::none(),
+    }
+}
+
+/// What is told of a rule that a statement breaks.
+pub(crate) fn statement_detail(
+    known: &Known<'_, Sort>,
+    returns: ResultType,
+    form: &Form,
+    rule: SortRule,
+) -> Detail {
+    match rule {
+        SortRule::UnknownName => named(unknown_name(known, form)),
+        SortRule::DeclaredTwice => named(declared_name(form)),
+        SortRule::SortMisfit => misfit_form(known, returns, form),
+        SortRule::ReferenceCopied => copied(form),
+        SortRule::ReadOnlyWrite => match form {
+            Form::AssignElement(x, _, _) => named(Some(x)),
+            _ => Detail::none(),
+        },
+        SortRule::UnknownFunction | SortRule::ArgumentCount | SortRule::BadMode => {
+            match own_call(form) {
+                Some(call) => call_detail(call, rule),
+                None => Detail::none(),
+            }
+        }
+    }
+}
+
+/// What is told of a rule that a call breaks.
+fn call_detail(call: &Call, rule: SortRule) -> Detail {
+    match rule {
+        SortRule::ArgumentCount => miscounted(call),
+        SortRule::BadMode => Detail::of(call.function.as_bytes()).words(
+            b": wanted 0, JNI_COMMIT or JNI_ABORT",
+        ),
+        _ => Detail::of(call.function.as_bytes()),
+    }
+}
+
+/// The first of these names that another one is spelled like.
+fn repeated(names: &[Name]) -> Option<&Name> {
+    for (i, name) in names.iter().enumerate() {
+        if has_name(&names[i + 1..], name) {
+            return Some(name);
+        }
+    }
+    None
+}
+
+/// What is told of a rule that a function's head breaks after items of these names, where its parameters and the statics have
+/// those of `entry`.
+pub(crate) fn head_detail(names: &[Name], entry: &[Name], f: &Function, rule: SortRule) -> Detail {
+    match rule {
+        SortRule::UnknownName => Detail::of(f.name.as_bytes()).words(
+            b" is no native method's name: wanted Java_CLASS_METHOD",
+        ),
+        _ => {
+            if has_name(names, &f.name) {
+                return Detail::of(f.name.as_bytes());
+            }
+            named(repeated(entry))
+        }
+    }
+}

@@ -1,0 +1,120 @@
+//! What is told of the first fault of a schedule's or a journal's text, for its reader; no contract says which words these are.
+
+use details::Detail;
+use std::alloc::Global;
+use world_schedules::{ReadError, Rule, Split, read_journal, read_schedule};
+
+/// What a text of words is.
+#[derive(Clone, Copy)]
+enum Order {
+    Schedule,
+    Journal,
+}
+
+/// The rule that a word breaks by itself.
+fn rule_of(alloc: Global, order: Order, word: &[u8], threads: u8) -> Option<Rule> {
+    let error = match order {
+        Order::Schedule => match read_schedule(alloc, word, threads) {
+            Ok(_) => return None,
+            Err(error) => error,
+        },
+        Order::Journal => match read_journal(alloc, word, threads) {
+            Ok(_) => return None,
+            Err(error) => error,
+        },
+    };
+    match error {
+        ReadError::Memory => None,
+        ReadError::Fault(fault) => Some(fault.rule),
+    }
+}
+
+/// The first word of a line that has no form, or the first that breaks another rule.
+fn first_word<'t>(
+    alloc: Global,
+    order: Order,
+    line: &'t [u8],
+    threads: u8,
+    is_form: bool,
+) -> Option<&'t [u8]> {
+    for word in Split::new(line, b' ') {
+        let is_broken = match rule_of(alloc, order, word, threads) {
+            None => false,
+            Some(Rule::Form) => is_form,
+            Some(_) => !is_form,
+        };
+        if is_broken {
+            return Some(word);
+        }
+    }
+    None
+}
+
+/// What is told of a line whose words break a rule by themselves.
+fn line_detail(alloc: Global, order: Order, line: &[u8], threads: u8) -> Option<Detail> {
+    if let Some(word) = first_word(alloc, order, line, threads, true) {
+        return Some(Detail::of(b"found ").quoted(word));
+    }
+    let word = first_word(alloc, order, line, threads, false)?;
+    Some(
+        Detail::of(b"found ")
+            .quoted(word)
+            .words(b", threads are ")
+            .number(usize::from(threads)),
+    )
+}
+
+/// What was found at the first fault of a text of words: where each word keeps its own rules, there are too many.
+fn order_detail(alloc: Global, order: Order, text: &[u8], threads: u8) -> Detail {
+    for line in Split::new(text, b'\n') {
+        if let Some(detail) = line_detail(alloc, order, line, threads) {
+            return detail;
+        }
+    }
+    Detail::of(b"at most 1000000 in all")
+}
+
+/// What was found at the first fault of a schedule's text, for a world of this number of threads.
+pub fn schedule_detail(alloc: Global, text: &[u8], threads: u8) -> Detail {
+    order_detail(alloc, Order::Schedule, text, threads)
+}
+
+/// What was found at the first fault of a journal's text, for a world of this number of threads.
+pub fn journal_detail(alloc: Global, text: &[u8], threads: u8) -> Detail {
+    order_detail(alloc, Order::Journal, text, threads)
+}
+
+/// The word of an entry of a journal, counted from 1.
+pub fn entry_detail(text: &[u8], entry: usize) -> Detail {
+    let mut left = entry;
+    for line in Split::new(text, b'\n') {
+        for word in Split::new(line, b' ') {
+            if !word.is_empty() {
+                left = left.saturating_sub(1);
+                if left == 0 {
+                    return Detail::of(b"found ").quoted(word);
+                }
+            }
+        }
+    }
+    Detail::none()
+}
+
+/// The second word of a line.
+fn second_word(line: &[u8]) -> Option<&[u8]> {
+    let mut words = Split::new(line, b' ');
+    let _ = words.next();
+    words.next()
+}
+
+/// The name of the function that is called on a line of a world's text, counted from 1.
+pub fn called_on(text: &[u8], line: usize) -> Option<&[u8]> {
+    let mut left = line;
+    for bytes in Split::new(text, b'\n') {
+        left = left.saturating_sub(1);
+        if left == 0 {
+            return second_word(bytes);
+        }
+    }
+    None
+}
