@@ -1,6 +1,6 @@
 -- What the program answers, by what its words ask for.
 use Rattle.std.specs.Prelude.{◌≡◌, ℕ, List, Option, Some, None, codes, string_bytes}
-use Rattle.report.specs.Sink.{Written}
+use Rattle.sinks.specs.Sink.{Written}
 use Rattle.jnirun.specs.Runs.{AppendsRun, StopsRun}
 use Rattle.cli_commands.specs.Saying.{Tells}
 use Rattle.jnirun.specs.Serve.{Serves}

@@ -1,14 +1,14 @@
 //! The program over any files and sinks, once the words are read.
 
 ghost use Rattle.std.specs.Prelude.{◌≡◌, ◌≢◌, codes};
-ghost use Rattle.report.specs.Sink.{CanFail};
+ghost use Rattle.sinks.specs.Sink.{CanFail};
 ghost use Rattle.cli_commands.specs.Saying.{Tells};
 ghost use Rattle.cli.specs.Answers.{IsTextOf, Shows, Declines, Answers};
 
 use cli_explanations::Explanation;
 use cli_words::Request;
 use jnirun::{COMMAND_LINE, DONE, Files, fail, say, serve};
-use report::Sink;
+use sinks::Sink;
 use std::alloc::Global;
 use std::io::ErrorKind;
 use std::sync::Wait;

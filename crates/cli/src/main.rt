@@ -2,13 +2,13 @@
 //! their journals, `jnirun replay PROG WORLD JOURNAL`, and explains faults and traps, `jnirun explain N` and `jnirun explain trap N`.
 #![tactic(auto)]
 
-ghost use Rattle.report.specs.Sink.{CanFail};
+ghost use Rattle.sinks.specs.Sink.{CanFail};
 
 mod answering;
 
 use crate::answering::{answer, lacks_words};
 use jnirun::{FileSystem, fail};
-use report::{Sink, StdSink};
+use sinks::{Sink, StdSink};
 use std::env::Args;
 use std::process::ExitCode;
 use std::rt::Files;

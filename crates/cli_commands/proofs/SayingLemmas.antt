@@ -1,7 +1,7 @@
 -- What is said, as what is told.
 use Rattle.std.proofs.Common.{◌≡◌, ℕ, List, Result, Ok, Err, inl, inr}
 use Rattle.std.specs.Prelude.{OnOk}
-use Rattle.report.specs.Sink.{Written, Writes}
+use Rattle.sinks.specs.Sink.{Written, Writes}
 use Rattle.cli_commands.specs.Saying.{Tells}
 
 -- a text that is written, of which nothing waits, is told, or the sink failed within it

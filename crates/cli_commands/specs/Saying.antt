@@ -1,6 +1,6 @@
 -- What is said of a command.
 use Rattle.std.specs.Prelude.{◌≡◌, ◌⊎◌, ℕ, List, ◌++◌, codes, decimal}
-use Rattle.report.specs.Sink.{Written, AppendsText, StopsWithin}
+use Rattle.sinks.specs.Sink.{Written, AppendsText, StopsWithin}
 use Rattle.cli_commands.specs.declared.place.Place.{Place}
 use Rattle.cli_commands.specs.declared.place.Place.TheVariants.{Line, Entry}
 

@@ -1,13 +1,13 @@
 //! Texts that are sent on at once.
 
 ghost use Rattle.std.specs.Prelude.{◌≡◌, ◌++◌, OnOk, codes, decimal};
-ghost use Rattle.report.specs.Sink.{CanFail, Writes};
+ghost use Rattle.sinks.specs.Sink.{CanFail, Writes};
 ghost use Rattle.cli_commands.specs.Saying.{Tells, fault_line};
 
 use crate::place::Place;
 use crate::status::FAILED;
 use itoa::Buffer;
-use report::{Sink, SinkFailed, put_all, put_pieces};
+use sinks::{Sink, SinkFailed, put_all, put_pieces};
 
 /// Writes a text, and sends on all that waits.
 pub fn say<S: Sink>(sink: &mut S, text: &[u8]) -> Result<(), SinkFailed>

@@ -10,7 +10,7 @@ use Rattle.world_schedules.specs.Reading.{Fails}
 use Rattle.world_schedules.specs.ReadingJournals.{journal_of}
 use Rattle.world.specs.ReadingWorlds.{world_of_text}
 use Rattle.semantics.specs.World.{World}
-use Rattle.report.specs.Sink.{Written}
+use Rattle.sinks.specs.Sink.{Written}
 use Rattle.world_values.specs.WorldRules.{IsWorldText}
 use Rattle.semantics.specs.Load.{first_load_fault}
 use Rattle.report.specs.RunText.{Writes}

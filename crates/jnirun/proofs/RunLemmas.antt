@@ -12,7 +12,7 @@ use Rattle.world_schedules.specs.ReadingSchedules.{schedule_of}
 use Rattle.world.specs.ReadingWorlds.{world_of_text}
 use Rattle.semantics.specs.Schedule.{Schedule}
 use Rattle.world_schedules.specs.ScheduleText.{IsScheduleText}
-use Rattle.report.specs.Sink.{Written}
+use Rattle.sinks.specs.Sink.{Written}
 use Rattle.semantics.specs.Load.{first_load_fault}
 use Rattle.semantics.specs.declared.journal.Entry.{Entry}
 use Rattle.semantics.specs.Journal.{Journal}

@@ -1,7 +1,7 @@
 -- What is said on standard error, as how a command goes.
 use Rattle.std.proofs.Common.{◌≡◌, ℕ, List, Some, Result, refl, subst}
 use Rattle.std.specs.Prelude.{OnOk, codes}
-use Rattle.report.specs.Sink.{Written, Writes}
+use Rattle.sinks.specs.Sink.{Written, Writes}
 use Rattle.cli_commands.specs.declared.command.Command.{Command}
 use Rattle.cli_commands.specs.declared.place.Place.{Place}
 use Rattle.cli_commands.specs.declared.place.Place.TheVariants.{Line}

@@ -11,7 +11,7 @@ use Rattle.world_schedules.specs.Reading.{Fails}
 use Rattle.world.specs.ReadingWorlds.{world_of_text}
 use Rattle.report.specs.ReportText.{report_text}
 use Rattle.report.specs.RunText.{Writes}
-use Rattle.report.specs.Sink.{Written}
+use Rattle.sinks.specs.Sink.{Written}
 use Rattle.semantics.specs.JournalText.{journal_line}
 use Rattle.semantics.specs.Load.{first_load_fault}
 use Rattle.semantics.specs.ReportOf.{report}

@@ -4,7 +4,7 @@ use Rattle.std.specs.Option.{option_map}
 use Rattle.code_meaning.specs.Length.{IsTooLong}
 use Rattle.semantics.specs.Journal.{Journal}
 use Rattle.world_schedules.specs.ScheduleText.{IsScheduleText}
-use Rattle.report.specs.Sink.{Written, AppendsText, StopsWithin}
+use Rattle.sinks.specs.Sink.{Written, AppendsText, StopsWithin}
 use Rattle.world_values.specs.WorldRules.{IsWorldText}
 use Rattle.semantics.specs.Run.{JournalFollows, MarkedAreFair, UnmarkedFit}
 use Rattle.report.specs.RunText.{Writes}

@@ -1,6 +1,6 @@
 -- What the commands do with files, standard output and standard error.
 use Rattle.std.specs.Prelude.{◌≡◌, ℕ, List, [], Option, Some, None, codes}
-use Rattle.report.specs.Sink.{Written, StopsWithin}
+use Rattle.sinks.specs.Sink.{Written, StopsWithin}
 use Rattle.cli_commands.specs.declared.command.Command.{Command}
 use Rattle.cli_commands.specs.declared.command.Command.TheVariants.{Check, Run, Work, Replay}
 use Rattle.cli_commands.specs.declared.place.Place.{Place}

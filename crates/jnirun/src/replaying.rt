@@ -2,7 +2,7 @@
 
 ghost use Rattle.std.specs.Prelude.{◌≡◌, ℕ, List, Ok};
 ghost use Rattle.syntax.specs.Views.{unit_tree};
-ghost use Rattle.report.specs.Sink.{CanFail};
+ghost use Rattle.sinks.specs.Sink.{CanFail};
 ghost use Rattle.jnirun.specs.Errors.{of_replay};
 ghost use Rattle.program_check.specs.Programs.{IsProgram};
 ghost use Rattle.jnirun.specs.Runs.{RunsTexts};
@@ -17,7 +17,7 @@ use parse::one_unit;
 use program_check::{RunError, read_program};
 use region_rules::Checked;
 use replay::{ReplayFault, TrapAt, replay};
-use report::Sink;
+use sinks::Sink;
 use std::alloc::Global;
 use world::read_world;
 use world_schedules::read_journal;

@@ -2,7 +2,7 @@
 
 ghost use Rattle.std.specs.Prelude.{◌≡◌, ◌≤◌, ℕ, List, [], length, Ok};
 ghost use Rattle.syntax.specs.Views.{unit_tree};
-ghost use Rattle.report.specs.Sink.{CanFail};
+ghost use Rattle.sinks.specs.Sink.{CanFail};
 ghost use Rattle.jnirun.specs.Errors.{of_lower, of_reading, of_load, of_report};
 ghost use Rattle.program_check.specs.Programs.{IsProgram};
 ghost use Rattle.jnirun.specs.Texts.{Meaning, AreRefused};
@@ -21,8 +21,8 @@ use machine::{LoadFault, Machine, ReportFault, RunFault};
 use program_check::{RunError, read_program, too_long};
 use region_rules::Checked;
 use replay::TrapAt;
-use report::Sink;
 use semantics::Stop;
+use sinks::Sink;
 use std::alloc::Global;
 use world::read_world;
 use world_schedules::{ReadError, Schedule, read_schedule};

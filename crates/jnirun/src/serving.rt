@@ -1,7 +1,7 @@
 //! The commands over any files and sinks.
 
 ghost use Rattle.std.specs.Prelude.{◌≡◌, None};
-ghost use Rattle.report.specs.Sink.{CanFail};
+ghost use Rattle.sinks.specs.Sink.{CanFail};
 ghost use Rattle.program_check.specs.Checks.{PassesCheck, FailsCheck};
 ghost use Rattle.jnirun.specs.Runs.{RunsTexts};
 ghost use Rattle.jnirun.specs.Serve.{TextsWrite, TextsEarn, passed, TellsTrap, ServesTexts, Serves};
@@ -16,7 +16,7 @@ use cli_commands::{
 };
 use program_check::{RunError, check_text};
 use replay::TrapAt;
-use report::Sink;
+use sinks::Sink;
 use std::alloc::Global;
 use std::sync::Wait;
 use std::thread::Threads;

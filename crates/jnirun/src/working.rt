@@ -2,7 +2,7 @@
 
 ghost use Rattle.std.specs.Prelude.{◌≡◌, ℕ, List, Ok};
 ghost use Rattle.syntax.specs.Views.{unit_tree};
-ghost use Rattle.report.specs.Sink.{CanFail};
+ghost use Rattle.sinks.specs.Sink.{CanFail};
 ghost use Rattle.shared.specs.Work.{VerdictHolds};
 ghost use Rattle.program_check.specs.Programs.{IsProgram};
 ghost use Rattle.jnirun.specs.Running.{IsPassed, IsUnderWay, HasRoom};
@@ -18,8 +18,8 @@ use machine::Machine;
 use program_check::{RunError, read_program};
 use region_rules::Checked;
 use replay::TrapAt;
-use report::Sink;
 use shared::{Gate, Verdict, run_workers};
+use sinks::Sink;
 use std::alloc::Global;
 use std::sync::Wait;
 use std::thread::Threads;

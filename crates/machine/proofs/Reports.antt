@@ -11,8 +11,8 @@ use Rattle.report.specs.declared.thread_status.ThreadStatus.{ThreadStatus}
 use Rattle.semantics.specs.JournalText.{journal_line}
 use Rattle.semantics.specs.Report.{ThreadStanding, ShownRow, Report}
 use Rattle.report.specs.ReportText.{report_text}
-use Rattle.report.specs.Sink as sink
-use Rattle.report.specs.Sink.{Written}
+use Rattle.sinks.specs.Sink as sink
+use Rattle.sinks.specs.Sink.{Written}
 use Rattle.semantics.specs.World.{World, loaded_objects}
 use Rattle.report.specs.Shown.{report_with}
 use Rattle.report.specs.ThreadStatus.{standing_view}

@@ -11,8 +11,8 @@ use Rattle.semantics.specs.declared.printed.Printed.{Printed}
 use Rattle.semantics.specs.declared.schedule.ScheduleWord.{ScheduleWord}
 use Rattle.semantics.specs.declared.schedule.ScheduleWord.TheVariants.{Turn, Collect}
 use Rattle.semantics.specs.Schedule.{Schedule}
-use Rattle.report.specs.Sink as sink
-use Rattle.report.specs.Sink.{Written}
+use Rattle.sinks.specs.Sink as sink
+use Rattle.sinks.specs.Sink.{Written}
 use Rattle.semantics.specs.World.{World, loaded_objects}
 use Rattle.report.specs.RunText as run_text
 use Rattle.semantics.specs.Report.{ThreadStanding, ShownRow}

@@ -2,7 +2,7 @@
 
 ghost use Rattle.std.specs.Prelude.{◌≡◌, ◌+◌, ◌-◌, ◌<◌, ◌≤◌, ◌^◌, [], ◌∷◌, ◌++◌, length, map, replicate, slice_get, IfOk, IfErr, OnOk, OnErr, IfSome, IfNone, IsSome, Err, None, is_some, nat_le, vec_len, vec_capacity};
 ghost use Rattle.syntax.specs.Views.{unit_tree};
-ghost use Rattle.report.specs.Sink.{CanFail};
+ghost use Rattle.sinks.specs.Sink.{CanFail};
 ghost use Rattle.report.specs.ThreadStatus.{standing_view};
 ghost use Rattle.heap.specs.Heap.{left_of};
 ghost use Rattle.semantics.specs.EventViews.{ending_view, printed_after, stop_after};
@@ -35,11 +35,12 @@ use machine_steps::load::load_threads;
 use machine_steps::objects::load_store;
 use machine_steps::thread::Thread;
 use machine_steps::wait::waits;
-use report::{Rows, Sink, ThreadStatus, write_run};
+use report::{Rows, ThreadStatus, write_run};
 use report_objects::{reached_rows, standing_of};
 use semantics::{Entry, Event, Printed, ScheduleWord, Stop};
 use semantics_safety::accepted_is_safe;
 use semantics_typing::objects_are_typed;
+use sinks::Sink;
 use std::alloc::{AllocError, Global};
 use std::marker::Model;
 use world_schedules::Schedule;

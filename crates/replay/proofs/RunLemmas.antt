@@ -15,7 +15,7 @@ use Rattle.semantics.specs.Report.{Report, ShownRow}
 use Rattle.semantics.specs.ReportOf.{report}
 use Rattle.semantics.specs.Thread.{Shared}
 use Rattle.report.specs.ReportText.{report_text}
-use Rattle.report.specs.Sink.{Written}
+use Rattle.sinks.specs.Sink.{Written}
 use Rattle.report.specs.Shown.{report_with}
 use Rattle.semantics.specs.World.{World}
 use Rattle.semantics.specs.Load.{first_load_fault}

@@ -4,7 +4,7 @@ use Rattle.std.specs.Option.{option_map}
 use Rattle.syntax.specs.Tree.{SourceUnit}
 use Rattle.semantics.specs.declared.journal.Entry.{Entry}
 use Rattle.semantics.specs.Journal.{Journal}
-use Rattle.report.specs.Sink.{Written, AppendsText, StopsWithin}
+use Rattle.sinks.specs.Sink.{Written, AppendsText, StopsWithin}
 use Rattle.semantics.specs.World.{World}
 use Rattle.semantics.specs.Load.{first_load_fault}
 use Rattle.semantics.specs.Run.{replay}

@@ -12,8 +12,8 @@ use Rattle.semantics.specs.Report.{ShownRow}
 use Rattle.report.specs.ReportText.{thread_line, printed_line, report_text}
 use Rattle.report.specs.Shown.{row_lines, report_with}
 use Rattle.report.specs.ThreadStatus.{standing_view}
-use Rattle.report.specs.Sink.{Written, AppendsText, Writes}
-use Rattle.report.proofs.Puts.{flat_map-at, flat_map-past}
+use Rattle.sinks.specs.Sink.{Written, AppendsText, Writes}
+use Rattle.sinks.proofs.Puts.{flat_map-at, flat_map-past}
 
 -- threads with their numbers
 abbrev pub numbered : List ThreadStatus → List (ℕ × Rattle.semantics.specs.Report.ThreadStanding)

@@ -1,4 +1,3 @@
-pub mod Sink
 pub mod ReportText
 pub mod RunText
 pub mod ThreadStatus

@@ -2,14 +2,10 @@
 #![tactic(auto)]
 
 mod rows;
-mod sink;
-mod std_sink;
 mod text;
 mod thread_status;
 mod writing;
 
 pub use rows::{NoRows, Rows, Shown, put_row_end, put_row_head, put_value};
-pub use sink::{Sink, SinkFailed, put_all, put_pieces};
-pub use std_sink::StdSink;
 pub use thread_status::ThreadStatus;
 pub use writing::{write_journal, write_report, write_run};

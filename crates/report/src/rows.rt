@@ -4,10 +4,10 @@ ghost use Rattle.std.specs.Prelude.{List, ◌++◌, [], codes};
 ghost use Rattle.semantics.specs.Report.{ShownRow};
 ghost use Rattle.report.specs.ReportText.{shown_text, text_line};
 ghost use Rattle.report.specs.Shown.{shown_view, row_head, row_lines};
-ghost use Rattle.report.specs.Sink.{CanFail, Writes};
+ghost use Rattle.sinks.specs.Sink.{CanFail, Writes};
 
-use crate::sink::{Sink, SinkFailed, put_all, put_pieces};
 use itoa::Buffer;
+use sinks::{Sink, SinkFailed, put_all, put_pieces};
 
 /// What has rows to show.
 pub trait Rows {

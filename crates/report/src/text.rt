@@ -2,9 +2,9 @@
 
 ghost use Rattle.std.specs.Prelude.{ℕ, List};
 ghost use Rattle.std.specs.List.{flat_map};
-ghost use Rattle.report.specs.Sink.{CanFail, Writes};
+ghost use Rattle.sinks.specs.Sink.{CanFail, Writes};
 
-use crate::sink::{Sink, SinkFailed};
+use sinks::{Sink, SinkFailed};
 
 /// A value that has a text.
 pub trait Text {

@@ -2,14 +2,14 @@
 
 ghost use Rattle.std.specs.Prelude.{◌++◌, codes, decimal, map};
 ghost use Rattle.std.specs.List.{flat_map, enumerate_from};
-ghost use Rattle.report.specs.Sink.{CanFail, Writes};
+ghost use Rattle.sinks.specs.Sink.{CanFail, Writes};
 ghost use Rattle.report.specs.ReportText.{thread_line};
 ghost use Rattle.report.specs.ThreadStatus.{standing_view};
 
-use crate::sink::{Sink, SinkFailed, put_pieces};
 use crate::text::Text;
 use itoa::Buffer;
 use semantics::Printed;
+use sinks::{Sink, SinkFailed, put_pieces};
 
 /// The status of a thread when the run is over.
 #[derive(Clone, Copy)]

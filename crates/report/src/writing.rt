@@ -2,19 +2,19 @@
 
 ghost use Rattle.std.specs.Prelude.{◌≡◌, ◌+◌, ◌≤◌, ◌++◌, OnOk, codes, decimal};
 ghost use Rattle.arrayvec.specs.ArrayVec.{array_vec_len};
-ghost use Rattle.report.specs.Sink.{CanFail, Writes};
+ghost use Rattle.sinks.specs.Sink.{CanFail, Writes};
 ghost use Rattle.report.specs.ReportText.{report_text};
 ghost use Rattle.report.specs.Shown.{report_with};
 ghost use Rattle.semantics.specs.JournalText.{entry_text, journal_line};
 ghost use Rattle.semantics.specs.JournalText.{spelled_entries};
 
 use crate::rows::Rows;
-use crate::sink::{Sink, SinkFailed, put_all};
 use crate::text::put_each;
 use crate::thread_status::{ThreadStatus, put_standings};
 use arrayvec::ArrayVec;
 use itoa::Buffer;
 use semantics::{Entry, Printed};
+use sinks::{Sink, SinkFailed, put_all};
 
 /// Appends a number in decimal.
 #[tactic(auto, using(std::proofs::lemmas::Fmt::decimal_digit))]

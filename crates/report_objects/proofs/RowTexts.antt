@@ -9,8 +9,8 @@ use Rattle.semantics.specs.Report.{ShownValue}
 use Rattle.semantics.specs.ReportOf.{shown_value, shown_row}
 use Rattle.report.specs.ReportText.{shown_text, text_line, object_line}
 use Rattle.report.specs.Shown.{row_head, row_lines}
-use Rattle.report.specs.Sink.{Written, AppendsText, StopsWithin, Writes}
-use Rattle.report.proofs.Puts.{AppendsText-then, StopsWithin-more, StopsWithin-then, Writes-then}
+use Rattle.sinks.specs.Sink.{Written, AppendsText, StopsWithin, Writes}
+use Rattle.sinks.proofs.Puts.{AppendsText-then, StopsWithin-more, StopsWithin-then, Writes-then}
 use Rattle.reachability.specs.Marks.{is_marked}
 use Rattle.report_objects.specs.Rows.{marked_rows}
 use Rattle.report_objects.proofs.PassingNames.{passing-kept, passing-left, passing-end}

@@ -3,15 +3,16 @@
 ghost use Rattle.std.specs.Prelude.{◌≡◌, length, map, codes, ◌++◌, flat_map};
 ghost use Rattle.report.specs.ReportText.{object_line, shown_text};
 ghost use Rattle.report.specs.Shown.{shown_view};
-ghost use Rattle.report.specs.Sink.{CanFail, Writes};
+ghost use Rattle.sinks.specs.Sink.{CanFail, Writes};
 ghost use Rattle.semantics.specs.Heap.{values_of};
 ghost use Rattle.semantics.specs.ReportOf.{shown_value, shown_row};
 ghost use Rattle.report_objects.specs.Names.{IsWithin};
 ghost use Rattle.semantics.specs.Views.{object_value_view};
 
 use classes::table::ClassTable;
-use report::{Shown, Sink, SinkFailed, put_row_end, put_row_head, put_value};
+use report::{Shown, put_row_end, put_row_head, put_value};
 use semantics::{ObjectValue, Objects};
+use sinks::{Sink, SinkFailed};
 
 /// A value as a row shows it: a class object by its class.
 fn shown(classes: &ClassTable, value: ObjectValue) -> Shown<'_>

@@ -2,15 +2,16 @@
 
 ghost use Rattle.std.specs.Prelude.{◌≡◌, ◌+◌, ◌<◌, length, IfOk};
 ghost use Rattle.report.specs.Shown.{row_lines};
-ghost use Rattle.report.specs.Sink.{CanFail, Writes};
+ghost use Rattle.sinks.specs.Sink.{CanFail, Writes};
 ghost use Rattle.report_objects.specs.Rows.{marked_rows, AreReported};
 
 use crate::names::Names;
 use crate::roots::marked_roots;
 use crate::row::put_row;
 use classes::table::ClassTable;
-use report::{Rows, Sink, SinkFailed};
+use report::Rows;
 use semantics::Objects;
+use sinks::{Sink, SinkFailed};
 use std::alloc::{AllocError, Global};
 use std::marker::Model;
 

@@ -4,7 +4,7 @@ use jnirun::{
     Command, DONE, FAILED, FileFault, Files, REFUSED, TrapAt, check_text, replay_text, run_text,
     serve, work_text,
 };
-use report::StdSink;
+use sinks::StdSink;
 use std::alloc::Global;
 use std::io;
 use std::io::{ErrorKind, Write};

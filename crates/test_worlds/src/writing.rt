@@ -1,9 +1,8 @@
 //! Sinks that take few bytes at a time, or fail.
 
-use report::{
-    NoRows, Sink, SinkFailed, StdSink, ThreadStatus, write_journal, write_report, write_run,
-};
+use report::{NoRows, ThreadStatus, write_journal, write_report, write_run};
 use semantics::{Entry, Printed};
+use sinks::{Sink, SinkFailed, StdSink};
 use std::io;
 use std::io::{ErrorKind, Write};
 use std::test::Fail;

@@ -1,5 +1,5 @@
 use Rattle.std.proofs.lemmas.Result.{err_from_is_err_and}
-use Rattle.report.proofs.Puts.{goes_on, stops, flat_map-at}
+use Rattle.sinks.proofs.Puts.{goes_on, stops, flat_map-at}
 use Rattle.report.proofs.text.put_each.Goals as goal
 
 pub returns-in_err-put : goal.returns-in_err-put

@@ -1,6 +1,6 @@
 use Rattle.std.proofs.Common.{drop}
 use Rattle.std.specs.List.{flat_map}
-use Rattle.report.proofs.Puts.{PutSoFar}
+use Rattle.sinks.proofs.Puts.{PutSoFar}
 use Rattle.report.proofs.text.put_each.Given as goal
 
 abbrev pub invariant-loop-value : goal.invariant-loop-value

@@ -1,6 +1,6 @@
 use Rattle.std.proofs.Common.{rules}
 use Rattle.std.proofs.lemmas.Result.{err_from_is_err_and}
-use Rattle.report.proofs.Puts.{goes_on, stops, is_all}
+use Rattle.sinks.proofs.Puts.{goes_on, stops, is_all}
 use Rattle.report.proofs.ReportLemmas.{standings_at, standings_past}
 use Rattle.report.proofs.thread_status.put_standings.Goals as goal
 

@@ -2,7 +2,7 @@ use Rattle.std.proofs.Common.{◌≡◌, drop, map}
 use Rattle.std.specs.List.{flat_map, enumerate_from}
 use Rattle.report.specs.ReportText.{thread_line}
 use Rattle.report.specs.ThreadStatus.{standing_view}
-use Rattle.report.proofs.Puts.{PutSoFar}
+use Rattle.sinks.proofs.Puts.{PutSoFar}
 use Rattle.report.proofs.thread_status.put_standings.Given as goal
 
 abbrev pub invariant-loop-standing : goal.invariant-loop-standing

@@ -4,8 +4,8 @@ use Rattle.std.proofs.lemmas.Result.{err_from_is_err_and}
 use Rattle.semantics.specs.declared.journal.Entry.{Entry}
 use Rattle.semantics.specs.JournalText.{entry_text}
 use Rattle.semantics.specs.JournalText.{spelled_entries}
-use Rattle.report.specs.Sink.{Written, AppendsText, Writes}
-use Rattle.report.proofs.Puts.{PutSoFar, goes_on, is_all, stops, flat_map-at, flat_map-past}
+use Rattle.sinks.specs.Sink.{Written, AppendsText, Writes}
+use Rattle.sinks.proofs.Puts.{PutSoFar, goes_on, is_all, stops, flat_map-at, flat_map-past}
 use Rattle.report.proofs.writing.put_entries.Goals as goal
 use Rattle.report.proofs.writing.put_entries.Goals.{then-remaining_capacity-lt5+in_ok-put_all, else-remaining_capacity-lt5}
 

@@ -1,6 +1,6 @@
 use Rattle.std.proofs.Common.{◌++◌, drop}
 use Rattle.semantics.specs.JournalText.{spelled_entries}
-use Rattle.report.proofs.Puts.{PutSoFar}
+use Rattle.sinks.proofs.Puts.{PutSoFar}
 use Rattle.report.proofs.writing.put_entries.Given as goal
 
 abbrev pub invariant-loop-entry : goal.invariant-loop-entry

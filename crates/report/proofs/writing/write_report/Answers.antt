@@ -3,7 +3,7 @@ use Rattle.std.specs.List.{flat_map}
 use Rattle.std.proofs.lemmas.Result.{err_from_is_err_and}
 use Rattle.report.specs.ReportText.{printed_line, thread_line}
 use Rattle.report.specs.Shown.{row_lines}
-use Rattle.report.proofs.Puts.{AppendsText-then, Writes-then, StopsWithin-more, StopsWithin-then}
+use Rattle.sinks.proofs.Puts.{AppendsText-then, Writes-then, StopsWithin-more, StopsWithin-then}
 use Rattle.report.proofs.ReportLemmas.{numbered, report_text-with}
 use Rattle.report.proofs.writing.write_report.Goals as goal
 

@@ -4,8 +4,8 @@ use Rattle.std.proofs.lemmas.Result.{err_from_is_err_and}
 use Rattle.semantics.specs.Heap.{values_of}
 use Rattle.semantics.specs.Report.{ShownValue}
 use Rattle.report.specs.ReportText.{shown_text}
-use Rattle.report.specs.Sink.{AppendsText, StopsWithin}
-use Rattle.report.proofs.Puts.{goes_on, stops}
+use Rattle.sinks.specs.Sink.{AppendsText, StopsWithin}
+use Rattle.sinks.proofs.Puts.{goes_on, stops}
 use Rattle.semantics.specs.Views.{object_value_view}
 use Rattle.report_objects.proofs.RowTexts.{value_at}
 use Rattle.report_objects.proofs.row.put_values.Goals as goal

@@ -1,7 +1,7 @@
 use Rattle.std.proofs.Common.{drop, map}
 use Rattle.semantics.specs.Heap.{values_of}
 use Rattle.semantics.specs.ReportOf.{shown_value}
-use Rattle.report.proofs.Puts.{PutSoFar}
+use Rattle.sinks.proofs.Puts.{PutSoFar}
 use Rattle.report_objects.proofs.RowTexts.{values_text}
 use Rattle.report_objects.proofs.row.put_values.Given as goal
 

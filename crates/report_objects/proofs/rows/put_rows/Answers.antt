@@ -1,7 +1,7 @@
 use Rattle.std.proofs.Common.{◌≡◌, List, ℕ, subst, true, false}
 use Rattle.std.proofs.lemmas.Result.{err_from_is_err_and}
 use Rattle.report.specs.Shown.{row_lines}
-use Rattle.report.proofs.Puts.{PutSoFar, goes_on, stops, is_all}
+use Rattle.sinks.proofs.Puts.{PutSoFar, goes_on, stops, is_all}
 use Rattle.reachability.specs.Marks.{is_marked}
 use Rattle.report_objects.specs.Rows.{marked_rows}
 use Rattle.report_objects.proofs.RowTexts.{marked_next, unmarked_next, rows_end}

@@ -1,5 +1,5 @@
 use Rattle.report.specs.Shown.{row_lines}
-use Rattle.report.proofs.Puts.{PutSoFar}
+use Rattle.sinks.proofs.Puts.{PutSoFar}
 use Rattle.report_objects.specs.Rows.{marked_rows}
 use Rattle.report_objects.proofs.rows.put_rows.Given as goal
 

@@ -2,10 +2,11 @@
 use Rattle.std.proofs.Common.{◌≡◌, ℕ, ◌+◌, ◌<◌, ◌≤◌, List, length, get_or, drop, [], ◌++◌, Result, Ok, Err, refl, sym, ap, subst, ◌∙◌, append_assoc, append-nil}
 use Rattle.std.proofs.lemmas.List.{at_drop_more, drop_all}
 use Rattle.std.proofs.lemmas.List.Concat.{flat_map-cons}
+use Rattle.std.specs.Prelude.{OnOk, OnErr}
 use Rattle.std.specs.List.{flat_map}
 use Rattle.std.specs.Io.KnownBytes.{Keeps}
 use Rattle.std.proofs.KnownBytes.{Appends-nil, Appends-trans, Appends-kept}
-use Rattle.report.specs.Sink.{Written, AppendsText, StopsWithin, Writes}
+use Rattle.sinks.specs.Sink.{Written, AppendsText, StopsWithin, Writes}
 
 -- a front of the text was put, and the rest is still to be put
 pub record PutSoFar (old now : Written) (text rest : List ℕ) : Type 0 where
@@ -84,3 +85,15 @@ StopsWithin-more a b x y p = record {
 pub StopsWithin-then : (a b c : Written) (x y : List ℕ) → AppendsText a b x → StopsWithin b c y → StopsWithin a c (x ++ y)
 StopsWithin-then a b c x y p q =
     stops a b c (x ++ y) y y [] (record { part = x; whole = refl; put = p }) (sym (append-nil y)) q
+
+-- a flush after the whole text
+pub Writes-flushed : {T E : Type 0} (a b c : Written) (r : Result T E) (text : List ℕ) → AppendsText a b text → Keeps b.bytes c.bytes
+    → OnOk r (c.failures ≡ b.failures) → OnErr r (c.failures ≡ b.failures + 1) → Writes a c r text
+Writes-flushed a b c (Ok v) text p k s f = record { bytes = Appends-kept a.bytes b.bytes c.bytes text p.bytes k; failures = s ∙ p.failures }
+Writes-flushed a b c (Err e) text p k s f = record {
+  part = text;
+  rest = [];
+  whole = sym (append-nil text);
+  bytes = Appends-kept a.bytes b.bytes c.bytes text p.bytes k;
+  failures = f ∙ ap (λ (n : ℕ). n + 1) p.failures;
+}

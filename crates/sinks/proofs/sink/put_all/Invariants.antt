@@ -1,6 +1,6 @@
 use Rattle.std.proofs.Common.{length}
-use Rattle.report.proofs.Puts.{PutSoFar}
-use Rattle.report.proofs.sink.put_all.Given as goal
+use Rattle.sinks.proofs.Puts.{PutSoFar}
+use Rattle.sinks.proofs.sink.put_all.Given as goal
 
 abbrev pub invariant-loop-rest : goal.invariant-loop-rest
 invariant-loop-rest g l =

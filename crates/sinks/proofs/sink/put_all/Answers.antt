@@ -1,8 +1,8 @@
 use Rattle.std.proofs.Common.{◌≡◌, ◌++◌, take}
 use Rattle.std.proofs.lemmas.List.{take-append-drop}
-use Rattle.report.proofs.Puts.{goes_on}
-use Rattle.report.specs.Sink.{AppendsText}
-use Rattle.report.proofs.sink.put_all.Goals as goal
+use Rattle.sinks.proofs.Puts.{goes_on}
+use Rattle.sinks.specs.Sink.{AppendsText}
+use Rattle.sinks.proofs.sink.put_all.Goals as goal
 
 pub loop-rest-preserved : goal.loop-rest-preserved
 loop-rest-preserved g c =

@@ -3,7 +3,7 @@
 ghost use Rattle.std.specs.Prelude.{◌≡◌, ◌+◌, ◌<◌, ◌≤◌, length, take, IfOk, OnOk, OnErr};
 ghost use Rattle.std.specs.List.{flat_map};
 ghost use Rattle.std.specs.Io.KnownBytes.{Appends, Keeps};
-ghost use Rattle.report.specs.Sink.{Written, CanFail, Writes};
+ghost use Rattle.sinks.specs.Sink.{Written, CanFail, Writes};
 
 use thiserror::Error;
 

@@ -1,6 +1,6 @@
 use Rattle.std.proofs.Common.{◌≡◌, ◌-◌, length, drop}
 use Rattle.std.specs.Io.KnownBytes.{Keeps, append_known}
-use Rattle.report.proofs.std_sink.StdSink.send_all.Given as goal
+use Rattle.sinks.proofs.std_sink.StdSink.send_all.Given as goal
 
 abbrev pub invariant-loop-self : goal.invariant-loop-self
 invariant-loop-self g l = record {

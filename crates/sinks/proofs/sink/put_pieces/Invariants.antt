@@ -1,7 +1,7 @@
 use Rattle.std.proofs.Common.{drop}
 use Rattle.std.specs.List.{flat_map}
-use Rattle.report.proofs.Puts.{PutSoFar}
-use Rattle.report.proofs.sink.put_pieces.Given as goal
+use Rattle.sinks.proofs.Puts.{PutSoFar}
+use Rattle.sinks.proofs.sink.put_pieces.Given as goal
 
 abbrev pub invariant-loop-piece : goal.invariant-loop-piece
 invariant-loop-piece g l =

@@ -1,6 +1,6 @@
 use Rattle.std.proofs.lemmas.Result.{err_from_is_err_and}
-use Rattle.report.proofs.Puts.{goes_on, stops, flat_map-at}
-use Rattle.report.proofs.sink.put_pieces.Goals as goal
+use Rattle.sinks.proofs.Puts.{goes_on, stops, flat_map-at}
+use Rattle.sinks.proofs.sink.put_pieces.Goals as goal
 
 pub returns-in_err-put_all : goal.returns-in_err-put_all
 returns-in_err-put_all g c =
