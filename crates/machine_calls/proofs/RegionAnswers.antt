@@ -25,7 +25,7 @@ use Rattle.machine_calls.specs.StoreAgrees.{StoreAgrees}
 use Rattle.machine_calls.specs.declared.answer.Answer.{Answer}
 use Rattle.machine_calls.specs.declared.answer.Answer.TheVariants as replies
 use Rattle.machine_calls.specs.declared.array_region.ArrayRegion.{ArrayRegion}
-use Rattle.machine_calls.specs.declared.trap.Trap.TheVariants.{OutOfRange}
+use Rattle.semantics.specs.declared.trap.Trap.TheVariants.{OutOfRange}
 use Rattle.machine_calls.specs.Copies.{words_from}
 use Rattle.code.specs.declared.instr.LocalArray.{LocalArray as ArraySlots}
 use Rattle.semantics_typing.specs.Objects.{HasNumbers, element_type_of}

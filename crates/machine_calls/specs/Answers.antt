@@ -36,7 +36,7 @@ use Rattle.machine_calls.specs.FieldIds.{FieldAgrees}
 use Rattle.machine_calls.specs.HeapAgrees.{ReferenceAgrees, ValueAgrees}
 use Rattle.machine_calls.specs.Locals.{IsKeyOf}
 use Rattle.machine_calls.specs.NewObjects.{Describes, IsMakeable, text_in}
-use Rattle.machine_calls.specs.Traps.{trap_view}
+use Rattle.semantics.specs.EventViews.{trap_view}
 
 -- what a function of this kind of result gives; NULL where it failed
 abbrev pub GivenAgrees : Classes → Space → ResultKind → Given → CallResult → Type 0

@@ -16,4 +16,3 @@ pub mod NewObjects
 pub mod Answers
 pub mod Made
 pub mod CarriedOut
-pub mod Traps

@@ -36,7 +36,7 @@ use Rattle.machine_calls.specs.declared.buffer.Buffer.{Buffer}
 use Rattle.machine_calls.specs.declared.buffer.Buffer.TheVariants as buffer
 use Rattle.machine_calls.specs.declared.new_object.New.TheVariants.{Fresh, Array, Text}
 use Rattle.machine_calls.specs.Scenes.{Scene}
-use Rattle.machine_calls.specs.declared.trap.Trap.TheVariants.{Fatal, OutOfRange}
+use Rattle.semantics.specs.declared.trap.Trap.TheVariants.{Fatal, OutOfRange}
 use Rattle.machine_calls.specs.Given.{operand_at, key_at, operand_of, field_at, class_of_given, name_there, fits_there, field_there}
 
 -- the number of values of the object at an address, and 0 for NULL

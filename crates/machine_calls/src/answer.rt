@@ -28,7 +28,6 @@ use crate::operands::{
 use crate::references::References;
 use crate::scene::Scene;
 use crate::statics::StaticReference;
-use crate::trap::Trap;
 use classes::built_ins::{NO_CLASS_DEF_FOUND_ERROR, NO_SUCH_FIELD_ERROR};
 use classes::class::FieldHandle;
 use classes::table::ClassTable;
@@ -38,6 +37,7 @@ use code::stack::Stack;
 use heap::{Addr, Heap, Value};
 use jni::JniFunction;
 use monitors::Object;
+use semantics::Trap;
 use tables::Local;
 
 /// What a call gives.

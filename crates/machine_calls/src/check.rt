@@ -15,7 +15,7 @@ ghost use Rattle.machine_calls.specs.Locals.{locals_after};
 ghost use Rattle.tables.specs.Locals.{has_room};
 ghost use Rattle.machine_calls.specs.Checked.{arguments_asked, element_wanted, has_field, has_static, gives_null, gives_deleted, may_be_null, some_missing, class_misfits, misfits, some_misfit, fits_type_there, fit_together, puts_local, trap_found};
 ghost use Rattle.machine_calls.specs.Scenes.{scene_view};
-ghost use Rattle.machine_calls.specs.Traps.{trap_view};
+ghost use Rattle.semantics.specs.EventViews.{trap_view};
 ghost use Rattle.semantics.specs.Checks.{first_trap};
 ghost use Rattle.semantics.specs.Heap.{holds_number, holds_reference};
 ghost use Rattle.semantics.specs.Value.{Trap as SourceTrap};
@@ -26,7 +26,6 @@ use crate::operands::{
 };
 use crate::references::{Held, References};
 use crate::scene::Scene;
-use crate::trap::Trap;
 use classes::built_ins::{CLASS, STRING, THROWABLE, number_array};
 use classes::class::{ClassKind, ElementType, FieldHandle, FieldType};
 use classes::table::ClassTable;
@@ -34,6 +33,7 @@ use code::instr;
 use code::instr::{Call, Operand, Target};
 use heap::{Addr, Heap};
 use jni::{Access, JniFunction, ParameterKind, ResultKind};
+use semantics::Trap;
 use tables::Locals;
 
 /// Whether an operand gives NULL.

@@ -15,7 +15,6 @@ use crate::array_region::ArrayRegion;
 use crate::arrays::stack_number;
 use crate::operands::operand_of;
 use crate::scene::Scene;
-use crate::trap::Trap;
 use classes::built_ins::{
     ARRAY_INDEX_OUT_OF_BOUNDS_EXCEPTION, STRING_INDEX_OUT_OF_BOUNDS_EXCEPTION,
 };
@@ -23,6 +22,7 @@ use code::instr::{Call, LocalArray, Operand};
 use code::stack::Stack;
 use heap::{Addr, Heap, Value};
 use jni::JniFunction;
+use semantics::Trap;
 
 /// What a function of regions does (JNI Specification, chapter 4, "Get<PrimitiveType>ArrayRegion Routines",
 /// "Set<PrimitiveType>ArrayRegion Routines" and "GetStringRegion").

@@ -10,9 +10,9 @@ ghost use Rattle.machine_calls.specs.WorkedOut.{IsWorkedOut};
 
 use crate::answer::{Answer, Given, argument, gives_truth, name_of};
 use crate::scene::Scene;
-use crate::trap::Trap;
 use code::instr::Call;
 use jni::JniFunction;
+use semantics::Trap;
 
 /// What a function of exceptions does.
 #[inline(always)]

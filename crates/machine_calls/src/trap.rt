@@ -1,53 +1,11 @@
-//! Traps.
+//! Traps of instructions.
 
 ghost use Rattle.std.specs.Prelude.{◌≡◌};
-ghost use Rattle.semantics.specs.Value.{trap_number};
 ghost use Rattle.code_meaning.specs.Does.{trap_of};
-ghost use Rattle.machine_calls.specs.Traps.{trap_view};
+ghost use Rattle.semantics.specs.EventViews.{trap_view};
 
 use code::instr::PlainTrap;
-
-/// Why the machine stops.
-#[derive(Clone, Copy)]
-pub enum Trap {
-    /// Division by zero (C99, 6.5.5).
-    DivisionByZero,
-    /// A shift by 32 or more (C99, 6.5.7).
-    ShiftTooFar,
-    /// An element that isn't there.
-    OutOfRange,
-    /// NULL where an object or a field ID is asked for.
-    NullReference,
-    /// A call that isn't allowed while an exception is pending (JNI Specification, chapter 2).
-    ExceptionPending,
-    /// An object of another kind than is asked for.
-    WrongObject,
-    /// A global reference that was deleted.
-    DeletedReference,
-    /// A frame with no room for a further local reference.
-    NoCapacity,
-    /// FatalError was called.
-    Fatal,
-}
-
-impl Trap {
-    /// The number under which the trap is reported.
-    pub fn number(self) -> u8
-        ensures { result ≡ trap_number (trap_view self) }
-    {
-        match self {
-            Trap::DivisionByZero => 1,
-            Trap::ShiftTooFar => 2,
-            Trap::OutOfRange => 3,
-            Trap::NullReference => 4,
-            Trap::ExceptionPending => 5,
-            Trap::WrongObject => 6,
-            Trap::DeletedReference => 7,
-            Trap::NoCapacity => 8,
-            Trap::Fatal => 9,
-        }
-    }
-}
+use semantics::Trap;
 
 /// The trap of an instruction that works on the stack and the number slots alone.
 pub fn trap_of(trap: PlainTrap) -> Trap
