@@ -33,7 +33,8 @@ use Rattle.machine_calls.specs.StoreAgrees.{HeldAgrees}
 use Rattle.machine_calls.specs.Statics.{References, held_address, holds_deleted, holds_null, static_at}
 use Rattle.machine_calls.specs.declared.references.Held.{Held}
 use Rattle.machine_calls.specs.declared.references.Held.TheVariants as held
-use Rattle.machine_calls.specs.Checked.{gives_deleted, gives_null, may_be_null, some_missing, class_misfits, misfits, some_misfit, fit_together, puts_local, trap_found, fits_type_there}
+use Rattle.class_queries.specs.Kinds.{class_misfits}
+use Rattle.machine_calls.specs.Checked.{gives_deleted, gives_null, may_be_null, some_missing, misfits, some_misfit, fit_together, puts_local, trap_found, fits_type_there}
 use Rattle.machine_calls.specs.Given.{AreAddresses, AreHandles, IsGiven, ReferenceIsGiven, class_of_given, class_there, field_at, field_there, fits_there, name_there, no_field, operand_at, operand_of}
 use Rattle.machine_calls.specs.HeapAgrees.{ReferenceAgrees, BlocksAgree}
 use Rattle.machine_calls.proofs.ObjectsAtAddresses.{is_object}

@@ -25,7 +25,8 @@ use Rattle.code_meaning.specs.Slots.{word_of}
 use Rattle.machine_calls.specs.Statics.{References, held_address, holds_deleted, holds_null, static_at}
 use Rattle.machine_calls.specs.declared.references.Held.{Held}
 use Rattle.machine_calls.specs.declared.references.Held.TheVariants as held
-use Rattle.machine_calls.specs.Checked.{class_misfits, gives_deleted, gives_null, misfits, some_misfit, some_missing, may_be_null}
+use Rattle.class_queries.specs.Kinds.{class_misfits}
+use Rattle.machine_calls.specs.Checked.{gives_deleted, gives_null, misfits, some_misfit, some_missing, may_be_null}
 use Rattle.machine_calls.specs.Given.{operand_at, operand_of, class_there, IsGiven, field_at}
 use Rattle.machine_calls.specs.HeapAgrees.{ReferenceAgrees, BlocksAgree, IsTable}
 use Rattle.machine_calls.specs.WorkedOut.{count_there, class_object}

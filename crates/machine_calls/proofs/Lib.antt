@@ -1,6 +1,5 @@
 pub mod AnswerCases
 pub mod ArrayAnswers
-pub mod ArrayClasses
 pub mod BlocksOfNames
 pub mod BufferAnswers
 pub mod BufferCarries

@@ -2,8 +2,9 @@
 use Rattle.std.specs.Prelude.{ℕ, Bool, true, false, not, ◌&&◌, ◌||◌, ◌==◌, List, [], ◌∷◌, ◌++◌, is_none, is_some, Option, Some, None}
 use Rattle.std.specs.List.{list_any}
 use Rattle.base.specs.Element.{ElementType, JInt, element_value}
-use Rattle.class_rules.specs.BuiltIns.{class_class, has_own_making, string_class, throwable_class, number_array}
-use Rattle.class_rules.specs.Class.{Classes, FieldType, NumberField, ReferenceField, class_kind, is_plain, is_object_array, assignable}
+use Rattle.class_queries.specs.Kinds.{class_misfits}
+use Rattle.class_rules.specs.BuiltIns.{has_own_making, throwable_class, number_array}
+use Rattle.class_rules.specs.Class.{Classes, FieldType, NumberField, ReferenceField, class_kind, is_plain, assignable}
 use Rattle.class_rules.specs.Fields.{FieldId}
 use Rattle.classes.specs.declared.class.FieldHandle.{FieldHandle}
 use Rattle.code.specs.declared.instr.Operand.{Operand}
@@ -13,7 +14,7 @@ use Rattle.code.specs.declared.instr.Target.TheVariants.{Buffer}
 use Rattle.heap.specs.Heap.{Space}
 use Rattle.jni.specs.Access.{ArrayView}
 use Rattle.jni.specs.JniFunction.{is_allowed_pending, JniFunction, GetBuffer, AllocObject, GetField, SetField, GetStaticField, SetStaticField, GetObjectField, SetObjectField, GetStaticObjectField, SetStaticObjectField, NewObjectArray, Throw, ThrowNew, prototype}
-use Rattle.jni.specs.Prototype.{ParameterKind, Nullable, ClassObject, AnyArray, ObjectArray, StringObject, NumberArray, LocalVariable, StaticVariable, IsCopy, ResultKind, NewLocal}
+use Rattle.jni.specs.Prototype.{ParameterKind, Nullable, LocalVariable, StaticVariable, IsCopy, ResultKind, NewLocal}
 use Rattle.semantics.specs.Checks.{first_trap}
 use Rattle.semantics.specs.Heap.{holds_number, holds_reference}
 use Rattle.semantics.specs.Value.{Trap, NullReference, ExceptionPending, WrongObject, DeletedReference, NoCapacity}
@@ -52,16 +53,7 @@ abbrev pub some_missing : References → List (Option FieldHandle) → List Para
 some_missing references fields (p ∷ parameters) (o ∷ operands) = (not (may_be_null p) && gives_null references fields o) || some_missing references fields parameters operands
 some_missing references fields parameters operands = false
 
--- an object of this class is of another kind than the parameter
-abbrev pub class_misfits : Classes → ParameterKind → (class : ℕ) → Bool
-class_misfits classes ClassObject class = not (class == class_class)
-class_misfits classes (NumberArray T) class = not (class == number_array T)
-class_misfits classes AnyArray class = is_plain (class_kind classes class)
-class_misfits classes ObjectArray class = not (is_object_array (class_kind classes class))
-class_misfits classes StringObject class = not (class == string_class)
-class_misfits classes p class = false
-
--- so is an object at an address
+-- the object at an address is of another kind than the parameter
 abbrev pub misfits : Classes → Space → ParameterKind → Option ℕ → Bool
 misfits classes space p None = false
 misfits classes space p (Some a) = class_misfits classes p (class_there space a)

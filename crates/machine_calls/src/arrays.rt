@@ -1,7 +1,6 @@
 //! What functions of arrays and strings do.
 
 ghost use Rattle.std.specs.Prelude.{◌≡◌, ℕ, true, Some};
-ghost use Rattle.class_rules.specs.Class.{class_kind, element_class};
 ghost use Rattle.code.specs.Call.{call_view};
 ghost use Rattle.heap.specs.Heap.{IsAddress};
 ghost use Rattle.jni.specs.Table.{function_value};
@@ -14,19 +13,16 @@ use crate::answer::{
     Answer, Given, address_in, argument, count_there, held_reference, name_of, top_word,
     value_there, writes_there,
 };
-use crate::array_class::array_class_of;
 use crate::buffers::work_out_buffer;
 use crate::copies::work_out_region;
 use crate::new_object::{New, NewArray};
 use crate::operands::{class_of_given, fits_there};
-use crate::references::References;
 use crate::scene::Scene;
+use class_queries::{array_class_of, element_class};
 use classes::built_ins::{
     ARRAY_INDEX_OUT_OF_BOUNDS_EXCEPTION, ARRAY_STORE_EXCEPTION, NEGATIVE_ARRAY_SIZE_EXCEPTION,
     number_array,
 };
-use classes::class::ClassKind;
-use classes::table::ClassTable;
 use code::instr::Call;
 use code::stack::Stack;
 use heap::{Addr, Heap, Value};
@@ -105,16 +101,6 @@ fn fits_element(scene: &Scene<'_>, function: &Call) -> bool
     let class = element_class(scene.classes, class_of_given(scene.heap, array));
     let element = argument(scene.heap, &scene.references, function, 2);
     fits_there(scene.classes, scene.heap, element, class)
-}
-
-/// The class of the elements of a class of arrays of objects, and 0 for another.
-fn element_class(classes: &ClassTable, class: usize) -> usize
-    ensures { result ≡ element_class (class_kind classes.now class) }
-{
-    match classes.kind(class) {
-        ClassKind::ArrayOfObjects(element) => element,
-        _ => 0,
-    }
 }
 
 /// An index of an array, where it has such an element.

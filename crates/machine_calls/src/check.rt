@@ -3,6 +3,7 @@
 ghost use Rattle.std.specs.Prelude.{◌≡◌, ℕ, Bool, List, ◌++◌, ◌&&◌, not, is_some, Some, IfSome, IfNone, map, false};
 ghost use Rattle.std.specs.List.{list_any};
 ghost use Rattle.std.specs.Option.{option_map};
+ghost use Rattle.class_queries.specs.Kinds.{class_misfits};
 ghost use Rattle.class_rules.specs.Class.{Classes};
 ghost use Rattle.base.specs.Element.{element_value};
 ghost use Rattle.classes.specs.Views.{field_type_view};
@@ -13,11 +14,10 @@ ghost use Rattle.jni.specs.Table.{function_value, parameter_value, result_value}
 ghost use Rattle.machine_calls.specs.Given.{field_at, field_there, operand_at, operand_of, AreAddresses, AreHandles};
 ghost use Rattle.machine_calls.specs.Locals.{locals_after};
 ghost use Rattle.tables.specs.Locals.{has_room};
-ghost use Rattle.machine_calls.specs.Checked.{arguments_asked, element_wanted, has_field, has_static, gives_null, gives_deleted, may_be_null, some_missing, class_misfits, misfits, some_misfit, fits_type_there, fit_together, puts_local, trap_found};
+ghost use Rattle.machine_calls.specs.Checked.{arguments_asked, element_wanted, has_field, has_static, gives_null, gives_deleted, may_be_null, some_missing, misfits, some_misfit, fits_type_there, fit_together, puts_local, trap_found};
 ghost use Rattle.machine_calls.specs.Scenes.{scene_view};
 ghost use Rattle.semantics.specs.EventViews.{trap_view};
 ghost use Rattle.semantics.specs.Checks.{first_trap};
-ghost use Rattle.semantics.specs.Heap.{holds_number, holds_reference};
 ghost use Rattle.semantics.specs.Value.{Trap as SourceTrap};
 
 use crate::operands::{
@@ -26,8 +26,9 @@ use crate::operands::{
 };
 use crate::references::{Held, References};
 use crate::scene::Scene;
-use classes::built_ins::{CLASS, STRING, THROWABLE, number_array};
-use classes::class::{ClassKind, ElementType, FieldHandle, FieldType};
+use class_queries::{class_misfits, holds_number, holds_reference};
+use classes::built_ins::{THROWABLE, number_array};
+use classes::class::{ElementType, FieldHandle, FieldType};
 use classes::table::ClassTable;
 use code::instr;
 use code::instr::{Call, Operand, Target};
@@ -103,20 +104,6 @@ fn some_missing(
     }
 }
 
-/// Whether an object of this class is of another kind than the parameter.
-fn class_misfits(classes: &ClassTable, parameter: ParameterKind, class: usize) -> bool
-    ensures { result ≡ class_misfits classes.now (parameter_value parameter) class }
-{
-    match parameter {
-        ParameterKind::ClassObject => class != CLASS,
-        ParameterKind::NumberArray(element) => class != number_array(element),
-        ParameterKind::AnyArray => matches!(classes.kind(class), ClassKind::Plain),
-        ParameterKind::ObjectArray => !matches!(classes.kind(class), ClassKind::ArrayOfObjects(_)),
-        ParameterKind::StringObject => class != STRING,
-        _ => false,
-    }
-}
-
 /// Whether a parameter asks for objects of a kind. Where it doesn't, no object is looked at.
 fn asks_kind(parameter: ParameterKind) -> bool
     ensures { result ≡ false → (classes : Classes) (class : ℕ) → class_misfits classes (parameter_value parameter) class ≡ false }
@@ -172,29 +159,6 @@ fn some_misfit(
         },
         [] => false,
     }
-}
-
-/// Whether a type is that of these numbers.
-fn holds_number(element: ElementType, field_type: FieldType) -> bool
-    ensures { result ≡ holds_number (element_value element) (field_type_view field_type) }
-{
-    match field_type {
-        FieldType::Number(numbers) => match (element, numbers) {
-            (ElementType::Int, ElementType::Int) => true,
-            (ElementType::Short, ElementType::Short) => true,
-            (ElementType::Byte, ElementType::Byte) => true,
-            (ElementType::Char, ElementType::Char) => true,
-            _ => false,
-        },
-        FieldType::Reference(_) => false,
-    }
-}
-
-/// Whether a type is that of references.
-fn holds_reference(field_type: FieldType) -> bool
-    ensures { result ≡ holds_reference (field_type_view field_type) }
-{
-    matches!(field_type, FieldType::Reference(_))
 }
 
 /// Whether a reference may be stored in a field of this type.

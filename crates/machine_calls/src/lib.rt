@@ -4,7 +4,6 @@
 
 pub mod activation;
 pub mod answer;
-mod array_class;
 pub mod array_region;
 mod arrays;
 pub mod buffer;

@@ -1,27 +1,17 @@
 -- What is checked of a call before it does anything.
-use Rattle.std.specs.Prelude.{ℕ, Bool, true, false, not, ◌&&◌, ◌||◌, ◌==◌, List, [], ◌∷◌, zip, slice_get, Option}
+use Rattle.std.specs.Prelude.{Bool, true, not, ◌&&◌, ◌||◌, ◌==◌, List, [], ◌∷◌, zip, slice_get, Option}
 use Rattle.std.specs.List.{list_any}
-use Rattle.class_rules.specs.BuiltIns.{class_class, has_own_making, string_class, throwable_class, number_array}
-use Rattle.class_rules.specs.Class.{Classes, class_kind, is_plain, is_object_array, assignable}
+use Rattle.class_rules.specs.BuiltIns.{has_own_making, throwable_class, number_array}
+use Rattle.class_rules.specs.Class.{Classes, class_kind, is_plain, assignable}
 use Rattle.class_rules.specs.Fields.{FieldId}
 use Rattle.base.specs.Element.{ElementType}
 use Rattle.jni.specs.Access.{ArrayView}
 use Rattle.jni.specs.JniFunction.{is_allowed_pending, JniFunction, AllocObject, GetField, SetField, GetStaticField, SetStaticField, GetObjectField, SetObjectField, GetStaticObjectField, SetStaticObjectField, NewObjectArray, GetBuffer, Throw, ThrowNew, prototype}
-use Rattle.jni.specs.Prototype.{ParameterKind, ClassObject, AnyArray, ObjectArray, StringObject, NumberArray}
 use Rattle.semantics.specs.Arguments.{Actual, reference_given, object_given, field_given}
 use Rattle.semantics.specs.Checks.{first_trap, frames_after, is_deleted, is_misfit, is_missing, lacks_room}
 use Rattle.semantics.specs.Heap.{fits_class, fits_type, holds_number, holds_reference, class_of, Heap, is_instance}
 use Rattle.semantics.specs.Thread.{Frame}
 use Rattle.semantics.specs.Value.{Trap, NullReference, ExceptionPending, WrongObject, DeletedReference, NoCapacity}
-
--- an object of this class is of another kind than the parameter
-abbrev pub misfits : Classes → ParameterKind → (class : ℕ) → Bool
-misfits classes ClassObject class = not (class == class_class)
-misfits classes (NumberArray T) class = not (class == number_array T)
-misfits classes AnyArray class = is_plain (class_kind classes class)
-misfits classes ObjectArray class = not (is_object_array (class_kind classes class))
-misfits classes StringObject class = not (class == string_class)
-misfits classes p class = false
 
 -- argument 0 is a class that has the static of argument 1
 abbrev pub has_static : Classes → List Actual → Bool

@@ -1,11 +1,10 @@
 //! What a function of the JNI does, as data.
 
-ghost use Rattle.std.specs.Prelude.{◌≡◌, IsTrue, List, ℕ, if◌then◌else◌, is_some, map};
+ghost use Rattle.std.specs.Prelude.{◌≡◌, List, ℕ, if◌then◌else◌, is_some, map};
 ghost use Rattle.std.specs.Option.{option_map};
 ghost use Rattle.base.specs.Bytes.{lookup};
 ghost use Rattle.classes.specs.FieldViews.{field_id_view};
-ghost use Rattle.classes.specs.Views.{kind_view};
-ghost use Rattle.class_rules.specs.Class.{Classes, element_class};
+ghost use Rattle.class_rules.specs.Class.{Classes};
 ghost use Rattle.class_rules.specs.Fields.{find_field, find_static};
 ghost use Rattle.class_rules.specs.Grown.{IsGrown};
 ghost use Rattle.jni.specs.Table.{function_value};
@@ -36,11 +35,11 @@ use crate::field;
 use crate::monitors::monitor_answer;
 use crate::regions::region_answer;
 use crate::shared::Shared;
+use class_queries::element_class;
 use classes::built_ins::{
     ARRAY_INDEX_OUT_OF_BOUNDS_EXCEPTION, ARRAY_STORE_EXCEPTION, NEGATIVE_ARRAY_SIZE_EXCEPTION,
     NO_CLASS_DEF_FOUND_ERROR, NO_SUCH_FIELD_ERROR, number_array,
 };
-use classes::class::ClassKind;
 use classes::fields::FieldId;
 use classes::table::ClassTable;
 use jni::JniFunction;
@@ -639,16 +638,6 @@ fn fits_element(classes: &ClassTable, store: &Store, actuals: &[Actual<'_>]) -> 
     ensures { result ≡ fits_element classes.now store.now (map actual_view actuals.now) }
 {
     let class = store.class_of(object_given(actuals, 0));
-    let element = element_class(classes.kind(class));
+    let element = element_class(classes, class);
     fits_class(classes, store, reference_given(actuals, 2), element)
-}
-
-/// The class of the elements of an array of objects; 0 for another class.
-fn element_class(kind: ClassKind) -> usize
-    ensures { result ≡ element_class (kind_view kind) }
-{
-    match kind {
-        ClassKind::ArrayOfObjects(element) => element,
-        ClassKind::Plain | ClassKind::ArrayOfNumbers(_) => 0,
-    }
 }

@@ -8,15 +8,16 @@ ghost use Rattle.base.specs.Element.{element_value};
 ghost use Rattle.classes.specs.Views.{field_type_view};
 ghost use Rattle.jni.specs.Table.{function_value, parameter_value, result_value};
 ghost use Rattle.semantics.specs.Checks.{frames_after, is_deleted, is_full, is_misfit, is_missing, lacks_room};
-ghost use Rattle.semantics.specs.Heap.{fits_class, fits_type, holds_number, holds_reference, is_instance};
+ghost use Rattle.semantics.specs.Heap.{fits_class, fits_type, is_instance};
 ghost use Rattle.replay_calls.specs.Actuals.{actual_view};
-ghost use Rattle.replay_calls.specs.Checked.{fit_together, fits_new_array, has_field, has_static, misfits, trap_found};
+ghost use Rattle.replay_calls.specs.Checked.{fit_together, fits_new_array, has_field, has_static, trap_found};
 ghost use Rattle.semantics.specs.EventViews.{trap_view};
 
 use crate::actual::{Actual, field_given, object_given, reference_given};
 use crate::field::{declaring, is_static, type_of};
-use classes::built_ins::{CLASS, STRING, THROWABLE, number_array};
-use classes::class::{ClassKind, ElementType, FieldType};
+use class_queries::{class_misfits, holds_number, holds_reference};
+use classes::built_ins::{THROWABLE, number_array};
+use classes::class::FieldType;
 use classes::table::ClassTable;
 use jni::{Access, JniFunction, ParameterKind, ResultKind};
 use replay_objects::{Frames, Store};
@@ -136,23 +137,11 @@ fn is_misfit(
 {
     match actual {
         Actual::Reference(_, held) => match held {
-            StaticReference::Live(name) => misfits(classes, parameter, store.class_of(name)),
+            StaticReference::Live(name) => {
+                class_misfits(classes, parameter, store.class_of(name))
+            }
             StaticReference::Empty | StaticReference::Deleted => false,
         },
-        _ => false,
-    }
-}
-
-/// Whether an object of this class is of another kind than the parameter.
-fn misfits(classes: &ClassTable, parameter: ParameterKind, class: usize) -> bool
-    ensures { result ≡ misfits classes.now (parameter_value parameter) class }
-{
-    match parameter {
-        ParameterKind::ClassObject => class != CLASS,
-        ParameterKind::NumberArray(element) => class != number_array(element),
-        ParameterKind::AnyArray => matches!(classes.kind(class), ClassKind::Plain),
-        ParameterKind::ObjectArray => !matches!(classes.kind(class), ClassKind::ArrayOfObjects(_)),
-        ParameterKind::StringObject => class != STRING,
         _ => false,
     }
 }
@@ -224,8 +213,7 @@ fn fits_new_array(classes: &ClassTable, store: &Store, actuals: &[Actual<'_>]) -
     ensures { result ≡ fits_new_array classes.now store.now (map actual_view actuals.now) }
 {
     let element = object_given(actuals, 1);
-    let is_plain = matches!(classes.kind(element), ClassKind::Plain);
-    is_plain && fits_class(classes, store, reference_given(actuals, 2), element)
+    !classes.is_array(element) && fits_class(classes, store, reference_given(actuals, 2), element)
 }
 
 /// Whether an object can be thrown.
@@ -233,29 +221,6 @@ fn is_throwable(classes: &ClassTable, store: &Store, name: usize) -> bool
     ensures { result ≡ is_instance classes.now store.now name throwable_class }
 {
     classes.assignable(store.class_of(name), THROWABLE)
-}
-
-/// Whether a type is that of these numbers.
-fn holds_number(element: ElementType, field_type: FieldType) -> bool
-    ensures { result ≡ holds_number (element_value element) (field_type_view field_type) }
-{
-    match field_type {
-        FieldType::Number(numbers) => match (element, numbers) {
-            (ElementType::Int, ElementType::Int) => true,
-            (ElementType::Short, ElementType::Short) => true,
-            (ElementType::Byte, ElementType::Byte) => true,
-            (ElementType::Char, ElementType::Char) => true,
-            _ => false,
-        },
-        FieldType::Reference(_) => false,
-    }
-}
-
-/// Whether a type is that of references.
-fn holds_reference(field_type: FieldType) -> bool
-    ensures { result ≡ holds_reference (field_type_view field_type) }
-{
-    matches!(field_type, FieldType::Reference(_))
 }
 
 /// Whether a reference fits a class, as NULL does always.

@@ -1,6 +1,6 @@
 -- What is known of a tree's statements: their numbers are in range, and they call functions that are there.
 use Rattle.std.proofs.Common.{◌≡◌, ℕ, zero, suc, Bool, true, false, List, [], ◌∷◌, ◌++◌, cond, length, map, take, drop, get_or, append_assoc, slice_get, ◌-◌, ◌<◌, ◌≤◌, arith, Option, Some, refl, ap, ◌∙◌, sym, subst, None}
-use Rattle.std.specs.Prelude.{find, slice_set, zip, IsTrue}
+use Rattle.std.specs.Prelude.{find, slice_set, zip}
 use Rattle.std.specs.Borrow.{Bor}
 use Rattle.std.specs.Str.{bytes_eq}
 use Rattle.std.specs.List.{flat_map, list_all}

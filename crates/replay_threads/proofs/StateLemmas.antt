@@ -1,6 +1,6 @@
 -- What an entry does to the state that a state in memory stands for.
 use Rattle.std.proofs.Common.{◌≡◌, ℕ, zero, suc, ◌+◌, ◌<◌, ◌≤◌, Bool, true, false, cond, List, [], ◌∷◌, ◌++◌, length, map, take, Option, Some, None, refl, sym, ap, ◌∙◌, subst, arith}
-use Rattle.std.specs.Prelude.{slice_get, slice_set, sum_by, flat_map, ◌&&◌, not, is_none, ◌==◌}
+use Rattle.std.specs.Prelude.{slice_get, slice_set, sum_by, flat_map, ◌&&◌, not, is_none}
 use Rattle.std.proofs.lemmas.List.{length-set}
 use Rattle.std.proofs.lemmas.List.Concat.{flat_map-cons}
 use Rattle.std.proofs.lemmas.List.Sums.{sum_by-cons}
@@ -26,7 +26,7 @@ use Rattle.semantics.specs.ReportOf.{report, standing_at, standing_of}
 use Rattle.replay_calls.specs.Shares.{shared_view}
 use Rattle.semantics.specs.State.{State, thread_at, set_thread, copied, in_use, with_event, advanced}
 use Rattle.semantics.specs.Step.{world_step, can_step, step_of, is_blocked, is_live, is_unfinished, is_waiting}
-use Rattle.semantics.specs.Thread.{BuffersInUse, copied_by, viewed_by, Ending, Thread, Shared, Unfinished, Ended, Uncaught, Quiet, PrintedNumber, Trapped, Advance}
+use Rattle.semantics.specs.Thread.{BuffersInUse, copied_by, viewed_by, Ending, Thread, Shared, Unfinished, Ended, Uncaught, Quiet, PrintedNumber, Trapped}
 use Rattle.semantics.specs.ThreadStep.{thread_step, waits}
 use Rattle.semantics.proofs.StepLaws.{Steps, steps, step-thread}
 use Rattle.replay_threads.specs.declared.state.State.{State as StateInMemory}
@@ -34,7 +34,7 @@ use Rattle.replay_threads.specs.declared.thread.Thread.{Thread as ThreadInMemory
 use Rattle.semantics.specs.declared.event.Event.{Event}
 use Rattle.semantics.specs.declared.event.Event.TheVariants as event
 use Rattle.semantics.specs.declared.event.Stop.{Stop as StopInMemory}
-use Rattle.semantics.specs.EventViews.{ending_view, event_view, printed_after, stop_after, stop_view, trap_view}
+use Rattle.semantics.specs.EventViews.{ending_view, printed_after, stop_after, stop_view, trap_view}
 use Rattle.replay_threads.specs.States.{ThreadsStand, AreInRange, Stands, variables_of, copied_in, viewed_in, in_use_by, Leads, standing_in, standings_of, EachInRange}
 use Rattle.replay_threads.specs.Threads.{ThreadStands, ThreadWaits, WorkInRange, WorkStands, StepIs, TakesStep}
 use Rattle.replay_threads.proofs.StandingLemmas.{numbered_at, taken_more}
@@ -225,9 +225,6 @@ module _ (unit : SourceUnit) (w : World) (m : StateInMemory) (s : State) (h : St
 
     abbrev after_it : Shared
     after_it = shared_view new.shared
-
-    the_step : Advance
-    the_step = thread_step unit w.classes (in_use s) (suc i) (shared_view m.shared) the_thread.source refused
 
     step_is : world_step unit w.classes s (entry.Step (suc i) refused) ≡ advanced s (suc i) (thread_step unit w.classes (in_use s) (suc i) (shared_view m.shared) the_thread.source refused)
     step_is =

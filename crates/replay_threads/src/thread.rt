@@ -5,7 +5,7 @@ ghost use Rattle.syntax.specs.Limits.{IsTree};
 ghost use Rattle.syntax.specs.Views.{function_tree, parameter_tree, unit_tree};
 ghost use Rattle.type_rules.specs.SortRules.{IsSorted};
 ghost use Rattle.world_values.specs.Views.{object_value_view};
-ghost use Rattle.semantics.specs.Activation.{parameter_variables, class_of_function, named_object, entry_frame, ending_after};
+ghost use Rattle.semantics.specs.Activation.{parameter_variables, named_object, entry_frame, ending_after};
 ghost use Rattle.semantics.specs.EventViews.{ending_view};
 ghost use Rattle.semantics.specs.Thread.{Shared as SharedOfThreads};
 ghost use Rattle.semantics.specs.Variable.{LocalRef};
@@ -16,7 +16,7 @@ ghost use Rattle.syntax.specs.declared.stmt.Block.{out-Block};
 ghost use Rattle.replay_calls.specs.Shares.{shared_view};
 ghost use Rattle.replay_terms.specs.Views.{assign_all, content_view, variables_view};
 
-use class_rules::mangling::unmangle;
+use class_queries::native_class;
 use classes::table::ClassTable;
 use functions::Functions;
 use replay_calls::Shared;
@@ -78,20 +78,6 @@ fn add_parameters<'a>(
                 add_parameters(variables, parameters, arguments)
             }
         },
-    }
-}
-
-/// The number of the class whose native method a function is.
-pub fn class_of(
-    alloc: Global,
-    world: &World,
-    function: &Function,
-) -> Result<Option<usize>, AllocError>
-    ensures { IfOk result (λ class. class ≡ class_of_function world.now.classes (function_tree function.now)) }
-{
-    match unmangle(alloc, function.name.as_bytes())? {
-        Some(native) => Ok(world.classes().find(&native.class)),
-        None => Ok(None),
     }
 }
 
@@ -187,7 +173,7 @@ fn begin_next<'a>(
     let Some(found) = functions.find(call.function()) else {
         return Ok(false);
     };
-    match class_of(alloc, world, found.function) {
+    match native_class(alloc, world.classes(), found.function.name.as_bytes()) {
         Ok(Some(class)) => {
             begin_call(alloc, place, found.function, class, call.arguments())?;
             Ok(true)

@@ -1,14 +1,24 @@
-//! Classes of arrays, by their names.
+//! Arrays and the classes of their elements.
 
 ghost use Rattle.std.specs.Prelude.{◌≡◌, ◌++◌, ◌∷◌, []};
 ghost use Rattle.std.specs.Str.{bytes_eq};
-ghost use Rattle.class_rules.specs.Class.{array_class_of, array_name};
+ghost use Rattle.class_rules.specs.Class.{array_class_of, array_name, class_kind, element_class};
 
+use classes::class::ClassKind;
 use classes::table::ClassTable;
 
-/// The number of the class of arrays whose elements are of a class. It takes no host memory. The cost goes by the number of
-/// classes.
-pub(crate) fn array_class_of(classes: &ClassTable, class: usize) -> Option<usize>
+/// The class of the elements of a class of arrays of objects, and 0 for another class.
+pub fn element_class(classes: &ClassTable, class: usize) -> usize
+    ensures { result ≡ element_class (class_kind classes.now class) }
+{
+    match classes.kind(class) {
+        ClassKind::ArrayOfObjects(element) => element,
+        ClassKind::Plain | ClassKind::ArrayOfNumbers(_) => 0,
+    }
+}
+
+/// The class of arrays whose elements are of a class. It takes no host memory. The cost goes by the number of classes.
+pub fn array_class_of(classes: &ClassTable, class: usize) -> Option<usize>
     ensures { result ≡ array_class_of classes.now class }
 {
     let element = classes.name(class);

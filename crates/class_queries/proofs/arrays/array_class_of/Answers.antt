@@ -3,8 +3,8 @@ use Rattle.std.proofs.lemmas.Bool.{cases_lt}
 use Rattle.std.proofs.Common.{⊎_elim, ◌≤◌}
 use Rattle.std.specs.Str.{bytes_eq}
 use Rattle.class_rules.specs.Class.{array_name, class_name}
-use Rattle.machine_calls.proofs.ArrayClasses.{IsNamed, first_named, none_named}
-use Rattle.machine_calls.proofs.array_class.array_class_of.Goals as goal
+use Rattle.class_queries.proofs.ArrayClasses.{IsNamed, first_named, none_named}
+use Rattle.class_queries.proofs.arrays.array_class_of.Goals as goal
 
 pub returns-then-is_array_name : goal.returns-then-is_array_name
 returns-then-is_array_name c =

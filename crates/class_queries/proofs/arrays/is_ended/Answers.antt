@@ -1,6 +1,6 @@
 use Rattle.std.proofs.Common.{◌∙◌, sym, ap, ◌==◌, ◌&&◌}
 use Rattle.classes.proofs.Signatures.{ended}
-use Rattle.machine_calls.proofs.array_class.is_ended.Goals as goal
+use Rattle.class_queries.proofs.arrays.is_ended.Goals as goal
 
 pub returns-then-eq : goal.returns-then-eq
 returns-then-eq c =

@@ -1,7 +1,7 @@
 use Rattle.std.proofs.Common.{ℕ, ◌+◌, ◌<◌, false}
 use Rattle.class_rules.specs.Class.{array_name, class_name}
-use Rattle.machine_calls.proofs.ArrayClasses.{IsNamed}
-use Rattle.machine_calls.proofs.array_class.array_class_of.Given as goal
+use Rattle.class_queries.proofs.ArrayClasses.{IsNamed}
+use Rattle.class_queries.proofs.arrays.array_class_of.Given as goal
 
 abbrev pub invariant-loop-place : goal.invariant-loop-place
 invariant-loop-place l = (k : ℕ) → k < l.place → IsNamed l.classes (array_name (class_name l.classes l.class)) (k + 1) false

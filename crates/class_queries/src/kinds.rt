@@ -1,0 +1,24 @@
+//! Kinds of parameters.
+
+ghost use Rattle.std.specs.Prelude.{◌≡◌};
+ghost use Rattle.class_queries.specs.Kinds.{class_misfits};
+ghost use Rattle.jni.specs.Table.{parameter_value};
+
+use classes::built_ins::{CLASS, STRING, number_array};
+use classes::class::ClassKind;
+use classes::table::ClassTable;
+use jni::ParameterKind;
+
+/// Whether an object of this class is of another kind than the parameter.
+pub fn class_misfits(classes: &ClassTable, parameter: ParameterKind, class: usize) -> bool
+    ensures { result ≡ class_misfits classes.now (parameter_value parameter) class }
+{
+    match parameter {
+        ParameterKind::ClassObject => class != CLASS,
+        ParameterKind::NumberArray(element) => class != number_array(element),
+        ParameterKind::AnyArray => !classes.is_array(class),
+        ParameterKind::ObjectArray => !matches!(classes.kind(class), ClassKind::ArrayOfObjects(_)),
+        ParameterKind::StringObject => class != STRING,
+        _ => false,
+    }
+}

@@ -1,0 +1,13 @@
+//! What a run asks of classes alone, whichever run it is: whether an object is of the kind of a parameter, what a field can hold, the
+//! elements of arrays, and whose native method a function is.
+#![tactic(auto)]
+
+mod arrays;
+mod field_types;
+mod kinds;
+mod native_methods;
+
+pub use arrays::{array_class_of, element_class};
+pub use field_types::{holds_number, holds_reference};
+pub use kinds::class_misfits;
+pub use native_methods::native_class;
