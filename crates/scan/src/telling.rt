@@ -1,6 +1,7 @@
 //! What is told of a fault: the bytes that were found, and what to write instead.
 
 use crate::fault::{Fault, ScanFault};
+use crate::pieces::word_len;
 use details::Detail;
 
 /// The text from a place on.
@@ -8,18 +9,9 @@ fn from(text: &[u8], place: usize) -> &[u8] {
     &text[place.min(text.len())..]
 }
 
-/// A byte of a name or a number.
-fn is_word(byte: u8) -> bool {
-    byte.is_ascii_alphanumeric() || byte == b'_'
-}
-
 /// The bytes of names and numbers that a text begins with.
 fn word_of(text: &[u8]) -> &[u8] {
-    let mut len = 0;
-    while len < text.len() && is_word(text[len]) {
-        len += 1;
-    }
-    &text[..len]
+    &text[..word_len(text)]
 }
 
 /// What to write instead of what a byte begins in C.
@@ -62,15 +54,13 @@ fn wrong_number(word: &[u8]) -> &'static [u8] {
 
 /// What is told of a string that doesn't end, or of a byte that can't be in one.
 fn bad_string(rest: &[u8]) -> Detail {
-    let mut after = rest;
-    while let Some((byte, left)) = after.split_first() {
+    for byte in rest {
         match *byte {
             b'\n' => return Detail::of(b"found the end of the line before the closing quote"),
             b'\\' => return Detail::of(b"found `\\`: strings have no escapes"),
             b' '..=b'~' => {}
             other => return with_byte(Detail::none(), other),
         }
-        after = left;
     }
     Detail::of(b"found the end of the text before the closing quote")
 }

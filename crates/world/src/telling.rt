@@ -2,7 +2,7 @@
 
 use crate::builder::WorldBuilder;
 use crate::rules::is_known;
-use crate::text::{begun, next_line};
+use crate::text::begun;
 use classes::table::ClassTable;
 use details::Detail;
 use std::alloc::Global;
@@ -42,16 +42,18 @@ fn formless(line: &[u8]) -> Detail {
     Detail::of(b"found ").quoted(word)
 }
 
-/// A line of the heap that has another form.
-fn heap_detail(alloc: Global, line: &[u8]) -> Option<Detail> {
+/// What no line says, by the first line, of the heap; or what is told of that line, which is nothing where memory is refused.
+fn builder_of(alloc: Global, line: &[u8]) -> Result<WorldBuilder, Detail> {
     match heap_of_line(alloc, line) {
-        Err(_) => Some(Detail::none()),
-        Ok(None) => Some(Detail::of(b"wanted `heap CELLS` first")),
+        Err(_) => Err(Detail::none()),
+        Ok(None) => Err(Detail::of(b"wanted `heap CELLS` first")),
         Ok(Some(cells)) => {
             if cells < 512 || cells > 1_048_576 {
-                Some(Detail::of(b"wanted 512 to 1048576 cells"))
-            } else {
-                None
+                return Err(Detail::of(b"wanted 512 to 1048576 cells"));
+            }
+            match begun(alloc, cells as u32) {
+                Ok(builder) => Ok(builder),
+                Err(_) => Err(Detail::none()),
             }
         }
     }
@@ -249,38 +251,50 @@ fn take_or_tell(
     }
 }
 
-/// What was found at the first fault of a world's text. There are no words where the text earns none, and where memory is refused.
-pub fn world_detail(alloc: Global, text: &[u8]) -> Detail {
-    let mut lines = Split::new(text, b'\n');
-    let mut number = 0;
-    let Some(heap) = next_line(&mut lines, &mut number) else {
-        return Detail::of(b"the text is empty");
-    };
-    if let Some(detail) = heap_detail(alloc, heap) {
-        return detail;
-    }
-    let Ok(Some(cells)) = heap_of_line(alloc, heap) else {
-        return Detail::none();
-    };
-    lines_detail(alloc, cells, &mut lines, number)
-}
-
-/// What was found at the first fault of the lines that are left after that of this number.
-fn lines_detail(alloc: Global, cells: u64, lines: &mut Split<'_>, first: usize) -> Detail {
-    if cells < 512 || cells > 1_048_576 {
-        return Detail::none();
-    }
-    let Ok(mut builder) = begun(alloc, cells as u32) else {
-        return Detail::none();
-    };
-    let mut number = first;
-    while let Some(line) = next_line(lines, &mut number) {
-        if let Some(detail) = take_or_tell(alloc, &mut builder, number, line) {
-            return detail;
+/// What is told at the end of a world's text, whose lines break no rule.
+fn end_detail(builder: &Option<WorldBuilder>) -> Detail {
+    match builder {
+        None => Detail::of(b"the text is empty"),
+        Some(builder) => {
+            if builder.threads.is_empty() {
+                Detail::of(b"there is no thread")
+            } else {
+                Detail::none()
+            }
         }
     }
-    if builder.threads.is_empty() {
-        return Detail::of(b"there is no thread");
+}
+
+/// Takes a line that isn't empty, the first of which begins the world.
+fn take_any(
+    alloc: Global,
+    builder: &mut Option<WorldBuilder>,
+    number: usize,
+    line: &[u8],
+) -> Option<Detail> {
+    if let Some(builder) = builder {
+        return take_or_tell(alloc, builder, number, line);
     }
-    Detail::none()
+    match builder_of(alloc, line) {
+        Ok(begun) => {
+            *builder = Some(begun);
+            None
+        }
+        Err(detail) => Some(detail),
+    }
+}
+
+/// What was found at the first fault of a world's text. There are no words where the text earns none, and where memory is refused.
+pub fn world_detail(alloc: Global, text: &[u8]) -> Detail {
+    let mut builder = None;
+    let mut number: usize = 0;
+    for line in Split::new(text, b'\n') {
+        number = number.saturating_add(1);
+        if !line.is_empty() {
+            if let Some(detail) = take_any(alloc, &mut builder, number, line) {
+                return detail;
+            }
+        }
+    }
+    end_detail(&builder)
 }
