@@ -14,14 +14,16 @@ pub(crate) fn detail_at(alloc: Global, texts: &Texts, place: Place) -> Detail {
     match place {
         Place::Line(Text::Program, _) => detail_of(alloc, &texts.program),
         Place::Line(Text::World, line) => detail_of_world(alloc, texts, line),
-        Place::Line(Text::Schedule, _) => schedule_detail(
+        Place::Line(Text::Schedule, line) => schedule_detail(
             alloc,
             &texts.order,
+            line,
             threads_of(alloc, &texts.world),
         ),
-        Place::Line(Text::Journal, _) => journal_detail(
+        Place::Line(Text::Journal, line) => journal_detail(
             alloc,
             &texts.order,
+            line,
             threads_of(alloc, &texts.world),
         ),
         Place::Entry(entry) => entry_detail(&texts.order, entry),

@@ -64,24 +64,36 @@ fn line_detail(alloc: Global, order: Order, line: &[u8], threads: u8) -> Option<
     )
 }
 
-/// What was found at the first fault of a text of words: where each word keeps its own rules, there are too many.
-fn order_detail(alloc: Global, order: Order, text: &[u8], threads: u8) -> Detail {
+/// The line of this number, counted from 1.
+fn line_at(text: &[u8], number: usize) -> Option<&[u8]> {
+    let mut left = number;
     for line in Split::new(text, b'\n') {
-        if let Some(detail) = line_detail(alloc, order, line, threads) {
+        left = left.saturating_sub(1);
+        if left == 0 {
+            return Some(line);
+        }
+    }
+    None
+}
+
+/// What was found on the line of the first fault of a text of words: where each word keeps its own rules, there are too many.
+fn order_detail(alloc: Global, order: Order, text: &[u8], line: usize, threads: u8) -> Detail {
+    if let Some(bytes) = line_at(text, line) {
+        if let Some(detail) = line_detail(alloc, order, bytes, threads) {
             return detail;
         }
     }
     Detail::of(b"at most 1000000 in all")
 }
 
-/// What was found at the first fault of a schedule's text, for a world of this number of threads.
-pub fn schedule_detail(alloc: Global, text: &[u8], threads: u8) -> Detail {
-    order_detail(alloc, Order::Schedule, text, threads)
+/// What was found at the first fault of a schedule's text, which is on this line, for a world of this number of threads.
+pub fn schedule_detail(alloc: Global, text: &[u8], line: usize, threads: u8) -> Detail {
+    order_detail(alloc, Order::Schedule, text, line, threads)
 }
 
-/// What was found at the first fault of a journal's text, for a world of this number of threads.
-pub fn journal_detail(alloc: Global, text: &[u8], threads: u8) -> Detail {
-    order_detail(alloc, Order::Journal, text, threads)
+/// What was found at the first fault of a journal's text, which is on this line, for a world of this number of threads.
+pub fn journal_detail(alloc: Global, text: &[u8], line: usize, threads: u8) -> Detail {
+    order_detail(alloc, Order::Journal, text, line, threads)
 }
 
 /// The word of an entry of a journal, counted from 1.
@@ -109,12 +121,8 @@ fn second_word(line: &[u8]) -> Option<&[u8]> {
 
 /// The name of the function that is called on a line of a world's text, counted from 1.
 pub fn called_on(text: &[u8], line: usize) -> Option<&[u8]> {
-    let mut left = line;
-    for bytes in Split::new(text, b'\n') {
-        left = left.saturating_sub(1);
-        if left == 0 {
-            return second_word(bytes);
-        }
+    match line_at(text, line) {
+        Some(bytes) => second_word(bytes),
+        None => None,
     }
-    None
 }
