@@ -7,6 +7,7 @@ ghost use Rattle.semantics.specs.World.{initial, loaded_objects};
 ghost use Rattle.world_values.specs.Views.{object_value_view};
 
 use crate::store::Store;
+use class_layouts::LayoutFields;
 use classes::built_ins::{CLASS, OUT_OF_MEMORY_ERROR};
 use classes::class::FieldType;
 use classes::own_fields::OwnFields;
@@ -82,8 +83,8 @@ pub(crate) fn fresh_values(
     ensures short { IfOk result (λ values. length values.items ≤ 16384) }
 {
     let mut values = Vec::new(alloc);
-    for place in 0..classes.layout_len(class) {
-        let id = classes.layout_field(class, place).unwrap();
+    let mut fields = LayoutFields::of(classes, class);
+    while let Some(id) = fields.next() {
         values.push(initial(id.field.field_type))?;
     }
     Ok(values)
