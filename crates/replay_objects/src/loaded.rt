@@ -82,8 +82,8 @@ pub(crate) fn fresh_values(
     ensures values { IfOk result (λ values. map object_value_view values.items ≡ map (λ f. initial f.field.type) (layout classes.now class)) }
     ensures short { IfOk result (λ values. length values.items ≤ 16384) }
 {
-    let mut values = Vec::new(alloc);
     let mut fields = LayoutFields::of(classes, class);
+    let mut values = Vec::with_capacity(alloc, fields.len())?;
     while let Some(id) = fields.next() {
         values.push(initial(id.field.field_type))?;
     }
