@@ -10,13 +10,14 @@ ghost use Rattle.machine_calls.specs.NewObjects.{class_of_new, initial_value, in
 
 use crate::new_object::{New, NewArray, text_at};
 use crate::store::Store;
+use class_layouts::LayoutFields;
 use classes::built_ins::STRING;
 use classes::class::FieldType;
 use classes::table::ClassTable;
 use heap::{Addr, Heap, Value};
 
-/// Makes an object for a call with these texts, if the heap has room. It takes no host memory. The cost goes by the number of its values, of fields each
-/// time the depth of the class.
+/// Makes an object for a call with these texts, if the heap has room. It takes no host memory. The cost goes by the number of its values, and the depth of
+/// its class.
 pub fn make(classes: &ClassTable, texts: &[Vec<u8>], store: &mut Store, new: New) -> Option<Addr>
     requires class { class_of_new new < 2 ^ 32 }
     requires few { store.old.births + 1 < 2 ^ 32 }
@@ -96,12 +97,12 @@ fn allocate_fresh(classes: &ClassTable, heap: &mut Heap, class: usize, birth: u3
 {
     // The proof reads off this call how the heap lies.
     let _ = heap.count();
-    let count = classes.layout_len(class);
-    match heap.alloc(class as u32, birth, count, Value::Null) {
+    let mut fields = LayoutFields::of(classes, class);
+    match heap.alloc(class as u32, birth, fields.len(), Value::Null) {
         Err(_) => None,
         Ok(addr) => {
-            for place in 0..count {
-                let id = classes.layout_field(class, place).unwrap();
+            for place in 0..fields.len() {
+                let id = fields.next().unwrap();
                 heap.set(addr, place, initial_value(id.field.field_type));
             }
             Some(addr)

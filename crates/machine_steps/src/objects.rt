@@ -15,6 +15,7 @@ ghost use Rattle.semantics.specs.World.{initial, loaded_objects};
 ghost use Rattle.world_values.specs.CallArguments.{is_argument};
 ghost use Rattle.world_values.specs.Views.{object_value_view};
 
+use class_layouts::LayoutFields;
 use classes::built_ins::{CLASS, OUT_OF_MEMORY_ERROR};
 use classes::class::FieldType;
 use classes::own_fields::OwnFields;
@@ -157,8 +158,8 @@ fn fresh_values(
     ensures { IfOk result (λ values. map object_value_view values.items ≡ map (λ f. initial f.field.type) (layout classes.now class)) }
 {
     let mut values = Vec::new(alloc);
-    for place in 0..classes.layout_len(class) {
-        let id = classes.layout_field(class, place).unwrap();
+    let mut fields = LayoutFields::of(classes, class);
+    while let Some(id) = fields.next() {
         values.push(initial(id.field.field_type))?;
     }
     Ok(values)

@@ -8,6 +8,7 @@ ghost use Rattle.class_rules.specs.Grown.{IsGrown};
 ghost use Rattle.semantics.specs.Heap.{place_in};
 ghost use Rattle.replay_calls.specs.Actuals.{given_field};
 
+use class_layouts::LayoutFields;
 use classes::class::{ElementType, FieldHandle, FieldType};
 use classes::fields::FieldId;
 use classes::table::ClassTable;
@@ -90,8 +91,9 @@ fn known_field_place(
 fn searched_field_place(classes: &ClassTable, class: usize, field: Option<FieldId<'_>>) -> usize
     ensures { result ≡ place_in (given_field field.entry) (layout classes.now class) }
 {
-    for place in 0..classes.layout_len(class) {
-        let other = classes.layout_field(class, place).unwrap();
+    let mut fields = LayoutFields::of(classes, class);
+    for place in 0..fields.len() {
+        let other = fields.next().unwrap();
         if is_field(field, other) {
             return place;
         }

@@ -7,6 +7,7 @@ ghost use Rattle.semantics.specs.World.{initial, loaded_objects};
 ghost use Rattle.world_values.specs.Views.{object_value_view};
 
 use crate::store::Store;
+use class_layouts::LayoutFields;
 use classes::built_ins::{CLASS, OUT_OF_MEMORY_ERROR};
 use classes::class::FieldType;
 use classes::own_fields::OwnFields;
@@ -81,9 +82,9 @@ pub(crate) fn fresh_values(
     ensures values { IfOk result (λ values. map object_value_view values.items ≡ map (λ f. initial f.field.type) (layout classes.now class)) }
     ensures short { IfOk result (λ values. length values.items ≤ 16384) }
 {
-    let mut values = Vec::new(alloc);
-    for place in 0..classes.layout_len(class) {
-        let id = classes.layout_field(class, place).unwrap();
+    let mut fields = LayoutFields::of(classes, class);
+    let mut values = Vec::with_capacity(alloc, fields.len())?;
+    while let Some(id) = fields.next() {
         values.push(initial(id.field.field_type))?;
     }
     Ok(values)

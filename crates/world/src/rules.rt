@@ -19,13 +19,14 @@ ghost use Rattle.world_values.specs.WorldRules.{part_of, is_class_allowed, layou
 
 use crate::builder::WorldBuilder;
 use crate::names::ObjectNames;
+use class_layouts::LayoutFields;
 use classes::built_ins::CLASS;
 use classes::class::FieldType;
 use classes::fault::ClassRule;
 use classes::table::ClassTable;
 use world_lines::{
     Line, Value, broken_class_rule, cells_added, class_number, each_in_range, is_call,
-    is_class_allowed, is_formed, is_number, name_given, part_of, type_at, values_of,
+    is_class_allowed, is_formed, is_number, name_given, part_of, values_of,
 };
 use world_schedules::Rule;
 
@@ -100,11 +101,12 @@ fn fields_can_hold(
 ) -> bool
     ensures { result ≡ each_can_hold classes.now names.now (layout_types classes.now class) (map value_view values.now) }
 {
-    for (place, value) in values.iter().enumerate() {
-        match type_at(classes, class, place) {
+    let mut fields = LayoutFields::of(classes, class);
+    for value in values {
+        match fields.next() {
             None => return true,
-            Some(field_type) => {
-                if !can_hold(classes, names, field_type, *value) {
+            Some(id) => {
+                if !can_hold(classes, names, id.field.field_type, *value) {
                     return false;
                 }
             }

@@ -1,5 +1,5 @@
 -- Numbers that are looked at one after the other, each with the type of its place.
-use Rattle.std.proofs.Common.{◌≡◌, ℕ, zero, suc, ◌+◌, ◌<◌, ◌≤◌, true, List, [], ◌∷◌, length, map, drop, get_or, Option, refl, sym, ap, ◌∙◌, add-one}
+use Rattle.std.proofs.Common.{◌≡◌, ℕ, zero, suc, ◌+◌, ◌<◌, ◌≤◌, true, List, [], ◌∷◌, length, map, drop, get_or, Option, refl, sym, ap, ◌∙◌}
 use Rattle.std.specs.Prelude.{◌&&◌, slice_get}
 use Rattle.std.specs.List.{list_all}
 use Rattle.std.proofs.Math.ListN.{drop_of_length-le}
@@ -7,6 +7,7 @@ use Rattle.std.proofs.lemmas.List.{drop_more}
 use Rattle.std.proofs.lemmas.List.Folds.{list_all-map}
 use Rattle.base.specs.Element.{JInt}
 use Rattle.class_rules.specs.Class.{FieldType, NumberField, ReferenceField}
+use Rattle.class_rules.specs.Fields.{FieldId}
 use Rattle.world_lines.specs.ClassRules.{is_place_in_range}
 use Rattle.world_values.specs.WorldLines.{WorldValue}
 use Rattle.world_values.specs.WorldRules.{value_in_range, each_in_range}
@@ -41,14 +42,21 @@ pub all_references : (c : ℕ) (values : List WorldValue) → each_in_range (map
 all_references c [] = refl
 all_references c (v ∷ values) = all_references c values
 
-module _ {X : Type 0} (view : X → WorldValue) (types : List FieldType) (values : List X) (i : ℕ) where
-  pub in_range_more : (t : Option FieldType) (d : X) → t ≡ slice_get types i → i < length values
-      → each_in_range (drop i types) (map view (drop i values)) ≡ (is_place_in_range t (view (get_or values i d)) && each_in_range (drop (i + 1) types) (map view (drop (i + 1) values)))
-  in_range_more t d e h =
-      ap (λ vs. each_in_range (drop i types) (map view vs)) (drop_more values i d h)
-      ∙ first_in_range types i (view (get_or values i d)) (map view (drop (i + 1) values))
-      ∙ ap (λ o. is_place_in_range o (view (get_or values i d)) && each_in_range (drop (suc i) types) (map view (drop (i + 1) values))) (sym e)
-      ∙ ap (λ k. is_place_in_range t (view (get_or values i d)) && each_in_range (drop k types) (map view (drop (i + 1) values))) (sym (add-one i))
+-- the types of these fields
+abbrev pub types_of : List FieldId → List FieldType
+types_of fields = map (λ (f : FieldId). f.field.type) fields
 
-  pub all_in_range : length values ≤ i → each_in_range (drop i types) (map view (drop i values)) ≡ true
-  all_in_range h = ap (λ vs. each_in_range (drop i types) (map view vs)) (drop_of_length-le values h) ∙ no_numbers (drop i types)
+next_in_range : (fields : List FieldId) (v : WorldValue) (values : List WorldValue) → each_in_range (types_of fields) (v ∷ values) ≡ (is_place_in_range (slice_get (types_of fields) 0) v && each_in_range (types_of (drop 1 fields)) values)
+next_in_range [] v values = first_in_range [] zero v values
+next_in_range (f ∷ fields) v values = first_in_range (f.field.type ∷ types_of fields) zero v values
+
+module _ {X : Type 0} (view : X → WorldValue) (fields : List FieldId) (values : List X) (i : ℕ) where
+  pub in_range_more : (t : Option FieldType) (d : X) → t ≡ slice_get (types_of fields) 0 → i < length values
+      → each_in_range (types_of fields) (map view (drop i values)) ≡ (is_place_in_range t (view (get_or values i d)) && each_in_range (types_of (drop 1 fields)) (map view (drop (i + 1) values)))
+  in_range_more t d e h =
+      ap (λ vs. each_in_range (types_of fields) (map view vs)) (drop_more values i d h)
+      ∙ next_in_range fields (view (get_or values i d)) (map view (drop (i + 1) values))
+      ∙ ap (λ o. is_place_in_range o (view (get_or values i d)) && each_in_range (types_of (drop 1 fields)) (map view (drop (i + 1) values))) (sym e)
+
+  pub all_in_range : length values ≤ i → each_in_range (types_of fields) (map view (drop i values)) ≡ true
+  all_in_range h = ap (λ vs. each_in_range (types_of fields) (map view vs)) (drop_of_length-le values h) ∙ no_numbers (types_of fields)

@@ -14,7 +14,5 @@ pub use contents::{cells_added, is_call, name_given, part_of, values_of};
 pub use heap::heap_of_line;
 pub use line::{ArrayWords, CallWords, FieldWords, Line, ObjectWords, read_line};
 pub use ranges::is_number;
-pub use rules::{
-    broken_class_rule, class_number, each_in_range, is_class_allowed, is_formed, type_at,
-};
+pub use rules::{broken_class_rule, class_number, each_in_range, is_class_allowed, is_formed};
 pub use value::Value;

@@ -1,6 +1,6 @@
 //! The rules on one line that ask the classes alone.
 
-ghost use Rattle.std.specs.Prelude.{◌≡◌, ◌||◌, ◌==◌, map, length, not, codes, unwrap_or, slice_get};
+ghost use Rattle.std.specs.Prelude.{◌≡◌, ◌||◌, ◌==◌, map, length, not, codes, unwrap_or, drop, slice_get};
 ghost use Rattle.std.specs.Option.{option_map};
 ghost use Rattle.base.specs.Options.{some_passes};
 ghost use Rattle.class_rules.specs.Additions.{class_breaks};
@@ -19,6 +19,7 @@ use crate::line::{Line, ObjectWords};
 use crate::ranges::{are_in_range, is_value_in_range};
 use crate::value::Value;
 use crate::words::{is_class_name, is_simple_name};
+use class_layouts::LayoutFields;
 use classes::built_ins::is_after_built_ins;
 use classes::class::{ElementType, FieldType};
 use classes::fault::ClassRule;
@@ -130,11 +131,12 @@ pub fn is_class_allowed(classes: &ClassTable, line: &Line) -> bool
     }
 }
 
-/// The type of a place of the objects of a class.
-pub fn type_at(classes: &ClassTable, class: usize, place: usize) -> Option<FieldType>
-    ensures { option_map field_type_view result ≡ slice_get (layout_types classes.now class) place }
+/// The type of the next field.
+fn next_type(fields: &mut LayoutFields<'_>) -> Option<FieldType>
+    ensures first { option_map field_type_view result ≡ slice_get (map (λ f. f.field.type) fields.old) 0 }
+    ensures rest { fields.new ≡ drop 1 fields.old }
 {
-    match classes.layout_field(class, place) {
+    match fields.next() {
         Some(id) => Some(id.field.field_type),
         None => None,
     }
@@ -155,8 +157,9 @@ fn is_place_in_range(field_type: Option<FieldType>, value: Value) -> bool
 fn fields_in_range(classes: &ClassTable, class: usize, values: &[Value]) -> bool
     ensures { result ≡ each_in_range (layout_types classes.now class) (map value_view values.now) }
 {
-    for (place, value) in values.iter().enumerate() {
-        if !is_place_in_range(type_at(classes, class, place), *value) {
+    let mut fields = LayoutFields::of(classes, class);
+    for value in values {
+        if !is_place_in_range(next_type(&mut fields), *value) {
             return false;
         }
     }

@@ -1,0 +1,13 @@
+use Rattle.std.proofs.Common.{◌≡◌, ◌+◌, ◌-◌, ◌∙◌, arith}
+use Rattle.class_layouts.proofs.Walks.{one_more}
+use Rattle.class_layouts.proofs.layout_fields.ancestry.Goals as goal
+
+pub loop-preserved : goal.loop-preserved
+loop-preserved c =
+    let left : c.len-end.result - c.loop.counter ≡ (c.len-end.result - (c.loop.counter + 1)) + 1 = omega arith in
+    record {
+      whole =
+          one_more c.args.classes.now (c.len-end.result - (c.loop.counter + 1)) (c.len-end.result - c.loop.counter) c.loop.ancestor c.in-Some.above c.loop.ancestors.items c.push.new.self.items left c.push.ensures.items c.in-Some.ensures
+          ∙ c.loop.invariant.whole;
+      many = omega (arith, c.push.ensures.len, c.loop.invariant.many);
+    }

@@ -1,0 +1,9 @@
+use Rattle.std.proofs.Common.{◌≡◌, ◌++◌, ◌-◌, length}
+use Rattle.class_rules.specs.Class.{ancestry, ancestry_within}
+use Rattle.class_layouts.proofs.layout_fields.ancestry.Given as goal
+
+abbrev pub invariant-loop : goal.invariant-loop
+invariant-loop l = record {
+  whole : l.ancestors.items ++ ancestry_within (l.end - l.counter) l.classes l.ancestor ≡ ancestry l.classes l.class;
+  many : length l.ancestors.items ≡ l.counter;
+}

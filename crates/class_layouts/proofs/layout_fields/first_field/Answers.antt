@@ -1,0 +1,14 @@
+use Rattle.std.proofs.Common.{sym, ◌∙◌, arith}
+use Rattle.class_rules.specs.Fields.{own_fields}
+use Rattle.class_layouts.proofs.Walks.{not_there, next_class}
+use Rattle.class_layouts.proofs.layout_fields.first_field.Goals as goal
+
+pub loop-field-preserved : goal.loop-field-preserved
+loop-field-preserved c =
+    let T = c.args.classes.now in
+    let at = c.loop-field.position in
+    let none = not_there c.own_field.result (own_fields T at.class) at.place c.own_field.ensures c.in_default.is in
+    record {
+      rest = sym (next_class T at.class at.place c.in_ok-position.field-0 at.below.items c.pop.new.self.items none c.in_ok-position.ensures.items) ∙ c.loop-field.invariant.rest;
+      place = omega arith;
+    }

@@ -1,0 +1,126 @@
+//! A walk along the layout of a class.
+
+ghost use Rattle.std.specs.Prelude.{◌≡◌, ◌≤◌, ◌∷◌, [], length, slice_get, IfSome, MatchOption};
+ghost use Rattle.std.specs.Option.{option_map};
+ghost use Rattle.class_layouts.specs.Rest.{rest_from};
+ghost use Rattle.class_rules.specs.Class.{ancestry};
+ghost use Rattle.class_rules.specs.Fields.{layout, own_fields};
+ghost use Rattle.classes.specs.FieldViews.{field_id_view};
+
+use arrayvec::ArrayVec;
+use classes::class::FieldHandle;
+use classes::fields::FieldId;
+use classes::table::ClassTable;
+use std::marker::Model;
+
+/// The most classes that a table may have.
+const MOST_CLASSES: usize = 256;
+
+/// A place in a layout: the class whose own fields come next, how many of these have come, and the classes below it, the next one last.
+#[derive(Drop)]
+pub(crate) struct Position {
+    class: usize,
+    place: usize,
+    below: ArrayVec<usize, MOST_CLASSES>,
+}
+
+/// The fields of a class's objects that are still to come, in their order: those of its superclasses first. It never allocates.
+///
+/// All of them are taken in a time that goes by their number and the depth of the class.
+#[derive(Drop)]
+pub struct LayoutFields<'t> {
+    classes: &'t ClassTable,
+    position: Position,
+    /// How many fields are still to come.
+    left: usize,
+}
+
+impl<'t> Model for LayoutFields<'t> {
+    ghost use Rattle.std.specs.Prelude.{List, ◌≡◌, ◌+◌, ◌≤◌, length};
+    ghost use Rattle.class_rules.specs.Fields.{FieldId};
+    ghost use Rattle.class_layouts.specs.Rest.{rest_from};
+
+    ghost Value = { List FieldId };
+
+    ghost view = { λ w. rest_from w.classes.now w.position };
+
+    ghost invariant = { λ w. (w.left ≡ length (rest_from w.classes.now w.position)) × (w.position.place + w.left ≤ 16384) };
+}
+
+/// A class, its superclass, and so on.
+fn ancestry(classes: &ClassTable, class: usize) -> ArrayVec<usize, MOST_CLASSES>
+    ensures { result.items ≡ ancestry classes.now class }
+{
+    let mut ancestors = ArrayVec::new();
+    let mut ancestor = class;
+    for _ in 0..classes.len() {
+        ancestors.push(ancestor);
+        match classes.superclass(ancestor) {
+            Some(above) => ancestor = above,
+            None => return ancestors,
+        }
+    }
+    ancestors
+}
+
+/// The field of this place among those that the class declares itself.
+fn own_field<'t>(classes: &'t ClassTable, class: usize, place: usize) -> Option<FieldId<'t>>
+    ensures { option_map field_id_view result ≡ slice_get (own_fields classes.now class) place }
+{
+    classes.field_at(FieldHandle {
+        class,
+        place,
+        is_static: false,
+    })
+}
+
+/// The first field from a position on, which moves to the class that declares it.
+fn first_field<'t>(classes: &'t ClassTable, position: &mut Position) -> Option<FieldId<'t>>
+    ensures rest { rest_from classes.now position.new ≡ rest_from classes.now position.old }
+    ensures first { option_map field_id_view result ≡ slice_get (rest_from classes.now position.new) 0 }
+    ensures place { position.new.place ≤ position.old.place }
+    ensures own { IfSome result (λ f. slice_get (own_fields classes.now position.new.class) position.new.place ≡ Some (field_id_view f)) }
+{
+    loop {
+        if let Some(field) = own_field(classes, position.class, position.place) {
+            return Some(field);
+        }
+        position.class = position.below.pop()?;
+        position.place = 0;
+    }
+}
+
+impl<'t> LayoutFields<'t> {
+    /// All fields of the objects of a class.
+    pub fn of(classes: &'t ClassTable, class: usize) -> LayoutFields<'t>
+        ensures { result ≡ layout classes.now class }
+    {
+        LayoutFields {
+            classes,
+            position: Position {
+                class: 0,
+                place: 0,
+                below: ancestry(classes, class),
+            },
+            left: classes.layout_len(class),
+        }
+    }
+
+    /// How many are still to come.
+    pub fn len(&self) -> usize
+        ensures len { result ≡ length self.now }
+        ensures small { result ≤ 16384 }
+    {
+        self.left
+    }
+
+    /// Takes the next field.
+    pub fn next(&mut self) -> Option<FieldId<'t>>
+        ensures { MatchOption result ((self.old ≡ []) × (self.new ≡ [])) (λ f. self.old ≡ field_id_view f ∷ self.new) }
+    {
+        let field = first_field(self.classes, &mut self.position)?;
+        self.position.place += 1;
+        self.left -= 1;
+        Some(field)
+    }
+}
