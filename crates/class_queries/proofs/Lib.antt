@@ -1,1 +1,2 @@
 mod ArrayClasses
+pub mod MadeLists

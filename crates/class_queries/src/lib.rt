@@ -1,13 +1,15 @@
-//! What a run asks of classes alone, whichever run it is: whether an object is of the kind of a parameter, what a field can hold, the
-//! elements of arrays, and whose native method a function is.
+//! What a run asks of classes alone, whichever run it is: whether an object is of the kind of a parameter, what a field can hold, what
+//! objects hold at first, the elements of arrays, and whose native method a function is.
 #![tactic(auto)]
 
 mod arrays;
 mod field_types;
+mod first_values;
 mod kinds;
 mod native_methods;
 
 pub use arrays::{array_class_of, element_class};
 pub use field_types::{holds_number, holds_reference};
+pub use first_values::{fresh_values, initial_values};
 pub use kinds::class_misfits;
 pub use native_methods::native_class;

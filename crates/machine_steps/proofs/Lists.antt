@@ -18,14 +18,3 @@ take_all [] zero h = refl
 take_all [] (suc i) h = refl
 take_all (x ∷ xs) zero h = absurd (omega arith)
 take_all (x ∷ xs) (suc i) h = ap (λ ys. x ∷ ys) (take_all xs i (omega (arith, h)))
-
--- what was made of the elements so far, and of one more
-pub mapped_more : {A B C : Type 0} (view : A → C) (f : B → C) (made : List A) (a : A) (xs : List B) (i : ℕ) (x : B) → slice_get xs i ≡ Some x → view a ≡ f x → map view made ≡ map f (take i xs) → map view (made ++ a ∷ []) ≡ map f (take (i + 1) xs)
-mapped_more view f made a xs i x at same so_far =
-    map-append view made (a ∷ [])
-    ∙ (λ k. so_far k ++ same k ∷ [])
-    ∙ sym (ap (map f) (take_next xs i x at) ∙ map-append f (take i xs) (x ∷ []))
-
--- and of all
-pub mapped_all : {B C : Type 0} (f : B → C) (made : List C) (xs : List B) (i : ℕ) → length xs ≤ i → made ≡ map f (take i xs) → made ≡ map f xs
-mapped_all f made xs i past so_far = so_far ∙ ap (map f) (take_all xs i past)

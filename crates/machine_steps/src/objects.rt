@@ -2,8 +2,6 @@
 
 ghost use Rattle.std.specs.Prelude.{◌≡◌, ◌+◌, ◌^◌, ◌<◌, ◌≤◌, [], ◌∷◌, ◌++◌, length, map, replicate, take, IfOk, OnOk, IsTrue};
 ghost use Rattle.std.specs.List.{list_all};
-ghost use Rattle.classes.specs.Views.{field_type_view};
-ghost use Rattle.class_rules.specs.Fields.{layout};
 ghost use Rattle.heap.specs.Heap.{IsLaidOut, left_of};
 ghost use Rattle.machine_calls.specs.HeapAgrees.{AreMade};
 ghost use Rattle.machine_steps.specs.Held.{held_value};
@@ -11,15 +9,12 @@ ghost use Rattle.machine_calls.specs.declared.statics.StaticReference.TheVariant
 ghost use Rattle.syntax.specs.Parts.{statics_of};
 ghost use Rattle.syntax.specs.Views.{unit_tree};
 ghost use Rattle.semantics.specs.Heap.{Heap as Objects};
-ghost use Rattle.semantics.specs.World.{initial, loaded_objects};
+ghost use Rattle.semantics.specs.World.{loaded_objects};
 ghost use Rattle.world_values.specs.CallArguments.{is_argument};
 ghost use Rattle.world_values.specs.Views.{object_value_view};
 
-use class_layouts::LayoutFields;
+use class_queries::{fresh_values, initial_values};
 use classes::built_ins::{CLASS, OUT_OF_MEMORY_ERROR};
-use classes::class::FieldType;
-use classes::own_fields::OwnFields;
-use classes::table::ClassTable;
 use heap::{Addr, Heap, MOST_CELLS, Value};
 use machine_calls::statics::StaticReference;
 use machine_calls::store::Store;
@@ -135,44 +130,6 @@ fn make_objects(heap: &mut Heap, loaded: &mut Vec<Addr>, world: &World) -> Resul
         make(heap, loaded, object.class(), object.values())?;
     }
     Ok(())
-}
-
-/// What new fields hold.
-fn initial_values(alloc: Global, fields: &OwnFields) -> Result<Vec<ObjectValue>, AllocError>
-    ensures { IfOk result (λ values. map object_value_view values.items ≡ map (λ f. initial f.type) fields.now) }
-{
-    let mut values = Vec::new(alloc);
-    for place in 0..fields.len() {
-        let field = fields.get(place).unwrap();
-        values.push(initial(field.field_type))?;
-    }
-    Ok(values)
-}
-
-/// What the fields of a new object of the class hold.
-fn fresh_values(
-    alloc: Global,
-    classes: &ClassTable,
-    class: usize,
-) -> Result<Vec<ObjectValue>, AllocError>
-    ensures { IfOk result (λ values. map object_value_view values.items ≡ map (λ f. initial f.field.type) (layout classes.now class)) }
-{
-    let mut values = Vec::new(alloc);
-    let mut fields = LayoutFields::of(classes, class);
-    while let Some(id) = fields.next() {
-        values.push(initial(id.field.field_type))?;
-    }
-    Ok(values)
-}
-
-/// What a new field of this type holds.
-fn initial(field_type: FieldType) -> ObjectValue
-    ensures { object_value_view result ≡ initial (field_type_view field_type) }
-{
-    match field_type {
-        FieldType::Number(_) => ObjectValue::Number(0),
-        FieldType::Reference(_) => ObjectValue::Reference(None),
-    }
 }
 
 /// Makes the next object, with these values.

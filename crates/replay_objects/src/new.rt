@@ -9,8 +9,8 @@ ghost use Rattle.replay_objects.specs.New.{array_class, new_view, object_of, thr
 ghost use Rattle.replay_objects.specs.Stores.{IsMarked, object_view};
 ghost use Rattle.world_values.specs.Views.{object_value_view};
 
-use crate::loaded::fresh_values;
 use crate::store::{Object, Store, put_value};
+use class_queries::fresh_values;
 use classes::built_ins::STRING;
 use classes::table::ClassTable;
 use std::alloc::{AllocError, Global};

@@ -5,8 +5,8 @@ use Rattle.class_rules.specs.Class.{Field}
 use Rattle.classes.specs.Views.{field_view}
 use Rattle.semantics.specs.World.{initial}
 use Rattle.world_values.specs.Views.{object_value_view}
-use Rattle.machine_steps.proofs.Lists.{mapped_more, mapped_all}
-use Rattle.machine_steps.proofs.objects.initial_values.Goals as goal
+use Rattle.class_queries.proofs.MadeLists.{mapped_more, mapped_all}
+use Rattle.class_queries.proofs.first_values.initial_values.Goals as goal
 
 pub loop-place-preserved : goal.loop-place-preserved
 loop-place-preserved c =

@@ -2,7 +2,7 @@ use Rattle.std.proofs.Common.{◌≡◌, ◌++◌, length, map}
 use Rattle.class_rules.specs.Fields.{FieldId, layout}
 use Rattle.semantics.specs.World.{initial}
 use Rattle.world_values.specs.Views.{object_value_view}
-use Rattle.replay_objects.proofs.loaded.fresh_values.Given as goal
+use Rattle.class_queries.proofs.first_values.fresh_values.Given as goal
 
 -- what the fields so far hold, and those that are still to come
 abbrev pub invariant-loop-id : goal.invariant-loop-id

@@ -4,7 +4,7 @@ use Rattle.classes.specs.FieldViews.{field_id_view}
 use Rattle.class_layouts.proofs.Walks.{made_more, made_all}
 use Rattle.semantics.specs.World.{initial}
 use Rattle.world_values.specs.Views.{object_value_view}
-use Rattle.replay_objects.proofs.loaded.fresh_values.Goals as goal
+use Rattle.class_queries.proofs.first_values.fresh_values.Goals as goal
 
 pub loop-id-preserved : goal.loop-id-preserved
 loop-id-preserved c =
