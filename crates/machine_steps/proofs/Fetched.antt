@@ -1,11 +1,13 @@
 -- What is known where an instruction was fetched for a call in progress.
-use Rattle.std.proofs.Common.{◌≡◌, ◌≢◌, ℕ, ◌≤◌, ◌∷◌, List, Option, Some, ap, ◌∙◌}
+use Rattle.std.proofs.Common.{◌≡◌, ◌≢◌, ℕ, ◌+◌, ◌<◌, ◌≤◌, ◌^◌, ◌∷◌, List, Option, Some, length, ap, ◌∙◌, arith}
 use Rattle.std.specs.Prelude.{slice_get}
 use Rattle.code.specs.Call.{call_view}
-use Rattle.code.specs.Depth.{Listing}
+use Rattle.code.specs.Depth.{LeadsInside, Listing}
 use Rattle.code.specs.declared.instr.Call.{Call as CallInMemory}
 use Rattle.code.specs.declared.instr.Instr.{Instr}
 use Rattle.code.specs.declared.instr.Instr.TheVariants as instr
+use Rattle.code.specs.declared.instr.Plain.{Plain}
+use Rattle.code.specs.declared.instr.Plain.TheVariants as plain
 use Rattle.semantics.specs.Effect.{NoEffect, effect_of}
 use Rattle.semantics.specs.Task.{Task}
 use Rattle.semantics.specs.Thread.{Shared, Thread, sight_of}
@@ -20,6 +22,7 @@ use Rattle.machine_calls.specs.declared.store.Store.{Store}
 use Rattle.machine_calls.specs.Buffers.{Acquired, acquired_by, beside}
 use Rattle.machine_steps.specs.Executes.{IsExecuting}
 use Rattle.machine_steps.specs.Invoked.{AtCall}
+use Rattle.machine_steps.specs.Moved.{IsReachable}
 use Rattle.machine_steps.proofs.Calls.{Ready, ready}
 use Rattle.machine_steps.proofs.SlotBuffers.{elements_fit}
 
@@ -61,3 +64,10 @@ at_call p w store pending call i f function is others k own shared s task rest e
   of_function = f.of_function;
   at = f.at ∙ ap (λ j. Some j) is;
 }
+
+-- a way that leads inside code can be gone
+pub reachable : (instrs : List Instr) (place : ℕ) (way : Plain) (depth : ℕ) → length instrs < 2 ^ 64 → LeadsInside instrs place way depth → IsReachable place way
+reachable instrs place plain.Next depth few h = let inside : place + 1 < length instrs = h.inside in omega (arith, inside)
+reachable instrs place (plain.Skip n) depth few h = let inside : place + 1 + n < length instrs = h.inside in omega (arith, inside)
+reachable instrs place (plain.Back n) depth few h = h.0
+reachable instrs place (plain.Trap trap line) depth few h = tt

@@ -1,7 +1,8 @@
 -- Which steps wait for a monitor.
-use Rattle.std.proofs.Common.{◌≡◌, ℕ, Bool, true, false, not, eqb, List, [], length, Option, Some, None, is_none, refl, sym, ap, ◌∙◌, subst, cond}
+use Rattle.std.proofs.Common.{◌≡◌, ◌<◌, ◌≤◌, ℕ, Bool, true, false, not, eqb, List, [], length, Option, Some, None, is_none, refl, sym, ap, ◌∙◌, subst, cond}
 use Rattle.std.specs.Prelude.{◌&&◌, nat_lt, slice_get}
 use Rattle.std.specs.List.{AllZip}
+use Rattle.std.proofs.lemmas.Option.{slice_get_within}
 use Rattle.class_rules.specs.Class.{Classes}
 use Rattle.heap.specs.Heap.{Space, name_at}
 use Rattle.jni.specs.JniFunction.{JniFunction, MonitorEnter, prototype}
@@ -25,7 +26,7 @@ use Rattle.code.specs.declared.instr.Call.{Call as InMemory}
 use Rattle.code.specs.declared.instr.Instr.{Instr}
 use Rattle.code.specs.declared.instr.Instr.TheVariants as instr
 use Rattle.code_meaning.specs.Does.{OperandFits}
-use Rattle.code_meaning.specs.Lowered.{Lowered}
+use Rattle.code_meaning.specs.Lowered.{Lowered, IsLowered}
 use Rattle.code_meaning.specs.Slots.{visible_to}
 use Rattle.tables.specs.Elements.{OwnedNumbers}
 use Rattle.monitors.specs.declared.monitors.Enter.{Enter}
@@ -49,8 +50,8 @@ use Rattle.machine_steps.specs.SlotsHold.{slots_of}
 use Rattle.machine_steps.specs.ThreadAgrees.{ThreadAgrees, buffers_of}
 use Rattle.machine_steps.specs.Waiting.{MayWait, is_busy, store_unowned, unowned}
 use Rattle.machine_steps.proofs.AskedCalls.{CalledAs, called, r as ready_at}
-use Rattle.machine_steps.proofs.Calls.{Ready, does_cases}
-use Rattle.machine_steps.proofs.Fetched.{Fetched, at_call, ready_for}
+use Rattle.machine_steps.proofs.Calls.{Ready, does_cases, here, ready}
+use Rattle.machine_steps.proofs.Fetched.{Fetched, at_call, possible, ready_for, seeing}
 use Rattle.machine_steps.proofs.Threads.{Working, working}
 
 -- ---- where nobody owns a monitor
@@ -119,9 +120,34 @@ module _ (p : Lowered) (w : World) (store : Store) (others : Acquired) (k : ℕ)
     ready = nobody_waits w.classes k shared s (effect_of (sight_of shared s) work.task);
   }
 
+  -- its function is there
+  pub function_there : call.function < length p.codes
+  function_there = slice_get_within p.codes call.function would_execute.stands.code would_execute.stands.of_function
+
+  -- and its place in the function's code
+  pub place_there : (code : Listing) → IsLowered p → slice_get p.codes call.function ≡ Some code → store.heap.cells ≤ 1048576 → call.place < length code.instrs
+  place_there code lowered there few =
+      let found = here p w.classes store.heap store.elements k call code (visible_to own shared s) s.frames work.task work.rest
+      (ready p w.classes store.heap store.elements k call code (visible_to own shared s) s.frames work.task work.rest lowered there would_execute.stands
+      (seeing p w (store_unowned store) call t.pending others k own (unowned shared) s work.task work.rest would_execute few))
+      (possible p w (store_unowned store) call t.pending others k own (unowned shared) s work.task work.rest would_execute) in
+      slice_get_within code.instrs call.place found.0 found.1
+
   -- whether it waits is by its first task
   pub waits_by : waits_with w.classes k shared s (effect_of (sight_of shared s) work.task) ≡ waits w.classes k shared s
   waits_by = ap (λ (tasks : Option (List Task)). waits_with w.classes k shared s (next_effect shared s tasks)) (sym work.is)
+
+  -- where it doesn't wait, it executes
+  pub executes : waits w.classes k shared s ≡ false → IsExecuting p w store call t.pending others k own shared s work.task work.rest
+  executes free = record {
+    store_agrees = shares;
+    tasks = work.is;
+    stands = work.stands;
+    pending_agrees = h.pending;
+    views = subst (λ (c : Option Activation). AreViewed store.heap (buffers_of c) s) is h.views;
+    steady = steady;
+    ready = waits_by ∙ free;
+  }
 
   -- a call of which nothing is known yet but that it is there
   pub may_wait : (i : Instr) (f : Fetched p (store_unowned store) call i) (function : InMemory) → i ≡ instr.Call (call_view function) → MayWait p w store t.pending call function others k own shared s work.task work.rest

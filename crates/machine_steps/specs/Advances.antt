@@ -20,11 +20,16 @@ use Rattle.monitors.specs.Monitors.{kept_from, monitor_of, without_owner}
 use Rattle.machine_calls.specs.Buffers.{Acquired, KeepsCopies, acquired_by, beside}
 use Rattle.machine_calls.specs.CarriedOut.{IsShortOf}
 use Rattle.machine_calls.specs.StoreAgrees.{StoreAgrees, Keeps}
-use Rattle.machine_steps.specs.Executes.{cells_made, in_use_with}
+use Rattle.machine_steps.specs.Executes.{IsSteady, cells_made, in_use_with}
 use Rattle.semantics.specs.EventViews.{event_view}
 use Rattle.machine_steps.specs.ThreadAgrees.{ThreadAgrees}
 
 -- ---- steps
+
+-- thread k, in a store, stands for one of the source that no step breaks; the buffers of the other threads take this
+abbrev pub Stands : Lowered → World → Store → (others : Acquired) → (k : ℕ) → Owners → Shared → source.Thread → Thread → Type 0
+Stands p w store others k own shared s t =
+    StoreAgrees p w store shared (beside others (acquired_by s)) × ThreadAgrees p w.classes store.heap store.elements (length (loaded_objects w)) k own shared t s × IsSteady w.classes own shared s
 
 -- Thread k took the step that the source's thread takes, or the same with its allocation refused, where too few cells were left. The
 -- buffers of the other threads, which take this, are as they were.

@@ -35,6 +35,11 @@ abbrev pub WayIsSeen : Plain → Event → Type 0
 WayIsSeen (plain.Trap trap line) e = (t : TrapInMemory) × (trap_view t ≡ trap_of trap) × (e ≡ event.Trapped t line)
 WayIsSeen way e = e ≡ event.Quiet
 
+-- it prints nothing
+abbrev pub IsSilent : Event → Type 0
+IsSilent (event.Printed z) = ⊥
+IsSilent e = Unit {0}
+
 -- a way leads to a place that a word can hold
 abbrev pub IsReachable : (place : ℕ) → Plain → Type 0
 IsReachable place plain.Next = place + 1 < 2 ^ 64

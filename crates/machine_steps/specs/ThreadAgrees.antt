@@ -22,6 +22,7 @@ use Rattle.machine_calls.specs.declared.buffer.Buffer.{Buffer}
 use Rattle.machine_calls.specs.Buffers.{AreViewed}
 use Rattle.machine_calls.specs.HeapAgrees.{ReferenceAgrees}
 use Rattle.machine_steps.specs.Executes.{WorkAgrees}
+use Rattle.semantics.specs.declared.event.Ending.TheVariants.{Unfinished}
 use Rattle.semantics.specs.EventViews.{ending_view}
 use Rattle.tables.specs.Elements.{OwnedNumbers}
 

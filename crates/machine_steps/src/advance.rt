@@ -1,26 +1,28 @@
 //! A step of a thread.
 
-ghost use Rattle.std.specs.Prelude.{◌≡◌, ℕ, ◌+◌, ◌<◌, ◌^◌, true, false, Some, None, ◌∷◌, List, length, Ok, IfOk, IfErr, OnOk, OnErr};
+ghost use Rattle.std.specs.Prelude.{◌≡◌, ℕ, ◌+◌, ◌<◌, ◌^◌, true, false, Some, None, ◌∷◌, List, length, Ok, IfOk, IfErr, IfSome, IfNone, OnOk, OnErr};
 ghost use Rattle.std.specs.Option.{option_and_then};
 ghost use Rattle.std.specs.VecDeque.{deque_len};
 ghost use Rattle.heap.specs.Heap.{IsAddress, class_at, left_of};
 ghost use Rattle.syntax.specs.Views.{unit_tree};
 ghost use Rattle.semantics.specs.Thread.{Shared, Thread as SourceThread};
 ghost use Rattle.semantics.specs.ThreadStep.{thread_step, waits};
-ghost use Rattle.semantics.specs.World.{loaded_objects};
+ghost use Rattle.semantics.specs.World.{World as SourceWorld, loaded_objects};
 ghost use Rattle.semantics_safety.specs.Owners.{Owners};
 ghost use Rattle.code_meaning.specs.Lowered.{IsLowered};
 ghost use Rattle.machine_calls.specs.Buffers.{Acquired, acquired_by, beside};
 ghost use Rattle.machine_calls.specs.StoreAgrees.{StoreAgrees};
 ghost use Rattle.machine_steps.specs.ThreadAgrees.{ThreadAgrees};
-ghost use Rattle.machine_steps.specs.Advances.{AdvancesBy, LeavesMonitors, calls_after, ending_after, ends_with};
+ghost use Rattle.machine_steps.specs.Advances.{Advances, AdvancesBy, LeavesMonitors, Stands, calls_after, ending_after, ends_with};
 ghost use Rattle.machine_steps.specs.Executes.{IsHindered, IsSteady, cells_made, in_use_with};
 ghost use Rattle.machine_steps.specs.Entry.{IsReady, Begins};
+ghost use Rattle.machine_steps.specs.Moved.{IsSilent};
 
 use crate::entry::begin;
-use crate::execute::{Executed, execute};
+use crate::execute::{Executed, execute, run_plain};
 use crate::fault::StepFault;
 use crate::thread::{PendingCall, Thread};
+use code::instr::Instr;
 use code_meaning::Program;
 use heap::{Addr, Heap};
 use machine_calls::activation::Activation;
@@ -91,6 +93,41 @@ pub fn advance(
             }
             Err(fault) => Err(fault),
         },
+    }
+}
+
+/// Takes one step of a thread, if its next instruction works on the stack and the number slots alone, and answers what is seen of it.
+/// None leaves all as it was. It takes no host memory.
+#[inline(always)]
+pub fn advance_plainly(program: &Program<'_>, store: &Store, thread: &mut Thread) -> Option<Event>
+    requires lowered { IsLowered program.now }
+    requires stands { (w : SourceWorld) × (others : Acquired) × (k : ℕ) × (own : Owners) × (shared : Shared) × (s : SourceThread) × Stands program.now w store.now others k own shared s thread.old }
+    ensures advances { IfSome result (λ event. (w : SourceWorld) (others : Acquired) (k : ℕ) (own : Owners) (shared : Shared) (s : SourceThread) → Stands program.now w store.now others k own shared s thread.old
+        → (waits w.classes k shared s ≡ false) × Advances program.now w store.now store.now others k own shared s thread.new false event) }
+    ensures silent { IfSome result IsSilent }
+    ensures none { IfNone result (thread.new ≡ thread.old) }
+    ensures ending { thread.new.ending ≡ thread.old.ending }
+{
+    // The proof reads off this call that no object has as many elements as a `jint` can say.
+    let _ = store.heap.cells();
+    match &mut thread.call {
+        None => None,
+        Some(call) => {
+            let code = program.code_at(call.function);
+            let instr = code.instr_at(call.place);
+            match instr {
+                Instr::TestNull { .. }
+                | Instr::StoreNull(_)
+                | Instr::LoadBuffer(..)
+                | Instr::StoreBuffer(..)
+                | Instr::PutJint
+                | Instr::Call(_)
+                | Instr::Return
+                | Instr::ReturnJint
+                | Instr::ReturnReference(_) => None,
+                _ => Some(run_plain(instr, call)),
+            }
+        }
     }
 }
 

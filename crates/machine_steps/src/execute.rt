@@ -159,7 +159,7 @@ fn store_null(statics: &mut [StaticReference], call: &mut Activation, variable: 
 
 /// An instruction on the stack and the number slots alone.
 #[inline(always)]
-fn run_plain(instr: &Instr, call: &mut Activation) -> Event
+pub(crate) fn run_plain(instr: &Instr, call: &mut Activation) -> Event
     requires operands { IsSome (plain_of instr.now call.old.stack call.old.slots.numbers.items) }
     requires room { IsSome (depth_after instr.now (length call.old.stack)) }
     requires leads { (way : Plain) (stack numbers : List ℕ) → plain_of instr.now call.old.stack call.old.slots.numbers.items ≡ Some (way, stack, numbers)

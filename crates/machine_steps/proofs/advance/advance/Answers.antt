@@ -3,55 +3,27 @@ use Rattle.std.specs.Prelude.{IsSome}
 use Rattle.std.specs.Option.{option_map}
 use Rattle.syntax.specs.Views.{unit_tree}
 use Rattle.heap.specs.Heap.{Block, Space, IsAddress, block_at, left_of}
-use Rattle.semantics.specs.CallStep.{waits_with}
-use Rattle.semantics.specs.ThreadStep.{next_effect, step_within, waits}
+use Rattle.semantics.specs.ThreadStep.{next_effect, step_within}
 use Rattle.semantics.specs.Effect.{effect_of}
-use Rattle.semantics.specs.Task.{Task}
 use Rattle.semantics.specs.Object.{Reference}
 use Rattle.semantics.specs.Thread as source
 use Rattle.semantics.specs.Thread.{Shared, sight_of}
-use Rattle.semantics.specs.World.{World, loaded_objects}
-use Rattle.semantics_safety.specs.Owners.{Owners}
-use Rattle.code_meaning.specs.Lowered.{Lowered}
-use Rattle.code_meaning.specs.Slots.{visible_to}
-use Rattle.machine_calls.specs.declared.store.Store.{Store}
-use Rattle.machine_calls.specs.declared.activation.Activation.{Activation}
-use Rattle.machine_steps.specs.declared.thread.Thread.{Thread}
+use Rattle.semantics.specs.World.{loaded_objects}
 use Rattle.semantics.specs.declared.event.Event.TheVariants.{Quiet}
-use Rattle.machine_steps.specs.Executes.{IsHindered, IsSteady, IsExecuting, Executes, cells_made, in_use_with}
-use Rattle.machine_calls.specs.Buffers.{Acquired, AreViewed, acquired_by, beside}
-use Rattle.machine_calls.specs.StoreAgrees.{StoreAgrees}
-use Rattle.machine_steps.specs.ThreadAgrees.{ThreadAgrees, buffers_of}
+use Rattle.machine_steps.specs.Executes.{IsHindered, Executes, cells_made, in_use_with}
 use Rattle.machine_steps.specs.declared.execute.Executed.{Executed}
 use Rattle.machine_calls.specs.HeapAgrees.{ReferenceAgrees}
 use Rattle.machine_steps.specs.Entry.{IsReady, Begins}
 use Rattle.machine_steps.proofs.Entries.{enters, coming, ready_to_begin}
-use Rattle.machine_steps.proofs.Threads.{Working, working, did, returned}
+use Rattle.machine_steps.proofs.Threads.{did, returned}
+use Rattle.machine_steps.proofs.Waits.{executes, work}
 use Rattle.machine_steps.proofs.advance.advance.Goals as goal
-
--- a call in progress stands for the thread's tasks
-works : (p : Lowered) (w : World) (store : Store) (k : ℕ) (own : Owners) (shared : Shared) (t : Thread) (s : source.Thread) (call : Activation) → ThreadAgrees p w.classes store.heap store.elements (length (loaded_objects w)) k own shared t s → t.call ≡ Some call → Working p w.classes store.heap store.elements k call (visible_to own shared s) s.frames s.tasks
-works p w store k own shared t s call h is = working p w.classes store.heap store.elements k (visible_to own shared s) s.frames t.call call s.tasks h.work is
-
-executing : (p : Lowered) (w : World) (store : Store) (others : Acquired) (k : ℕ) (own : Owners) (shared : Shared) (t : Thread) (s : source.Thread) (call : Activation) → StoreAgrees p w store shared (beside others (acquired_by s)) → (h : ThreadAgrees p w.classes store.heap store.elements (length (loaded_objects w)) k own shared t s) (is : t.call ≡ Some call) → IsSteady w.classes own shared s → waits w.classes k shared s ≡ false
-    → IsExecuting p w store call t.pending others k own shared s (works p w store k own shared t s call h is).task (works p w store k own shared t s call h is).rest
-executing p w store others k own shared t s call shares h is steady free =
-    let it = works p w store k own shared t s call h is in
-    record {
-      store_agrees = shares;
-      tasks = it.is;
-      stands = it.stands;
-      pending_agrees = h.pending;
-      views = subst (λ (c : Option Activation). AreViewed store.heap (buffers_of c) s) is h.views;
-      steady = steady;
-      ready = ap (λ (tasks : Option (List Task)). waits_with w.classes k shared s (next_effect shared s tasks)) (sym it.is) ∙ free;
-    }
 
 pub execute-requires-clause-stands : goal.execute-requires-clause-stands
 execute-requires-clause-stands c =
     let a = c.requires.agrees in
-    let it = works c.args.program.now c.args.world.now c.args.store.now c.args.number a.1 a.2 c.args.thread.now a.3 c.in-Some.call a.5 c.in-Some.is in
-    (a.0, a.1, a.2, a.3, it.task, it.rest, executing c.args.program.now c.args.world.now c.args.store.now a.0 c.args.number a.1 a.2 c.args.thread.now a.3 c.in-Some.call a.4 a.5 c.in-Some.is a.7 a.8)
+    let it = work c.args.program.now c.args.world.now c.args.store.now a.0 c.args.number a.1 a.2 c.args.thread.now a.3 c.in-Some.call a.4 a.5 c.in-Some.is a.7 in
+    (a.0, a.1, a.2, a.3, it.task, it.rest, executes c.args.program.now c.args.world.now c.args.store.now a.0 c.args.number a.1 a.2 c.args.thread.now a.3 c.in-Some.call a.4 a.5 c.in-Some.is a.7 a.8)
 
 pub enter-requires-clause-ready : goal.enter-requires-clause-ready
 enter-requires-clause-ready c next rest is =
@@ -73,8 +45,8 @@ returns-in-Ok-Did-clause-advances c others own shared s shares h steady free =
     let p = c.args.program.now in
     let w = c.args.world.now in
     let old = c.args.store.now in
-    let b = works p w old c.args.number own shared c.args.thread.now s c.in-Some.call h c.in-Some.is in
-    let executed = c.in-Ok-Did.ensures.done others own shared s b.task b.rest (executing p w old others c.args.number own shared c.args.thread.now s c.in-Some.call shares h c.in-Some.is steady free) in
+    let b = work p w old others c.args.number own shared c.args.thread.now s c.in-Some.call shares h c.in-Some.is steady in
+    let executed = c.in-Ok-Did.ensures.done others own shared s b.task b.rest (executes p w old others c.args.number own shared c.args.thread.now s c.in-Some.call shares h c.in-Some.is steady free) in
     let goes = subst (λ (x : Executed). Executes p w old c.execute.new.store others c.args.number own shared s b.rest c.execute.new.call c.execute.new.pending (effect_of (sight_of shared s) b.task) x) c.in-Ok-Did.field-0-is executed in
     did p w old others c.args.number own shared c.args.thread.now s h c.execute.new.store false c.in-Ok-Did.event b.task b.rest b.is c.execute.new.call c.execute.new.pending goes
 
@@ -83,8 +55,8 @@ returns-in-Ok-Refused-clause-advances c others own shared s shares h steady free
     let p = c.args.program.now in
     let w = c.args.world.now in
     let old = c.args.store.now in
-    let b = works p w old c.args.number own shared c.args.thread.now s c.in-Some.call h c.in-Some.is in
-    let executed = c.in-Ok-Refused.ensures.done others own shared s b.task b.rest (executing p w old others c.args.number own shared c.args.thread.now s c.in-Some.call shares h c.in-Some.is steady free) in
+    let b = work p w old others c.args.number own shared c.args.thread.now s c.in-Some.call shares h c.in-Some.is steady in
+    let executed = c.in-Ok-Refused.ensures.done others own shared s b.task b.rest (executes p w old others c.args.number own shared c.args.thread.now s c.in-Some.call shares h c.in-Some.is steady free) in
     let goes = subst (λ (x : Executed). Executes p w old c.execute.new.store others c.args.number own shared s b.rest c.execute.new.call c.execute.new.pending (effect_of (sight_of shared s) b.task) x) c.in-Ok-Refused.field-0-is executed in
     did p w old others c.args.number own shared c.args.thread.now s h c.execute.new.store true Quiet b.task b.rest b.is c.execute.new.call c.execute.new.pending goes
 
@@ -105,8 +77,8 @@ leave-requires c a is =
     let old = c.args.store.now in
     let r = c.requires.agrees in
     let k = c.args.number in
-    let b = works p w old k r.1 r.2 c.args.thread.now r.3 c.in-Some.call r.5 c.in-Some.is in
-    let executed = c.in-Ok-Returned.ensures.done r.0 r.1 r.2 r.3 b.task b.rest (executing p w old r.0 k r.1 r.2 c.args.thread.now r.3 c.in-Some.call r.4 r.5 c.in-Some.is r.7 r.8) in
+    let b = work p w old r.0 k r.1 r.2 c.args.thread.now r.3 c.in-Some.call r.4 r.5 c.in-Some.is r.7 in
+    let executed = c.in-Ok-Returned.ensures.done r.0 r.1 r.2 r.3 b.task b.rest (executes p w old r.0 k r.1 r.2 c.args.thread.now r.3 c.in-Some.call r.4 r.5 c.in-Some.is r.7 r.8) in
     let left = subst (λ (x : Executed). Executes p w old c.execute.new.store r.0 k r.1 r.2 r.3 b.rest c.execute.new.call c.execute.new.pending (effect_of (sight_of r.2 r.3) b.task) x) c.in-Ok-Returned.field-0-is executed in
     named c.execute.new.store.heap c.execute.new.pending r.3.pending a left.3 is
 
@@ -115,8 +87,8 @@ returns-in-Ok-Returned-clause-advances c others own shared s shares h steady fre
     let p = c.args.program.now in
     let w = c.args.world.now in
     let old = c.args.store.now in
-    let b = works p w old c.args.number own shared c.args.thread.now s c.in-Some.call h c.in-Some.is in
-    let executed = c.in-Ok-Returned.ensures.done others own shared s b.task b.rest (executing p w old others c.args.number own shared c.args.thread.now s c.in-Some.call shares h c.in-Some.is steady free) in
+    let b = work p w old others c.args.number own shared c.args.thread.now s c.in-Some.call shares h c.in-Some.is steady in
+    let executed = c.in-Ok-Returned.ensures.done others own shared s b.task b.rest (executes p w old others c.args.number own shared c.args.thread.now s c.in-Some.call shares h c.in-Some.is steady free) in
     let left = subst (λ (x : Executed). Executes p w old c.execute.new.store others c.args.number own shared s b.rest c.execute.new.call c.execute.new.pending (effect_of (sight_of shared s) b.task) x) c.in-Ok-Returned.field-0-is executed in
     returned p w old others c.args.number own shared c.args.thread.now s h c.execute.new.store c.leave.new.store c.execute.new.pending c.leave.new.thread b.task b.rest b.is left.1 left.2 (steady.return (ap (next_effect shared s) b.is ∙ left.0)) left.3 c.requires.agrees.6 left.0 c.leave.ensures.call c.leave.ensures.pending c.leave.ensures.calls c.leave.ensures.ending c.leave.ensures.monitors
 
@@ -125,6 +97,6 @@ returns-in-Err-execute-clause-hindered c others own shared s shares h steady fre
     let p = c.args.program.now in
     let w = c.args.world.now in
     let old = c.args.store.now in
-    let b = works p w old c.args.number own shared c.args.thread.now s c.in-Some.call h c.in-Some.is in
-    let told = c.in-Err-execute.ensures.hindered others own shared s b.task b.rest (executing p w old others c.args.number own shared c.args.thread.now s c.in-Some.call shares h c.in-Some.is steady free) in
+    let b = work p w old others c.args.number own shared c.args.thread.now s c.in-Some.call shares h c.in-Some.is steady in
+    let told = c.in-Err-execute.ensures.hindered others own shared s b.task b.rest (executes p w old others c.args.number own shared c.args.thread.now s c.in-Some.call shares h c.in-Some.is steady free) in
     subst (λ (a : source.Advance). IsHindered (left_of old.heap) (cells_made shared a) c.args.may_refuse c.in-Err-execute.fault) (sym (ap (step_within (unit_tree p.unit) w.classes (in_use_with others s) c.args.number shared s false) b.is)) told

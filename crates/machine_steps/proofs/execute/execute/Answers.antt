@@ -1,4 +1,4 @@
-use Rattle.std.proofs.Common.{rules, ◌≡◌, ◌≤◌, ℕ, ◌+◌, Some, List, length, refl, sym, ap, ◌∙◌, subst, arith, ℤ, ◌⊎◌, ⊎_elim}
+use Rattle.std.proofs.Common.{rules, ◌≡◌, ◌≤◌, ◌+◌, Some, List, length, refl, sym, ap, ◌∙◌, subst, arith, ℤ, ◌⊎◌, ⊎_elim}
 use Rattle.std.specs.Int.{w32, cast_signed, cast_unsigned}
 use Rattle.std.specs.Vec.{with_items}
 use Rattle.std.proofs.Math.Facts.{to_z-of_z}
@@ -7,10 +7,7 @@ use Rattle.std.proofs.lemmas.Option.{slice_get_within}
 use Rattle.code.specs.Call.{Call}
 use Rattle.code.specs.declared.instr.Instr.{Instr}
 use Rattle.code.specs.declared.instr.Instr.TheVariants as instr
-use Rattle.code.specs.declared.instr.Plain.{Plain}
 use Rattle.code.specs.declared.instr.ReferenceOperand.{ReferenceOperand}
-use Rattle.code.specs.declared.instr.Plain.TheVariants as plain
-use Rattle.code.specs.Depth.{LeadsInside}
 use Rattle.semantics.specs.Effect.{effect_of}
 use Rattle.semantics.specs.Thread.{sight_of}
 use Rattle.code_meaning.specs.Slots.{visible_to}
@@ -19,15 +16,13 @@ use Rattle.machine_calls.specs.declared.activation.Activation.{Activation}
 use Rattle.semantics.specs.declared.event.Event.TheVariants.{Printed}
 use Rattle.machine_steps.specs.declared.execute.Executed.{Executed}
 use Rattle.machine_steps.specs.declared.execute.Executed.TheVariants.{Did}
-use Rattle.std.specs.Prelude.{◌<◌, ◌^◌}
 use Rattle.machine_steps.specs.Executes.{Executes}
-use Rattle.machine_steps.specs.Moved.{IsReachable}
 use Rattle.machine_calls.specs.Statics.{all_held, held}
 use Rattle.machine_calls.specs.declared.statics.StaticReference.{StaticReference}
 use Rattle.machine_calls.proofs.HeldStatics.{statics_count}
 use Rattle.machine_steps.specs.Variables.{HasSlot, nulled_statics}
 use Rattle.machine_steps.proofs.Calls.{ready, here, room, leads, one_word, positive, two_words}
-use Rattle.machine_steps.proofs.Fetched.{Fetched, at_call, possible, ready_for, seeing}
+use Rattle.machine_steps.proofs.Fetched.{Fetched, at_call, possible, reachable, ready_for, seeing}
 use Rattle.machine_steps.proofs.ElementEffects.{load_executes, store_executes as element_store_executes}
 use Rattle.machine_steps.proofs.SlotBuffers.{slot_of_block}
 use Rattle.machine_steps.proofs.Effects.{few_words, slot_there as variable_there, plain_executes, test_executes, store_executes, put_executes, return_executes}
@@ -103,13 +98,6 @@ pub store_element-requires-clause-block : goal.store_element-requires-clause-blo
 store_element-requires-clause-block c =
     let s = c.requires.stands in
     slot_of_block c.args.store.now.heap c.args.store.now.elements c.args.thread c.args.call.now.slots.buffers.items s.6.stands.meant.buffers c.in-StoreBuffer.slot s.6.stands.holds.buffers
-
--- a way that leads inside code can be gone
-reachable : (instrs : List Instr) (place : ℕ) (way : Plain) (depth : ℕ) → length instrs < 2 ^ 64 → LeadsInside instrs place way depth → IsReachable place way
-reachable instrs place plain.Next depth few h = let inside : place + 1 < length instrs = h.inside in omega (arith, inside)
-reachable instrs place (plain.Skip n) depth few h = let inside : place + 1 + n < length instrs = h.inside in omega (arith, inside)
-reachable instrs place (plain.Back n) depth few h = h.0
-reachable instrs place (plain.Trap trap line) depth few h = tt
 
 pub run_plain-requires-clause-leads : goal.run_plain-requires-clause-leads
 unfolding fetched

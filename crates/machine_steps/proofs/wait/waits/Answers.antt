@@ -1,16 +1,14 @@
 use Rattle.std.proofs.Common.{◌≡◌, ◌≤◌, List, Option, sym, ap, ◌∙◌, arith}
-use Rattle.std.proofs.lemmas.Option.{slice_get_within}
 use Rattle.code.specs.Call.{Call, call_view}
 use Rattle.code.specs.declared.instr.Instr.TheVariants as instr
 use Rattle.semantics.specs.CallStep.{waits_with}
 use Rattle.semantics.specs.Task.{Task}
 use Rattle.semantics.specs.ThreadStep.{next_effect}
 use Rattle.code_meaning.specs.Slots.{visible_to}
-use Rattle.machine_steps.specs.Waiting.{store_unowned, unowned}
-use Rattle.machine_steps.proofs.Calls.{here, ready}
-use Rattle.machine_steps.proofs.Fetched.{Fetched, possible, seeing}
+use Rattle.machine_steps.specs.Waiting.{store_unowned}
+use Rattle.machine_steps.proofs.Fetched.{Fetched}
 use Rattle.machine_steps.proofs.Threads.{resting}
-use Rattle.machine_steps.proofs.Waits.{goes_on, may_wait, value_enters, waits_by, work, would_execute}
+use Rattle.machine_steps.proofs.Waits.{function_there, goes_on, may_wait, place_there, value_enters, waits_by, work}
 use Rattle.machine_steps.proofs.wait.waits.Goals as goal
 use Rattle.machine_steps.proofs.wait.waits.Goals.{After-instr_at-instr}
 
@@ -27,25 +25,13 @@ fetched c = record {
 pub code_at-code-requires : goal.code_at-code-requires
 code_at-code-requires c =
     let a = c.requires.agrees in
-    let e = would_execute c.args.program.now c.args.world.now c.args.store.now a.0 c.args.number a.1 a.2 c.args.thread.now a.3 c.in-Some.call a.4 a.5 c.in-Some.is a.6 in
-    slice_get_within c.args.program.now.codes c.in-Some.call.function e.stands.code e.stands.of_function
+    function_there c.args.program.now c.args.world.now c.args.store.now a.0 c.args.number a.1 a.2 c.args.thread.now a.3 c.in-Some.call a.4 a.5 c.in-Some.is a.6
 
 pub instr_at-instr-requires : goal.instr_at-instr-requires
 instr_at-instr-requires c =
     let a = c.requires.agrees in
-    let p = c.args.program.now in
-    let w = c.args.world.now in
-    let store = c.args.store.now in
-    let call = c.in-Some.call in
-    let code = c.code_at-code.result.now in
-    let few : store.heap.cells ≤ 1048576 = omega (arith, c.cells.ensures.cells, c.cells.ensures.limit) in
-    let it = work p w store a.0 c.args.number a.1 a.2 c.args.thread.now a.3 call a.4 a.5 c.in-Some.is a.6 in
-    let e = would_execute p w store a.0 c.args.number a.1 a.2 c.args.thread.now a.3 call a.4 a.5 c.in-Some.is a.6 in
-    let h = here p w.classes store.heap store.elements c.args.number call code (visible_to a.1 a.2 a.3) a.3.frames it.task it.rest
-    (ready p w.classes store.heap store.elements c.args.number call code (visible_to a.1 a.2 a.3) a.3.frames it.task it.rest c.requires.lowered c.code_at-code.ensures.code e.stands
-    (seeing p w (store_unowned store) call c.args.thread.now.pending a.0 c.args.number a.1 (unowned a.2) a.3 it.task it.rest e few))
-    (possible p w (store_unowned store) call c.args.thread.now.pending a.0 c.args.number a.1 (unowned a.2) a.3 it.task it.rest e) in
-    slice_get_within code.instrs call.place h.0 h.1
+    let few : c.args.store.now.heap.cells ≤ 1048576 = omega (arith, c.cells.ensures.cells, c.cells.ensures.limit) in
+    place_there c.args.program.now c.args.world.now c.args.store.now a.0 c.args.number a.1 a.2 c.args.thread.now a.3 c.in-Some.call a.4 a.5 c.in-Some.is a.6 c.code_at-code.result.now c.requires.lowered c.code_at-code.ensures.code few
 
 pub waits_to_enter-requires-clause-may_wait : goal.waits_to_enter-requires-clause-may_wait
 waits_to_enter-requires-clause-may_wait c =
