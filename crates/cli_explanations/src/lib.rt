@@ -1,7 +1,10 @@
 //! What each fault and trap means, in plain words, with the smallest text that earns it and its cure.
 #![tactic(auto)]
 
-ghost use Rattle.std.specs.Prelude.{◌≡◌, IfSome};
+ghost use Rattle.std.specs.Prelude.{◌≡◌, IfSome, map};
+ghost use Rattle.std.specs.Option.{option_map};
+ghost use Rattle.cli_explanations.specs.Numbered.{titled, title_in};
+ghost use Rattle.cli_explanations.specs.Titles.{fault_title, trap_title};
 
 mod table;
 
@@ -19,21 +22,29 @@ pub struct Explanation {
 
 /// What is said of the number.
 fn find(explanations: &[Explanation], number: u32) -> Option<Explanation>
-    ensures { IfSome result (λ e. e.number ≡ number) }
+    ensures number { IfSome result (λ e. e.number ≡ number) }
+    ensures title { option_map (λ e. e.title.now) result ≡ title_in number (map titled explanations.now) }
 {
-    explanations.iter().copied().find(|e| e.number == number)
+    for explanation in explanations {
+        if explanation.number == number {
+            return Some(*explanation);
+        }
+    }
+    None
 }
 
 /// What is said of a fault.
 pub fn fault(number: u32) -> Option<Explanation>
-    ensures { IfSome result (λ e. e.number ≡ number) }
+    ensures number { IfSome result (λ e. e.number ≡ number) }
+    ensures title { option_map (λ e. e.title.now) result ≡ fault_title number }
 {
     find(faults_near(number), number)
 }
 
 /// What is said of a trap.
 pub fn trap(number: u32) -> Option<Explanation>
-    ensures { IfSome result (λ e. e.number ≡ number) }
+    ensures number { IfSome result (λ e. e.number ≡ number) }
+    ensures title { option_map (λ e. e.title.now) result ≡ trap_title number }
 {
     find(traps_near(number), number)
 }

@@ -1,5 +1,9 @@
 //! What docs/FAULTS.md says of each fault and trap; `examples/explanations write` makes this file of it.
 
+ghost use Rattle.std.specs.Prelude.{◌≡◌, ◌/◌, map};
+ghost use Rattle.cli_explanations.specs.Numbered.{titled};
+ghost use Rattle.cli_explanations.specs.Titles.{faults_0, faults_10, faults_20, faults_30, faults_40, faults_50, faults_60, faults_80, faults_90, traps_0, faults_near, traps_near};
+
 use crate::Explanation;
 
 /// The faults from 0 to 9, by rising numbers.
@@ -27,7 +31,10 @@ static FAULTS_0: [Explanation; 4] = [
 ];
 
 /// These, as a slice.
-fn faults_0() -> &'static [Explanation] {
+#[tactic(auto, unfolding(crate::specs::Titles::faults_0))]
+fn faults_0() -> &'static [Explanation]
+    ensures { map titled result.now ≡ faults_0 }
+{
     &FAULTS_0
 }
 
@@ -51,7 +58,10 @@ static FAULTS_10: [Explanation; 3] = [
 ];
 
 /// These, as a slice.
-fn faults_10() -> &'static [Explanation] {
+#[tactic(auto, unfolding(crate::specs::Titles::faults_10))]
+fn faults_10() -> &'static [Explanation]
+    ensures { map titled result.now ≡ faults_10 }
+{
     &FAULTS_10
 }
 
@@ -100,7 +110,10 @@ static FAULTS_20: [Explanation; 8] = [
 ];
 
 /// These, as a slice.
-fn faults_20() -> &'static [Explanation] {
+#[tactic(auto, unfolding(crate::specs::Titles::faults_20))]
+fn faults_20() -> &'static [Explanation]
+    ensures { map titled result.now ≡ faults_20 }
+{
     &FAULTS_20
 }
 
@@ -154,7 +167,10 @@ static FAULTS_30: [Explanation; 9] = [
 ];
 
 /// These, as a slice.
-fn faults_30() -> &'static [Explanation] {
+#[tactic(auto, unfolding(crate::specs::Titles::faults_30))]
+fn faults_30() -> &'static [Explanation]
+    ensures { map titled result.now ≡ faults_30 }
+{
     &FAULTS_30
 }
 
@@ -178,7 +194,10 @@ static FAULTS_40: [Explanation; 3] = [
 ];
 
 /// These, as a slice.
-fn faults_40() -> &'static [Explanation] {
+#[tactic(auto, unfolding(crate::specs::Titles::faults_40))]
+fn faults_40() -> &'static [Explanation]
+    ensures { map titled result.now ≡ faults_40 }
+{
     &FAULTS_40
 }
 
@@ -190,7 +209,10 @@ static FAULTS_50: [Explanation; 1] = [Explanation {
 }];
 
 /// These, as a slice.
-fn faults_50() -> &'static [Explanation] {
+#[tactic(auto, unfolding(crate::specs::Titles::faults_50))]
+fn faults_50() -> &'static [Explanation]
+    ensures { map titled result.now ≡ faults_50 }
+{
     &FAULTS_50
 }
 
@@ -219,7 +241,10 @@ static FAULTS_60: [Explanation; 4] = [
 ];
 
 /// These, as a slice.
-fn faults_60() -> &'static [Explanation] {
+#[tactic(auto, unfolding(crate::specs::Titles::faults_60))]
+fn faults_60() -> &'static [Explanation]
+    ensures { map titled result.now ≡ faults_60 }
+{
     &FAULTS_60
 }
 
@@ -248,7 +273,10 @@ static FAULTS_80: [Explanation; 4] = [
 ];
 
 /// These, as a slice.
-fn faults_80() -> &'static [Explanation] {
+#[tactic(auto, unfolding(crate::specs::Titles::faults_80))]
+fn faults_80() -> &'static [Explanation]
+    ensures { map titled result.now ≡ faults_80 }
+{
     &FAULTS_80
 }
 
@@ -267,12 +295,18 @@ static FAULTS_90: [Explanation; 2] = [
 ];
 
 /// These, as a slice.
-fn faults_90() -> &'static [Explanation] {
+#[tactic(auto, unfolding(crate::specs::Titles::faults_90))]
+fn faults_90() -> &'static [Explanation]
+    ensures { map titled result.now ≡ faults_90 }
+{
     &FAULTS_90
 }
 
 /// The faults of a number's ten.
-pub fn faults_near(number: u32) -> &'static [Explanation] {
+#[tactic(auto, unfolding(crate::specs::Titles::faults_near))]
+pub fn faults_near(number: u32) -> &'static [Explanation]
+    ensures { map titled result.now ≡ faults_near (number / 10) }
+{
     match number / 10 {
         0 => faults_0(),
         1 => faults_10(),
@@ -337,12 +371,18 @@ static TRAPS_0: [Explanation; 9] = [
 ];
 
 /// These, as a slice.
-fn traps_0() -> &'static [Explanation] {
+#[tactic(auto, unfolding(crate::specs::Titles::traps_0))]
+fn traps_0() -> &'static [Explanation]
+    ensures { map titled result.now ≡ traps_0 }
+{
     &TRAPS_0
 }
 
 /// The traps of a number's ten.
-pub fn traps_near(number: u32) -> &'static [Explanation] {
+#[tactic(auto, unfolding(crate::specs::Titles::traps_near))]
+pub fn traps_near(number: u32) -> &'static [Explanation]
+    ensures { map titled result.now ≡ traps_near (number / 10) }
+{
     match number / 10 {
         0 => traps_0(),
         _ => &[],

@@ -11,6 +11,8 @@ use Rattle.clap.specs.declared.error.kind.ErrorKind.{ErrorKind}
 use Rattle.clap.specs.declared.error.kind.ErrorKind.TheVariants.{DisplayHelp, DisplayVersion, OutOfMemory}
 use Rattle.cli_commands.specs.declared.command.Command.{Command}
 use Rattle.cli_commands.specs.declared.command.Command.TheVariants.{Check, Run, Work, Replay}
+use Rattle.cli_explanations.specs.Titles.{fault_title, trap_title}
+use Rattle.cli_explanations.specs.declared.Explanation.{Explanation}
 use Rattle.cli_words.specs.CommandLine.{command_line}
 use Rattle.cli_words.specs.declared.request.Request.{Request}
 use Rattle.cli_words.specs.declared.request.Request.TheVariants.{Serve, Explain, Show, Misuse, LacksOrder, LacksMemory}
@@ -50,16 +52,22 @@ AreNamed name rows None = (command : Command) → Names name rows command → �
 abbrev pub Spells : (text : List ℕ) → (number : ℕ) → Type 0
 Spells text number = IsNumeral 10 (without_leading_plus text) × (number ≡ digits_value 10 (without_leading_plus text))
 
--- the number of a fault is in the word `N`, and that of a trap in the word after `trap`
-abbrev pub HasNumber : List Row → (number : ℕ) → Type 0
-HasNumber rows number =
-    ((text : List ℕ) × HasValue rows (codes "N") text × (first_of (codes "NUMBER") rows ≡ None) × Spells text number)
-    ⊎ ((text : List ℕ) × HasValue rows (codes "N") (codes "trap") × HasValue rows (codes "NUMBER") text × Spells text number)
+-- a fault is asked for, whose number is in the word `N`
+abbrev pub AsksFault : List Row → (number : ℕ) → Type 0
+AsksFault rows number = (text : List ℕ) × HasValue rows (codes "N") text × (first_of (codes "NUMBER") rows ≡ None) × Spells text number
+
+-- a trap is asked for, whose number is in the word after `trap`
+abbrev pub AsksTrap : List Row → (number : ℕ) → Type 0
+AsksTrap rows number = (text : List ℕ) × HasValue rows (codes "N") (codes "trap") × HasValue rows (codes "NUMBER") text × Spells text number
+
+-- this is of a fault or a trap that is asked for, and has its title
+abbrev pub IsAskedFor : List Row → Explanation → Type 0
+IsAskedFor rows e = (AsksFault rows e.number × (fault_title e.number ≡ Some e.title.now)) ⊎ (AsksTrap rows e.number × (trap_title e.number ≡ Some e.title.now))
 
 -- what is asked for: something with the files that are named, an explanation, or something of which a file isn't named, or that goes by no order or by two
 abbrev pub AsksFor : Found → Request → Type 0
 AsksFor (Some (name, rows)) (Serve command) = Names name rows command
-AsksFor (Some (name, rows)) (Explain explanation) = (name ≡ codes "explain") × IfSome explanation (λ e. HasNumber rows e.number)
+AsksFor (Some (name, rows)) (Explain explanation) = (name ≡ codes "explain") × IfSome explanation (IsAskedFor rows)
 AsksFor (Some (name, rows)) LacksOrder = (name ≢ codes "explain") × AreNamed name rows None
 AsksFor None LacksOrder = Unit {0}
 AsksFor found request = ⊥

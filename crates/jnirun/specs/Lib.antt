@@ -14,3 +14,5 @@ pub use Rattle.cli_commands.specs.Saying
 pub use Rattle.cli_commands.specs.Telling
 pub use Rattle.program_check.specs.Programs
 pub use Rattle.program_check.specs.Checks
+pub use Rattle.cli_explanations.specs.Numbered
+pub use Rattle.cli_explanations.specs.Titles

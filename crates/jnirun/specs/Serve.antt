@@ -1,5 +1,5 @@
 -- What the commands do with files, standard output and standard error.
-use Rattle.std.specs.Prelude.{◌≡◌, ℕ, List, [], Option, Some, None, codes}
+use Rattle.std.specs.Prelude.{◌≡◌, ℕ, List, [], Option, Some, None, unwrap_or, codes}
 use Rattle.sinks.specs.Sink.{Written, StopsWithin}
 use Rattle.cli_commands.specs.declared.command.Command.{Command}
 use Rattle.cli_commands.specs.declared.command.Command.TheVariants.{Check, Run, Work, Replay}
@@ -14,6 +14,7 @@ use Rattle.jnirun.specs.Replays.{EndsReplay, AreRefusedReplays}
 use Rattle.jnirun.specs.Runs.{EndsRun, AppendsRun, StopsRun}
 use Rattle.cli_commands.specs.Saying.{SendsText, Tells, fault_line}
 use Rattle.cli_commands.specs.Telling.{told}
+use Rattle.cli_explanations.specs.Titles.{fault_title, trap_title}
 use Rattle.jnirun.specs.Texts.{AreRefused}
 use Rattle.jnirun.specs.Works.{EndsWork, AreRefusedWork}
 
@@ -40,19 +41,27 @@ TextsEarn (Replay p w j) program world order number place = AreRefusedReplays pr
 
 -- ---- standard error
 
--- where and why a text of the command is refused, in some words, and what was found there
-abbrev pub error_text : Command → (program world order : List ℕ) → (number : ℕ) → Place → (words detail : List ℕ) → List ℕ
-error_text command program world order number place words detail =
-    told (codes "error") (name_of command (text_at place)) (text_of program world order (text_at place)) number place words detail
+-- the words on a fault: its title, or, of a number that has none, that the text is refused
+abbrev pub fault_words : (number : ℕ) → List ℕ
+fault_words number = unwrap_or (fault_title number) (codes "the text is refused")
 
--- where and why a trap stopped the run, in some words
-abbrev pub trap_text : Command → (program : List ℕ) → TrapAt → (words : List ℕ) → List ℕ
-trap_text command program trap words = told (codes "trap") (name_of command which.Program) program trap.number (Line which.Program trap.line) words []
+-- the words on a trap: its title, or, of a number that has none, that the program stops
+abbrev pub trap_words : (number : ℕ) → List ℕ
+trap_words number = unwrap_or (trap_title number) (codes "the program stops")
+
+-- where and why a text of the command is refused, and what was found there
+abbrev pub error_text : Command → (program world order : List ℕ) → (number : ℕ) → Place → (detail : List ℕ) → List ℕ
+error_text command program world order number place detail =
+    told (codes "error") (name_of command (text_at place)) (text_of program world order (text_at place)) number place (fault_words number) detail
+
+-- where and why a trap stopped the run
+abbrev pub trap_text : Command → (program : List ℕ) → TrapAt → List ℕ
+trap_text command program trap = told (codes "trap") (name_of command which.Program) program trap.number (Line which.Program trap.line) (trap_words trap.number) []
 
 -- the trap that stopped the run is told, and without one nothing is
 abbrev pub TellsTrap : Command → (program : List ℕ) → (err err_after : Written) → Option TrapAt → Type 0
 TellsTrap command program err err_after None = err_after ≡ err
-TellsTrap command program err err_after (Some trap) = (words : List ℕ) × Tells err err_after (trap_text command program trap words)
+TellsTrap command program err err_after (Some trap) = Tells err err_after (trap_text command program trap)
 
 -- ---- how a command goes
 
@@ -62,9 +71,9 @@ pub data ServesTexts (command : Command) (program world order : List ℕ) (out o
   is_done : (trap : Option TrapAt) → AppendsRun out out_after (TextsWrite command program world order trap) → TellsTrap command program err err_after trap
       → ServesTexts command program world order out out_after err err_after 0
   -- the line of a fault that the texts earn is sent, and the fault is told
-  is_refused : (number : ℕ) (place : Place) (words detail : List ℕ) → TextsEarn command program world order number place
+  is_refused : (number : ℕ) (place : Place) (detail : List ℕ) → TextsEarn command program world order number place
       → SendsText out out_after (fault_line number place)
-      → Tells err err_after (error_text command program world order number place words detail)
+      → Tells err err_after (error_text command program world order number place detail)
       → ServesTexts command program world order out out_after err err_after 1
   -- memory was refused, and nothing is written
   lacks_memory : out_after ≡ out → Tells err err_after (codes "memory\n") → ServesTexts command program world order out out_after err err_after 3

@@ -4,7 +4,7 @@ ghost use Rattle.std.specs.Prelude.{◌≡◌, None};
 ghost use Rattle.sinks.specs.Sink.{CanFail};
 ghost use Rattle.program_check.specs.Checks.{PassesCheck, FailsCheck};
 ghost use Rattle.jnirun.specs.Runs.{RunsTexts};
-ghost use Rattle.jnirun.specs.Serve.{TextsWrite, TextsEarn, passed, TellsTrap, ServesTexts, Serves};
+ghost use Rattle.jnirun.specs.Serve.{TextsWrite, TextsEarn, passed, fault_words, trap_words, TellsTrap, ServesTexts, Serves};
 
 use crate::replaying::replay_text;
 use crate::run::run_text;
@@ -64,7 +64,9 @@ fn run_texts<W: Sink, R: Threads + Wait + Sync>(
 }
 
 /// What a trap is, in a few words.
-fn words_of_trap(number: u8) -> &'static [u8] {
+fn words_of_trap(number: u8) -> &'static [u8]
+    ensures { result.now ≡ trap_words number }
+{
     match cli_explanations::trap(u32::from(number)) {
         Some(explanation) => explanation.title,
         None => b"the program stops",
@@ -92,7 +94,9 @@ fn tell_trap<E: Sink>(command: Command<'_>, program: &[u8], trap: Option<TrapAt>
 }
 
 /// What a fault is, in a few words.
-fn words_of(number: u32) -> &'static [u8] {
+fn words_of(number: u32) -> &'static [u8]
+    ensures { result.now ≡ fault_words number }
+{
     match cli_explanations::fault(number) {
         Some(explanation) => explanation.title,
         None => b"the text is refused",
