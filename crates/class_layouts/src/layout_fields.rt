@@ -7,21 +7,18 @@ ghost use Rattle.class_rules.specs.Class.{ancestry};
 ghost use Rattle.class_rules.specs.Fields.{layout, own_fields};
 ghost use Rattle.classes.specs.FieldViews.{field_id_view};
 
-use arrayvec::ArrayVec;
+use crate::path::Path;
 use classes::class::FieldHandle;
 use classes::fields::FieldId;
 use classes::table::ClassTable;
 use std::marker::Model;
-
-/// The most classes that a table may have.
-const MOST_CLASSES: usize = 256;
 
 /// A place in a layout: the class whose own fields come next, how many of these have come, and the classes below it, the next one last.
 #[derive(Drop)]
 pub(crate) struct Position {
     class: usize,
     place: usize,
-    below: ArrayVec<usize, MOST_CLASSES>,
+    below: Path,
 }
 
 /// The fields of a class's objects that are still to come, in their order: those of its superclasses first. It never allocates.
@@ -48,10 +45,10 @@ impl<'t> Model for LayoutFields<'t> {
 }
 
 /// A class, its superclass, and so on.
-fn ancestry(classes: &ClassTable, class: usize) -> ArrayVec<usize, MOST_CLASSES>
-    ensures { result.items ≡ ancestry classes.now class }
+fn ancestry(classes: &ClassTable, class: usize) -> Path
+    ensures { result ≡ ancestry classes.now class }
 {
-    let mut ancestors = ArrayVec::new();
+    let mut ancestors = Path::new();
     let mut ancestor = class;
     for _ in 0..classes.len() {
         ancestors.push(ancestor);

@@ -2,5 +2,6 @@
 #![tactic(auto)]
 
 mod layout_fields;
+mod path;
 
 pub use layout_fields::LayoutFields;

@@ -98,10 +98,11 @@ fn allocate_fresh(classes: &ClassTable, heap: &mut Heap, class: usize, birth: u3
     // The proof reads off this call how the heap lies.
     let _ = heap.count();
     let mut fields = LayoutFields::of(classes, class);
-    match heap.alloc(class as u32, birth, fields.len(), Value::Null) {
+    let count = fields.len();
+    match heap.alloc(class as u32, birth, count, Value::Null) {
         Err(_) => None,
         Ok(addr) => {
-            for place in 0..fields.len() {
+            for place in 0..count {
                 let id = fields.next().unwrap();
                 heap.set(addr, place, initial_value(id.field.field_type));
             }

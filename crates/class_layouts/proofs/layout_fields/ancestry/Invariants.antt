@@ -4,6 +4,6 @@ use Rattle.class_layouts.proofs.layout_fields.ancestry.Given as goal
 
 abbrev pub invariant-loop : goal.invariant-loop
 invariant-loop l = record {
-  whole : l.ancestors.items ++ ancestry_within (l.end - l.counter) l.classes l.ancestor ≡ ancestry l.classes l.class;
-  many : length l.ancestors.items ≡ l.counter;
+  whole : l.ancestors ++ ancestry_within (l.end - l.counter) l.classes l.ancestor ≡ ancestry l.classes l.class;
+  many : length l.ancestors ≡ l.counter;
 }

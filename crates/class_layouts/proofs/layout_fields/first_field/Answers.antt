@@ -9,6 +9,6 @@ loop-field-preserved c =
     let at = c.loop-field.position in
     let none = not_there c.own_field.result (own_fields T at.class) at.place c.own_field.ensures c.in_default.is in
     record {
-      rest = sym (next_class T at.class at.place c.in_ok-position.field-0 at.below.items c.pop.new.self.items none c.in_ok-position.ensures.items) ∙ c.loop-field.invariant.rest;
+      rest = sym (next_class T at.class at.place c.in_ok-position.field-0 at.below c.pop.new.self none c.in_ok-position.ensures) ∙ c.loop-field.invariant.rest;
       place = omega arith;
     }

@@ -9,4 +9,4 @@ invariant-loop-field l = record {
 }
 
 abbrev pub decreases-loop-field : goal.decreases-loop-field
-decreases-loop-field l = length l.position.below.items
+decreases-loop-field l = length l.position.below

@@ -1,12 +1,12 @@
-use Rattle.std.proofs.Common.{◌≡◌, ℕ, zero, suc, [], ◌∷◌, ◌+◌, ◌<◌, List, length, Option, Some, None, refl, sym, ap, ◌∙◌, arith}
-use Rattle.std.specs.Prelude.{slice_get, IsSome}
+use Rattle.std.proofs.Common.{◌≡◌, ℕ, suc, ◌+◌, List, length, Some, sym, ap, ◌∙◌, arith}
+use Rattle.std.specs.Prelude.{slice_get}
 use Rattle.std.specs.Option.{option_map}
 use Rattle.std.proofs.lemmas.List.{length-map}
 use Rattle.std.proofs.lemmas.Option.{slice_get-map}
 use Rattle.class_rules.specs.Class.{Classes}
 use Rattle.class_rules.specs.Fields.{FieldId, layout}
 use Rattle.classes.specs.FieldViews.{field_id_view}
-use Rattle.classes.specs.declared.fields.FieldId.{FieldId as InMemory}
+use Rattle.class_layouts.proofs.Walks.{comes, comes_next}
 use Rattle.heap.specs.declared.value.Value.{Value}
 use Rattle.heap.specs.declared.value.Value.TheVariants.{Null}
 use Rattle.heap.specs.Heap.{Space, end_of, fresh_block, with_block, with_value, values_at}
@@ -15,35 +15,30 @@ use Rattle.machine_calls.specs.NewObjects.{initial_value, initial_values}
 use Rattle.machine_calls.proofs.FilledBlocks.{cells_all, filled_block, filled_fresh, filled_within, filled_more}
 use Rattle.machine_calls.proofs.make.allocate_fresh.Goals as goal
 
--- what is at a place is there
-there_by : (o : Option InMemory) (fields : List FieldId) (i : ℕ) → option_map field_id_view o ≡ slice_get fields i → i < length fields → IsSome o
-there_by (Some f) fields i e less = refl
-there_by None fields i e less = absurd (nothing fields i e less)
-  where
-    nothing : (fields : List FieldId) (i : ℕ) → None ≡ slice_get fields i → i < length fields → ⊥
-    nothing [] i e less = omega arith
-    nothing (f ∷ fields) zero e less = cc
-    nothing (f ∷ fields) (suc i) e less = nothing fields i e (omega arith)
-
 -- the value of a place
-value_at : (classes : Classes) (class i : ℕ) (o : Option InMemory) (f : InMemory) (v : Value) → option_map field_id_view o ≡ slice_get (layout classes class) i → o ≡ Some f → v ≡ initial_value (field_id_view f).field.type → slice_get (initial_values classes class) i ≡ Some v
-value_at classes class i o f v at found is =
+value_at : (classes : Classes) (class i : ℕ) (f : FieldId) (v : Value) → slice_get (layout classes class) i ≡ Some f → v ≡ initial_value f.field.type → slice_get (initial_values classes class) i ≡ Some v
+value_at classes class i f v at is =
     slice_get-map (λ (x : FieldId). initial_value x.field.type) (layout classes class) i
-    ∙ ap (option_map (λ (x : FieldId). initial_value x.field.type)) (sym at)
-    ∙ ap (λ (x : Option InMemory). option_map (λ (y : FieldId). initial_value y.field.type) (option_map field_id_view x)) found
+    ∙ ap (option_map (λ (x : FieldId). initial_value x.field.type)) at
     ∙ ap (λ (x : Value). Some x) (sym is)
 
 pub loop-place-init : goal.loop-place-init
 loop-place-init c =
     let s = c.args.heap.now in
     let values = initial_values c.args.classes.now c.args.class in
-    let long : c.layout_len-count.result ≡ length values = c.layout_len-count.ensures.len ∙ sym (length-map (layout c.args.classes.now c.args.class) (λ (x : FieldId). initial_value x.field.type)) in
-    c.in-Ok.ensures.block
-    ∙ ap (λ (a : ℕ). with_block s (fresh_block a c.args.class c.args.birth c.layout_len-count.result Null)) c.in-Ok.ensures.address
-    ∙ filled_fresh s c.args.class c.args.birth c.layout_len-count.result values long
+    let long : c.len-count.result ≡ length values = c.len-count.ensures.len ∙ ap (λ (fs : List FieldId). length fs) c.of-fields.ensures ∙ sym (length-map (layout c.args.classes.now c.args.class) (λ (x : FieldId). initial_value x.field.type)) in
+    record {
+      filled =
+        c.in-Ok.ensures.block
+        ∙ ap (λ (a : ℕ). with_block s (fresh_block a c.args.class c.args.birth c.len-count.result Null)) c.in-Ok.ensures.address
+        ∙ filled_fresh s c.args.class c.args.birth c.len-count.result values long;
+      left = sym c.of-fields.ensures;
+    }
 
 pub unwrap-id-requires : goal.unwrap-id-requires
-unwrap-id-requires c = there_by c.layout_field.result (layout c.args.classes.now c.args.class) c.loop-place.place c.layout_field.ensures (omega (arith, c.layout_len-count.ensures.len, c.loop-place-test.true))
+unwrap-id-requires c =
+    comes c.next.result field_id_view (layout c.args.classes.now c.args.class) c.loop-place.fields c.next.new.self c.loop-place.place c.next.ensures c.loop-place.invariant.left
+    (omega (arith, c.len-count.ensures.len, ap (λ (fs : List FieldId). length fs) c.of-fields.ensures, c.loop-place-test.true))
 
 pub set-requires : goal.set-requires
 set-requires c =
@@ -51,10 +46,10 @@ set-requires c =
     let values = initial_values c.args.classes.now c.args.class in
     let there : length (values_at c.loop-place.heap c.in-Ok.addr) ≡ length values =
     ap (λ (a : ℕ). length (values_at c.loop-place.heap a)) c.in-Ok.ensures.address
-    ∙ ap (λ (t : Space). length (values_at t (end_of s))) c.loop-place.invariant
+    ∙ ap (λ (t : Space). length (values_at t (end_of s))) c.loop-place.invariant.filled
     ∙ filled_within s c.args.class c.args.birth values c.loop-place.place c.count.ensures.laid_out in
     let long : length values ≡ length (layout c.args.classes.now c.args.class) = length-map (layout c.args.classes.now c.args.class) (λ (x : FieldId). initial_value x.field.type) in
-    omega (arith, c.loop-place-test.true, c.layout_len-count.ensures.len)
+    omega (arith, c.loop-place-test.true, c.len-count.ensures.len, ap (λ (fs : List FieldId). length fs) c.of-fields.ensures)
 
 pub loop-place-preserved : goal.loop-place-preserved
 loop-place-preserved c =
@@ -62,13 +57,18 @@ loop-place-preserved c =
     let i = c.loop-place.place in
     let birth = c.args.birth in
     let values = initial_values c.args.classes.now c.args.class in
-    let value = value_at c.args.classes.now c.args.class i c.layout_field.result c.unwrap-id.result c.initial_value.result c.layout_field.ensures c.unwrap-id.ensures c.initial_value.ensures in
+    let came = comes_next c.next.result field_id_view (layout c.args.classes.now c.args.class) c.loop-place.fields c.next.new.self i c.unwrap-id.result c.next.ensures c.loop-place.invariant.left c.unwrap-id.ensures in
+    let value = value_at c.args.classes.now c.args.class i (field_id_view c.unwrap-id.result) c.initial_value.result came.0 c.initial_value.ensures in
     let next : suc i ≡ i + 1 = omega arith in
-    c.set.ensures
-    ∙ ap (λ (t : Space). with_value t c.in-Ok.addr i c.initial_value.result) c.loop-place.invariant
-    ∙ ap (λ (a : ℕ). with_value (with_block s (filled_block s c.args.class birth values i)) a i c.initial_value.result) c.in-Ok.ensures.address
-    ∙ filled_more s c.args.class birth values i c.initial_value.result c.count.ensures.laid_out value
-    ∙ ap (λ (k : ℕ). with_block s (filled_block s c.args.class birth values k)) next
+    record {
+      filled =
+        c.set.ensures
+        ∙ ap (λ (t : Space). with_value t c.in-Ok.addr i c.initial_value.result) c.loop-place.invariant.filled
+        ∙ ap (λ (a : ℕ). with_value (with_block s (filled_block s c.args.class birth values i)) a i c.initial_value.result) c.in-Ok.ensures.address
+        ∙ filled_more s c.args.class birth values i c.initial_value.result c.count.ensures.laid_out value
+        ∙ ap (λ (k : ℕ). with_block s (filled_block s c.args.class birth values k)) next;
+      left = came.1;
+    }
 
 pub returns-after-loop-place : goal.returns-after-loop-place
 returns-after-loop-place c =
@@ -77,8 +77,8 @@ returns-after-loop-place c =
     let long : length values ≡ length (layout c.args.classes.now c.args.class) = length-map (layout c.args.classes.now c.args.class) (λ (x : FieldId). initial_value x.field.type) in
     let all : filled_block s c.args.class c.args.birth values c.loop-place.place ≡ next_block s c.args.class c.args.birth values =
     ap (λ (l : List Value). next_block s c.args.class c.args.birth l)
-    (cells_all values c.loop-place.place (omega (arith, c.loop-place-test.false, c.layout_len-count.ensures.len))) in (
-      c.loop-place.invariant ∙ ap (with_block s) all,
-      omega (arith, c.in-Ok.ensures.room, c.layout_len-count.ensures.len),
+    (cells_all values c.loop-place.place (omega (arith, c.loop-place-test.false, c.len-count.ensures.len, ap (λ (fs : List FieldId). length fs) c.of-fields.ensures))) in (
+      c.loop-place.invariant.filled ∙ ap (with_block s) all,
+      omega (arith, c.in-Ok.ensures.room, c.len-count.ensures.len, ap (λ (fs : List FieldId). length fs) c.of-fields.ensures),
       c.in-Ok.ensures.address,
     )

@@ -1,0 +1,56 @@
+//! The classes on a way down to a class.
+
+ghost use Rattle.std.specs.Prelude.{◌≡◌, ◌<◌, ◌++◌, ◌∷◌, [], length, MatchOption};
+
+use std::marker::Model;
+
+/// The most classes that a table may have.
+const MOST_CLASSES: usize = 256;
+
+/// At most 256 classes, seen as the list of them, from which the last is taken first. It never allocates.
+#[derive(Drop)]
+pub(crate) struct Path {
+    classes: [usize; MOST_CLASSES],
+    count: usize,
+}
+
+impl Model for Path {
+    ghost use Rattle.std.specs.Prelude.{List, ℕ, take, ◌≤◌};
+
+    ghost Value = { List ℕ };
+
+    ghost view = { λ p. take p.count p.classes };
+
+    ghost invariant = { λ p. p.count ≤ 256 };
+}
+
+impl Path {
+    pub(crate) fn new() -> Path
+        ensures { result ≡ [] }
+    {
+        Path {
+            classes: [0; MOST_CLASSES],
+            count: 0,
+        }
+    }
+
+    /// Puts a class after the others.
+    pub(crate) fn push(&mut self, class: usize)
+        requires { length self.old < 256 }
+        ensures { self.new ≡ self.old ++ class ∷ [] }
+    {
+        self.classes[self.count] = class;
+        self.count += 1;
+    }
+
+    /// Takes the last class.
+    pub(crate) fn pop(&mut self) -> Option<usize>
+        ensures { MatchOption result ((self.old ≡ []) × (self.new ≡ [])) (λ class. self.old ≡ self.new ++ class ∷ []) }
+    {
+        if self.count == 0 {
+            return None;
+        }
+        self.count -= 1;
+        Some(self.classes[self.count])
+    }
+}
