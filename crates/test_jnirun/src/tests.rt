@@ -167,7 +167,7 @@ fn commands(rt: HostRuntime) {
 #[test]
 fn refusals(rt: HostRuntime) {
     let told =
-        b"p:3: error 42: a path ends without return, or a statement is never reached\n     put_jint(1); }\n".as_slice();
+        b"p:3: error 42: a path ends without return, or a statement is never reached: Java_A_f ends without `return`\n     put_jint(1); }\n".as_slice();
     for command in [CHECK, RUN, WORK, REPLAY] {
         for (room, said) in [(4096, told), (10, &told[..10])] {
             let (status, out, err) = served(&rt, command, OPEN, 4096, room);
