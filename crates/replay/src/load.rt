@@ -12,12 +12,11 @@ ghost use Rattle.replay.specs.Loading.{first_line, AddsWaiting, AreWaiting, IsWa
 ghost use Rattle.replay.specs.Replays.{IsLoadFault};
 
 use crate::fault::ReplayFault;
-use class_queries::native_class;
 use functions::Functions;
 use replay_calls::Shared;
 use replay_objects::{Monitors, Names, loaded_store};
 use replay_terms::null_statics;
-use replay_threads::{State, Thread};
+use replay_threads::{State, Thread, class_of};
 use semantics::Ending;
 use std::alloc::{AllocError, Global};
 use syntax::{Function, Item, Parameter, ParameterType};
@@ -58,7 +57,7 @@ fn is_callable(
 ) -> Result<bool, AllocError>
     ensures { IfOk result (λ fits. fits ≡ is_callable world.now.classes (map object_value_view arguments.now) (function_tree function.now)) }
 {
-    let class = native_class(alloc, world.classes(), function.name.as_bytes())?;
+    let class = class_of(alloc, world, function)?;
     Ok(class.is_some() && fit_parameters(&function.parameters, arguments))
 }
 

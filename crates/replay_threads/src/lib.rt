@@ -7,4 +7,4 @@ mod thread;
 
 pub use rows::root_names;
 pub use state::{State, standings_of, take_entry};
-pub use thread::Thread;
+pub use thread::{Thread, class_of};

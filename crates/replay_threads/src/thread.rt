@@ -5,7 +5,7 @@ ghost use Rattle.syntax.specs.Limits.{IsTree};
 ghost use Rattle.syntax.specs.Views.{function_tree, parameter_tree, unit_tree};
 ghost use Rattle.type_rules.specs.SortRules.{IsSorted};
 ghost use Rattle.world_values.specs.Views.{object_value_view};
-ghost use Rattle.semantics.specs.Activation.{parameter_variables, named_object, entry_frame, ending_after};
+ghost use Rattle.semantics.specs.Activation.{parameter_variables, class_of_function, named_object, entry_frame, ending_after};
 ghost use Rattle.semantics.specs.EventViews.{ending_view};
 ghost use Rattle.semantics.specs.Thread.{Shared as SharedOfThreads};
 ghost use Rattle.semantics.specs.Variable.{LocalRef};
@@ -79,6 +79,18 @@ fn add_parameters<'a>(
             }
         },
     }
+}
+
+/// The number of the class whose native method a function is.
+pub fn class_of(
+    alloc: Global,
+    world: &World,
+    function: &Function,
+) -> Result<Option<usize>, AllocError>
+    ensures { IfOk result (λ class. class ≡ class_of_function world.now.classes (function_tree function.now)) }
+{
+    let class = native_class(alloc, world.classes(), function.name.as_bytes())?;
+    Ok(class)
 }
 
 /// The variables with which a call begins: the class, and the parameters. In an accepted unit no two have one name.
@@ -173,7 +185,7 @@ fn begin_next<'a>(
     let Some(found) = functions.find(call.function()) else {
         return Ok(false);
     };
-    match native_class(alloc, world.classes(), found.function.name.as_bytes()) {
+    match class_of(alloc, world, found.function) {
         Ok(Some(class)) => {
             begin_call(alloc, place, found.function, class, call.arguments())?;
             Ok(true)
