@@ -1,6 +1,6 @@
 //! Where and why a text is refused, for standard error.
 
-ghost use Rattle.std.specs.Prelude.{◌≡◌, ◌-◌, ◌==◌, ◌++◌, OnOk};
+ghost use Rattle.std.specs.Prelude.{◌≡◌, ◌-◌, ◌==◌, ◌++◌, ℕ, List, OnOk, codes, decimal};
 ghost use Rattle.sinks.specs.Sink.{CanFail, Writes};
 ghost use Rattle.cli_commands.specs.Telling.{from_line, shown_byte, shown_line, most_shown, excerpt, place_text, detail_text, reason_text, told};
 
@@ -98,8 +98,8 @@ fn put_place<E: Sink>(err: &mut E, place: Place) -> Result<(), SinkFailed>
 
 /// What comes before a detail, where there is one.
 #[tactic(auto, unfolding(crate::specs::Telling::detail_text))]
-fn before(detail: &[u8]) -> &'static [u8]
-    ensures { result.now ++ detail.now ≡ detail_text detail.now }
+fn before(detail: &[u8]) -> &[u8]
+    ensures { (rest : List ℕ) → result.now ++ detail.now ++ rest ≡ detail_text detail.now ++ rest }
 {
     match detail {
         [] => b"",
@@ -107,22 +107,21 @@ fn before(detail: &[u8]) -> &'static [u8]
     }
 }
 
-/// Puts what is wrong.
-#[tactic(auto, unfolding(crate::specs::Telling::reason_text))]
-fn put_reason<E: Sink>(
+/// Puts the parts of what is wrong, of which the last is between the words and the detail.
+fn put_parts<E: Sink>(
     err: &mut E,
     kind: &[u8],
     number: u32,
     words: &[u8],
     detail: &[u8],
+    between: &[u8],
 ) -> Result<(), SinkFailed>
     requires { CanFail (E.written err.old) }
     ensures { Writes (E.written err.old) (E.written err.new) result
-        (reason_text kind.now number words.now detail.now) }
+        (codes ": " ++ kind.now ++ codes " " ++ decimal number ++ codes ": " ++ words.now ++ between.now ++ detail.now ++ codes "\n") }
 {
     let mut digits = Buffer::new();
     let number = digits.format(number);
-    let between = before(detail);
     put_pieces(
         err,
         &[
@@ -137,6 +136,21 @@ fn put_reason<E: Sink>(
             b"\n",
         ],
     )
+}
+
+/// Puts what is wrong.
+fn put_reason<E: Sink>(
+    err: &mut E,
+    kind: &[u8],
+    number: u32,
+    words: &[u8],
+    detail: &[u8],
+) -> Result<(), SinkFailed>
+    requires { CanFail (E.written err.old) }
+    ensures { Writes (E.written err.old) (E.written err.new) result
+        (reason_text kind.now number words.now detail.now) }
+{
+    put_parts(err, kind, number, words, detail, before(detail))
 }
 
 /// Tells a fault or a trap: the name of the file, the place, the kind and the number, the words, and what was found there, if

@@ -18,4 +18,4 @@ returns-in-On c =
     let way =
     ap (λ (s : RegionState). way_of_block entry s body) (sym c.in_ok-enter.ensures)
     ∙ c.in_ok-block_way.ensures.goes entry (ap names_of (sym c.in_ok-enter.ensures)) ∙ ap (λ (w : WayInMemory). Ok (way_value w c.block_way.new.state)) c.in-On.is in
-    ap (λ (r : Result Way Fault). fault_at_end r (end_line_of body)) way ∙ ap (λ (n : ℕ). Some (n, NoReturn)) (end_line_is c.args.f.now.body)
+    ap (λ (r : Result Way Fault). fault_at_end r (end_line_of body)) way ∙ ap (λ (n : ℕ). Some (n, NoReturn)) (end_line_is c.args.f.now.body ∙ sym c.told.ensures)
