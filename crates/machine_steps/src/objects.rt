@@ -157,8 +157,8 @@ fn fresh_values(
 ) -> Result<Vec<ObjectValue>, AllocError>
     ensures { IfOk result (λ values. map object_value_view values.items ≡ map (λ f. initial f.field.type) (layout classes.now class)) }
 {
-    let mut values = Vec::new(alloc);
     let mut fields = LayoutFields::of(classes, class);
+    let mut values = Vec::with_capacity(alloc, fields.len())?;
     while let Some(id) = fields.next() {
         values.push(initial(id.field.field_type))?;
     }
