@@ -1,9 +1,10 @@
 -- Going on along a layout.
-use Rattle.std.proofs.Common.{◌≡◌, ℕ, zero, suc, ◌+◌, ◌<◌, length, subst, List, [], ◌∷◌, ◌++◌, drop, flat_map, map, reverse, Option, Some, None, slice_get, refl, sym, ap, ◌∙◌, add-one, arith, append_assoc}
+use Rattle.std.proofs.Common.{◌≡◌, ℕ, zero, suc, ◌+◌, ◌<◌, ◌≤◌, false, length, subst, List, [], ◌∷◌, ◌++◌, drop, flat_map, map, reverse, Option, Some, None, slice_get, refl, sym, ap, ◌∙◌, add-one, arith, append_assoc}
 use Rattle.std.specs.Prelude.{IsSome, MatchOption}
-use Rattle.std.specs.Option.{option_map}
+use Rattle.std.specs.Option.{option_map, option_map_or}
 use Rattle.std.proofs.lemmas.List.{append-nil, map-append, reverse-append}
-use Rattle.class_rules.specs.Class.{Classes, superclass, above, ancestry_within}
+use Rattle.std.proofs.lemmas.Grind.{flat_map-append}
+use Rattle.class_rules.specs.Class.{Class, Classes, Field, class_at, superclass, above, ancestry_within}
 use Rattle.class_rules.specs.Fields.{FieldId, own_fields}
 use Rattle.classes.specs.FieldViews.{field_id_view}
 use Rattle.classes.specs.declared.fields.FieldId.{FieldId as InMemory}
@@ -101,3 +102,33 @@ comes {B = B} None view xs fields new i step left less = absurd (at_end xs i (le
 pub comes_next : {A B : Type 0} (o : Option A) (view : A → B) (xs fields new : List B) (i : ℕ) (f : A) → MatchOption o ((fields ≡ []) × (new ≡ [])) (λ g. fields ≡ view g ∷ new) → drop i xs ≡ fields → o ≡ Some f
     → (slice_get xs i ≡ Some (view f)) × (drop (i + 1) xs ≡ new)
 comes_next o view xs fields new i f step left is = comes_at xs i (view f) new (left ∙ subst (λ p. MatchOption p ((fields ≡ []) × (new ≡ [])) (λ g. fields ≡ view g ∷ new)) is step)
+
+-- ---- the way to a class
+
+-- a number past those of all classes has no fields, and no class above
+pub past_all : (T : Classes) (n a : ℕ) → length T < a → flat_map (own_fields T) (reverse (ancestry_within n T a)) ≡ []
+past_all T zero a h = refl
+past_all T (suc n) a h =
+    ap (λ (o : Option Class). flat_map (own_fields T) (reverse (a ∷ above (ancestry_within n T) (option_map_or (λ (d : Class). d.superclass) o None)))) (no_class_at T a h)
+    ∙ ap (λ (o : Option Class). map (λ (f : Field). record { class = a; is_static = false; field = f }) (option_map_or (λ (d : Class). d.fields) o []) ++ []) (no_class_at T a h)
+  where
+    past : (U : Classes) (i : ℕ) → length U ≤ i → slice_get U i ≡ None
+    past [] zero l = refl
+    past [] (suc i) l = refl
+    past (d ∷ U) zero l = absurd (omega (arith, l))
+    past (d ∷ U) (suc i) l = past U i (omega (arith, l))
+
+    no_class_at : (U : Classes) (i : ℕ) → length U < i → class_at U i ≡ None
+    no_class_at U zero l = refl
+    no_class_at U (suc i) l = past U i (omega (arith, l))
+
+-- what comes after the front has no fields
+pub front_alone : (T : Classes) (front back whole : List ℕ) → front ++ back ≡ whole → flat_map (own_fields T) (reverse back) ≡ [] → flat_map (own_fields T) (reverse front) ≡ flat_map (own_fields T) (reverse whole)
+front_alone T front back whole e none =
+    let split = ap (flat_map (own_fields T)) (reverse-append front back) ∙ flat_map-append (own_fields T) (reverse back) (reverse front) in
+    sym (sym (ap (λ w. flat_map (own_fields T) (reverse w)) e) ∙ split ∙ ap (λ l. l ++ flat_map (own_fields T) (reverse front)) none)
+
+-- a class without superclass is the last
+pub with_last : (T : Classes) (n m a : ℕ) (front pushed whole : List ℕ) → m ≡ n + 1 → pushed ≡ front ++ a ∷ [] → None ≡ superclass T a → front ++ ancestry_within m T a ≡ whole → pushed ≡ whole
+with_last T n zero a front pushed whole e p h w = absurd (omega (arith, e))
+with_last T n (suc m) a front pushed whole e p h w = p ∙ ap (λ o. front ++ (a ∷ above (ancestry_within m T) o)) h ∙ w

@@ -1,13 +1,12 @@
 //! A walk along the layout of a class.
 
-ghost use Rattle.std.specs.Prelude.{◌≡◌, ◌≤◌, ◌∷◌, [], length, slice_get, IfSome, MatchOption};
+ghost use Rattle.std.specs.Prelude.{◌≡◌, ◌≤◌, ◌∷◌, [], flat_map, length, reverse, slice_get, IfSome, MatchOption};
 ghost use Rattle.std.specs.Option.{option_map};
 ghost use Rattle.class_layouts.specs.Rest.{rest_from};
-ghost use Rattle.class_rules.specs.Class.{ancestry};
 ghost use Rattle.class_rules.specs.Fields.{layout, own_fields};
 ghost use Rattle.classes.specs.FieldViews.{field_id_view};
 
-use crate::path::Path;
+use crate::path::{MOST_CLASSES, Path};
 use classes::class::FieldHandle;
 use classes::fields::FieldId;
 use classes::table::ClassTable;
@@ -44,14 +43,17 @@ impl<'t> Model for LayoutFields<'t> {
     ghost invariant = { λ w. (w.left ≡ length (rest_from w.classes.now w.position)) × (w.position.place + w.left ≤ 16384) };
 }
 
-/// A class, its superclass, and so on.
-fn ancestry(classes: &ClassTable, class: usize) -> Path
-    ensures { result ≡ ancestry classes.now class }
+/// The way down to a class: the class, its superclass, and so on. A number past those of all classes has no fields.
+fn path_to(classes: &ClassTable, class: usize) -> Path
+    ensures { flat_map (own_fields classes.now) (reverse result) ≡ layout classes.now class }
 {
     let mut ancestors = Path::new();
     let mut ancestor = class;
     for _ in 0..classes.len() {
-        ancestors.push(ancestor);
+        if ancestor > MOST_CLASSES {
+            return ancestors;
+        }
+        ancestors.push(ancestor as u16);
         match classes.superclass(ancestor) {
             Some(above) => ancestor = above,
             None => return ancestors,
@@ -82,7 +84,7 @@ fn first_field<'t>(classes: &'t ClassTable, position: &mut Position) -> Option<F
         if let Some(field) = own_field(classes, position.class, position.place) {
             return Some(field);
         }
-        position.class = position.below.pop()?;
+        position.class = usize::from(position.below.pop()?);
         position.place = 0;
     }
 }
@@ -97,7 +99,7 @@ impl<'t> LayoutFields<'t> {
             position: Position {
                 class: 0,
                 place: 0,
-                below: ancestry(classes, class),
+                below: path_to(classes, class),
             },
             left: classes.layout_len(class),
         }

@@ -5,12 +5,12 @@ ghost use Rattle.std.specs.Prelude.{◌≡◌, ◌<◌, ◌++◌, ◌∷◌, [],
 use std::marker::Model;
 
 /// The most classes that a table may have.
-const MOST_CLASSES: usize = 256;
+pub(crate) const MOST_CLASSES: usize = 256;
 
 /// At most 256 classes, seen as the list of them, from which the last is taken first. It never allocates.
 #[derive(Drop)]
 pub(crate) struct Path {
-    classes: [usize; MOST_CLASSES],
+    classes: [u16; MOST_CLASSES],
     count: usize,
 }
 
@@ -35,7 +35,7 @@ impl Path {
     }
 
     /// Puts a class after the others.
-    pub(crate) fn push(&mut self, class: usize)
+    pub(crate) fn push(&mut self, class: u16)
         requires { length self.old < 256 }
         ensures { self.new ≡ self.old ++ class ∷ [] }
     {
@@ -44,7 +44,7 @@ impl Path {
     }
 
     /// Takes the last class.
-    pub(crate) fn pop(&mut self) -> Option<usize>
+    pub(crate) fn pop(&mut self) -> Option<u16>
         ensures { MatchOption result ((self.old ≡ []) × (self.new ≡ [])) (λ class. self.old ≡ self.new ++ class ∷ []) }
     {
         if self.count == 0 {

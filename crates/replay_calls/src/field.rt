@@ -92,7 +92,8 @@ fn searched_field_place(classes: &ClassTable, class: usize, field: Option<FieldI
     ensures { result ≡ place_in (given_field field.entry) (layout classes.now class) }
 {
     let mut fields = LayoutFields::of(classes, class);
-    for place in 0..fields.len() {
+    let count = fields.len();
+    for place in 0..count {
         let other = fields.next().unwrap();
         if is_field(field, other) {
             return place;

@@ -1,4 +1,4 @@
-use Rattle.std.proofs.Common.{sym, ◌∙◌, arith}
+use Rattle.std.proofs.Common.{[], ◌∷◌, ◌++◌, sym, ap, ◌∙◌, arith}
 use Rattle.class_rules.specs.Fields.{own_fields}
 use Rattle.class_layouts.proofs.Walks.{not_there, next_class}
 use Rattle.class_layouts.proofs.layout_fields.first_field.Goals as goal
@@ -9,6 +9,6 @@ loop-field-preserved c =
     let at = c.loop-field.position in
     let none = not_there c.own_field.result (own_fields T at.class) at.place c.own_field.ensures c.in_default.is in
     record {
-      rest = sym (next_class T at.class at.place c.in_ok-position.field-0 at.below c.pop.new.self none c.in_ok-position.ensures) ∙ c.loop-field.invariant.rest;
+      rest = sym (next_class T at.class at.place c.from-position.result at.below c.pop.new.self none (c.in_ok-pop.ensures ∙ ap (λ n. c.pop.new.self ++ n ∷ []) (sym c.from-position.ensures))) ∙ c.loop-field.invariant.rest;
       place = omega arith;
     }

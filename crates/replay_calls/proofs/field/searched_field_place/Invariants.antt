@@ -1,7 +1,11 @@
+use Rattle.std.proofs.Common.{◌≡◌, drop}
 use Rattle.class_rules.specs.Fields.{layout, same_field}
 use Rattle.replay_calls.specs.Actuals.{given_field}
 use Rattle.replay_calls.proofs.FieldLemmas.{NonePasses}
 use Rattle.replay_calls.proofs.field.searched_field_place.Given as goal
 
 abbrev pub invariant-loop-place : goal.invariant-loop-place
-invariant-loop-place l = NonePasses (same_field (given_field l.field)) (layout l.classes l.class) l.place
+invariant-loop-place l = record {
+  none : NonePasses (same_field (given_field l.field)) (layout l.classes l.class) l.place;
+  left : drop l.place (layout l.classes l.class) ≡ l.fields;
+}

@@ -1,6 +1,7 @@
 use Rattle.std.proofs.Common.{◌≡◌, ◌+◌, ◌-◌, [], ◌∷◌, length, ap, ◌∙◌, arith, length-append}
-use Rattle.class_layouts.proofs.Walks.{one_more}
-use Rattle.class_layouts.proofs.layout_fields.ancestry.Goals as goal
+use Rattle.class_rules.specs.Class.{ancestry, ancestry_within}
+use Rattle.class_layouts.proofs.Walks.{front_alone, one_more, past_all}
+use Rattle.class_layouts.proofs.layout_fields.path_to.Goals as goal
 
 pub loop-preserved : goal.loop-preserved
 loop-preserved c =
@@ -11,3 +12,9 @@ loop-preserved c =
           ∙ c.loop.invariant.whole;
       many = omega (arith, ap length c.push.ensures, length-append c.loop.ancestors (c.loop.ancestor ∷ []), c.loop.invariant.many);
     }
+
+pub returns-then-ancestor-gt-MOST_CLASSES : goal.returns-then-ancestor-gt-MOST_CLASSES
+returns-then-ancestor-gt-MOST_CLASSES c =
+    let T = c.args.classes.now in
+    let n = c.len-end.result - c.loop.counter in
+    front_alone T c.loop.ancestors (ancestry_within n T c.loop.ancestor) (ancestry T c.args.class) c.loop.invariant.whole (past_all T n c.loop.ancestor (omega (arith, c.len-end.ensures.len, c.len-end.ensures.few, c.if-ancestor-gt-MOST_CLASSES.true)))
