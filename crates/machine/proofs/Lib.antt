@@ -21,5 +21,6 @@ pub mod Advancing
 pub mod SafeLoads
 pub mod TextBytes
 pub mod Runs
+pub mod FreeSteps
 pub mod Standings
 pub mod BlockObjects

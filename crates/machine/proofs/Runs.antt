@@ -220,6 +220,10 @@ missing_waits classes s k h =
 pub replicate_more : (word : ScheduleWord) (i : ℕ) → replicate (i + 1) word ≡ replicate i word ++ word ∷ []
 replicate_more word i = sym (replicate-append-replicate i 1 word)
 
+-- a word that is taken so many times, and then so many times more
+pub taken_more : (a b c : Run) (word : ScheduleWord) (i n : ℕ) → RunsAlong a b (replicate i word) → RunsAlong b c (replicate n word) → RunsAlong a c (replicate (i + n) word)
+taken_more a b c word i n h more = subst (λ (words : Schedule). RunsAlong a c words) (replicate-append-replicate i n word) (along_both a b c (replicate i word) (replicate n word) h more)
+
 pub replicate_rest : (word : ScheduleWord) (i times : ℕ) → i < times → replicate times word ≡ replicate i word ++ word ∷ replicate (times - i - 1) word
 replicate_rest word i times h = let e : i + suc (times - i - 1) ≡ times = omega (arith, h) in sym (replicate-append-replicate i (suc (times - i - 1)) word ∙ ap (λ n. replicate n word) e)
 

@@ -1,6 +1,6 @@
 -- A step of the machine is a step of the state that its journal leads to.
 use Rattle.std.proofs.Common.{◌≡◌, ℕ, suc, ◌<◌, ◌≤◌, ◌-◌, Bool, true, false, List, [], ◌∷◌, ◌++◌, ◌+◌, get_or, length, drop, arith, inl, inr, length-append, Option, Some, None, refl, sym, ap, ◌∙◌, subst}
-use Rattle.std.specs.Prelude.{slice_get, slice_set}
+use Rattle.std.specs.Prelude.{slice_get, slice_set, is_some}
 use Rattle.std.specs.Option.{option_map}
 use Rattle.std.proofs.Math.ListN.{length-set}
 use Rattle.std.proofs.lemmas.Option.{slice_get_read}
@@ -41,10 +41,11 @@ use Rattle.machine_steps.specs.Executes.{IsSteady, cells_made, in_use_with}
 use Rattle.machine_calls.specs.Buffers.{Acquired, SameAcquired, acquired_by, beside}
 use Rattle.machine_calls.specs.StoreAgrees.{StoreAgrees}
 use Rattle.machine_steps.specs.ThreadAgrees.{ThreadAgrees, ThreadsAgree}
-use Rattle.machine_steps.specs.Advances.{Advances}
+use Rattle.machine_steps.specs.Advances.{Advances, Stands}
+use Rattle.machine_steps.specs.Moved.{IsSilent}
 use Rattle.machine_steps.specs.declared.advance.Advanced.{Advanced}
 use Rattle.machine_steps.specs.declared.advance.Advanced.TheVariants as advanced
-use Rattle.machine.specs.Run.{Run, AdvancesAlways, HoldsAlways, acquired, Corresponds, CouldStep, HadNoRoom, LeavesAll, TurnHolds, entry_of, event_of, is_refused, turn_after, HasEnded}
+use Rattle.machine.specs.Run.{Run, AdvancesAlways, HoldsAlways, acquired, Corresponds, CouldStep, HadNoRoom, LeavesAll, TurnHolds, entry_of, event_of, is_refused, turn_after, turn_at_rest, HasEnded}
 use Rattle.machine.proofs.KeptThreads.{changed}
 use Rattle.machine.proofs.TakenBuffers.{in_use_same, joined, others, parted, taken}
 use Rattle.machine_steps.proofs.Acquisitions.{store_taken}
@@ -82,6 +83,34 @@ threads_next s k shared t (event.Trapped trap line) = refl
 -- thread k took this step, whatever state it stands for
 abbrev pub StepsAlways : Lowered → World → (k : ℕ) → (store store' : Store) → Thread → Thread → (refused : Bool) → Event → Type 0
 StepsAlways p w k store store' t after refused e = HoldsAlways p w k store t (λ others own shared s. Advances p w store store' others k own shared s after refused e)
+
+-- the same of a step without a refusal that is known not to wait, and leaves the store as it was
+abbrev pub StepsFreely : Lowered → World → (k : ℕ) → Store → Thread → Thread → Event → Type 0
+StepsFreely p w k store t after e =
+    (others : Acquired) (own : Owners) (shared : Shared) (s : source.Thread) → Stands p w store others k own shared s t → (waits w.classes k shared s ≡ false) × Advances p w store store others k own shared s after false e
+
+-- what prints nothing
+pub none_printed : (printed : List Printed) (k : ℕ) (e : Event) → IsSilent e → printed_after printed k e ≡ printed
+none_printed printed k event.Quiet h = refl
+none_printed printed k (event.Printed z) h = absurd h
+none_printed printed k (event.Trapped trap line) h = refl
+
+-- ---- where a step is taken
+
+-- the machine hasn't stopped
+pub not_stopped : (o : Option Stop) → is_some o ≡ false → o ≡ None
+not_stopped None h = refl
+not_stopped (Some x) h = absurd (cc)
+
+pub is_live : (e : Ending) → is_unfinished (ending_view e) ≡ true → e ≡ Unfinished
+is_live Unfinished h = refl
+is_live Ended h = absurd (cc)
+is_live (Uncaught class) h = absurd (cc)
+
+pub none_held : (stopped unfinished : Bool) → turn_at_rest stopped unfinished ≡ None → (stopped ≡ false) × (unfinished ≡ true)
+none_held true unfinished h = absurd (cc)
+none_held false false h = absurd (cc)
+none_held false true h = (refl, refl)
 
 -- ---- room
 
@@ -162,6 +191,9 @@ module _ (p : Lowered) (world : World) (store : Store) (ts : List Thread) (print
 
   pub shared_agrees : StoreAgrees p world store c.state.shared (beside rest (acquired_by the_thread.source))
   shared_agrees = store_taken p world store c.state.shared (acquired c.state) (beside rest (acquired_by the_thread.source)) all_taken c.store_agrees
+
+  pub stands : Stands p world store rest k (owners k) c.state.shared the_thread.source t
+  stands = (shared_agrees, the_thread.agrees, steady)
 
   used : in_use c.state ≡ in_use_with rest the_thread.source
   used = in_use_same (acquired c.state) (beside rest (acquired_by the_thread.source)) all_taken
@@ -280,6 +312,14 @@ module _ (p : Lowered) (world : World) (store : Store) (ts : List Thread) (print
       → Corresponds p world store' (slice_set ts i after) (printed_after printed k (event_of x)) (stop_after stop k (event_of x)) (journal ++ Step k (is_refused x) ∷ [])
   steps_by store' after (advanced.Did e) goes live free advances left = steps_on store' after false e goes live free advances (λ h. absurd (cc)) (λ h. absurd (cc))
   steps_by store' after advanced.Refused goes live free advances left = steps_on store' after true event.Quiet goes live free advances (λ h. refl) (λ h. left refl)
+
+  -- the same of a step that is known not to wait
+  module _ (after : Thread) (e : Event) (freely : StepsFreely p world k store t after e) where
+    pub is_free : Free
+    is_free = waits_here ∙ (freely rest (owners k) c.state.shared the_thread.source stands).0
+
+    pub steps_freely : stop ≡ None → t.ending ≡ Unfinished → Corresponds p world store (slice_set ts i after) (printed_after printed k e) (stop_after stop k e) (journal ++ Step k false ∷ [])
+    steps_freely goes live = steps_on store after false e goes live is_free (λ others own shared s shares h steady free. (freely others own shared s (shares, h, steady)).1) (λ h. absurd (cc)) (λ h. absurd (cc))
 
   -- a step that was refused had no room, and where nothing is viewed, it left all cells but those of what can be reached
   pub short_by : (store' : Store) (after : Thread) (x : Advanced) → stop ≡ None → t.ending ≡ Unfinished → Free → AdvancesAlways p world k store store' t after x → (x ≡ advanced.Refused → AreLeft)

@@ -1,5 +1,5 @@
 -- A run, as its program, its world, the steps taken and the room that is left.
-use Rattle.std.specs.Prelude.{◌≡◌, ◌≢◌, ℕ, ◌+◌, ◌-◌, ◌*◌, ◌<◌, ◌≤◌, ◌⊎◌, Bool, true, false, List, [], ◌∷◌, ◌++◌, length, map, slice_get, slice_set, Option, Some, None, Result, Ok, Err, IsSome, is_some, not, ◌||◌, suc}
+use Rattle.std.specs.Prelude.{◌≡◌, ◌≢◌, ℕ, ◌+◌, ◌-◌, ◌*◌, ◌<◌, ◌≤◌, ◌⊎◌, Bool, true, false, List, [], ◌∷◌, ◌++◌, length, map, slice_get, slice_set, replicate, Option, Some, None, Result, Ok, Err, IsSome, is_some, not, ◌||◌, suc}
 use Rattle.std.specs.Option.{option_map}
 use Rattle.std.specs.List.{list_all, enumerate_from}
 use Rattle.syntax.specs.declared.unit.Item.{Item}
@@ -19,6 +19,7 @@ use Rattle.semantics.specs.Report.{ThreadStanding, ShownRow}
 use Rattle.semantics.specs.ReportOf.{shown, shown_row, standing_of}
 use Rattle.semantics.specs.Heap.{Heap}
 use Rattle.report_objects.specs.Rows.{AreReported}
+use Rattle.heap.specs.Heap.{left_of}
 use Rattle.semantics.specs.Object.{sizes}
 use Rattle.semantics.specs.Reachable.{live_size}
 use Rattle.semantics.specs.Run.{replay, made, Follows, MarkedAreFair, UnmarkedFit}
@@ -273,6 +274,22 @@ pub record RunsAlong (old new : Run) (schedule : Schedule) : Type 0 where
   pub replays : replay_of old ≡ Some before
   pub after : State
   pub follows : Follows (unit_tree old.unit) old.world before steps schedule after
+
+-- The run of a machine with this journal.
+abbrev pub seen : Lowered → World → Store → List Entry → Run
+seen p w store journal = record { unit = p.unit; world = w; journal = journal; left = left_of store.heap }
+
+-- Thread k, the one at a place among those of a machine with this journal, has not ended, and no trap has stopped the machine.
+pub record CanGoOn (p : Lowered) (w : World) (store : Store) (threads : List Thread) (index : ℕ) (printed : List Printed) (journal : List Entry) (k : ℕ) (thread : Thread) : Type 0 where
+  pub stands : Corresponds p w store threads printed None journal
+  pub number : k ≡ suc index
+  pub at : slice_get threads index ≡ Some thread
+  pub lives : thread.ending ≡ Unfinished
+
+-- it took so many turns, each with a step that changed no other thread, nor the store, and printed nothing
+pub record WentOn (p : Lowered) (w : World) (store : Store) (threads : List Thread) (index : ℕ) (printed : List Printed) (old : List Entry) (k turns : ℕ) (after : Thread) (stop : Option Stop) (journal : List Entry) : Type 0 where
+  pub stands : Corresponds p w store (slice_set threads index after) printed stop journal
+  pub along : RunsAlong (seen p w store old) (seen p w store journal) (replicate turns (Turn k))
 
 -- the steps of a beginning of the schedule were taken, and the next word is one at which a run ends by this fault
 pub record RunsInto (old new : Run) (schedule : Schedule) (fault : RunFault) : Type 0 where

@@ -1,6 +1,6 @@
 //! The machine.
 
-ghost use Rattle.std.specs.Prelude.{◌≡◌, ◌+◌, ◌-◌, ◌<◌, ◌≤◌, ◌^◌, [], ◌∷◌, ◌++◌, length, map, replicate, slice_get, IfOk, IfErr, OnOk, OnErr, IfSome, IfNone, IsSome, Err, None, is_some, nat_le, vec_len, vec_capacity};
+ghost use Rattle.std.specs.Prelude.{◌≡◌, ℕ, ◌+◌, ◌-◌, ◌<◌, ◌≤◌, ◌^◌, [], ◌∷◌, ◌++◌, List, length, map, replicate, slice_get, IfOk, IfErr, OnOk, OnErr, IfSome, IfNone, IsSome, Err, None, is_some, nat_le, vec_len, vec_capacity};
 ghost use Rattle.syntax.specs.Views.{unit_tree};
 ghost use Rattle.sinks.specs.Sink.{CanFail};
 ghost use Rattle.report.specs.ThreadStatus.{standing_view};
@@ -11,7 +11,7 @@ ghost use Rattle.semantics.specs.Object.{sizes};
 ghost use Rattle.semantics.specs.Run.{MarkedAreFair, UnmarkedFit};
 ghost use Rattle.semantics.specs.Step.{is_unfinished};
 ghost use Rattle.semantics.specs.Thread.{Shared, Thread as SourceThread};
-ghost use Rattle.semantics.specs.World.{loaded_objects};
+ghost use Rattle.semantics.specs.World.{World as SourceWorld, loaded_objects};
 ghost use Rattle.semantics_safety.specs.Owners.{Owners};
 ghost use Rattle.code_meaning.specs.Lowered.{IsLowered};
 ghost use Rattle.machine_calls.specs.StoreAgrees.{StoreAgrees};
@@ -19,7 +19,7 @@ ghost use Rattle.machine_steps.specs.Executes.{IsSteady};
 ghost use Rattle.machine_steps.specs.Loading.{IsLoadFault};
 ghost use Rattle.machine_steps.specs.ThreadAgrees.{ThreadAgrees};
 ghost use Rattle.semantics.specs.declared.journal.Entry.TheVariants.{Step};
-ghost use Rattle.machine.specs.Run.{replay_of, AdvancesFrom, CanAdvance, Corresponds, EndsAt, IsCollected, IsUnstarted, CouldStep, TurnHolds, RunsAlong, RunsInto, PrintedBy, IsFinished, AllRest, Waits, ReportsRun, AreShown, ShowsObjects, ShowsStandings, GivesNoStep, MakesObjects, StoppedBy, event_of, is_refused, turn_after, turn_at_rest};
+ghost use Rattle.machine.specs.Run.{replay_of, AdvancesFrom, CanAdvance, CanGoOn, WentOn, Corresponds, EndsAt, IsCollected, IsUnstarted, CouldStep, TurnHolds, RunsAlong, RunsInto, PrintedBy, IsFinished, AllRest, Waits, ReportsRun, AreShown, ShowsObjects, ShowsStandings, GivesNoStep, MakesObjects, StoppedBy, event_of, is_refused, turn_after, turn_at_rest};
 
 use crate::collecting::collect_blocks;
 use crate::fault::{ReportFault, RunFault};
@@ -29,7 +29,7 @@ use crate::turn::Turn;
 use arrayvec::ArrayVec;
 use code_meaning::Program;
 use machine_calls::store::Store;
-use machine_steps::advance::{Advanced, advance};
+use machine_steps::advance::{Advanced, advance, advance_plainly};
 use machine_steps::fault::{LoadFault, StepFault};
 use machine_steps::load::load_threads;
 use machine_steps::objects::load_store;
@@ -275,13 +275,46 @@ impl<'a> Machine<'a> {
         let Some(k) = self.turn_of(word) else {
             return Ok(());
         };
-        for _taken in 0..times {
+        let mut left = times;
+        while left > 0 {
+            left -= self.run_plainly(k, left);
+            if left == 0 {
+                return Ok(());
+            }
             match self.take_turn(k) {
                 Ok(()) => {}
                 Err(fault) => return Err(fault),
             }
+            left -= 1;
         }
         Ok(())
+    }
+
+    /// Lets thread `k` take steps one after another, as long as its next instruction works on the stack and the number slots alone, and
+    /// the journal has memory for its entry, but no more than this many. Answers how many it took.
+    #[inline(always)]
+    fn run_plainly(&mut self, k: u8, most: u32) -> u32
+        requires counted { 0 < k }
+        requires is_thread { k ≤ length self.old.world.threads }
+        ensures most { result ≤ most }
+        ensures along { RunsAlong self.old self.new (replicate result (ScheduleWord.Turn k)) }
+        ensures runs { IsSome (replay_of self.new) }
+    {
+        let index = usize::from(k) - 1;
+        let thread = &mut self.threads[index];
+        if turn_at_rest(&self.stop, thread).is_some() {
+            return 0;
+        }
+        let most = most_entries(&self.journal, most);
+        take_plainly(
+            &self.program,
+            &self.store,
+            thread,
+            &mut self.stop,
+            &mut self.journal,
+            k,
+            most,
+        )
     }
 
     /// Lets the threads take steps in the order of the schedule, with its collections between them. A collection and a turn of a
@@ -455,6 +488,64 @@ fn turn_at_rest(stop: &Option<Stop>, thread: &Thread) -> Option<Turn>
     } else {
         Some(Turn::Ended)
     }
+}
+
+/// How many entries the journal has room and memory for, but no more than this many.
+#[inline(always)]
+fn most_entries(journal: &Vec<Entry>, most: u32) -> u32
+    ensures most { result ≤ most }
+    ensures room { 0 < result → length journal.now.items + result ≤ 1000000 }
+    ensures memory { 0 < result → vec_len journal.now + result ≤ vec_capacity journal.now }
+{
+    let room = journal.capacity().min(MOST_ENTRIES);
+    let left = room.saturating_sub(journal.len());
+    most.min(left as u32)
+}
+
+/// Takes steps of a thread, which is thread `k`, has not ended, and is of a machine that no trap has stopped, as long as its next
+/// instruction works on the stack and the number slots alone. It takes this many at most, for which the journal has room and memory, and
+/// answers how many. A trap is the last.
+#[inline(always)]
+fn take_plainly(
+    program: &Program<'_>,
+    store: &Store,
+    thread: &mut Thread,
+    stop: &mut Option<Stop>,
+    journal: &mut Vec<Entry>,
+    k: u8,
+    most: u32,
+) -> u32
+    requires stands { (w : SourceWorld) × (threads : List Thread) × (index : ℕ) × (printed : List Printed) × CanGoOn program.now w store.now threads index printed journal.old.items k thread.old }
+    requires goes { stop.old ≡ None }
+    requires room { 0 < most → length journal.old.items + most ≤ 1000000 }
+    requires memory { 0 < most → vec_len journal.old + most ≤ vec_capacity journal.old }
+    ensures most { result ≤ most }
+    ensures went { (w : SourceWorld) (threads : List Thread) (index : ℕ) (printed : List Printed) → CanGoOn program.now w store.now threads index printed journal.old.items k thread.old
+        → WentOn program.now w store.now threads index printed journal.old.items k result thread.new stop.new journal.new.items }
+{
+    for taken in 0..most {
+        match advance_plainly(program, store, thread) {
+            None => return taken,
+            Some(Event::Quiet) => journal.push_reserved(Entry::Step {
+                thread: k,
+                refused: false,
+            }),
+            Some(Event::Trapped(trap, line)) => {
+                journal.push_reserved(Entry::Step {
+                    thread: k,
+                    refused: false,
+                });
+                *stop = Some(Stop {
+                    thread: k,
+                    trap,
+                    line,
+                });
+                return taken + 1;
+            }
+            Some(Event::Printed(_)) => unreachable!(),
+        }
+    }
+    most
 }
 
 /// Makes room for a number and an entry more.

@@ -1,10 +1,10 @@
-use Rattle.std.proofs.Common.{◌≡◌, ◌≤◌, ◌-◌, ◌∷◌, [], length, sym, subst, replicate, arith, IsSome, refl}
+use Rattle.std.proofs.Common.{◌≡◌, ℕ, ◌+◌, ◌≤◌, ◌-◌, ◌∷◌, ◌∙◌, [], length, sym, subst, replicate, arith, IsSome, refl}
 use Rattle.semantics.specs.Schedule.{Schedule}
 use Rattle.semantics.specs.World.{World}
 use Rattle.semantics.specs.declared.schedule.ScheduleWord.{ScheduleWord}
 use Rattle.semantics.specs.declared.schedule.ScheduleWord.TheVariants.{Turn}
 use Rattle.machine.specs.Run.{Run, RunsAlong, RunsInto, EndsAt, replay_of}
-use Rattle.machine.proofs.Runs.{none_yet, along_both, begun, replicate_more, replicate_rest, words_without_step}
+use Rattle.machine.proofs.Runs.{begun, none_yet, replicate_rest, taken_more, words_without_step}
 use Rattle.machine.proofs.machine.Machine.repeat.Goals as goal
 
 pub returns-in_default-turn_of-clause-ok : goal.returns-in_default-turn_of-clause-ok
@@ -12,30 +12,66 @@ returns-in_default-turn_of-clause-ok c =
     let runs : IsSome (replay_of c.args.self.now) = subst (λ (r : Run). IsSome (replay_of r)) c.self.view_is (rw c.self.invariant.replays refl) in
     words_without_step c.args.self.now c.args.word c.args.times (rw c.in_default-turn_of.is at c.turn_of.ensures.none) runs
 
-pub loop-taken-init : goal.loop-taken-init
-loop-taken-init c =
+pub loop-left-init : goal.loop-left-init
+loop-left-init c =
     let runs : IsSome (replay_of c.args.self.now) = subst (λ (r : Run). IsSome (replay_of r)) c.self.view_is (rw c.self.invariant.replays refl) in
-    record { along = none_yet c.args.self.now runs; runs = runs }
+    let none : c.args.times - c.args.times ≡ 0 = omega arith in
+    record {
+      most = omega arith;
+      along = subst (λ (n : ℕ). RunsAlong c.args.self.now c.args.self.now (replicate n c.args.word)) (sym none) (none_yet c.args.self.now runs);
+      runs = runs;
+    }
+
+pub run_plainly-left-requires-clause-is_thread : goal.run_plainly-left-requires-clause-is_thread
+run_plainly-left-requires-clause-is_thread c = subst (λ (w : World). c.in-Some.k ≤ length w.threads) (sym c.loop-left.invariant.along.same_world) c.in-Some.ensures.turn.2
+
+-- the turns up to now, with those that were taken at once
+so_far : (old mid new : Run) (word : ScheduleWord) (k times left taken : ℕ) → Turn k ≡ word → left ≤ times → taken ≤ left → RunsAlong old mid (replicate (times - left) word) → RunsAlong mid new (replicate taken (Turn k)) → RunsAlong old new (replicate (times - (left - taken)) word)
+so_far old mid new word k times left taken turn most few along more =
+    let count : times - left + taken ≡ times - (left - taken) = omega (arith, most, few) in
+    subst (λ (n : ℕ). RunsAlong old new (replicate n word)) count (taken_more old mid new word (times - left) taken along (subst (λ (w : ScheduleWord). RunsAlong mid new (replicate taken w)) turn more))
 
 pub take_turn-requires-clause-is_thread : goal.take_turn-requires-clause-is_thread
-take_turn-requires-clause-is_thread c = subst (λ (w : World). c.in-Some.k ≤ length w.threads) (sym c.loop-taken.invariant.along.same_world) c.in-Some.ensures.turn.2
+take_turn-requires-clause-is_thread c =
+    subst (λ (w : World). c.in-Some.k ≤ length w.threads) (sym (c.run_plainly-left.ensures.along.same_world ∙ c.loop-left.invariant.along.same_world)) c.in-Some.ensures.turn.2
+
+pub returns-then-left-eq0-clause-ok : goal.returns-then-left-eq0-clause-ok
+returns-then-left-eq0-clause-ok c =
+    let l = c.loop-left in
+    let taken = c.run_plainly-left.result in
+    let all : c.args.times - (l.left - taken) ≡ c.args.times = omega (arith, c.if-left-eq0.true) in
+    subst (λ (n : ℕ). RunsAlong c.args.self.now c.run_plainly-left.new.self (replicate n c.args.word)) all
+    (so_far c.args.self.now l.self c.run_plainly-left.new.self c.args.word c.in-Some.k c.args.times l.left taken (sym c.in-Some.ensures.turn.0) l.invariant.most c.run_plainly-left.ensures.most l.invariant.along c.run_plainly-left.ensures.along)
 
 pub returns-in-Err-clause-err : goal.returns-in-Err-clause-err
 returns-in-Err-clause-err c =
-    let i = c.loop-taken._taken in
+    let l = c.loop-left in
+    let taken = c.run_plainly-left.result in
+    let i = c.args.times - (l.left - taken) in
     let turn : Turn c.in-Some.k ≡ c.args.word = sym c.in-Some.ensures.turn.0 in
+    let along = so_far c.args.self.now l.self c.run_plainly-left.new.self c.args.word c.in-Some.k c.args.times l.left taken turn l.invariant.most c.run_plainly-left.ensures.most l.invariant.along c.run_plainly-left.ensures.along in
     let same = sym c.in-Err.ensures.err.0 in
-    let here = subst (λ (r : Run). RunsAlong c.args.self.now r (replicate i c.args.word)) same c.loop-taken.invariant.along in
+    let here = subst (λ (r : Run). RunsAlong c.args.self.now r (replicate i c.args.word)) same along in
     let ends = subst (λ (w : ScheduleWord). EndsAt c.take_turn.new.self c.in-Err.fault w) turn (subst (λ (r : Run). EndsAt r c.in-Err.fault (Turn c.in-Some.k)) same c.in-Err.ensures.err.1) in
-    subst (λ (w : Schedule). RunsInto c.args.self.now c.take_turn.new.self w c.in-Err.fault) (sym (replicate_rest c.args.word i c.args.times (omega arith)))
+    subst (λ (w : Schedule). RunsInto c.args.self.now c.take_turn.new.self w c.in-Err.fault) (sym (replicate_rest c.args.word i c.args.times (omega (arith, c.if-left-eq0.false, l.invariant.most, c.run_plainly-left.ensures.most))))
     (begun c.args.self.now c.take_turn.new.self (replicate i c.args.word) c.args.word (replicate (c.args.times - i - 1) c.args.word) c.in-Err.fault here ends)
 
-pub loop-taken-preserved : goal.loop-taken-preserved
-loop-taken-preserved c =
+pub loop-left-preserved : goal.loop-left-preserved
+loop-left-preserved c =
+    let l = c.loop-left in
+    let taken = c.run_plainly-left.result in
+    let i = c.args.times - (l.left - taken) in
     let turn : Turn c.in-Some.k ≡ c.args.word = sym c.in-Some.ensures.turn.0 in
+    let along = so_far c.args.self.now l.self c.run_plainly-left.new.self c.args.word c.in-Some.k c.args.times l.left taken turn l.invariant.most c.run_plainly-left.ensures.most l.invariant.along c.run_plainly-left.ensures.along in
+    let count : i + 1 ≡ c.args.times - (l.left - taken - 1) = omega (arith, c.if-left-eq0.false, l.invariant.most, c.run_plainly-left.ensures.most) in
     record {
-      along = subst (λ (w : Schedule). RunsAlong c.args.self.now c.take_turn.new.self w) (sym (replicate_more c.args.word c.loop-taken._taken))
-          (along_both c.args.self.now c.loop-taken.self c.take_turn.new.self (replicate c.loop-taken._taken c.args.word) (c.args.word ∷ []) c.loop-taken.invariant.along
-          (subst (λ (w : ScheduleWord). RunsAlong c.loop-taken.self c.take_turn.new.self (w ∷ [])) turn c.in-Ok.ensures.ok));
+      most = omega (arith, l.invariant.most);
+      along = subst (λ (n : ℕ). RunsAlong c.args.self.now c.take_turn.new.self (replicate n c.args.word)) count
+          (taken_more c.args.self.now c.run_plainly-left.new.self c.take_turn.new.self c.args.word i 1 along (subst (λ (w : ScheduleWord). RunsAlong c.run_plainly-left.new.self c.take_turn.new.self (w ∷ [])) turn c.in-Ok.ensures.ok));
       runs = c.in-Ok.ensures.runs;
     }
+
+pub returns-clause-ok : goal.returns-clause-ok
+returns-clause-ok c =
+    let all : c.args.times - c.loop-left.left ≡ c.args.times = omega (arith, c.loop-left-test.false) in
+    subst (λ (n : ℕ). RunsAlong c.args.self.now c.loop-left.self (replicate n c.args.word)) all c.loop-left.invariant.along

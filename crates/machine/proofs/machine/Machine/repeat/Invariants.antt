@@ -1,9 +1,13 @@
-use Rattle.std.proofs.Common.{IsSome, replicate}
+use Rattle.std.proofs.Common.{◌-◌, ◌≤◌, IsSome, replicate}
 use Rattle.machine.specs.Run.{RunsAlong, replay_of}
 use Rattle.machine.proofs.machine.Machine.repeat.Given as goal
 
-abbrev pub invariant-loop-taken : goal.invariant-loop-taken
-invariant-loop-taken l = record {
-  along : RunsAlong l.fn.self l.self (replicate l._taken l.fn.word);
+abbrev pub invariant-loop-left : goal.invariant-loop-left
+invariant-loop-left l = record {
+  most : l.left ≤ l.fn.times;
+  along : RunsAlong l.fn.self l.self (replicate (l.fn.times - l.left) l.fn.word);
   runs : IsSome (replay_of l.self);
 }
+
+abbrev pub decreases-loop-left : goal.decreases-loop-left
+decreases-loop-left l = l.left

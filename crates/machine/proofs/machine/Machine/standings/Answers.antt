@@ -39,7 +39,7 @@ loop-thread-preserved c =
     let same : map standing_view c.push.new.self.items ≡ told ++ standing_at inside.world.classes c.waits-waits.result (option_map stop_view inside.stop) (c.loop-thread.k + 1) (ending_view c.thread-item.result.ending) ∷ [] =
     ap (λ (l : List ThreadStatus). map standing_view l) c.push.ensures.items
     ∙ map-append standing_view c.loop-thread.standings.items (c.standing_of.result ∷ [])
-    ∙ ap (λ (x : ThreadStanding). told ++ x ∷ []) (c.standing_of.ensures ∙ ap (λ (classes : Classes). standing_at classes c.waits-waits.result (option_map stop_view inside.stop) (c.loop-thread.k + 1) (ending_view c.thread-item.result.ending)) c.classes.ensures.classes) in
+    ∙ ap (λ (x : ThreadStanding). told ++ x ∷ []) (c.standing_of.ensures ∙ ap (λ (n : ℕ). standing_at c.classes.result.now c.waits-waits.result (option_map stop_view inside.stop) n (ending_view c.thread-item.result.ending)) c.from.ensures ∙ ap (λ (classes : Classes). standing_at classes c.waits-waits.result (option_map stop_view inside.stop) (c.loop-thread.k + 1) (ending_view c.thread-item.result.ending)) c.classes.ensures.classes) in
     record {
       counted = ap (λ (n : ℕ). n + 1) c.loop-thread.invariant.counted;
       few = c.push.ensures.len ∙ ap (λ (n : ℕ). n + 1) c.loop-thread.invariant.few;

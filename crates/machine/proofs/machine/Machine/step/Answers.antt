@@ -26,19 +26,9 @@ use Rattle.semantics.specs.Run.{made}
 use Rattle.syntax.specs.Views.{unit_tree}
 use Rattle.machine.proofs.Collected.{StandsBetween, lives_between, stands_between}
 use Rattle.machine.proofs.Standings.{waits_known}
-use Rattle.machine.proofs.Steps.{can_turn_here, counted_from, has_ended, short_by, steps_by, thread_there, threads_of, turn_holds}
+use Rattle.machine.proofs.Steps.{can_turn_here, counted_from, has_ended, is_live, none_held, not_stopped, short_by, steps_by, thread_there, threads_of, turn_holds}
 use Rattle.machine.proofs.machine.Machine.step.Goals as goal
 use Rattle.machine.proofs.machine.Machine.step.Goals.{After-index, After-make_room}
-
--- the machine hasn't stopped
-goes_on : (o : Option Stop) → is_some o ≡ false → o ≡ None
-goes_on None h = refl
-goes_on (Some x) h = absurd (cc)
-
-is_live : (e : Ending) → is_unfinished (ending_view e) ≡ true → e ≡ Unfinished
-is_live Unfinished h = refl
-is_live Ended h = absurd (cc)
-is_live (Uncaught class) h = absurd (cc)
 
 is_over : (e : Ending) → is_unfinished (ending_view e) ≡ false → e ≡ Unfinished → ⊥
 is_over Unfinished h same = absurd (cc)
@@ -56,11 +46,6 @@ held : (old : Run) (k : ℕ) (stopped unfinished : Bool) (t : Turn) → turn_at_
 held old k true unfinished t is a b = let same : turn.Stopped ≡ t = cc in subst (λ (x : Turn). TurnHolds old k old x) same (a refl)
 held old k false false t is a b = let same : turn.Ended ≡ t = cc in subst (λ (x : Turn). TurnHolds old k old x) same (b refl refl)
 held old k false true t is a b = absurd (cc)
-
-none_held : (stopped unfinished : Bool) → turn_at_rest stopped unfinished ≡ None → (stopped ≡ false) × (unfinished ≡ true)
-none_held true unfinished h = absurd (cc)
-none_held false false h = absurd (cc)
-none_held false true h = (refl, refl)
 
 -- ---- what is known once thread k was looked at
 
@@ -98,14 +83,14 @@ returns-in-Some-clause-turn c =
     let a = (goal.at.returns-in-Some-clause-turn c).After-index in
     held c.args.self.now c.args.k (is_some c.self.inside.stop) (is_unfinished (ending_view c.index.result.now.ending)) c.in-Some.turn (sym c.turn_at_rest.ensures ∙ c.in-Some.is)
     (λ stopped. (refl, (c.self.invariant.state, replays a, stops c.self.inside.stop c.self.invariant.state.stop c.self.invariant.same_stop stopped)))
-    (λ goes over. (refl, (c.self.invariant.state, replays a, has_ended _ _ _ _ _ _ _ c.self.invariant c.args.k (c.from-index.result - 1) c.index.result.now (number a) (there a c.index.result.now c.index.ensures) (goes_on c.self.inside.stop goes) (is_over _ over))))
+    (λ goes over. (refl, (c.self.invariant.state, replays a, has_ended _ _ _ _ _ _ _ c.self.invariant c.args.k (c.from-index.result - 1) c.index.result.now (number a) (there a c.index.result.now c.index.ensures) (not_stopped c.self.inside.stop goes) (is_over _ over))))
 
 pub returns-then-len-ge-MOST_ENTRIES-clause-turn : goal.returns-then-len-ge-MOST_ENTRIES-clause-turn
 returns-then-len-ge-MOST_ENTRIES-clause-turn c =
     let a = (goal.at.returns-then-len-ge-MOST_ENTRIES-clause-turn c).After-index in
     let none = none_held (is_some c.self.inside.stop) (is_unfinished (ending_view c.index.result.now.ending)) (sym c.turn_at_rest.ensures ∙ c.in_default.is) in
     let many : 1000000 ≤ length c.self.inside.journal.items = omega (arith, c.len.ensures, c.if-len-ge-MOST_ENTRIES.true) in
-    (refl, subst (λ (r : Run). 1000000 ≤ length r.journal) c.self.view_is many, can_step a (goes_on c.self.inside.stop none.0) (is_live _ none.1) (is_free a c.waits.result c.waits.ensures c.if-waits.false))
+    (refl, subst (λ (r : Run). 1000000 ≤ length r.journal) c.self.view_is many, can_step a (not_stopped c.self.inside.stop none.0) (is_live _ none.1) (is_free a c.waits.result c.waits.ensures c.if-waits.false))
 
 pub returns-in-Some-clause-runs : goal.returns-in-Some-clause-runs
 returns-in-Some-clause-runs c = runs (goal.at.returns-in-Some-clause-runs c).After-index
@@ -130,7 +115,7 @@ tested c =
     }
 
 running : (a : After-index) → Free a → a.self.inside.stop ≡ None
-running a free = goes_on a.self.inside.stop free.goes
+running a free = not_stopped a.self.inside.stop free.goes
 
 live : (a : After-index) → Free a → a.index.result.now.ending ≡ Unfinished
 live a free = is_live _ free.lives

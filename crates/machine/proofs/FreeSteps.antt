@@ -1,0 +1,76 @@
+-- Steps of one thread that are known not to wait, one after another.
+use Rattle.std.proofs.Common.{◌≡◌, ℕ, zero, suc, false, ◌+◌, ◌<◌, List, [], ◌∷◌, ◌++◌, length, replicate, Some, None, refl, sym, ap, subst}
+use Rattle.std.specs.Prelude.{slice_get, slice_set}
+use Rattle.std.proofs.lemmas.Option.{slice_get_within}
+use Rattle.heap.specs.Heap.{left_of}
+use Rattle.semantics.specs.declared.event.Ending.TheVariants.{Unfinished}
+use Rattle.semantics.specs.declared.event.Event.{Event}
+use Rattle.semantics.specs.declared.journal.Entry.{Entry}
+use Rattle.semantics.specs.declared.journal.Entry.TheVariants.{Step}
+use Rattle.semantics.specs.declared.printed.Printed.{Printed}
+use Rattle.semantics.specs.declared.schedule.ScheduleWord.TheVariants.{Turn}
+use Rattle.semantics.specs.EventViews.{printed_after, stop_after}
+use Rattle.semantics.specs.Schedule.{Schedule}
+use Rattle.semantics.specs.Thread as source
+use Rattle.semantics.specs.Thread.{Shared}
+use Rattle.semantics.specs.World.{World}
+use Rattle.semantics_safety.specs.Owners.{Owners}
+use Rattle.code_meaning.specs.Lowered.{Lowered}
+use Rattle.code_meaning.proofs.BufferLaws.{set_same}
+use Rattle.machine_calls.proofs.SetPlaces.{get_set_same}
+use Rattle.machine_calls.specs.Buffers.{Acquired}
+use Rattle.machine_calls.specs.declared.store.Store.{Store}
+use Rattle.machine_steps.specs.declared.thread.Thread.{Thread}
+use Rattle.machine_steps.specs.Advances.{Stands}
+use Rattle.machine_steps.specs.Moved.{IsSilent}
+use Rattle.machine.specs.declared.turn.Turn.TheVariants as turn
+use Rattle.machine.specs.Run.{Run, CanGoOn, Corresponds, RunsAlong, WentOn, seen}
+use Rattle.machine.proofs.Runs.{along_both, none_yet, replicate_more, turned}
+use Rattle.machine.proofs.Steps.{StepsFreely, can_turn_here, is_free, none_printed, owners, rest, stands, steps_freely, the_thread}
+
+-- an element that is written twice
+set_twice : {A : Type 0} (xs : List A) (i : ℕ) (a b : A) → slice_set (slice_set xs i a) i b ≡ slice_set xs i b
+set_twice [] i a b = refl
+set_twice (x ∷ xs) zero a b = refl
+set_twice (x ∷ xs) (suc i) a b = ap (λ l. x ∷ l) (set_twice xs i a b)
+
+module _ (p : Lowered) (w : World) (store : Store) (ts : List Thread) (index : ℕ) (printed : List Printed) (before : List Entry) (k : ℕ) (first : Thread) (h : CanGoOn p w store ts index printed before k first) where
+  -- nothing was done yet
+  pub none_taken : WentOn p w store ts index printed before k 0 first None before
+  none_taken = record {
+    stands = subst (λ (l : List Thread). Corresponds p w store l printed None before) (sym (set_same ts index first h.at)) h.stands;
+    along = none_yet (seen p w store before) (rw h.stands.replays refl);
+  }
+
+  module _ (n : ℕ) (t : Thread) (journal : List Entry) (so_far : WentOn p w store ts index printed before k n t None journal) where
+    pub thread_at : slice_get (slice_set ts index t) index ≡ Some t
+    thread_at = get_set_same ts index t (slice_get_within ts index first h.at)
+
+    -- it stands for one of the source
+    pub stands_now : (others : Acquired) × (own : Owners) × (shared : Shared) × (s : source.Thread) × Stands p w store others k own shared s t
+    stands_now =
+        let c = so_far.stands in (
+          rest p w store (slice_set ts index t) printed None journal c k index t h.number thread_at,
+          owners p w store (slice_set ts index t) printed None journal c k index t h.number thread_at k,
+          c.state.shared,
+          (the_thread p w store (slice_set ts index t) printed None journal c k index t h.number thread_at).source,
+          stands p w store (slice_set ts index t) printed None journal c k index t h.number thread_at,
+        )
+
+    -- one step more
+    pub one_more : (after : Thread) (e : Event) → t.ending ≡ Unfinished → length journal < 1000000 → StepsFreely p w k store t after e → IsSilent e → WentOn p w store ts index printed before k (n + 1) after (stop_after None k e) (journal ++ Step k false ∷ [])
+    one_more after e lives few freely silent =
+        let c = so_far.stands in
+        let next = steps_freely p w store (slice_set ts index t) printed None journal c k index t h.number thread_at after e freely refl lives in
+        let free = is_free p w store (slice_set ts index t) printed None journal c k index t h.number thread_at after e freely in
+        let can = can_turn_here p w store (slice_set ts index t) printed None journal c k index t h.number thread_at refl lives free in
+        let now : Run = seen p w store (journal ++ Step k false ∷ []) in
+        record {
+          stands =
+              subst (λ (l : List Thread). Corresponds p w store l printed (stop_after None k e) (journal ++ Step k false ∷ [])) (set_twice ts index t after)
+              (subst (λ (l : List Printed). Corresponds p w store (slice_set (slice_set ts index t) index after) l (stop_after None k e) (journal ++ Step k false ∷ [])) (none_printed printed k e silent) next);
+          along =
+              subst (λ (words : Schedule). RunsAlong (seen p w store before) now words) (sym (replicate_more (Turn k) n))
+              (along_both (seen p w store before) (seen p w store journal) now (replicate n (Turn k)) (Turn k ∷ []) so_far.along
+              (turned (seen p w store journal) now k turn.Stepped ((refl, (few, (c.state, c.replays, can)))) (rw next.replays refl) (λ full. absurd (cc))));
+        }

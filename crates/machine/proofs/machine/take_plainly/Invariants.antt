@@ -1,0 +1,20 @@
+use Rattle.std.proofs.Common.{◌≡◌, ℕ, ◌+◌, ◌≤◌, List, None, length, vec_len, vec_capacity}
+use Rattle.semantics.specs.declared.event.Ending.TheVariants.{Unfinished}
+use Rattle.semantics.specs.declared.printed.Printed.{Printed}
+use Rattle.semantics.specs.World.{World}
+use Rattle.machine_steps.specs.declared.thread.Thread.{Thread}
+use Rattle.machine.specs.Run.{CanGoOn, WentOn}
+use Rattle.machine.proofs.machine.take_plainly.Given as goal
+
+-- so many steps were taken
+abbrev pub invariant-loop-taken : goal.invariant-loop-taken
+invariant-loop-taken l = record {
+  went : (w : World) (threads : List Thread) (index : ℕ) (printed : List Printed) → CanGoOn l.fn.program w l.fn.store threads index printed l.fn.journal.items l.fn.k l.fn.thread
+      → WentOn l.fn.program w l.fn.store threads index printed l.fn.journal.items l.fn.k l.taken l.thread None l.journal.items;
+  within : l.taken ≤ l.fn.most;
+  goes : l.stop ≡ None;
+  lives : l.thread.ending ≡ Unfinished;
+  many : length l.journal.items ≡ length l.fn.journal.items + l.taken;
+  len : vec_len l.journal ≡ vec_len l.fn.journal + l.taken;
+  capacity : vec_capacity l.journal ≡ vec_capacity l.fn.journal;
+}
