@@ -2,8 +2,7 @@
 use Rattle.std.proofs.Common.{◌≡◌, ◌≢◌, ℕ, zero, suc, ◌+◌, ◌-◌, ◌<◌, ◌≤◌, List, [], ◌∷◌, ◌++◌, length, refl, sym, ap, ◌∙◌, arith, append_assoc, length-append}
 use Rattle.std.proofs.lemmas.Bool.{ne_eqb, cond-false}
 use Rattle.std.proofs.lemmas.List.{append-nil}
-use Rattle.std.specs.Prelude.{codes, decimal}
-use Rattle.cli_commands.specs.Telling.{from_line, shown_byte, shown_line, detail_text, reason_text}
+use Rattle.cli_commands.specs.Telling.{from_line, shown_byte, shown_line}
 
 -- ---- lines
 
@@ -61,10 +60,3 @@ shown_push shown more text rest all byte b e same few is other h =
       omega (arith, len, few),
       ap (λ (s : List ℕ). s ++ tail) e ∙ append_assoc shown (b ∷ []) tail ∙ ap (λ (c : ℕ). shown ++ c ∷ tail) same ∙ sym (ap (λ (t : List ℕ). shown ++ t) step) ∙ h,
     )
-
--- ---- what is wrong
-
-pub reason_parts : (kind words between detail : List ℕ) (number : ℕ) → ((rest : List ℕ) → between ++ detail ++ rest ≡ detail_text detail ++ rest)
-    → codes ": " ++ kind ++ codes " " ++ decimal number ++ codes ": " ++ words ++ between ++ detail ++ codes "\n" ≡ reason_text kind number words detail
-unfolding reason_text
-reason_parts kind words between detail number h = ap (λ (t : List ℕ). codes ": " ++ kind ++ codes " " ++ decimal number ++ codes ": " ++ words ++ t) (h (codes "\n"))

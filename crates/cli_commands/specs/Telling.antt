@@ -37,15 +37,15 @@ unfoldable pub place_text : Place → List ℕ
 place_text (Line which line) = if line == 0 then [] else codes ":" ++ decimal line
 place_text (Entry entry) = codes ": entry " ++ decimal entry
 
--- `: found jint, wanted uint32_t`; nothing where no more is told
+-- `: error 38: a dead reference is used`
+unfoldable pub reason_text : (kind : List ℕ) → (number : ℕ) → (words : List ℕ) → List ℕ
+reason_text kind number words = codes ": " ++ kind ++ codes " " ++ decimal number ++ codes ": " ++ words
+
+-- `: reference object was deleted` up to the end of the line; the end alone where no more is told
 unfoldable pub detail_text : (detail : List ℕ) → List ℕ
-detail_text [] = []
-detail_text (byte ∷ detail) = codes ": " ++ byte ∷ detail
+detail_text [] = codes "\n"
+detail_text (byte ∷ detail) = codes ": " ++ (byte ∷ detail) ++ codes "\n"
 
--- `: error 38: a dead reference is used: object`
-unfoldable pub reason_text : (kind : List ℕ) → (number : ℕ) → (words detail : List ℕ) → List ℕ
-reason_text kind number words detail = codes ": " ++ kind ++ codes " " ++ decimal number ++ codes ": " ++ words ++ detail_text detail ++ codes "\n"
-
--- `length.c:4: error 38: a dead reference is used: object`, and below it that line of the text
+-- `length.c:4: error 38: a dead reference is used: reference object was deleted`, and below it that line of the text
 abbrev pub told : (kind name text : List ℕ) → (number : ℕ) → Place → (words detail : List ℕ) → List ℕ
-told kind name text number place words detail = name ++ place_text place ++ reason_text kind number words detail ++ excerpt text place
+told kind name text number place words detail = name ++ place_text place ++ reason_text kind number words ++ detail_text detail ++ excerpt text place

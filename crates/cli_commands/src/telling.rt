@@ -1,6 +1,6 @@
 //! Where and why a text is refused, for standard error.
 
-ghost use Rattle.std.specs.Prelude.{◌≡◌, ◌-◌, ◌==◌, ◌++◌, ℕ, List, OnOk, codes, decimal};
+ghost use Rattle.std.specs.Prelude.{◌≡◌, ◌-◌, ◌==◌, OnOk};
 ghost use Rattle.sinks.specs.Sink.{CanFail, Writes};
 ghost use Rattle.cli_commands.specs.Telling.{from_line, shown_byte, shown_line, most_shown, excerpt, place_text, detail_text, reason_text, told};
 
@@ -96,61 +96,33 @@ fn put_place<E: Sink>(err: &mut E, place: Place) -> Result<(), SinkFailed>
     }
 }
 
-/// What comes before a detail, where there is one.
-#[tactic(auto, unfolding(crate::specs::Telling::detail_text))]
-fn before(detail: &[u8]) -> &[u8]
-    ensures { (rest : List ℕ) → result.now ++ detail.now ++ rest ≡ detail_text detail.now ++ rest }
-{
-    match detail {
-        [] => b"",
-        [_, ..] => b": ",
-    }
-}
-
-/// Puts the parts of what is wrong, of which the last is between the words and the detail.
-fn put_parts<E: Sink>(
-    err: &mut E,
-    kind: &[u8],
-    number: u32,
-    words: &[u8],
-    detail: &[u8],
-    between: &[u8],
-) -> Result<(), SinkFailed>
-    requires { CanFail (E.written err.old) }
-    ensures { Writes (E.written err.old) (E.written err.new) result
-        (codes ": " ++ kind.now ++ codes " " ++ decimal number ++ codes ": " ++ words.now ++ between.now ++ detail.now ++ codes "\n") }
-{
-    let mut digits = Buffer::new();
-    let number = digits.format(number);
-    put_pieces(
-        err,
-        &[
-            b": ",
-            kind,
-            b" ",
-            number.as_bytes(),
-            b": ",
-            words,
-            between,
-            detail,
-            b"\n",
-        ],
-    )
-}
-
 /// Puts what is wrong.
+#[tactic(auto, unfolding(crate::specs::Telling::reason_text))]
 fn put_reason<E: Sink>(
     err: &mut E,
     kind: &[u8],
     number: u32,
     words: &[u8],
-    detail: &[u8],
 ) -> Result<(), SinkFailed>
     requires { CanFail (E.written err.old) }
     ensures { Writes (E.written err.old) (E.written err.new) result
-        (reason_text kind.now number words.now detail.now) }
+        (reason_text kind.now number words.now) }
 {
-    put_parts(err, kind, number, words, detail, before(detail))
+    let mut digits = Buffer::new();
+    let number = digits.format(number);
+    put_pieces(err, &[b": ", kind, b" ", number.as_bytes(), b": ", words])
+}
+
+/// Puts what was found, if that is told, and the end of the line.
+#[tactic(auto, unfolding(crate::specs::Telling::detail_text))]
+fn put_detail<E: Sink>(err: &mut E, detail: &[u8]) -> Result<(), SinkFailed>
+    requires { CanFail (E.written err.old) }
+    ensures { Writes (E.written err.old) (E.written err.new) result (detail_text detail.now) }
+{
+    match detail {
+        [] => put_all(err, b"\n"),
+        [_, ..] => put_pieces(err, &[b": ", detail, b"\n"]),
+    }
 }
 
 /// Tells a fault or a trap: the name of the file, the place, the kind and the number, the words, and what was found there, if
@@ -171,7 +143,8 @@ pub fn tell<E: Sink>(
 {
     put_all(err, name)?;
     put_place(err, place)?;
-    put_reason(err, kind, number, words, detail)?;
+    put_reason(err, kind, number, words)?;
+    put_detail(err, detail)?;
     put_excerpt(err, text, place)?;
     err.flush()
 }
