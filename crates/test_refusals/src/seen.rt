@@ -2,8 +2,8 @@
 
 use crate::failure::Failure;
 use machine::{Machine, ReportFault};
-use sinks::StdSink;
 use semantics::{Entry, Printed};
+use sinks::StdSink;
 use std::alloc::Global;
 
 /// How often a call is asked that is refused memory.
