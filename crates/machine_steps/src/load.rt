@@ -2,18 +2,14 @@
 
 ghost use Rattle.std.specs.Prelude.{◌≡◌, ℕ, List, Option, IfOk, IfErr, OnOk, IfSome, IfNone, IsTrue, [], None, map, length, flat_map};
 ghost use Rattle.std.specs.List.{list_all};
-ghost use Rattle.std.specs.Option.{option_and_then};
 ghost use Rattle.syntax.specs.Limits.{IsTree};
-ghost use Rattle.syntax.specs.Views.{unit_tree, parameter_tree, parameter_type_tree};
-ghost use Rattle.class_rules.specs.Class.{class_named};
-ghost use Rattle.class_rules.specs.Mangling.{native_class};
+ghost use Rattle.syntax.specs.Views.{unit_tree};
 ghost use Rattle.heap.specs.Heap.{Space};
 ghost use Rattle.world_values.specs.CallArguments.{are_arguments};
 ghost use Rattle.world_values.specs.SoundWorlds.{has_call};
-ghost use Rattle.world_values.specs.Views.{object_value_view};
 ghost use Rattle.semantics.specs.World.{loaded_objects};
 ghost use Rattle.semantics.specs.Activation.{function_at};
-ghost use Rattle.semantics.specs.Load.{fits_parameter, fit_parameters, refused_calls};
+ghost use Rattle.semantics.specs.Load.{refused_calls};
 ghost use Rattle.semantics.specs.Start.{waiting_thread};
 ghost use Rattle.semantics.specs.Thread.{Shared};
 ghost use Rattle.semantics_safety.specs.Owners.{Owners, AllOwners};
@@ -23,14 +19,14 @@ ghost use Rattle.machine_steps.specs.Loading.{IsNumberOf, IsCallOf, IsFirstOf};
 
 use crate::fault::LoadFault;
 use crate::thread::{PendingCall, Thread};
-use class_rules::mangling::unmangle;
+use class_queries::native_class;
 use code_meaning::Program;
 use functions::{Functions, NumberedFunction};
 use semantics::Ending;
 use std::alloc::{AllocError, Global};
 use std::collections::VecDeque;
-use syntax::{Parameter, ParameterType};
-use world_values::{Call, ObjectValue, World};
+use world_calls::arguments_fit;
+use world_values::{Call, World};
 
 /// The world's threads before their first calls.
 pub fn load_threads(
@@ -120,10 +116,10 @@ fn load_call(
     let Some(found) = function_named(program, functions, call.function()) else {
         return Ok(None);
     };
-    let Some(class) = native_class_number(alloc, world, call.function())? else {
+    let Some(class) = native_class(alloc, world.classes(), call.function())? else {
         return Ok(None);
     };
-    if !fit(&found.function.parameters, call.arguments()) {
+    if !arguments_fit(&found.function.parameters, call.arguments()) {
         return Ok(None);
     }
     Ok(Some(PendingCall {
@@ -131,46 +127,6 @@ fn load_call(
         class,
         arguments: Vec::from_slice(alloc, call.arguments())?,
     }))
-}
-
-/// The number of the class whose native method has a function of this name.
-fn native_class_number(
-    alloc: Global,
-    world: &World,
-    name: &[u8],
-) -> Result<Option<usize>, AllocError>
-    ensures { IfOk result (λ number. number ≡ option_and_then (class_named world.now.classes) (native_class name.now)) }
-{
-    match unmangle(alloc, name)? {
-        Some(native) => Ok(world.classes().find(&native.class)),
-        None => Ok(None),
-    }
-}
-
-/// Whether there are as many arguments as parameters, each of its kind.
-fn fit(parameters: &[Parameter], arguments: &[ObjectValue]) -> bool
-    ensures { result ≡ fit_parameters (map parameter_tree parameters.now) (map object_value_view arguments.now) }
-{
-    match parameters {
-        [] => arguments.is_empty(),
-        [parameter, parameters_left @ ..] => match arguments {
-            [] => false,
-            [argument, arguments_left @ ..] => {
-                fits(parameter.kind, *argument) && fit(parameters_left, arguments_left)
-            }
-        },
-    }
-}
-
-/// Whether an argument is of the kind of a parameter: a number for `jint`, and NULL or an object for a reference.
-fn fits(kind: ParameterType, argument: ObjectValue) -> bool
-    ensures { result ≡ fits_parameter (parameter_type_tree kind) (object_value_view argument) }
-{
-    match (kind, argument) {
-        (ParameterType::Jint, ObjectValue::Number(_)) => true,
-        (ParameterType::Reference(_), ObjectValue::Reference(_)) => true,
-        _ => false,
-    }
 }
 
 /// The function of a name.

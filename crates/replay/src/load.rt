@@ -1,10 +1,10 @@
 //! The state in which a replay begins.
 
 ghost use Rattle.std.specs.Prelude.{◌≡◌, ◌≤◌, IfOk, IfErr, length, map, [], None};
-ghost use Rattle.syntax.specs.Views.{unit_tree, function_tree, parameter_tree};
+ghost use Rattle.syntax.specs.Views.{unit_tree, function_tree};
 ghost use Rattle.type_rules.specs.SortRules.{IsSorted};
 ghost use Rattle.world_values.specs.Views.{object_value_view};
-ghost use Rattle.semantics.specs.Load.{call_loads, fits_parameter, fit_parameters, is_callable, first_load_fault, refused_calls};
+ghost use Rattle.semantics.specs.Load.{call_loads, is_callable, first_load_fault, refused_calls};
 ghost use Rattle.semantics.specs.Start.{start};
 ghost use Rattle.replay_calls.specs.Shares.{shared_view};
 ghost use Rattle.replay_threads.specs.States.{AreInRange, Stands};
@@ -19,34 +19,9 @@ use replay_terms::null_statics;
 use replay_threads::{State, Thread, class_of};
 use semantics::Ending;
 use std::alloc::{AllocError, Global};
-use syntax::{Function, Item, Parameter, ParameterType};
+use syntax::{Function, Item};
+use world_calls::arguments_fit;
 use world_values::{Call, ObjectValue, World};
-
-/// Whether a parameter can have this argument.
-fn fits_parameter(parameter: &Parameter, argument: &ObjectValue) -> bool
-    ensures { result ≡ fits_parameter (parameter_tree parameter.now).type (object_value_view argument.now) }
-{
-    match (parameter.kind, *argument) {
-        (ParameterType::Jint, ObjectValue::Number(_)) => true,
-        (ParameterType::Reference(_), ObjectValue::Reference(_)) => true,
-        _ => false,
-    }
-}
-
-/// Whether there are as many arguments as parameters, and each fits.
-fn fit_parameters(parameters: &[Parameter], arguments: &[ObjectValue]) -> bool
-    ensures { result ≡ fit_parameters (map parameter_tree parameters.entry.now) (map object_value_view arguments.entry.now) }
-{
-    match parameters {
-        [] => arguments.is_empty(),
-        [parameter, parameters @ ..] => match arguments {
-            [] => false,
-            [argument, arguments @ ..] => {
-                fits_parameter(parameter, argument) && fit_parameters(parameters, arguments)
-            }
-        },
-    }
-}
 
 /// Whether the function can be called with these arguments: its class is there, and they fit.
 fn is_callable(
@@ -58,7 +33,7 @@ fn is_callable(
     ensures { IfOk result (λ fits. fits ≡ is_callable world.now.classes (map object_value_view arguments.now) (function_tree function.now)) }
 {
     let class = class_of(alloc, world, function)?;
-    Ok(class.is_some() && fit_parameters(&function.parameters, arguments))
+    Ok(class.is_some() && arguments_fit(&function.parameters, arguments))
 }
 
 /// Whether a call's function is there, and can be called.

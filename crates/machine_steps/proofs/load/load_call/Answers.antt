@@ -3,7 +3,7 @@ use Rattle.std.specs.Option.{option_and_then}
 use Rattle.syntax.specs.declared.unit.Function.{Function}
 use Rattle.syntax.specs.declared.unit.Parameter.{Parameter as ParameterInMemory}
 use Rattle.syntax.specs.Views.{function_tree, parameter_tree}
-use Rattle.class_rules.specs.Class.{class_named}
+use Rattle.class_rules.specs.Class.{Classes, class_named}
 use Rattle.class_rules.specs.Mangling.{native_class}
 use Rattle.semantics.specs.Object.{ObjectValue}
 use Rattle.world_values.specs.Views.{object_value_view}
@@ -25,20 +25,22 @@ tested f parameters given arguments answer e g a =
 renamed : (p : Lowered) (a b : List ℕ) (number : ℕ) (f : Function) → a ≡ b → IsNumberOf p a number f → IsNumberOf p b number f
 renamed p a b number f same n = subst (λ (name : List ℕ). IsNumberOf p name number f) same n
 
-pub returns-then-not-fit : goal.returns-then-not-fit
-returns-then-not-fit c =
+pub returns-then-not-arguments_fit : goal.returns-then-not-arguments_fit
+returns-then-not-arguments_fit c =
     let f = c.in-Some.found.function.now in
     let number = renamed c.args.program.now c.function.result.now c.args.call.now.function c.in-Some.found.number f c.function.ensures c.in-Some.ensures.found in
-    let fit = tested f c.deref.result.now (map object_value_view c.arguments.result.now) c.args.call.now.arguments c.fit.result c.deref.ensures.value c.arguments.ensures c.fit.ensures in
-    no_fit c.args.program.now c.args.world.now.classes c.args.call.now c.in-Some.found.number f number (fit ∙ c.if-not-fit.true)
+    let fit = tested f c.deref.result.now (map object_value_view c.arguments.result.now) c.args.call.now.arguments c.arguments_fit.result c.deref.ensures.value c.arguments.ensures c.arguments_fit.ensures in
+    no_fit c.args.program.now c.args.world.now.classes c.args.call.now c.in-Some.found.number f number (fit ∙ c.if-not-arguments_fit.true)
 
 pub returns : goal.returns
 returns c =
     let w = c.args.world.now in
     let f = c.in-Some.found.function.now in
     let number = renamed c.args.program.now c.function.result.now c.args.call.now.function c.in-Some.found.number f c.function.ensures c.in-Some.ensures.found in
-    let fit = tested f c.deref.result.now (map object_value_view c.arguments.result.now) c.args.call.now.arguments c.fit.result c.deref.ensures.value c.arguments.ensures c.fit.ensures in
+    let fit = tested f c.deref.result.now (map object_value_view c.arguments.result.now) c.args.call.now.arguments c.arguments_fit.result c.deref.ensures.value c.arguments.ensures c.arguments_fit.ensures in
     let few : length w.classes ≤ length (loaded_objects w) = omega (arith, length-loaded w) in
-    let known = ap (λ (n : List ℕ). option_and_then (class_named w.classes) (native_class n)) (sym c.function-2.ensures) ∙ sym c.in_ok-class.ensures ∙ c.in-Some-2.is in
+    let known = ap (λ (n : List ℕ). option_and_then (class_named w.classes) (native_class n)) (sym c.function-2.ensures)
+    ∙ ap (λ (t : Classes). option_and_then (class_named t) (native_class c.function-2.result.now)) (sym c.classes.ensures)
+    ∙ sym c.in_ok-class.ensures ∙ c.in-Some-2.is in
     let given = ap (map object_value_view) c.in_ok-from_slice.ensures.items ∙ c.arguments-2.ensures in
-    call_found c.args.program.now w.classes (length (loaded_objects w)) c.args.call.now f (record { function = c.in-Some.found.number; class = c.in-Some-2.class; arguments = c.in_ok-from_slice.field-0 }) c.function_named.ensures.tree number few known given c.requires.given (fit ∙ c.if-not-fit.false)
+    call_found c.args.program.now w.classes (length (loaded_objects w)) c.args.call.now f (record { function = c.in-Some.found.number; class = c.in-Some-2.class; arguments = c.in_ok-from_slice.field-0 }) c.function_named.ensures.tree number few known given c.requires.given (fit ∙ c.if-not-arguments_fit.false)
