@@ -2,14 +2,13 @@
 use Rattle.std.proofs.Common.{◌≡◌, ℕ, zero, suc, false, ◌+◌, ◌<◌, List, [], ◌∷◌, ◌++◌, length, replicate, Some, None, refl, sym, ap, subst}
 use Rattle.std.specs.Prelude.{slice_get, slice_set}
 use Rattle.std.proofs.lemmas.Option.{slice_get_within}
-use Rattle.heap.specs.Heap.{left_of}
 use Rattle.semantics.specs.declared.event.Ending.TheVariants.{Unfinished}
 use Rattle.semantics.specs.declared.event.Event.{Event}
 use Rattle.semantics.specs.declared.journal.Entry.{Entry}
 use Rattle.semantics.specs.declared.journal.Entry.TheVariants.{Step}
 use Rattle.semantics.specs.declared.printed.Printed.{Printed}
 use Rattle.semantics.specs.declared.schedule.ScheduleWord.TheVariants.{Turn}
-use Rattle.semantics.specs.EventViews.{printed_after, stop_after}
+use Rattle.semantics.specs.EventViews.{stop_after}
 use Rattle.semantics.specs.Schedule.{Schedule}
 use Rattle.semantics.specs.Thread as source
 use Rattle.semantics.specs.Thread.{Shared}

@@ -1,9 +1,7 @@
-use Rattle.std.proofs.Common.{◌≡◌, ℕ, false, ◌+◌, ◌<◌, ◌∷◌, ◌++◌, [], List, Some, None, length, length-append, vec_len, refl, sym, ap, ◌∙◌, subst, arith}
+use Rattle.std.proofs.Common.{◌≡◌, ℕ, false, ◌+◌, ◌<◌, ◌∷◌, [], Some, None, length, length-append, refl, sym, ap, ◌∙◌, subst, arith}
 use Rattle.semantics.specs.declared.event.Event.TheVariants as event
-use Rattle.semantics.specs.declared.journal.Entry.{Entry}
 use Rattle.semantics.specs.declared.journal.Entry.TheVariants.{Step}
-use Rattle.machine_steps.specs.declared.thread.Thread.{Thread}
-use Rattle.machine.specs.Run.{CanGoOn, WentOn}
+use Rattle.machine.specs.Run.{WentOn}
 use Rattle.machine.proofs.FreeSteps.{none_taken, one_more, stands_now}
 use Rattle.machine.proofs.Steps.{StepsFreely}
 use Rattle.machine.proofs.machine.take_plainly.Goals as goal

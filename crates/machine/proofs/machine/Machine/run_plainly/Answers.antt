@@ -1,10 +1,8 @@
-use Rattle.std.proofs.Common.{◌≡◌, ℕ, suc, ◌-◌, ◌<◌, true, false, Option, Some, None, [], ◌∷◌, List, length, replicate, refl, sym, ap, ◌∙◌, subst, IsSome}
+use Rattle.std.proofs.Common.{◌≡◌, suc, ◌-◌, true, false, Option, Some, None, [], replicate, refl, sym, ◌∙◌, subst, IsSome}
 use Rattle.std.specs.Prelude.{slice_get, is_some}
-use Rattle.semantics.specs.declared.event.Ending.TheVariants.{Unfinished}
 use Rattle.semantics.specs.declared.schedule.ScheduleWord.TheVariants.{Turn as Word}
 use Rattle.semantics.specs.EventViews.{ending_view}
 use Rattle.semantics.specs.Step.{is_unfinished}
-use Rattle.machine_steps.specs.declared.thread.Thread.{Thread}
 use Rattle.machine.specs.declared.turn.Turn.{Turn}
 use Rattle.semantics.specs.declared.event.Stop.{Stop}
 use Rattle.machine.specs.Run.{CanGoOn, Corresponds, Run, RunsAlong, WentOn, replay_of, seen}
