@@ -29,9 +29,9 @@ loop-place-init c =
     let long : c.len-count.result ≡ length values = c.len-count.ensures.len ∙ ap (λ (fs : List FieldId). length fs) c.of-fields.ensures ∙ sym (length-map (layout c.args.classes.now c.args.class) (λ (x : FieldId). initial_value x.field.type)) in
     record {
       filled =
-        c.in-Ok.ensures.block
-        ∙ ap (λ (a : ℕ). with_block s (fresh_block a c.args.class c.args.birth c.len-count.result Null)) c.in-Ok.ensures.address
-        ∙ filled_fresh s c.args.class c.args.birth c.len-count.result values long;
+          c.in-Ok.ensures.block
+          ∙ ap (λ (a : ℕ). with_block s (fresh_block a c.args.class c.args.birth c.len-count.result Null)) c.in-Ok.ensures.address
+          ∙ filled_fresh s c.args.class c.args.birth c.len-count.result values long;
       left = sym c.of-fields.ensures;
     }
 
@@ -62,11 +62,11 @@ loop-place-preserved c =
     let next : suc i ≡ i + 1 = omega arith in
     record {
       filled =
-        c.set.ensures
-        ∙ ap (λ (t : Space). with_value t c.in-Ok.addr i c.initial_value.result) c.loop-place.invariant.filled
-        ∙ ap (λ (a : ℕ). with_value (with_block s (filled_block s c.args.class birth values i)) a i c.initial_value.result) c.in-Ok.ensures.address
-        ∙ filled_more s c.args.class birth values i c.initial_value.result c.count.ensures.laid_out value
-        ∙ ap (λ (k : ℕ). with_block s (filled_block s c.args.class birth values k)) next;
+          c.set.ensures
+          ∙ ap (λ (t : Space). with_value t c.in-Ok.addr i c.initial_value.result) c.loop-place.invariant.filled
+          ∙ ap (λ (a : ℕ). with_value (with_block s (filled_block s c.args.class birth values i)) a i c.initial_value.result) c.in-Ok.ensures.address
+          ∙ filled_more s c.args.class birth values i c.initial_value.result c.count.ensures.laid_out value
+          ∙ ap (λ (k : ℕ). with_block s (filled_block s c.args.class birth values k)) next;
       left = came.1;
     }
 
