@@ -1,4 +1,4 @@
-use Rattle.std.proofs.Common.{◌≡◌, ◌++◌, ◌≤◌, length, map, sym, ap, ◌∙◌, subst}
+use Rattle.std.proofs.Common.{◌++◌, map, ap, ◌∙◌}
 use Rattle.class_rules.specs.Fields.{FieldId, layout}
 use Rattle.classes.specs.FieldViews.{field_id_view}
 use Rattle.class_layouts.proofs.Walks.{made_more, made_all}
