@@ -589,7 +589,7 @@ fn advance_or_collect(
     }
 }
 
-/// The same step, of thread `k`, after a collection. It makes objects, so it takes no host memory.
+/// The step of thread `k` that found no room, after a collection. It makes objects, so it takes no host memory.
 #[inline(never)]
 fn collect_and_advance(
     alloc: Global,

@@ -100,7 +100,7 @@ fn element_at(store: &Store, buffer: Buffer, index: usize) -> Option<u32>
     }
 }
 
-/// The same of a copied list.
+/// The element of a copied list at an index, as a word, if it is there.
 fn copied_at(elements: &Elements, key: Copied, index: usize) -> Option<u32>
     ensures { result ≡ slice_get (map (λ z. cast_unsigned w32 z) (numbers_at elements.now key)) index }
 {
@@ -114,7 +114,7 @@ fn copied_at(elements: &Elements, key: Copied, index: usize) -> Option<u32>
     }
 }
 
-/// The same of an object.
+/// The element of an object at an index, as a word, if it is there.
 fn viewed_at(heap: &Heap, addr: Addr, index: usize) -> Option<u32>
     requires { IsAddress heap.now addr }
     ensures { result ≡ slice_get (words_at heap.now addr) index }

@@ -111,7 +111,7 @@ fn shown_stop(stop: Option<Stop>) -> Option<TrapAt>
     })
 }
 
-/// The same as `replay`, from the state before the first entry.
+/// Replays a journal from the state before the first entry, and writes its report.
 fn replay_from<'a, W: Sink>(
     alloc: Global,
     functions: &Functions<'a>,
@@ -134,7 +134,7 @@ fn replay_from<'a, W: Sink>(
     }
 }
 
-/// The same as `replay`, of the unit that these functions are of.
+/// Replays a journal of the unit that these functions are of, and writes its report.
 fn replay_with<W: Sink>(
     alloc: Global,
     functions: &Functions<'_>,

@@ -82,7 +82,7 @@ impl<'a, J: Naming> Desk<'a, J> {
         self.machine.collect()
     }
 
-    /// The machine. The seats agree with it.
+    /// The machine that the lock protects; the seats agree with it.
     pub fn close<R: Wait>(self, rt: &R, cell: &Cell, seats: Vec<Seat<J>>) -> Machine<'a>
         requires { cell.now.table.shared.table_id ≡ J.cell }
         ensures same { result ≡ self.entry }
@@ -104,7 +104,7 @@ impl<'a, J: Naming> Desk<'a, J> {
         machine
     }
 
-    /// The machine.
+    /// The machine that the lock protects.
     pub fn into_machine(self) -> Machine<'a>
         ensures unit { result.unit ≡ J.unit }
         ensures world { result.world ≡ J.world }

@@ -25,7 +25,7 @@ fn after_one(left: usize) -> Option<usize>
     left.checked_sub(1)
 }
 
-/// The same after the steps of an expression.
+/// What is left of `left` after the steps of an expression, where there are as many.
 fn after_expr(left: usize, e: &Expr) -> Option<usize>
     ensures some { IfSome result (λ rest. rest + expr_steps (expr_tree e.now) ≡ left) }
     ensures none { IfNone result (left < expr_steps (expr_tree e.now)) }
@@ -43,7 +43,7 @@ fn after_expr(left: usize, e: &Expr) -> Option<usize>
     }
 }
 
-/// The same after an expression and a step that takes its value.
+/// What is left of `left` after the steps of an expression and one that takes its value.
 fn after_number(left: usize, e: &Expr) -> Option<usize>
     ensures some { IfSome result (λ rest. rest + expr_steps (expr_tree e.now) + 1 ≡ left) }
     ensures none { IfNone result (left < expr_steps (expr_tree e.now) + 1) }
@@ -51,7 +51,7 @@ fn after_number(left: usize, e: &Expr) -> Option<usize>
     after_one(after_expr(left, e)?)
 }
 
-/// The same after what is worked out of an argument before the call.
+/// What is left of `left` after the steps of an argument before the call.
 fn after_argument(left: usize, parameter: ParameterKind, argument: &Argument) -> Option<usize>
     ensures some { IfSome result (λ rest. rest + argument_steps (parameter_value parameter, argument_tree argument.now) ≡ left) }
     ensures none { IfNone result (left < argument_steps (parameter_value parameter, argument_tree argument.now)) }
@@ -62,7 +62,7 @@ fn after_argument(left: usize, parameter: ParameterKind, argument: &Argument) ->
     }
 }
 
-/// The same of several arguments.
+/// What is left of `left` after the steps of several arguments before the call.
 fn after_arguments(
     left: usize,
     parameters: &[ParameterKind],
@@ -84,7 +84,7 @@ fn after_arguments(
     }
 }
 
-/// The same after a call.
+/// What is left of `left` after the steps of a call.
 fn after_call(left: usize, call: &Call) -> Option<usize>
     ensures some { IfSome result (λ rest. rest + call_steps (call_tree call.now) ≡ left) }
     ensures none { IfNone result (left < call_steps (call_tree call.now)) }
@@ -99,7 +99,7 @@ fn after_call(left: usize, call: &Call) -> Option<usize>
     }
 }
 
-/// The same after a value for a variable.
+/// What is left of `left` after the steps of a value for a variable.
 fn after_value(left: usize, e: &Expr) -> Option<usize>
     ensures some { IfSome result (λ rest. rest + value_steps (expr_tree e.now) ≡ left) }
     ensures none { IfNone result (left < value_steps (expr_tree e.now)) }
@@ -110,7 +110,7 @@ fn after_value(left: usize, e: &Expr) -> Option<usize>
     }
 }
 
-/// The same after a right side.
+/// What is left of `left` after the steps of a right side.
 fn after_right(left: usize, right: &RightSide) -> Option<usize>
     ensures some { IfSome result (λ rest. rest + right_steps (right_side_tree right.now) ≡ left) }
     ensures none { IfNone result (left < right_steps (right_side_tree right.now)) }
@@ -121,7 +121,7 @@ fn after_right(left: usize, right: &RightSide) -> Option<usize>
     }
 }
 
-/// The same after a test and the choice of a way.
+/// What is left of `left` after the steps of a test and the choice of a way.
 fn after_test(left: usize, test: &Test) -> Option<usize>
     ensures some { IfSome result (λ rest. rest + test_steps (test_tree test.now) ≡ left) }
     ensures none { IfNone result (left < test_steps (test_tree test.now)) }
@@ -132,7 +132,7 @@ fn after_test(left: usize, test: &Test) -> Option<usize>
     }
 }
 
-/// The same after the return of a value.
+/// What is left of `left` after the steps of the return of a value.
 fn after_return(left: usize, returns: ResultType, e: &Expr) -> Option<usize>
     ensures some { IfSome result (λ rest. rest + return_steps (result_tree returns) (expr_tree e.now) ≡ left) }
     ensures none { IfNone result (left < return_steps (result_tree returns) (expr_tree e.now)) }
@@ -143,7 +143,7 @@ fn after_return(left: usize, returns: ResultType, e: &Expr) -> Option<usize>
     }
 }
 
-/// The same after a statement.
+/// What is left of `left` after the steps of a statement.
 #[cycle(statements)]
 fn after_form(left: usize, returns: ResultType, form: &Form) -> Option<usize>
     ensures some { (line : ℕ) → IfSome result (λ rest. rest + stmt_steps (result_tree returns) (form_tree line form.now) ≡ left) }
@@ -159,7 +159,7 @@ fn after_form(left: usize, returns: ResultType, form: &Form) -> Option<usize>
     }
 }
 
-/// The same after a test and the way that is taken where it holds.
+/// What is left of `left` after the steps of a test and of the way that is taken where it holds.
 #[cycle(statements)]
 fn after_first(left: usize, returns: ResultType, test: &Test, block: &Block) -> Option<usize>
     ensures some { IfSome result (λ rest. rest + (test_steps (test_tree test.now) + (block_steps (result_tree returns) (block_tree block.now) + 1)) ≡ left) }
@@ -168,7 +168,7 @@ fn after_first(left: usize, returns: ResultType, test: &Test, block: &Block) -> 
     after_way(after_test(left, test)?, returns, block)
 }
 
-/// The same after a statement without blocks.
+/// What is left of `left` after the steps of a statement without blocks.
 fn after_plain(left: usize, returns: ResultType, form: &Form) -> Option<usize>
     requires { IsTrue (is_plain form.now) }
     ensures some { (line : ℕ) → IfSome result (λ rest. rest + stmt_steps (result_tree returns) (form_tree line form.now) ≡ left) }
@@ -189,7 +189,7 @@ fn after_plain(left: usize, returns: ResultType, form: &Form) -> Option<usize>
     }
 }
 
-/// The same after a block and the step at its end.
+/// What is left of `left` after the steps of a block and the one at its end.
 #[cycle(statements)]
 fn after_way(left: usize, returns: ResultType, block: &Block) -> Option<usize>
     ensures some { IfSome result (λ rest. rest + (block_steps (result_tree returns) (block_tree block.now) + 1) ≡ left) }
@@ -198,7 +198,7 @@ fn after_way(left: usize, returns: ResultType, block: &Block) -> Option<usize>
     after_one(after_block(left, returns, block)?)
 }
 
-/// The same after the statements of a block.
+/// What is left of `left` after the steps of a block's statements.
 #[cycle(statements)]
 fn after_block(left: usize, returns: ResultType, block: &Block) -> Option<usize>
     ensures some { IfSome result (λ rest. rest + block_steps (result_tree returns) (block_tree block.now) ≡ left) }
