@@ -1,3 +1,2 @@
-mod Puts
 mod TellingLemmas
 pub mod SayingLemmas
