@@ -12,6 +12,7 @@ JNIEXPORT void JNICALL Java_Heap_fill(JNIEnv *env, jclass cls)
         view[1] = view[0];
         (*env)->ReleasePrimitiveArrayCritical(env, array, view, 0);
     }
+    (*env)->DeleteLocalRef(env, kept);
     return;
 }
 
@@ -23,5 +24,6 @@ JNIEXPORT void JNICALL Java_Heap_make(JNIEnv *env, jclass cls)
     jintArray large = (*env)->NewIntArray(env, 150);
     jint length = (*env)->GetArrayLength(env, large);
     put_jint(length);
+    (*env)->DeleteLocalRef(env, kept);
     return;
 }
