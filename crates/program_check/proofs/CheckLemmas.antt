@@ -1,5 +1,5 @@
 -- What the layers answer, as what a check answers.
-use Rattle.std.proofs.Common.{◌≡◌, ⊥, ℕ, List, Err, subst}
+use Rattle.std.proofs.Common.{◌≡◌, ℕ, List, Err, subst}
 use Rattle.syntax.specs.Tree.{SourceUnit}
 use Rattle.code_meaning.specs.Length.{IsTooLong}
 use Rattle.cli_commands.specs.declared.place.Place.TheVariants as place
