@@ -19,7 +19,7 @@ use Rattle.machine_steps.proofs.objects.make_error.Goals as goal
 -- the values of the OutOfMemoryError object
 values_are : (c : After-deref) → map object_value_view c.deref.result.now ≡ (fresh_object c.args.world.now.classes out_of_memory_error).values
 values_are c =
-    ap (map object_value_view) c.deref.ensures.value ∙ c.in_ok-error.ensures
+    ap (map object_value_view) c.deref.ensures.value ∙ c.in_ok-error.ensures.values
     ∙ ap (λ (T : Classes). map (λ (f : FieldId). initial f.field.type) (layout T out_of_memory_error)) c.classes.ensures.classes
 
 pub make-requires-clause-room : goal.make-requires-clause-room
