@@ -1,12 +1,14 @@
 //! A walk along the layout of a class.
 
-ghost use Rattle.std.specs.Prelude.{◌≡◌, ◌≤◌, ◌∷◌, [], flat_map, length, reverse, slice_get, IfSome, MatchOption};
+ghost use Rattle.std.specs.Prelude.{◌≡◌, ◌≤◌, ◌∷◌, [], flat_map, length, reverse, slice_get, IfSome, MatchOption, ◌*◌};
 ghost use Rattle.std.specs.Option.{option_map};
+ghost use Rattle.base.specs.Limits.{most_classes, most_fields};
 ghost use Rattle.class_layouts.specs.Rest.{rest_from};
 ghost use Rattle.class_rules.specs.Fields.{layout, own_fields};
 ghost use Rattle.classes.specs.FieldViews.{field_id_view};
 
-use crate::path::{MOST_CLASSES, Path};
+use crate::path::Path;
+use base::limits::MOST_CLASSES;
 use classes::class::FieldHandle;
 use classes::fields::FieldId;
 use classes::table::ClassTable;
@@ -32,15 +34,16 @@ pub struct LayoutFields<'t> {
 }
 
 impl<'t> Model for LayoutFields<'t> {
-    ghost use Rattle.std.specs.Prelude.{List, ◌≡◌, ◌+◌, ◌≤◌, length};
+    ghost use Rattle.std.specs.Prelude.{List, ◌≡◌, ◌+◌, ◌*◌, ◌≤◌, length};
     ghost use Rattle.class_rules.specs.Fields.{FieldId};
+    ghost use Rattle.base.specs.Limits.{most_classes, most_fields};
     ghost use Rattle.class_layouts.specs.Rest.{rest_from};
 
     ghost Value = { List FieldId };
 
     ghost view = { λ w. rest_from w.classes.now w.position };
 
-    ghost invariant = { λ w. (w.left ≡ length (rest_from w.classes.now w.position)) × (w.position.place + w.left ≤ 16384) };
+    ghost invariant = { λ w. (w.left ≡ length (rest_from w.classes.now w.position)) × (w.position.place + w.left ≤ most_classes * most_fields) };
 }
 
 /// The way down to a class: the class, its superclass, and so on. A number past those of all classes has no fields.
@@ -108,7 +111,7 @@ impl<'t> LayoutFields<'t> {
     /// How many are still to come.
     pub fn len(&self) -> usize
         ensures len { result ≡ length self.now }
-        ensures small { result ≤ 16384 }
+        ensures small { result ≤ most_classes * most_fields }
     {
         self.left
     }

@@ -1,11 +1,10 @@
 //! The classes on a way down to a class.
 
 ghost use Rattle.std.specs.Prelude.{◌≡◌, ◌<◌, ◌++◌, ◌∷◌, [], length, MatchOption};
+ghost use Rattle.base.specs.Limits.{most_classes};
 
+use base::limits::MOST_CLASSES;
 use std::marker::Model;
-
-/// The most classes that a table may have.
-pub(crate) const MOST_CLASSES: usize = 256;
 
 /// At most 256 classes, seen as the list of them, from which the last is taken first. It never allocates.
 #[derive(Drop)]
@@ -16,12 +15,13 @@ pub(crate) struct Path {
 
 impl Model for Path {
     ghost use Rattle.std.specs.Prelude.{List, ℕ, take, ◌≤◌};
+    ghost use Rattle.base.specs.Limits.{most_classes};
 
     ghost Value = { List ℕ };
 
     ghost view = { λ p. take p.count p.classes };
 
-    ghost invariant = { λ p. p.count ≤ 256 };
+    ghost invariant = { λ p. p.count ≤ most_classes };
 }
 
 impl Path {
@@ -36,7 +36,7 @@ impl Path {
 
     /// Puts a class after the others.
     pub(crate) fn push(&mut self, class: u16)
-        requires { length self.old < 256 }
+        requires { length self.old < most_classes }
         ensures { self.new ≡ self.old ++ class ∷ [] }
     {
         self.classes[self.count] = class;

@@ -1,6 +1,7 @@
 //! What objects hold at first.
 
-ghost use Rattle.std.specs.Prelude.{◌≡◌, ◌≤◌, IfOk, length, map};
+ghost use Rattle.std.specs.Prelude.{◌≡◌, ◌≤◌, IfOk, length, map, ◌*◌};
+ghost use Rattle.base.specs.Limits.{most_classes, most_fields};
 ghost use Rattle.class_rules.specs.Fields.{layout};
 ghost use Rattle.classes.specs.Views.{field_type_view};
 ghost use Rattle.semantics.specs.World.{initial};
@@ -32,7 +33,7 @@ pub fn fresh_values(
     class: usize,
 ) -> Result<Vec<ObjectValue>, AllocError>
     ensures values { IfOk result (λ values. map object_value_view values.items ≡ map (λ f. initial f.field.type) (layout classes.now class)) }
-    ensures short { IfOk result (λ values. length values.items ≤ 16384) }
+    ensures short { IfOk result (λ values. length values.items ≤ most_classes * most_fields) }
 {
     let mut fields = LayoutFields::of(classes, class);
     let mut values = Vec::with_capacity(alloc, fields.len())?;

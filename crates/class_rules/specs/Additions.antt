@@ -3,6 +3,7 @@ use Rattle.std.specs.Prelude.{ℕ, ◌+◌, Bool, false, not, ◌==◌, List, []
 use Rattle.std.specs.Option.{option_map_or}
 use Rattle.std.specs.List.{list_any, enumerate_from}
 use Rattle.std.specs.Str.{bytes_eq}
+use Rattle.base.specs.Limits.{most_classes, most_fields}
 use Rattle.base.specs.Bytes.{Identifier}
 use Rattle.base.specs.Options.{some_passes}
 use Rattle.class_rules.specs.Class.{Field, Plain, Class, Classes, class_at, class_named}
@@ -26,7 +27,7 @@ class_rule_number TooMany = 64
 abbrev pub class_breaks : ClassRule → Classes → (name superclass : Identifier) → Bool
 class_breaks NameTaken classes name superclass = is_some (class_named classes name)
 class_breaks BadSuperclass classes name superclass = not (some_passes (λ c. not (has_own_making classes c)) (class_named classes superclass))
-class_breaks TooMany classes name superclass = nat_lt 256 (length classes + 2)
+class_breaks TooMany classes name superclass = nat_lt most_classes (length classes + 2)
 class_breaks rule classes name superclass = false
 
 -- a class without fields
@@ -48,7 +49,7 @@ declared_fields classes (Some c) = option_map_or (λ (d : Class). d.fields ++ d.
 abbrev pub field_breaks : ClassRule → Classes → Option ℕ → (name : Identifier) → (signature : List ℕ) → Bool
 field_breaks NameTaken classes class name signature = list_any (λ (f : Field). bytes_eq f.name name) (declared_fields classes class)
 field_breaks BadSignature classes class name signature = is_none (type_of_signature classes signature)
-field_breaks TooMany classes class name signature = nat_lt 64 (length (declared_fields classes class) + 1)
+field_breaks TooMany classes class name signature = nat_lt most_fields (length (declared_fields classes class) + 1)
 field_breaks rule classes class name signature = false
 
 -- the table with the class of a number changed

@@ -2,6 +2,7 @@
 use Rattle.std.specs.Prelude.{ℕ, Bool, ◌&&◌, List, [], ◌++◌, map, length, nat_lt}
 use Rattle.std.specs.List.{list_all, enumerate_from}
 use Rattle.std.specs.Borrow.{Bor}
+use Rattle.base.specs.Limits.{most_classes}
 use Rattle.base.specs.declared.element.ElementType.{ElementType}
 use Rattle.classes.specs.declared.built_ins.BuiltIn.{BuiltIn}
 use Rattle.classes.specs.declared.built_ins.BuiltInField.{BuiltInField}
@@ -36,6 +37,6 @@ abbrev pub is_class_list : List BuiltIn → Bool
 is_class_list list =
     list_all (λ b. is_class_name b.name.now) list
     && names_differ (listed_classes list)
-    && nat_lt (length (listed_classes list)) 257
+    && nat_lt (length (listed_classes list)) (most_classes + 1)
     && list_all has_few_fields (listed_classes list)
     && list_all declares_once (listed_classes list)

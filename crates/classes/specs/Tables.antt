@@ -2,6 +2,7 @@
 use Rattle.std.specs.Prelude.{◌≡◌, ◌≤◌, Bool, true, not, ◌&&◌, ◌||◌, ◌==◌, List, [], ◌∷◌, length, nat_lt}
 use Rattle.std.specs.List.{list_any, list_all}
 use Rattle.std.specs.Str.{bytes_eq}
+use Rattle.base.specs.Limits.{most_classes, most_fields}
 use Rattle.base.specs.Bytes.{Identifier, first_passes}
 use Rattle.class_rules.specs.Class.{Field, Class, Classes, is_plain, array_name}
 
@@ -24,7 +25,7 @@ is_named_by_kind c = is_plain c.kind || first_passes (λ b. b == 91) c.name
 
 -- a class declares at most 64 fields
 abbrev pub has_few_fields : Class → Bool
-has_few_fields c = nat_lt (length c.fields) 65
+has_few_fields c = nat_lt (length c.fields) (most_fields + 1)
 
 -- no two of the fields have one name
 abbrev pub field_names_differ : List Field → Bool
@@ -39,6 +40,6 @@ pub record IsTable (classes : Classes) : Type 0 where
   pub elements : ArraysHaveElements classes
   pub differ : names_differ classes ≡ true
   pub named : list_all is_named_by_kind classes ≡ true
-  pub few : length classes ≤ 256
+  pub few : length classes ≤ most_classes
   pub few_fields : list_all has_few_fields classes ≡ true
   pub declared_once : list_all declares_once classes ≡ true

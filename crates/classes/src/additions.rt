@@ -4,6 +4,7 @@ ghost use Rattle.std.specs.Prelude.{◌≡◌, ◌+◌, Some, None, length, nat_
 ghost use Rattle.std.specs.List.{list_any};
 ghost use Rattle.std.specs.Option.{option_map};
 ghost use Rattle.std.specs.Str.{bytes_eq};
+ghost use Rattle.base.specs.Limits.{most_fields};
 ghost use Rattle.class_rules.specs.Additions.{class_breaks, field_breaks, declared_fields, new_class, with_class};
 ghost use Rattle.class_rules.specs.BuiltIns.{has_own_making};
 ghost use Rattle.class_rules.specs.Class.{class_named};
@@ -18,13 +19,8 @@ use crate::built_ins::{CLASS, STRING};
 use crate::class::FieldType;
 use crate::fault::{ClassError, ClassRule, FieldError};
 use crate::table::ClassTable;
+use base::limits::{MOST_CLASSES, MOST_FIELDS};
 use std::alloc::AllocError;
-
-/// The most classes that a table may have.
-const MOST_CLASSES: usize = 256;
-
-/// The most fields and statics that a class may declare.
-const MOST_FIELDS: usize = 64;
 
 impl ClassTable {
     /// Whether its objects are made by a function of their own: it has no subclasses then.
@@ -91,7 +87,7 @@ impl ClassTable {
 
     /// Whether the class declares as many fields and statics as it may.
     fn is_full(&self, class: Option<usize>) -> bool
-        ensures { result ≡ nat_lt 64 (length (declared_fields self.now class) + 1) }
+        ensures { result ≡ nat_lt most_fields (length (declared_fields self.now class) + 1) }
     {
         let class = class.unwrap_or(0);
         let fields = self.declared(class, false).len();

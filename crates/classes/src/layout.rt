@@ -1,7 +1,8 @@
 //! The order of the fields in objects.
 
-ghost use Rattle.std.specs.Prelude.{◌≡◌, ◌≤◌, length, slice_get};
+ghost use Rattle.std.specs.Prelude.{◌≡◌, ◌≤◌, length, slice_get, ◌*◌};
 ghost use Rattle.std.specs.Option.{option_map};
+ghost use Rattle.base.specs.Limits.{most_classes, most_fields};
 ghost use Rattle.classes.specs.FieldViews.{field_id_view};
 ghost use Rattle.class_rules.specs.Fields.{layout};
 
@@ -12,7 +13,7 @@ impl ClassTable {
     /// The number of fields that objects of the class have. The cost goes by the depth of the class.
     pub fn layout_len(&self, class: usize) -> usize
         ensures len { result ≡ length (layout self.now class) }
-        ensures small { result ≤ 16384 }
+        ensures small { result ≤ most_classes * most_fields }
     {
         let _ = &self.classes;
         let mut count = 0;

@@ -2,6 +2,7 @@
 
 ghost use Rattle.std.specs.Prelude.{◌≡◌, ◌≤◌, length, not, IfOk, IsTrue};
 ghost use Rattle.std.specs.Option.{option_map};
+ghost use Rattle.base.specs.Limits.{most_classes};
 ghost use Rattle.class_rules.specs.BuiltIns.{built_ins};
 ghost use Rattle.classes.specs.BuiltInList.{listed_classes, is_class_list};
 ghost use Rattle.class_rules.specs.Class.{class_at, class_named, class_name, class_kind, superclass, is_plain, is_subclass, elements_fit, assignable, array_name};
@@ -60,7 +61,7 @@ impl ClassTable {
     /// The number of classes.
     pub fn len(&self) -> usize
         ensures len { result ≡ length self.now }
-        ensures few { result ≤ 256 }
+        ensures few { result ≤ most_classes }
     {
         self.classes.len()
     }

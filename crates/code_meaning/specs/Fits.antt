@@ -1,6 +1,7 @@
 -- What lowering knows of the statements of an accepted function.
 use Rattle.std.specs.Prelude.{◌≡◌, ◌≢◌, ℕ, ◌+◌, ◌^◌, ◌<◌, ◌≤◌, ◌⊎◌, max, true, false, length, Some, None, IsTrue}
 use Rattle.std.specs.List.{AllZip}
+use Rattle.base.specs.Limits.{most_elements}
 use Rattle.base.specs.Bytes.{Identifier, lookup}
 use Rattle.base.specs.Element.{ElementType, JChar}
 use Rattle.syntax.specs.Tree as tree
@@ -106,7 +107,7 @@ IndexWithin slots Ref i = i < slots.references
 IndexWithin slots Global i = i < slots.statics
 IndexWithin slots FieldId i = i < slots.field_ids
 IndexWithin slots (Buffer t writable) i = i < slots.buffers
-IndexWithin slots (Array t size) i = (0 < size) × (size ≤ 1024) × (i + size ≤ slots.numbers)
+IndexWithin slots (Array t size) i = (0 < size) × (size ≤ most_elements) × (i + size ≤ slots.numbers)
 IndexWithin slots s i = i < slots.numbers
 
 -- this number slot is one of the variable's
@@ -286,7 +287,7 @@ abbrev mutual
   StmtFits l (tree.Declare line t x r) = IsNew l.known x × RightFits l.known (variable_sort t) r
   StmtFits l (tree.DeclareBuffer line t x r) = IsNew l.known x × RightFits l.known (Buffer t true) r
   StmtFits l (tree.DeclareChars line x r) = IsNew l.known x × RightFits l.known (Buffer JChar false) r
-  StmtFits l (tree.DeclareArray line t x size) = IsNew l.known x × (0 < size) × (size ≤ 1024)
+  StmtFits l (tree.DeclareArray line t x size) = IsNew l.known x × (0 < size) × (size ≤ most_elements)
   StmtFits l (tree.Assign line x r) = (s : Slot) × (lookup x l.known ≡ Some s) × RightFits l.known s.sort r
   StmtFits l (tree.AssignElement line x i e) =
       ((n : Slot) × (lookup x l.known ≡ Some n) × HasElements n.sort) × ((r : Sort) × IsIndexSort r × NumberFits l.known (term_of i) r) × NumberFits l.known (term_of e) Jint

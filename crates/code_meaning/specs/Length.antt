@@ -2,6 +2,7 @@
 -- back to it (ISO/IEC 9899:1999, 6.5 and 6.8).
 use Rattle.std.specs.Prelude.{ℕ, ◌+◌, Bool, false, List, zip, nat_lt, Option, Some, None, IsTrue}
 use Rattle.std.specs.List.{list_any, sum_by}
+use Rattle.base.specs.Limits.{most_steps}
 use Rattle.base.specs.Bytes.{Identifier}
 use Rattle.syntax.specs.Parts.{null_tested}
 use Rattle.syntax.specs.Tree.{ResultType, IntResult, Null, Expr, Number, Named, Variable, Element, Prefix, Binary, Paren, Argument, Value, Call, RightSide, FromExpr, FromCall, Test, TestExpr, TestCall, Stmt, Declare, DeclareBuffer, DeclareChars, DeclareArray, Assign, AssignElement, Perform, PutJint, If, IfElse, While, Return, ReturnValue, Block, End, Next, Function, Item, StaticItem, FunctionItem, SourceUnit}
@@ -91,14 +92,10 @@ function_steps f = block_steps f.result f.body
 
 -- ---- the limit
 
--- how many steps a function may have
-abbrev pub step_limit : ℕ
-step_limit = 65535
-
 -- whether an item is a function of more steps
 abbrev pub is_long : Item → Bool
 is_long (StaticItem s) = false
-is_long (FunctionItem f) = nat_lt step_limit (function_steps f)
+is_long (FunctionItem f) = nat_lt most_steps (function_steps f)
 
 -- some function of the unit has more steps
 abbrev pub IsTooLong : SourceUnit → Type 0

@@ -1,5 +1,6 @@
 -- What a lowered program is.
 use Rattle.std.specs.Prelude.{◌≡◌, ℕ, ◌+◌, ◌≤◌, List, [], ◌∷◌, length, Option, None}
+use Rattle.base.specs.Limits.{most_steps}
 use Rattle.base.specs.Bytes.{Identifier, lookup}
 use Rattle.syntax.specs.declared.unit.Item.{Item as ItemInMemory}
 use Rattle.syntax.specs.Tree.{Function, Item, StaticItem, FunctionItem}
@@ -12,7 +13,7 @@ use Rattle.semantics.specs.Task.{Task, tasks_of}
 use Rattle.semantics.specs.Thread.{Shared, Thread}
 use Rattle.code.specs.Depth.{Listing, IsValid}
 use Rattle.code_meaning.specs.Layout.{Known, with_static, entry_layout}
-use Rattle.code_meaning.specs.Length.{function_steps, step_limit}
+use Rattle.code_meaning.specs.Length.{function_steps}
 use Rattle.code_meaning.specs.Slots.{Visible, visible_to, Slots, Shows, SeesBuffers, ArgumentsFit, EntrySlots, HasRoom, AreShared, AreOfLowest}
 use Rattle.code_meaning.specs.Stands.{StandsFor}
 use Rattle.code_meaning.specs.Does.{DoesEffect}
@@ -28,7 +29,7 @@ pub record Lowered : Type 0 where
 pub record IsCodeOf (statics : Known) (f : Function) (code : Listing) : Type 0 where
   pub valid : IsValid code
   pub counted : length code.instrs ≡ function_steps f + 1
-  pub short : function_steps f ≤ step_limit
+  pub short : function_steps f ≤ most_steps
   pub begins : StandsFor code (entry_layout statics f).known 0 [] (tasks_of f.body)
   pub room : (arguments : List ObjectValue) → ArgumentsFit f.parameters arguments → HasRoom code arguments
   pub shows : (own : Identifier → Option ℕ) (shared : Shared) (thread : Thread) (calls : List Invocation) (class : ℕ) (arguments : List ObjectValue) (slots : Slots)

@@ -3,6 +3,7 @@ use Rattle.std.specs.Prelude.{◌≡◌, ◌≢◌, ℕ, suc, ◌+◌, ◌^◌, 
 use Rattle.std.specs.Int.{w32, cast_unsigned}
 use Rattle.std.specs.Option.{option_map}
 use Rattle.std.specs.Str.{bytes_eq}
+use Rattle.base.specs.Limits.{most_elements}
 use Rattle.base.specs.Bytes.{Identifier, lookup}
 use Rattle.base.specs.Element.{ElementType}
 use Rattle.syntax.specs.Tree.{ParameterType, IntParameter, ReferenceParameter, Parameter}
@@ -246,7 +247,7 @@ pub record ShowsElement (given : Outcome ℤ) (numbers : List ℕ) (i : ℕ) : T
 
 -- the elements of an array are in their slots
 pub record ShowsArray (visible : Visible) (x : Identifier) (numbers : List ℕ) (t : ElementType) (size start : ℕ) : Type 0 where
-  pub few : size ≤ 1024
+  pub few : size ≤ most_elements
   pub array_type : visible.array_type x ≡ Some t
   pub elements : (i : ℕ) → i < size → ShowsElement (visible.sight.element x i) numbers (start + i)
   pub past : (i : ℕ) → size ≤ i → visible.sight.element x i ≡ Traps OutOfRange

@@ -1,5 +1,6 @@
 -- Private to a run: what is known on its way.
 use Rattle.std.specs.Prelude.{◌≡◌, ◌<◌, ℕ, false, List, length, None, Ok}
+use Rattle.base.specs.Limits.{most_entries}
 use Rattle.syntax.specs.declared.unit.Item.{Item}
 use Rattle.syntax.specs.Tree.{SourceUnit}
 use Rattle.syntax.specs.Views.{unit_tree}
@@ -28,7 +29,7 @@ pub record IsUnderWay (program text : List ℕ) (items : List Item) (world : Wor
 
 -- a run that can take steps has room for one in its journal
 abbrev pub HasRoom : Run → Type 0
-HasRoom r = InState r (λ s. is_finished r.world.classes s ≡ false → length r.journal < 1000000)
+HasRoom r = InState r (λ s. is_finished r.world.classes s ≡ false → length r.journal < most_entries)
 
 -- three texts are loaded, and no step is taken
 pub record IsLoaded (program text order : List ℕ) (begun : Run) (words : Schedule) : Type 0 where

@@ -1,6 +1,7 @@
 -- What a program writes that workers run, one for each thread of its world.
 use Rattle.std.specs.Prelude.{◌≡◌, ◌<◌, ◌≤◌, ◌⊎◌, ℕ, Bool, false, List, length, Option, Some, None, Result, Ok, Err}
 use Rattle.std.specs.Option.{option_map}
+use Rattle.base.specs.Limits.{most_entries}
 use Rattle.syntax.specs.Tree.{SourceUnit}
 use Rattle.code_meaning.specs.Length.{IsTooLong}
 use Rattle.semantics.specs.Journal.{Journal}
@@ -51,7 +52,7 @@ is_over work = is_finished work.meaning.world.classes work.writes.end
 pub record EndsWork (program world : List ℕ) (trap : Option TrapAt) (text : List ℕ) : Type 0 where
   pub work : IsWork program world text
   pub stopped : option_map trap_at work.writes.end.stop ≡ trap
-  pub ends : is_over work ≡ false → length work.journal < 1000000
+  pub ends : is_over work ≡ false → length work.journal < most_entries
 
 -- The program is checked, the world is read, both are loaded, and the workers' run doesn't fill its journal before it is over. This number and place are
 -- those of the first that is refused.
@@ -59,7 +60,7 @@ pub data AreRefusedWork (program world : List ℕ) : (number : ℕ) → Place �
   by_check : (number : ℕ) (place : Place) → FailsCheck program number place → AreRefusedWork program world number place
   by_world : (fault : TextFault) → PassesCheck program → world_of_text world ≡ Err fault → AreRefusedWork program world (rule_number fault.rule) (Line which.World fault.line)
   by_load : (w : World) (line : ℕ) (passes : PassesCheck program) → world_of_text world ≡ Ok w → first_load_fault passes.unit w ≡ Some line → AreRefusedWork program world 82 (Line which.World line)
-  by_full : (text : List ℕ) (work : IsWork program world text) → is_over work ≡ false → 1000000 ≤ length work.journal → AreRefusedWork program world 92 (Line which.Program 0)
+  by_full : (text : List ℕ) (work : IsWork program world text) → is_over work ≡ false → most_entries ≤ length work.journal → AreRefusedWork program world 92 (Line which.Program 0)
 
 -- Texts that go with each other are refused for want of memory alone, where a function is too long or the journal is full, or by the writer.
 abbrev pub IsWorkOrFails : Result (Option TrapAt) RunError → Type 0

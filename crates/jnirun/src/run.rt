@@ -1,6 +1,7 @@
 //! A run, from its texts to its report.
 
 ghost use Rattle.std.specs.Prelude.{◌≡◌, ◌≤◌, ℕ, List, [], length, Ok};
+ghost use Rattle.base.specs.Limits.{most_entries};
 ghost use Rattle.syntax.specs.Views.{unit_tree};
 ghost use Rattle.sinks.specs.Sink.{CanFail};
 ghost use Rattle.jnirun.specs.Errors.{of_lower, of_reading, of_load, of_report};
@@ -98,7 +99,7 @@ fn run_loaded<W: Sink>(
 ) -> Result<Option<TrapAt>, RunError>
     requires can_fail { CanFail (W.written out.old) }
     requires unstarted { machine.old.journal ≡ [] }
-    requires few { length schedule.now ≤ 1000000 }
+    requires few { length schedule.now ≤ most_entries }
     ensures run { (program world order : List ℕ) → IsLoaded program world order machine.old schedule.now
         → RunsTexts (W.written out.old) (W.written out.new) result (EndsRun program world order) (AreRefused program world order) }
     ensures accepted { IsRunOrFails result }
@@ -125,7 +126,7 @@ fn run_by<W: Sink>(
     out: &mut W,
 ) -> Result<Option<TrapAt>, RunError>
     requires can_fail { CanFail (W.written out.old) }
-    requires few { length schedule.now ≤ 1000000 }
+    requires few { length schedule.now ≤ most_entries }
     ensures run { (program text order : List ℕ) → IsPassed program text (unit_tree lowered.entry.unit) world
         → schedule_of order (length world.threads) ≡ Ok schedule.now → IsScheduleText (length world.threads) order schedule.now
         → RunsTexts (W.written out.old) (W.written out.new) result (EndsRun program text order) (AreRefused program text order) }

@@ -2,6 +2,7 @@
 use Rattle.std.proofs.Common.{◌≡◌, ◌+◌, ◌≤◌, List, [], ◌∷◌, length, refl, subst, arith}
 use Rattle.std.specs.Prelude.{IsTrue}
 use Rattle.std.proofs.lemmas.List.{append-nil}
+use Rattle.base.specs.Limits.{most_steps}
 use Rattle.syntax.specs.Tree.{Function}
 use Rattle.semantics.specs.Object.{ObjectValue}
 use Rattle.code.specs.declared.instr.Instr.TheVariants as instr
@@ -10,7 +11,7 @@ use Rattle.code.proofs.Pieces.{piece_moves, piece_jumps}
 use Rattle.semantics.specs.Task.{tasks_of}
 use Rattle.code_meaning.specs.Layout.{Known, entry_layout, block_layout, function_slots}
 use Rattle.code_meaning.specs.Coding.{block_code, function_code}
-use Rattle.code_meaning.specs.Length.{function_steps, step_limit}
+use Rattle.code_meaning.specs.Length.{function_steps}
 use Rattle.code_meaning.specs.Slots.{ArgumentsFit, HasRoom}
 use Rattle.code_meaning.specs.Fits.{HasRoomFor, AreStatics, FunctionFits}
 use Rattle.code_meaning.specs.Stands.{TasksStand, StandsFor, block_returns}
@@ -58,7 +59,7 @@ function_begins statics f known fits returns =
       returns = block_tasks_return f.body returns;
     }
 
-pub is_code_of : (statics : Known) (f : Function) → AreStatics statics → FunctionFits statics f → IsTrue (block_returns f.body) → length (function_code statics f) ≡ function_steps f + 1 → function_steps f ≤ step_limit → IsCodeOf statics f (listing_of statics f)
+pub is_code_of : (statics : Known) (f : Function) → AreStatics statics → FunctionFits statics f → IsTrue (block_returns f.body) → length (function_code statics f) ≡ function_steps f + 1 → function_steps f ≤ most_steps → IsCodeOf statics f (listing_of statics f)
 is_code_of statics f known fits returns counted short = record {
   valid = function_valid statics f known fits;
   counted = counted;

@@ -5,12 +5,13 @@ use Rattle.std.specs.List.{list_any}
 use Rattle.std.proofs.Math.ListN.{drop_of_length-le}
 use Rattle.std.proofs.lemmas.Bool.{le-ltb}
 use Rattle.std.proofs.lemmas.List.{append-nil}
+use Rattle.base.specs.Limits.{most_steps}
 use Rattle.syntax.specs.declared.unit.Item.{Item as ItemInMemory}
 use Rattle.syntax.specs.Tree.{Function, Item, StaticItem, FunctionItem, Static}
 use Rattle.syntax.specs.Views.{item_tree}
 use Rattle.code.specs.Depth.{Listing}
 use Rattle.code_meaning.specs.Layout.{Known, with_static}
-use Rattle.code_meaning.specs.Length.{function_steps, step_limit, is_long}
+use Rattle.code_meaning.specs.Length.{function_steps, is_long}
 use Rattle.lower.specs.Items.{ItemFits, IsItemDone}
 use Rattle.lower.specs.Listings.{listing_of, listings_of}
 use Rattle.code_meaning.specs.Lowered.{IsCodeOf, AreCodesOf}
@@ -35,7 +36,7 @@ function_done all statics f rest codes c h same is = record {
   fit = h.fit.4;
   lowered = λ further k. subst (AreCodesOf [] all) (sym (append_assoc codes (c ∷ []) further)) (h.lowered (c ∷ further) (is, k));
   listed = append_assoc codes (c ∷ []) (listings_of statics rest) ∙ ap (λ x. codes ++ x ∷ listings_of statics rest) same ∙ h.listed;
-  long = h.long ∙ ap (λ b. b || list_any is_long rest) (le-ltb step_limit (function_steps f) is.short);
+  long = h.long ∙ ap (λ b. b || list_any is_long rest) (le-ltb most_steps (function_steps f) is.short);
 }
 
 -- an item that is left can be lowered

@@ -1,6 +1,7 @@
 //! From checked programs to code.
 
 ghost use Rattle.std.specs.Prelude.{◌≡◌, ◌<◌, [], Err, IfOk, OnOk, IsTrue};
+ghost use Rattle.base.specs.Limits.{most_steps};
 ghost use Rattle.syntax.specs.Tree.{FunctionItem};
 ghost use Rattle.syntax.specs.Views.{function_tree, item_tree, unit_tree};
 ghost use Rattle.code.specs.Depth.{IsValid};
@@ -8,10 +9,11 @@ ghost use Rattle.code_meaning.specs.Layout.{entry_layout, function_slots};
 ghost use Rattle.code_meaning.specs.Coding.{block_code};
 ghost use Rattle.lower.specs.Items.{ItemFits, IsItemDone};
 ghost use Rattle.lower.specs.Listings.{listing_of, listings_of};
-ghost use Rattle.code_meaning.specs.Length.{function_steps, step_limit, is_long, IsTooLong};
+ghost use Rattle.code_meaning.specs.Length.{function_steps, is_long, IsTooLong};
 ghost use Rattle.code_meaning.specs.Lowered.{IsCodeOf};
 
 use crate::fault::LowerFault;
+use base::limits::MOST_STEPS;
 use code::code::Code;
 use code::instr::Instr;
 use code::slots::SlotCounts;
@@ -19,7 +21,6 @@ use code_meaning::Program;
 use lower_statements::{Names, emit, emit_block};
 use region_rules::Checked;
 use std::alloc::{AllocError, Global};
-use step_counts::MOST_STEPS;
 use syntax::{Function, Item};
 
 /// The program's code, of which each instruction is one step of the source.
@@ -72,7 +73,7 @@ pub fn lower_function<'a>(
     ensures ok { IfOk result (IsCodeOf names.old.known (function_tree function.now)) }
     ensures code { IfOk result (λ code. code ≡ listing_of names.old.known (function_tree function.now)) }
     ensures statics { OnOk result (names.new.known ≡ names.old.known) }
-    ensures too_long { result ≡ Err LowerFault.TooLong → step_limit < function_steps (function_tree function.now) }
+    ensures too_long { result ≡ Err LowerFault.TooLong → most_steps < function_steps (function_tree function.now) }
 {
     let mut instrs = body_instrs(alloc, names, function)?;
     if instrs.len() > MOST_STEPS {

@@ -4,12 +4,13 @@ use Rattle.std.specs.Prelude.{IsTrue}
 use Rattle.std.specs.List.{All, list_any}
 use Rattle.std.proofs.lemmas.Bool.{le-ltb}
 use Rattle.std.proofs.lemmas.List.Elements.{All-head, All-tail}
+use Rattle.base.specs.Limits.{most_steps}
 use Rattle.syntax.specs.declared.unit.Item.{Item as ItemInMemory}
 use Rattle.syntax.specs.Views.{item_tree}
 use Rattle.syntax.specs.Tree.{Item, StaticItem, FunctionItem}
 use Rattle.code.specs.Depth.{Listing}
 use Rattle.code_meaning.specs.Layout.{Known, with_static}
-use Rattle.code_meaning.specs.Length.{function_steps, step_limit, is_long}
+use Rattle.code_meaning.specs.Length.{function_steps, is_long}
 use Rattle.code_meaning.specs.Lowered.{AreCodesOf}
 use Rattle.lower.specs.Listings.{listing_of, listings_of}
 use Rattle.lower.proofs.AcceptedFacts.{AllFit}
@@ -35,7 +36,7 @@ none_long statics [] [] h = refl
 none_long statics [] (c ∷ codes) h = absurd h
 none_long statics (StaticItem s ∷ items) codes h = none_long (with_static s statics) items codes h.1
 none_long statics (FunctionItem f ∷ items) [] h = absurd h
-none_long statics (FunctionItem f ∷ items) (c ∷ codes) h = ap (λ b. b || list_any is_long items) (le-ltb step_limit (function_steps f) h.0.short) ∙ none_long statics items codes h.1
+none_long statics (FunctionItem f ∷ items) (c ∷ codes) h = ap (λ b. b || list_any is_long items) (le-ltb most_steps (function_steps f) h.0.short) ∙ none_long statics items codes h.1
 
 pub not_long : (items : List Item) (codes : List Listing) → AreCodesOf [] items codes → IsTrue (list_any is_long items) → ⊥
 not_long items codes h long = let e : false ≡ true = sym (none_long [] items codes h) ∙ long in absurd (cc)

@@ -1,8 +1,8 @@
 -- What each worker makes of a program's codes.
 use Rattle.std.specs.Prelude.{◌≡◌, ◌==◌, ◌+◌, ◌%◌, ◌<◌, ◌≤◌, ℕ, List, [], ◌∷◌, length, slice_index_or, if◌then◌else◌}
 use Rattle.std.specs.List.{All}
+use Rattle.base.specs.Limits.{most_steps}
 use Rattle.code.specs.Depth.{Listing}
-use Rattle.code_meaning.specs.Length.{step_limit}
 
 -- those of these codes whose number leaves the remainder `worker` by `workers`, where the first has this number
 abbrev pub share_of : (workers worker number : ℕ) → List Listing → List Listing
@@ -12,7 +12,7 @@ share_of workers worker number (c ∷ codes) =
 
 -- the code of a function that isn't too long, which ends with a return
 abbrev pub IsShort : Listing → Type 0
-IsShort c = length c.instrs ≤ step_limit + 1
+IsShort c = length c.instrs ≤ most_steps + 1
 
 -- a worker's share of a program's codes, of which none is too long
 abbrev pub IsShare : (workers worker : ℕ) (program share : List Listing) → Type 0

@@ -2,6 +2,7 @@
 use Rattle.std.specs.Prelude.{◌≡◌, ◌≢◌, ℕ, ◌+◌, ◌-◌, ◌*◌, ◌<◌, ◌≤◌, ◌⊎◌, Bool, true, false, List, [], ◌∷◌, ◌++◌, length, map, slice_get, slice_set, replicate, Option, Some, None, Result, Ok, Err, IsSome, is_some, not, ◌||◌, suc}
 use Rattle.std.specs.Option.{option_map}
 use Rattle.std.specs.List.{list_all, enumerate_from}
+use Rattle.base.specs.Limits.{most_cells, most_entries}
 use Rattle.syntax.specs.declared.unit.Item.{Item}
 use Rattle.class_rules.specs.Class.{Classes}
 use Rattle.syntax.specs.Views.{unit_tree}
@@ -88,7 +89,7 @@ pub record Corresponds (p : Lowered) (world : World) (store : Store) (threads : 
   pub same_printed : state.printed ≡ printed
   pub same_stop : state.stop ≡ option_map stop_view stop
   -- fewer objects were made at load than a heap has cells, and each step makes two at most
-  pub born : store.births ≤ 1048576 + 2 * length journal
+  pub born : store.births ≤ most_cells + 2 * length journal
   -- the steps that made objects had room, and those whose allocation was refused had none
   pub fits : UnmarkedFit (unit_tree p.unit) world journal
   pub fair : MarkedAreFair (unit_tree p.unit) world journal
@@ -198,7 +199,7 @@ refused r k left = record r { journal = r.journal ++ refused_entry_of k ∷ []; 
 
 -- thread k can step, and the journal has room for the step
 abbrev pub CouldStep : Run → ℕ → Type 0
-CouldStep r k = (length r.journal < 1000000) × InState r (λ s. can_turn r s k ≡ true)
+CouldStep r k = (length r.journal < most_entries) × InState r (λ s. can_turn r s k ≡ true)
 
 -- the turn that was this step
 abbrev pub turn_after : Advanced → Answer
@@ -223,7 +224,7 @@ abbrev pub TurnHolds : Run → ℕ → Run → Answer → Type 0
 TurnHolds old k new turn.Stopped = (new ≡ old) × InState old (λ s. IsSome s.stop)
 TurnHolds old k new turn.Ended = (new ≡ old) × InState old (λ s. HasEnded s k)
 TurnHolds old k new (turn.Blocked all) = (new ≡ old) × InState old (λ s. IsWaiting old.world.classes s k all)
-TurnHolds old k new turn.Full = (new ≡ old) × (1000000 ≤ length old.journal) × InState old (λ s. can_turn old s k ≡ true)
+TurnHolds old k new turn.Full = (new ≡ old) × (most_entries ≤ length old.journal) × InState old (λ s. can_turn old s k ≡ true)
 TurnHolds old k new turn.Short = (new ≡ refused old k new.left) × CouldStep old k × HadNoRoom old k new.left × LeavesAll old new.left
 TurnHolds old k new turn.Stepped = (new ≡ stepped old k new.left) × CouldStep old k
 
@@ -260,9 +261,9 @@ GivesStep r (Turn k) = InState r (λ s. can_turn r s k ≡ true)
 -- A word at which a run ends by a fault: the turn of a thread that can step, where the journal is full or where it has room and memory
 -- was refused, or a collection that memory was refused to.
 abbrev pub EndsAt : Run → RunFault → ScheduleWord → Type 0
-EndsAt r running.Full word = (1000000 ≤ length r.journal) × GivesStep r word
+EndsAt r running.Full word = (most_entries ≤ length r.journal) × GivesStep r word
 EndsAt r running.Memory Collect = Unit {0}
-EndsAt r running.Memory (Turn k) = (length r.journal < 1000000) × GivesStep r (Turn k)
+EndsAt r running.Memory (Turn k) = (length r.journal < most_entries) × GivesStep r (Turn k)
 
 -- The steps taken follow the schedule.
 pub record RunsAlong (old new : Run) (schedule : Schedule) : Type 0 where

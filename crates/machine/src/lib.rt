@@ -9,6 +9,6 @@ mod rows;
 mod turn;
 
 pub use fault::{ReportFault, RunFault};
-pub use machine::{MOST_ENTRIES, Machine};
+pub use machine::Machine;
 pub use machine_steps::fault::LoadFault;
 pub use turn::Turn;

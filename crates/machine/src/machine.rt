@@ -1,6 +1,7 @@
 //! The machine.
 
 ghost use Rattle.std.specs.Prelude.{◌≡◌, ℕ, ◌+◌, ◌-◌, ◌<◌, ◌≤◌, ◌^◌, [], ◌∷◌, ◌++◌, List, length, map, replicate, slice_get, IfOk, IfErr, OnOk, OnErr, IfSome, IfNone, IsSome, Err, None, is_some, nat_le, vec_len, vec_capacity};
+ghost use Rattle.base.specs.Limits.{most_entries};
 ghost use Rattle.syntax.specs.Views.{unit_tree};
 ghost use Rattle.sinks.specs.Sink.{CanFail};
 ghost use Rattle.report.specs.ThreadStatus.{standing_view};
@@ -27,6 +28,7 @@ use crate::roots::{gather, push_viewed, root_names};
 use crate::rows::{NamedBlocks, named_blocks};
 use crate::turn::Turn;
 use arrayvec::ArrayVec;
+use base::limits::MOST_ENTRIES;
 use code_meaning::Program;
 use machine_calls::store::Store;
 use machine_steps::advance::{Advanced, advance, advance_plainly};
@@ -45,9 +47,6 @@ use std::alloc::{AllocError, Global};
 use std::marker::Model;
 use world_schedules::Schedule;
 use world_values::World;
-
-/// How many entries a journal has at most.
-pub const MOST_ENTRIES: usize = 1_000_000;
 
 /// A lowered program on a world, with the steps that were taken. It stands for the replay of its journal.
 pub struct Machine<'a> {
@@ -494,7 +493,7 @@ fn turn_at_rest(stop: &Option<Stop>, thread: &Thread) -> Option<Turn>
 #[inline(always)]
 fn most_entries(journal: &Vec<Entry>, most: u32) -> u32
     ensures most { result ≤ most }
-    ensures room { 0 < result → length journal.now.items + result ≤ 1000000 }
+    ensures room { 0 < result → length journal.now.items + result ≤ most_entries }
     ensures memory { 0 < result → vec_len journal.now + result ≤ vec_capacity journal.now }
 {
     let room = journal.capacity().min(MOST_ENTRIES);
@@ -517,7 +516,7 @@ fn take_plainly(
 ) -> u32
     requires stands { (w : SourceWorld) × (threads : List Thread) × (index : ℕ) × (printed : List Printed) × CanGoOn program.now w store.now threads index printed journal.old.items k thread.old }
     requires goes { stop.old ≡ None }
-    requires room { 0 < most → length journal.old.items + most ≤ 1000000 }
+    requires room { 0 < most → length journal.old.items + most ≤ most_entries }
     requires memory { 0 < most → vec_len journal.old + most ≤ vec_capacity journal.old }
     ensures most { result ≤ most }
     ensures went { (w : SourceWorld) (threads : List Thread) (index : ℕ) (printed : List Printed) → CanGoOn program.now w store.now threads index printed journal.old.items k thread.old

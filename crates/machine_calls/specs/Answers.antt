@@ -3,6 +3,7 @@ use Rattle.std.specs.Prelude.{◌≡◌, ℕ, Bool, true, false, ◌+◌, ◌<�
 use Rattle.std.specs.Int.{w32, cast_unsigned}
 use Rattle.std.specs.List.{AllByRecursion}
 use Rattle.std.specs.Option.{option_to_list}
+use Rattle.base.specs.Limits.{most_monitor_entries}
 use Rattle.base.specs.Bytes.{Identifier, lookup}
 use Rattle.class_rules.specs.BuiltIns.{string_class}
 use Rattle.class_rules.specs.Class.{Classes}
@@ -153,7 +154,7 @@ pub record IsReleased (brought : Brought) (space : Space) (s : Shared) (t : Thre
 pub record IsEntered (k : ℕ) (space : Space) (s : Shared) (t : Thread) (o : Object) (effect : CallEffect) : Type 0 where
   pub there : name_at space o.address ≡ Some o.name
   pub own : (m : Monitor) → monitor_of s.monitors o.name ≡ Some m → m.owner ≡ k
-  pub few : (m : Monitor) → monitor_of s.monitors o.name ≡ Some m → m.count < 255
+  pub few : (m : Monitor) → monitor_of s.monitors o.name ≡ Some m → m.count < most_monitor_entries
   pub is : effect ≡ enter_effect k s t o.name (monitor_of s.monitors o.name)
 
 -- thread k leaves the monitor of an object, which it owns

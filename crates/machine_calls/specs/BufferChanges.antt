@@ -2,6 +2,7 @@
 use Rattle.std.specs.Prelude.{◌≡◌, ℕ, ◌+◌, ◌-◌, ◌<◌, ◌≤◌, Bool, true, false, if◌then◌else◌, ℤ, List, [], length, map, Option, Some}
 use Rattle.std.specs.Int.{w32, cast_unsigned}
 use Rattle.std.specs.Option.{option_map_or}
+use Rattle.base.specs.Limits.{most_copied, most_views}
 use Rattle.heap.specs.Heap.{Space, pins_at, values_at, with_changed, with_pins}
 use Rattle.tables.specs.Elements.{OwnedNumbers, lengths, owned}
 use Rattle.tables.specs.Keys.{Gains, IsOneMore, value_at, values_in, without_key}
@@ -13,17 +14,17 @@ use Rattle.machine_calls.specs.Copies.{overlay}
 
 -- a list of this owner is made, or none where all together would be too long
 abbrev pub MakesCopy : (owner : ℕ) → List ℤ → (before : List (Option OwnedNumbers)) → Buffer → (after : List (Option OwnedNumbers)) → Type 0
-MakesCopy owner zs before held.Null after = (65536 < lengths before + length zs) × (after ≡ before)
+MakesCopy owner zs before held.Null after = (most_copied < lengths before + length zs) × (after ≡ before)
 MakesCopy owner zs before (held.Copy key) after =
-    (lengths before + length zs ≤ 65536) × Gains before key (owned owner zs) after × IsOneMore (owned owner zs) (values_in before) (values_in after)
+    (lengths before + length zs ≤ most_copied) × Gains before key (owned owner zs) after × IsOneMore (owned owner zs) (values_in before) (values_in after)
 MakesCopy owner zs before (held.View a) after = ⊥
 
 -- an object is pinned once more for a view, or not where there are 64
 abbrev pub MakesView : (object : ℕ) → Space → (views : ℕ) → Buffer → Space → (views_after : ℕ) → Type 0
-MakesView object space views held.Null after views_after = (64 ≤ views) × (after ≡ space) × (views_after ≡ views)
+MakesView object space views held.Null after views_after = (most_views ≤ views) × (after ≡ space) × (views_after ≡ views)
 MakesView object space views (held.Copy key) after views_after = ⊥
 MakesView object space views (held.View a) after views_after =
-    (views < 64) × (a ≡ object) × (after ≡ with_pins space object (pins_at space object + 1)) × (views_after ≡ views + 1)
+    (views < most_views) × (a ≡ object) × (after ≡ with_pins space object (pins_at space object + 1)) × (views_after ≡ views + 1)
 
 -- ---- a release
 

@@ -18,14 +18,12 @@ use crate::buffer::{Buffer, Release};
 use crate::copies::word_of;
 use crate::operands::operand_of;
 use crate::scene::Scene;
+use base::limits::MOST_VIEWS;
 use code::instr::{Call, Operand, ReleaseMode};
 use heap::{Addr, Heap, Value};
 use jni::{Access, JniFunction};
 use std::alloc::{AllocError, Global};
 use tables::Elements;
-
-/// How many buffers of all threads are views at most.
-pub(crate) const MOST_VIEWS: u32 = 64;
 
 /// What a function of buffers does (JNI Specification, chapter 4, "Get<PrimitiveType>ArrayElements Routines",
 /// "Release<PrimitiveType>ArrayElements Routines", "GetPrimitiveArrayCritical, ReleasePrimitiveArrayCritical",

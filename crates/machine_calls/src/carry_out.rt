@@ -1,6 +1,7 @@
 //! What a call does to the store, and which exception is pending then.
 
 ghost use Rattle.std.specs.Prelude.{◌≡◌, ◌+◌, ◌-◌, ◌<◌, ◌≤◌, ◌^◌, ℕ, List, Option, length, nat_le, slice_get, true, false, IfOk, OnErr};
+ghost use Rattle.base.specs.Limits.{most_references};
 ghost use Rattle.base.specs.Bytes.{Identifier};
 ghost use Rattle.code.specs.declared.instr.LocalArray.{LocalArray};
 ghost use Rattle.heap.specs.Heap.{left_of};
@@ -10,7 +11,6 @@ ghost use Rattle.semantics.specs.CallEffects.{CallEffect};
 ghost use Rattle.semantics.specs.Thread.{Shared, Thread as SourceThread};
 ghost use Rattle.code_meaning.specs.Lowered.{Lowered};
 ghost use Rattle.tables.specs.Elements.{OwnedNumbers};
-ghost use Rattle.tables.specs.declared.locals.TheConstants.{MOST_LOCALS};
 ghost use Rattle.tables.specs.Locals.{capacities, ensured, popped};
 ghost use Rattle.machine_calls.specs.Answers.{Brought, bringing, IsAnswer, is_halt};
 ghost use Rattle.machine_calls.specs.Buffers.{Acquired, acquired_by, beside, holding, in_use_of};
@@ -357,8 +357,8 @@ fn carry_out_frames(
 /// Gives the current frame, if there is one, room for this many further references. Says whether it has it.
 fn ensure_room(locals: &mut Locals, more: u32) -> bool
     ensures none { length locals.old.frames ≡ 0 → (result ≡ true) × (locals.new ≡ locals.old) }
-    ensures had { 0 < length locals.old.frames → result ≡ true → (locals.new ≡ ensured locals.old more) × (capacities (ensured locals.old more) ≤ MOST_LOCALS) }
-    ensures refused { result ≡ false → (0 < length locals.old.frames) × (locals.new ≡ locals.old) × (MOST_LOCALS < capacities (ensured locals.old more)) }
+    ensures had { 0 < length locals.old.frames → result ≡ true → (locals.new ≡ ensured locals.old more) × (capacities (ensured locals.old more) ≤ most_references) }
+    ensures refused { result ≡ false → (0 < length locals.old.frames) × (locals.new ≡ locals.old) × (most_references < capacities (ensured locals.old more)) }
 {
     if locals.frames() == 0 {
         return true;

@@ -10,12 +10,10 @@ ghost use Rattle.machine_calls.specs.WorkedOut.{IsWorkedOut, entered_by, left_by
 
 use crate::answer::{Answer, Given, argument};
 use crate::scene::Scene;
+use classes::built_ins::ILLEGAL_MONITOR_STATE_EXCEPTION;
 use code::instr::Call;
 use jni::JniFunction;
 use monitors::{Enter, Exit, Object};
-
-/// The number of `java/lang/IllegalMonitorStateException`.
-const ILLEGAL_MONITOR_STATE_EXCEPTION: usize = 19;
 
 /// What a function of monitors does.
 #[inline(always)]

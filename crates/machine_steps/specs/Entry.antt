@@ -1,6 +1,7 @@
 -- What the slots of a call hold at its entry.
 use Rattle.std.specs.Prelude.{◌≡◌, ℕ, ◌+◌, ◌-◌, ◌<◌, ◌≤◌, List, [], ◌∷◌, ◌++◌, length, map, filter_map, replicate, slice_get, suc, Option, Some, None, IsTrue}
 use Rattle.std.specs.List.{list_all}
+use Rattle.base.specs.Limits.{most_names}
 use Rattle.semantics.specs.Object.{ObjectValue, Number, Refers}
 use Rattle.world_values.specs.CallArguments.{is_argument}
 use Rattle.world_values.specs.Views.{object_value_view}
@@ -66,7 +67,7 @@ pub record Begins (p : Lowered) (loaded : List ℕ) (next : PendingCall) (call :
 pub record IsReady (p : Lowered) (made : ℕ) (next : PendingCall) : Type 0 where
   pub class : (0 < next.class) × (next.class ≤ made)
   pub given : IsTrue (list_all (is_argument made) (map object_value_view next.arguments.items))
-  pub few : length next.arguments.items ≤ 256
+  pub few : length next.arguments.items ≤ most_names
   pub code : Listing
   pub of_function : slice_get p.codes next.function ≡ Some code
   pub room : HasRoom code (map object_value_view next.arguments.items)

@@ -2,6 +2,7 @@
 use Rattle.std.specs.Prelude.{ℕ, ◌≤◌, List, length, Option, FitsSigned}
 use Rattle.std.specs.Int.{w32}
 use Rattle.std.specs.List.{AllByRecursion}
+use Rattle.base.specs.Limits.{most_copied}
 use Rattle.class_rules.specs.Class.{Classes}
 use Rattle.class_rules.specs.Fields.{FieldId}
 use Rattle.classes.specs.declared.class.FieldHandle.{FieldHandle}
@@ -41,7 +42,7 @@ slots_of call meant = record { numbers = call.slots.numbers.items; references = 
 
 -- a copy has at most as many numbers as all copies may have together, each in the range of a `jint`
 abbrev pub IsSmallCopy : source.Buffer → Type 0
-IsSmallCopy (source.Copy n zs) = (length zs ≤ 65536) × AllByRecursion (FitsSigned w32) zs
+IsSmallCopy (source.Copy n zs) = (length zs ≤ most_copied) × AllByRecursion (FitsSigned w32) zs
 IsSmallCopy b = Unit {0}
 
 -- the values in the slots of thread k, with this table of local references and these copied lists, stand for these

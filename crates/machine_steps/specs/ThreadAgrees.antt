@@ -1,6 +1,7 @@
 -- How threads stand for those of the source.
 use Rattle.std.specs.Prelude.{◌≡◌, ℕ, ◌<◌, ◌≤◌, List, [], ◌∷◌, length, map, Option, Some, None, IsTrue, slice_get, suc}
 use Rattle.std.specs.List.{list_all}
+use Rattle.base.specs.Limits.{most_names}
 use Rattle.syntax.specs.Parts.{functions_of}
 use Rattle.syntax.specs.Tree.{Function}
 use Rattle.syntax.specs.Views.{unit_tree}
@@ -38,7 +39,7 @@ pub record CallAgrees (p : Lowered) (classes : Classes) (made : ℕ) (next : Pen
   pub arguments : map object_value_view next.arguments.items ≡ call.arguments
   pub given : IsTrue (list_all (is_argument made) call.arguments)
   pub fit : ArgumentsFit function.parameters call.arguments
-  pub few : length call.arguments ≤ 256
+  pub few : length call.arguments ≤ most_names
 
 -- call by call
 abbrev pub CallsAgree : Lowered → Classes → (made : ℕ) → List PendingCall → List Invocation → Type 0

@@ -2,6 +2,7 @@
 
 ghost use Rattle.std.specs.Prelude.{◌≡◌, ℕ, ◌-◌, ◌<◌, ◌≤◌, [], length, map, filter_map, slice_get, IfOk, OnOk, IsTrue};
 ghost use Rattle.std.specs.List.{list_all};
+ghost use Rattle.base.specs.Limits.{most_names, most_references};
 ghost use Rattle.world_values.specs.Views.{object_value_view};
 ghost use Rattle.world_values.specs.CallArguments.{is_argument};
 ghost use Rattle.code_meaning.specs.Slots.{argument_word, HasRoom};
@@ -34,7 +35,7 @@ pub fn begin(
     requires class { (0 < next.now.class) × (next.now.class ≤ length loaded.now) }
     requires given { IsTrue (list_all (is_argument (length loaded.now)) (map object_value_view next.now.arguments.items)) }
     requires room { HasRoom code.now (map object_value_view next.now.arguments.items) }
-    requires few { length next.now.arguments.items ≤ 256 }
+    requires few { length next.now.arguments.items ≤ most_names }
     ensures { IfOk result (λ call. BeginsIn code.now loaded.now next.now call) }
 {
     let slots = code.slots();
@@ -120,7 +121,7 @@ fn make_locals(
     addresses: &[Option<Addr>],
 ) -> Result<Vec<Option<Local>>, AllocError>
     requires none { locals.old ≡ record { frames = []; slots = [] } }
-    requires few { length (references_in addresses.now) ≤ 257 }
+    requires few { length (references_in addresses.now) ≤ most_names + 1 }
     ensures locals { OnOk result (locals.new ≡ entry_locals addresses.now) }
     ensures keys { IfOk result (λ keys. keys.items ≡ keys_from 0 addresses.now) }
 {
@@ -140,7 +141,7 @@ fn make_locals(
 
 /// The number of addresses but NULL.
 fn count_given(addresses: &[Option<Addr>]) -> u32
-    requires { length (references_in addresses.now) ≤ 257 }
+    requires { length (references_in addresses.now) ≤ most_names + 1 }
     ensures { result ≡ length (references_in addresses.now) }
 {
     let mut count = 0;
@@ -155,7 +156,7 @@ fn count_given(addresses: &[Option<Addr>]) -> u32
 /// Makes the first frame, of this capacity.
 fn push_first(locals: &mut Locals, capacity: u32) -> Result<(), AllocError>
     requires none { locals.old ≡ record { frames = []; slots = [] } }
-    requires few { capacity ≤ 1024 }
+    requires few { capacity ≤ most_references }
     ensures { OnOk result (locals.new ≡ pushed locals.old capacity) }
 {
     match locals.push(capacity) {

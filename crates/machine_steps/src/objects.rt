@@ -13,9 +13,10 @@ ghost use Rattle.semantics.specs.World.{loaded_objects};
 ghost use Rattle.world_values.specs.CallArguments.{is_argument};
 ghost use Rattle.world_values.specs.Views.{object_value_view};
 
+use base::limits::MOST_CELLS;
 use class_queries::{fresh_values, initial_values};
 use classes::built_ins::{CLASS, OUT_OF_MEMORY_ERROR};
-use heap::{Addr, Heap, MOST_CELLS, Value};
+use heap::{Addr, Heap, Value};
 use machine_calls::statics::StaticReference;
 use machine_calls::store::Store;
 use monitors::Monitors;

@@ -1,5 +1,6 @@
 -- Reading functions, statics and units from left to right, with the first fault that is met.
 use Rattle.std.specs.Prelude.{ℕ, zero, suc, ◌+◌, ◌-◌, ◌==◌, List, [], ◌∷◌, length, Result, Ok, Err, if◌then◌else◌}
+use Rattle.base.specs.Limits.{most_functions, most_names, most_statics}
 use Rattle.scan.specs.declared.token.Mark.TheVariants as marks
 use Rattle.base.specs.Bytes.{Identifier}
 use Rattle.syntax.specs.Tree.{Block, ResultType, Parameter, Function, Static, Item, StaticItem, FunctionItem, SourceUnit}
@@ -59,8 +60,8 @@ signature_at ls = do
 unfoldable pub function_at : List Lexed → Result (Function × List Lexed) ParseFault
 function_at ls = do
   signature ← signature_at ls
-  parameters ← parameters_at 255 signature.3
-  body ← body_at (255 - length parameters.0) parameters.1
+  parameters ← parameters_at (most_names - 1) signature.3
+  body ← body_at (most_names - 1 - length parameters.0) parameters.1
   Ok (record { line = line_at ls; result = signature.0; name = signature.1; class_name = signature.2; parameters = parameters.0; body = body.0 }, body.1)
 
 unfoldable pub static_at : List Lexed → Result (Static × List Lexed) ParseFault
@@ -92,4 +93,4 @@ items_at (suc steps) functions statics ls =
     else (item_at functions statics ls >>= λ i. items_at steps i.1 i.2 i.3 >>= λ items. Ok (i.0 ∷ items))
 
 unfoldable pub unit_at : List Lexed → Result SourceUnit ParseFault
-unit_at ls = items_at (length ls + 1) 256 256 ls >>= λ items. Ok (record { items = items })
+unit_at ls = items_at (length ls + 1) most_functions most_statics ls >>= λ items. Ok (record { items = items })

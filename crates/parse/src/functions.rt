@@ -1,6 +1,7 @@
 //! Functions, statics and the whole program.
 
 ghost use Rattle.std.specs.Prelude.{◌≡◌, ℕ, ◌+◌, List, length, map, IfOk, Ok};
+ghost use Rattle.base.specs.Limits.{most_functions, most_statics};
 ghost use Rattle.scan.specs.Spelling.{Spells};
 ghost use Rattle.syntax.specs.Tree.{SourceUnit};
 ghost use Rattle.syntax.specs.Views.{parameter_tree, reference_tree, result_tree, block_tree, function_tree, static_tree, item_tree, unit_tree};
@@ -11,6 +12,7 @@ ghost use Rattle.parse.specs.Steps.{exported_at, function_item_at, static_head_a
 ghost use Rattle.parse.specs.Reading.{head_at, body_at, signature_at, function_at, static_at, item_at, items_at, unit_at};
 
 use crate::parameters::{NAMES, parameters};
+use base::limits::{MOST_FUNCTIONS, MOST_STATICS};
 use parse_expressions::expect_two;
 use parse_lexemes::{
     Cursor, Fault, Fixed, ParseFault, Source, expect, fault_at, line_at, name_at, reference_type,
@@ -23,12 +25,6 @@ use syntax::{Block, Function, Item, Name, Parameter, ReferenceType, ResultType, 
 
 /// How high the trees in a function's block may be, which counts one itself.
 const ROOM: u32 = 31;
-
-/// How many functions there may be.
-const FUNCTIONS: usize = 256;
-
-/// How many statics there may be.
-const STATICS: usize = 256;
 
 /// What comes after the parameters that each function has.
 #[tactic(auto, using(crate::proofs::Regrouped::head_is))]
@@ -225,12 +221,12 @@ fn item(
 
 /// All items.
 fn items(alloc: Global, lexemes: Cursor<'_>) -> Result<Vec<Item>, ParseFault>
-    ensures { Gives (λ v. map item_tree v.items) result (items_at (length (views lexemes.entry) + 1) 256 256 (views lexemes.entry)) }
+    ensures { Gives (λ v. map item_tree v.items) result (items_at (length (views lexemes.entry) + 1) most_functions most_statics (views lexemes.entry)) }
 {
     let mut items = Vec::new(alloc);
     let mut rest = lexemes;
-    let mut functions = FUNCTIONS;
-    let mut statics = STATICS;
+    let mut functions = MOST_FUNCTIONS;
+    let mut statics = MOST_STATICS;
     'items: while !starts_with(Fixed::End, rest) {
         let (item, functions_left, statics_left, after) = item(alloc, functions, statics, rest)?;
         items.push(item)?;

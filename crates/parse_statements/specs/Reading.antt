@@ -1,5 +1,6 @@
 -- Reading statements and blocks from left to right, with the first fault that is met.
 use Rattle.std.specs.Prelude.{ℕ, zero, suc, ◌+◌, ◌-◌, Bool, true, false, ◌||◌, ◌==◌, List, length, Option, Some, None, is_some, Result, Ok, Err, if◌then◌else◌}
+use Rattle.base.specs.Limits.{most_elements}
 use Rattle.scan.specs.declared.token.Mark.TheVariants as marks
 use Rattle.base.specs.Element.{ElementType, JInt, JShort, JByte, JChar}
 use Rattle.syntax.specs.Tree.{VariableType, JIntVariable, Expr, Test, Stmt, Declare, DeclareBuffer, DeclareChars, DeclareArray, Assign, AssignElement, Perform, PutJint, If, IfElse, While, Return, ReturnValue, Block, End, Next}
@@ -72,7 +73,7 @@ unfoldable pub array_at : (line : ℕ) → ElementType → List Lexed → Result
 array_at line t ls = do
   name ← name_at ls
   a ← expect (fixed.Mark marks.OpenBracket) name.1
-  size ← number_at 1 1024 a
+  size ← number_at 1 most_elements a
   b ← expect (fixed.Mark marks.CloseBracket) size.1
   rest ← zeros_at b
   Ok (DeclareArray line t name.0 size.0, rest)

@@ -1,5 +1,6 @@
 -- Steps of reading that have functions of their own.
 use Rattle.std.specs.Prelude.{ℕ, ◌==◌, Bool, true, false, ◌&&◌, ◌||◌, List, Option, Some, None, Result, Ok, Err, if◌then◌else◌}
+use Rattle.base.specs.Limits.{most_elements}
 use Rattle.base.specs.Bytes.{Identifier}
 use Rattle.scan.specs.declared.token.Mark.TheVariants as marks
 use Rattle.scan.specs.declared.reserved.Word.TheVariants as words
@@ -58,7 +59,7 @@ unfoldable pub array_head_at : List Lexed → Result (Identifier × ℕ × List 
 array_head_at ls = do
   name ← name_at ls
   a ← expect (fixed.Mark marks.OpenBracket) name.1
-  size ← number_at 1 1024 a
+  size ← number_at 1 most_elements a
   b ← expect (fixed.Mark marks.CloseBracket) size.1
   Ok (name.0, size.0, b)
 

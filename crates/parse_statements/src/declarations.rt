@@ -8,6 +8,7 @@ ghost use Rattle.parse_lexemes.specs.Lexemes.{views};
 ghost use Rattle.parse_statements.specs.Steps.{array_head_at};
 ghost use Rattle.parse_statements.specs.Reading.{zeros_at, array_at, is_array, after_element, after_variable, after_const, declared_at, starts_declaration};
 
+use base::limits::MOST_ELEMENTS;
 use parse_expressions::{expect_two, setting};
 use parse_lexemes::{
     Cursor, Fixed, ParseFault, element_type, expect, line_at, name_at, number_at, rest_of,
@@ -16,9 +17,6 @@ use parse_lexemes::{
 use scan::{Mark, Word};
 use std::alloc::Global;
 use syntax::{ElementType, Form, Name, Stmt, VariableType};
-
-/// How many elements a local array may have.
-const ELEMENTS: u32 = 1024;
 
 /// What comes after the zeros of a local array.
 #[tactic(auto, using(crate::proofs::Regrouped::zeros_are))]
@@ -46,7 +44,7 @@ fn array_head(lexemes: Cursor<'_>) -> Result<(&[u8], u32, Cursor<'_>), ParseFaul
 {
     let (name, rest) = name_at(lexemes)?;
     let rest = expect(Fixed::Mark(Mark::OpenBracket), rest)?;
-    let (size, rest) = number_at(1, ELEMENTS, rest)?;
+    let (size, rest) = number_at(1, MOST_ELEMENTS, rest)?;
     match expect(Fixed::Mark(Mark::CloseBracket), rest) {
         Ok(rest) => Ok((name, size, rest)),
         Err(fault) => Err(fault),

@@ -1,5 +1,6 @@
 -- What calls do, as data, and what that leaves.
 use Rattle.std.specs.Prelude.{ℕ, ◌+◌, pos, negsuc, Bool, true, false, List, [], ◌∷◌, ◌++◌, drop, take, length, nat_le, IsTrue, Option, Some, None}
+use Rattle.base.specs.Limits.{most_references}
 use Rattle.base.specs.Bytes.{Identifier, lookup}
 use Rattle.class_rules.specs.Class.{Classes}
 use Rattle.jni.specs.Prototype.{ResultKind, NewLocal}
@@ -98,8 +99,8 @@ answer_or_trap (Some trap) a = Halts trap
 
 -- these frames can have what it asks for
 abbrev pub FitsFrames : List Frame → Answer → Type 0
-FitsFrames frames (Ensures n) = IsTrue (nat_le (capacities (with_capacity n frames)) 1024)
-FitsFrames frames (Pushes n) = IsTrue (nat_le (capacities (new_frame n ∷ frames)) 1024)
+FitsFrames frames (Ensures n) = IsTrue (nat_le (capacities (with_capacity n frames)) most_references)
+FitsFrames frames (Pushes n) = IsTrue (nat_le (capacities (new_frame n ∷ frames)) most_references)
 FitsFrames frames a = Unit {0}
 
 -- the array or the string has the region

@@ -1,5 +1,6 @@
 -- What is worked out of a call, its arguments being looked up and its checks passed.
 use Rattle.std.specs.Prelude.{ℕ, ◌+◌, ◌-◌, ◌==◌, nat_le, nat_lt, if◌then◌else◌, Bool, true, false, ℤ, pos, negsuc, List, ◌∷◌, length, Option, Some, None, is_some}
+use Rattle.base.specs.Limits.{most_copied, most_monitor_entries, most_references, most_views}
 use Rattle.base.specs.Bytes.{Identifier, lookup}
 use Rattle.class_rules.specs.BuiltIns.{array_index_out_of_bounds, array_store_exception, illegal_monitor_state, negative_array_size, no_class_def_found_error, no_such_field_error, number_array, string_index_out_of_bounds}
 use Rattle.class_rules.specs.Class.{Classes, class_kind, class_named, element_class, superclass, assignable}
@@ -73,7 +74,7 @@ found_field (Some f) = Gives (FieldResult (Some f))
 
 -- these capacities may be had, or else no frames are
 abbrev pub if_they_fit : List Frame → Answer → Answer
-if_they_fit frames a = if nat_le (capacities frames) 1024 then a else RefusesFrames
+if_they_fit frames a = if nat_le (capacities frames) most_references then a else RefusesFrames
 
 -- room for this number of references more in the current frame
 abbrev pub ensured : List Frame → ℤ → Answer
@@ -167,11 +168,11 @@ region_set vs (Some r) = if_it_has_room vs r (SetsRegion r)
 
 -- a copy of an object with this number of values, or NULL where all copies together would be too long
 abbrev pub copy_lent : BuffersInUse → (length object : ℕ) → Lent
-copy_lent in_use length n = if nat_le (in_use.copied + length) 65536 then lent.Copy n else lent.Nothing
+copy_lent in_use length n = if nat_le (in_use.copied + length) most_copied then lent.Copy n else lent.Nothing
 
 -- a view of an object, or NULL where 64 are out
 abbrev pub view_lent : BuffersInUse → (object : ℕ) → Lent
-view_lent in_use n = if nat_lt in_use.views 64 then lent.View n else lent.Nothing
+view_lent in_use n = if nat_lt in_use.views most_views then lent.View n else lent.Nothing
 
 -- the buffer with which an object is accessed so
 abbrev pub lent_by : Access → BuffersInUse → Heap → (object : ℕ) → Lent
@@ -191,7 +192,7 @@ released n p FreeUncopied = Frees p
 -- one entry more of an object with this monitor, which no other thread owns; after 255 of them -1
 abbrev pub monitor_entered : (object : ℕ) → Option Monitor → Answer
 monitor_entered n None = Owns n 1
-monitor_entered n (Some m) = if nat_lt m.count 255 then Owns n (m.count + 1) else Gives (ScalarResult (Int (negsuc 0)))
+monitor_entered n (Some m) = if nat_lt m.count most_monitor_entries then Owns n (m.count + 1) else Gives (ScalarResult (Int (negsuc 0)))
 
 -- one entry less of thread k; with the last one nobody owns the object
 abbrev pub monitor_left : (k : ℕ) → (object : ℕ) → Option Monitor → Answer

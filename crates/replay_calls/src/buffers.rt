@@ -19,9 +19,10 @@ ghost use Rattle.replay_terms.specs.Views.{in_use_view, lent_view, variables_vie
 
 use crate::actual::{Actual, ReleaseMode, mode_given, object_given, variable_given};
 use crate::answer::Answer;
+use base::limits::{MOST_COPIED, MOST_VIEWS};
 use jni::{Access, JniFunction};
 use replay_objects::Store;
-use replay_terms::{BuffersInUse, Content, Lent, MOST_COPIED, MOST_VIEWS, Value, Variables};
+use replay_terms::{BuffersInUse, Content, Lent, Value, Variables};
 use std::alloc::AllocError;
 
 /// What a function does that gives a buffer or takes it back.
@@ -74,7 +75,7 @@ fn copy_lent(store: &Store, in_use: BuffersInUse, object: usize) -> Lent
 fn view_lent(in_use: BuffersInUse, object: usize) -> Lent
     ensures { result ≡ view_lent (in_use_view in_use) object }
 {
-    if in_use.views < MOST_VIEWS {
+    if in_use.views < MOST_VIEWS as usize {
         Lent::View(object)
     } else {
         Lent::Nothing

@@ -16,15 +16,11 @@ ghost use Rattle.replay_objects.specs.Monitors.{monitor_view};
 
 use crate::actual::{Actual, object_given};
 use crate::answer::Answer;
+use base::limits::MOST_MONITOR_ENTRIES;
+use classes::built_ins::ILLEGAL_MONITOR_STATE_EXCEPTION;
 use jni::JniFunction;
 use replay_objects::{Monitor, Monitors};
 use replay_terms::Given;
-
-/// How many times a thread may enter a monitor that it owns, at most.
-const MOST_ENTRIES: u8 = 255;
-
-/// The number of `java/lang/IllegalMonitorStateException`.
-const ILLEGAL_MONITOR_STATE_EXCEPTION: usize = 19;
 
 /// What a function does that works on the monitor of an object, where a thread calls it.
 #[inline]
@@ -53,7 +49,7 @@ fn entered<'a>(object: usize, monitor: Option<Monitor>) -> Answer<'a>
     match monitor {
         None => Answer::Owns(object, 1),
         Some(monitor) => {
-            if monitor.count < MOST_ENTRIES {
+            if monitor.count < MOST_MONITOR_ENTRIES {
                 Answer::Owns(object, monitor.count + 1)
             } else {
                 Answer::Gives(Given::Number(-1))

@@ -1,12 +1,14 @@
 //! Frames of local references.
 
 ghost use Rattle.std.specs.Prelude.{◌≡◌, ◌++◌, ◌∷◌, [], IfOk, IsTrue, OnErr, drop, length, nat_le, slice_get};
+ghost use Rattle.base.specs.Limits.{most_references};
 ghost use Rattle.semantics.specs.CallEffects.{with_capacity, with_local, without_local};
 ghost use Rattle.semantics.specs.Checks.{is_full};
 ghost use Rattle.semantics.specs.Thread.{capacities};
 ghost use Rattle.replay_objects.specs.Frames.{frame_view, frames_view, new_frame, references_in, without_in};
 
 use crate::names::Names;
+use base::limits::MOST_REFERENCES;
 use std::alloc::{AllocError, Global};
 use std::marker::Model;
 
@@ -37,9 +39,6 @@ impl Model for Frames {
 
     ghost invariant = { λ f. f.total ≡ capacities (frames_view f.frames.items) };
 }
-
-/// The capacities of all frames of a thread together are at most this.
-const MOST_REFERENCES: usize = 1_024;
 
 impl Frames {
     /// One frame, with these references.
@@ -88,7 +87,7 @@ impl Frames {
 
     /// Whether the capacities together stay within the limit with room for this number of references more in the current frame.
     pub fn has_room(&self, more: usize) -> bool
-        ensures { result ≡ nat_le (capacities (with_capacity more self.now)) 1024 }
+        ensures { result ≡ nat_le (capacities (with_capacity more self.now)) most_references }
     {
         let count = self.frames.len();
         if count == 0 {
@@ -96,17 +95,17 @@ impl Frames {
         }
         let frame = &self.frames[count - 1];
         let held = frame.references.len();
-        if more > MOST_REFERENCES || held > MOST_REFERENCES {
+        if more > MOST_REFERENCES as usize || held > MOST_REFERENCES as usize {
             return false;
         }
         let capacity = frame.capacity.max(held + more);
         let others = self.total - frame.capacity;
-        capacity <= MOST_REFERENCES && others <= MOST_REFERENCES - capacity
+        capacity <= MOST_REFERENCES as usize && others <= MOST_REFERENCES as usize - capacity
     }
 
     /// Gives the current frame room for this number of references more.
     pub fn reserve(&mut self, more: usize)
-        requires { IsTrue (nat_le (capacities (with_capacity more self.old)) 1024) }
+        requires { IsTrue (nat_le (capacities (with_capacity more self.old)) most_references) }
         ensures { self.new ≡ with_capacity more self.old }
     {
         let count = self.frames.len();
@@ -124,14 +123,14 @@ impl Frames {
 
     /// Whether the capacities together stay within the limit with a frame of this capacity more.
     pub fn has_room_for(&self, capacity: usize) -> bool
-        ensures { result ≡ nat_le (capacities (new_frame capacity ∷ self.now)) 1024 }
+        ensures { result ≡ nat_le (capacities (new_frame capacity ∷ self.now)) most_references }
     {
-        capacity <= MOST_REFERENCES && self.total <= MOST_REFERENCES - capacity
+        capacity <= MOST_REFERENCES as usize && self.total <= MOST_REFERENCES as usize - capacity
     }
 
     /// Makes a frame, which is then the current one.
     pub fn push(&mut self, alloc: Global, capacity: usize) -> Result<(), AllocError>
-        requires { IsTrue (nat_le (capacities (new_frame capacity ∷ self.old)) 1024) }
+        requires { IsTrue (nat_le (capacities (new_frame capacity ∷ self.old)) most_references) }
         ensures ok { IfOk result (λ _. self.new ≡ new_frame capacity ∷ self.old) }
         ensures err { OnErr result (self.new ≡ self.old) }
     {

@@ -2,6 +2,7 @@
 use Rattle.std.specs.Prelude.{◌≡◌, ◌<◌, ◌≤◌, ◌+◌, ℕ, ℤ, Bool, not, length, List, [], ◌∷◌, map, slice_get, slice_set, Option, Some, None}
 use Rattle.std.specs.Option.{option_map}
 use Rattle.std.specs.Borrow.{Bor}
+use Rattle.base.specs.Limits.{most_copied, most_views}
 use Rattle.base.specs.Bytes.{Identifier, ByName, lookup}
 use Rattle.base.specs.Element.{ElementType, element_value}
 use Rattle.syntax.specs.Tree.{BinaryOp}
@@ -195,8 +196,8 @@ in_use_view u = record { copied = u.copied; views = u.views }
 pub record Takes (vs : Contents) (u : InUseInMemory) : Type 0 where
   pub copied : u.copied ≡ total copied_length (variables_view vs)
   pub views : u.views ≡ total count_viewed (variables_view vs)
-  pub within : u.copied ≤ 65536
-  pub few : u.views ≤ 64
+  pub within : u.copied ≤ most_copied
+  pub few : u.views ≤ most_views
 
 -- ---- terms
 

@@ -1,10 +1,12 @@
 //! What buffers take.
 
 ghost use Rattle.std.specs.Prelude.{◌≡◌, ◌≤◌, ◌<◌, ◌^◌, ◌+◌, IfSome, length};
+ghost use Rattle.base.specs.Limits.{most_copied, most_views};
 ghost use Rattle.semantics.specs.Variable.{copied_length, viewed};
 ghost use Rattle.replay_terms.specs.Views.{content_view, count_viewed};
 
 use crate::variable::Content;
+use base::limits::{MOST_COPIED, MOST_VIEWS};
 
 /// What buffers take of what there is for them.
 #[derive(Clone, Copy)]
@@ -14,12 +16,6 @@ pub struct BuffersInUse {
     /// How many views there are.
     pub views: usize,
 }
-
-/// All copies together have at most this many elements.
-pub const MOST_COPIED: usize = 65_536;
-
-/// There are at most this many views.
-pub const MOST_VIEWS: usize = 64;
 
 /// What a variable takes.
 pub(crate) fn taken(content: &Content<'_>) -> BuffersInUse
@@ -56,18 +52,18 @@ pub(crate) fn exchanged(
 ) -> Option<BuffersInUse>
     requires copied { old.copied ≤ all.copied }
     requires views { old.views ≤ all.views }
-    requires within { all.copied ≤ 65536 }
-    requires few { all.views ≤ 64 }
+    requires within { all.copied ≤ most_copied }
+    requires few { all.views ≤ most_views }
     requires short { new.copied < 2 ^ 63 }
     requires one { new.views ≤ 1 }
     ensures copied { IfSome result (λ u. u.copied + old.copied ≡ all.copied + new.copied) }
     ensures views { IfSome result (λ u. u.views + old.views ≡ all.views + new.views) }
-    ensures within { IfSome result (λ u. u.copied ≤ 65536) }
-    ensures few { IfSome result (λ u. u.views ≤ 64) }
+    ensures within { IfSome result (λ u. u.copied ≤ most_copied) }
+    ensures few { IfSome result (λ u. u.views ≤ most_views) }
 {
     let copied = all.copied - old.copied + new.copied;
     let views = all.views - old.views + new.views;
-    if copied > MOST_COPIED || views > MOST_VIEWS {
+    if copied > MOST_COPIED || views > MOST_VIEWS as usize {
         return None;
     }
     Some(BuffersInUse { copied, views })

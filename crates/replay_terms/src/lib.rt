@@ -11,7 +11,7 @@ mod term;
 mod value;
 mod variable;
 
-pub use buffers::{BuffersInUse, MOST_COPIED, MOST_VIEWS};
+pub use buffers::BuffersInUse;
 pub use given::{Given, Lent, is_zero, static_result};
 pub use operand::Operand;
 pub use reduction::{Reduction, reduce};

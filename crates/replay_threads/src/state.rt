@@ -1,6 +1,7 @@
 //! The state of a replay, and what an entry does to it.
 
 ghost use Rattle.std.specs.Prelude.{◌≡◌, [], IfOk, IfSome, IfNone, is_some, map, ◌≤◌, length};
+ghost use Rattle.base.specs.Limits.{most_copied, most_views};
 ghost use Rattle.syntax.specs.Limits.{IsTree};
 ghost use Rattle.syntax.specs.Views.{unit_tree};
 ghost use Rattle.type_rules.specs.SortRules.{IsSorted};
@@ -112,8 +113,8 @@ fn place_of(state: &State<'_>, k: u8) -> Option<usize>
 fn taken_by(thread: &Thread<'_>) -> BuffersInUse
     ensures copied { result.copied ≡ copied_in thread.now }
     ensures views { result.views ≡ length (viewed_in thread.now) }
-    ensures within { result.copied ≤ 65536 }
-    ensures few { result.views ≤ 64 }
+    ensures within { result.copied ≤ most_copied }
+    ensures few { result.views ≤ most_views }
 {
     match &thread.activation {
         Some(activation) => activation.locals.variables.in_use(),

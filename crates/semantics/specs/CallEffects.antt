@@ -1,5 +1,6 @@
 -- What calls do to frames, fields, arrays, buffers and monitors, all checks being passed.
 use Rattle.std.specs.Prelude.{ℕ, ◌+◌, ◌-◌, max, Bool, true, false, ◌==◌, nat_lt, nat_le, if◌then◌else◌, ℤ, pos, negsuc, List, [], ◌∷◌, ◌++◌, map, length, take, drop, replicate, slice_get, slice_set, Option, Some, None}
+use Rattle.base.specs.Limits.{most_copied, most_monitor_entries, most_references, most_views}
 use Rattle.base.specs.Bytes.{Identifier, lookup}
 use Rattle.class_rules.specs.BuiltIns.{negative_array_size, array_store_exception, illegal_monitor_state, string_class}
 use Rattle.class_rules.specs.Class.{Classes}
@@ -70,7 +71,7 @@ refuses_frames classes s t = Leaves [] s (record t { pending = Some (out_of_memo
 -- 0 and these frames, if their capacities are at most 1,024
 abbrev pub frames_effect : Classes → Shared → Thread → List Frame → CallEffect
 frames_effect classes s t frames =
-    if nat_le (capacities frames) 1024 then Leaves [] s (record t { frames = frames }) (ScalarResult (Int (pos 0)))
+    if nat_le (capacities frames) most_references then Leaves [] s (record t { frames = frames }) (ScalarResult (Int (pos 0)))
     else refuses_frames classes s t
 
 -- room for n more references in the current frame
@@ -176,11 +177,11 @@ store_effect s t fits object r i = if fits then heap_effect s t (with_value_at s
 
 -- a copy of the object's elements, or NULL where all copies together would be too long
 abbrev pub copy_effect : BuffersInUse → Shared → Thread → (object : ℕ) → List ℤ → CallEffect
-copy_effect in_use s t object zs = Leaves [] s t (BufferResult (if nat_le (in_use.copied + length zs) 65536 then Copy object zs else NoBuffer))
+copy_effect in_use s t object zs = Leaves [] s t (BufferResult (if nat_le (in_use.copied + length zs) most_copied then Copy object zs else NoBuffer))
 
 -- a view of the object, or NULL where 64 are out
 abbrev pub view_effect : BuffersInUse → Shared → Thread → ℕ → CallEffect
-view_effect in_use s t object = Leaves [] s t (BufferResult (if nat_lt in_use.views 64 then View object else NoBuffer))
+view_effect in_use s t object = Leaves [] s t (BufferResult (if nat_lt in_use.views most_views then View object else NoBuffer))
 
 -- the elements of a copy
 abbrev pub copied_elements : Option Variable → List ℤ
@@ -226,7 +227,7 @@ monitor object owner count = record { object = object; owner = owner; count = co
 abbrev pub enter_effect : (k : ℕ) → Shared → Thread → ℕ → Option Monitor → CallEffect
 enter_effect k s t object None = monitors_effect s t (monitor object k 1 ∷ s.monitors)
 enter_effect k s t object (Some m) =
-    if nat_lt m.count 255 then monitors_effect s t (monitor object k (m.count + 1) ∷ without_monitor s.monitors object)
+    if nat_lt m.count most_monitor_entries then monitors_effect s t (monitor object k (m.count + 1) ∷ without_monitor s.monitors object)
     else Leaves [] s t (ScalarResult (Int (negsuc 0)))
 
 -- one entry less of a monitor that the thread owns; with the last one the object is free

@@ -14,13 +14,6 @@ pub record Invocation : Type 0 where
   pub function : Identifier
   pub arguments : List ObjectValue
 
--- the fewest and the most cells of a heap
-abbrev pub least_cells : ℕ
-least_cells = 512
-
-abbrev pub most_cells : ℕ
-most_cells = 1048576
-
 -- Classes go by their number in the class table, objects by the name that they get at load.
 pub record World : Type 0 where
   pub cells : ℕ

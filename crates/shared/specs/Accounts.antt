@@ -2,6 +2,7 @@
 use Rattle.std.specs.Prelude.{◌≡◌, ℕ, zero, suc, ◌+◌, ◌==◌, ◌&&◌, ◌||◌, not, Bool, true, false, ℤ, List, [], ◌∷◌, ◌++◌, length, map, slice_get, Option, Some, None, Result, Ok, Err, nat_le, is_some, IsSome, IfOk, OnErr}
 use Rattle.std.specs.List.{list_any, list_all, enumerate_from, filter}
 use Rattle.std.specs.Option.{unwrap_or, option_map, option_map_or}
+use Rattle.base.specs.Limits.{most_entries}
 use Rattle.syntax.specs.declared.unit.Item.{Item}
 use Rattle.syntax.specs.Views.{unit_tree}
 use Rattle.class_rules.specs.Class.{Classes}
@@ -52,7 +53,7 @@ all_wait classes s = list_all (λ (t : ℕ × Thread). not (is_unfinished t.1.en
 
 -- the journal has no room for another entry
 abbrev pub is_full : Run → Bool
-is_full r = nat_le 1000000 (length r.journal)
+is_full r = nat_le most_entries (length r.journal)
 
 -- in the state that the run has led to
 abbrev pub fate_at : Run → State → Fate

@@ -1,5 +1,6 @@
 -- How the workers' runs end.
 use Rattle.std.specs.Prelude.{◌<◌, ◌≤◌, length, true, false}
+use Rattle.base.specs.Limits.{most_entries}
 use Rattle.machine.specs.Run.{Run, IsFinished}
 use Rattle.shared.specs.declared.work.Verdict.{Verdict}
 use Rattle.shared.specs.declared.work.Verdict.TheVariants.{NoMemory, Done, Full, Stalled}
@@ -8,5 +9,5 @@ use Rattle.shared.specs.declared.work.Verdict.TheVariants.{NoMemory, Done, Full,
 abbrev pub VerdictHolds : Run → Verdict → Type 0
 VerdictHolds r NoMemory = Unit {0}
 VerdictHolds r Done = IsFinished r true
-VerdictHolds r Full = IsFinished r false × (1000000 ≤ length r.journal)
-VerdictHolds r Stalled = IsFinished r false × (length r.journal < 1000000)
+VerdictHolds r Full = IsFinished r false × (most_entries ≤ length r.journal)
+VerdictHolds r Stalled = IsFinished r false × (length r.journal < most_entries)

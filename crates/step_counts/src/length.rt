@@ -2,20 +2,19 @@
 
 ghost use Rattle.std.specs.Prelude.{◌≡◌, ℕ, ◌+◌, ◌<◌, nat_lt, IfSome, IfNone, IsTrue, map, zip};
 ghost use Rattle.std.specs.List.{list_any, sum_by};
+ghost use Rattle.base.specs.Limits.{most_steps};
 ghost use Rattle.syntax.specs.Views.{expr_tree, argument_tree, call_tree, right_side_tree, test_tree, result_tree, form_tree, block_tree, function_tree, item_tree, unit_tree};
 ghost use Rattle.jni.specs.JniFunction.{function_named};
 ghost use Rattle.jni.specs.Table.{parameter_value};
 ghost use Rattle.code_meaning.specs.Plain.{is_plain};
-ghost use Rattle.code_meaning.specs.Length.{step_limit, expr_steps, argument_steps, call_steps, value_steps, right_steps, test_steps, return_steps, stmt_steps, block_steps, function_steps, is_long};
+ghost use Rattle.code_meaning.specs.Length.{expr_steps, argument_steps, call_steps, value_steps, right_steps, test_steps, return_steps, stmt_steps, block_steps, function_steps, is_long};
 
+use base::limits::MOST_STEPS;
 use jni::{ParameterKind, function_named};
 use region_rules::Checked;
 use syntax::{
     Argument, Block, Call, Constant, Expr, Form, Function, Item, ResultType, RightSide, Test,
 };
-
-/// How many steps a function may have, each with an instruction.
-pub const MOST_STEPS: usize = 65_535;
 
 /// What is left of `left` after one step, where there is one.
 fn after_one(left: usize) -> Option<usize>
@@ -213,7 +212,7 @@ fn after_block(left: usize, returns: ResultType, block: &Block) -> Option<usize>
 
 /// Whether a function has more than 65,535 steps.
 fn is_long_function(function: &Function) -> bool
-    ensures { result ≡ nat_lt step_limit (function_steps (function_tree function.now)) }
+    ensures { result ≡ nat_lt most_steps (function_steps (function_tree function.now)) }
 {
     after_block(MOST_STEPS, function.result, &function.body).is_none()
 }

@@ -3,4 +3,4 @@
 
 mod length;
 
-pub use length::{MOST_STEPS, has_long_function, long_function};
+pub use length::{has_long_function, long_function};

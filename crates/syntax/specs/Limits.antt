@@ -1,6 +1,7 @@
 -- Which trees a text may spell: they follow the operators' precedence and keep the limits.
 use Rattle.std.specs.Prelude.{ℕ, ◌+◌, ◌≤◌, Bool, true, false, ◌&&◌, List, [], ◌∷◌, ◌++◌, length, map, nat_lt, nat_le, max, IsTrue}
 use Rattle.std.specs.List.{list_all}
+use Rattle.base.specs.Limits.{most_elements, most_functions, most_names, most_statics}
 pub use Rattle.base.specs.Numbers.{number_limit}
 use Rattle.syntax.specs.Parts.{functions_of, statics_of, statements_of, own_expressions, own_arguments, names_declared, parameter_names}
 use Rattle.syntax.specs.Tree.{BinaryOp, LogicalOr, LogicalAnd, BitOr, BitXor, BitAnd, Equal, NotEqual, Less, LessEqual, Greater, GreaterEqual, ShiftLeft, ShiftRight, Add, Subtract, Multiply, Divide, Remainder, Expr, Number, Named, Variable, Element, Prefix, Binary, Paren, Argument, Text, Stmt, DeclareArray, AssignElement, If, IfElse, While, Return, ReturnValue, Block, End, Next, SourceUnit}
@@ -103,7 +104,7 @@ is_end (Next s rest) = false
 
 abbrev mutual
   pub well_formed : Stmt → Bool
-  well_formed (DeclareArray line t x size) = nat_le 1 size && nat_le size 1024
+  well_formed (DeclareArray line t x size) = nat_le 1 size && nat_le size most_elements
   well_formed (If line test then') = block_well_formed then'
   well_formed (IfElse line test then' else') = block_well_formed then' && block_well_formed else'
   well_formed (While line test body) = block_well_formed body
@@ -122,6 +123,6 @@ pub record IsTree (unit : SourceUnit) : Type 0 where
   pub texts : IsTrue (list_all (λ f. list_all (λ s. list_all text_of_bytes (own_arguments s)) (statements_of f.body)) (functions_of unit))
   pub forms : IsTrue (list_all (λ f. block_well_formed f.body) (functions_of unit))
   pub low : IsTrue (list_all (λ f. nat_le (block_height f.body) 32) (functions_of unit))
-  pub few_functions : length (functions_of unit) ≤ 256
-  pub few_statics : length (statics_of unit) ≤ 256
-  pub few_names : IsTrue (list_all (λ f. nat_le (length (parameter_names f ++ names_declared (statements_of f.body))) 256) (functions_of unit))
+  pub few_functions : length (functions_of unit) ≤ most_functions
+  pub few_statics : length (statics_of unit) ≤ most_statics
+  pub few_names : IsTrue (list_all (λ f. nat_le (length (parameter_names f ++ names_declared (statements_of f.body))) most_names) (functions_of unit))

@@ -5,8 +5,9 @@ ghost use Rattle.heap.specs.declared.value.Value.TheVariants.{Block as Reference
 ghost use Rattle.heap.specs.Heap.{IsAddress};
 ghost use Rattle.compact.specs.Reach.{IsClosed, AreAddresses};
 
+use base::limits::MOST_CELLS;
 use compact::{Roots, WeakList, collect, collect_weak};
-use heap::{Addr, Heap, MOST_CELLS, MOST_PINS, Value};
+use heap::{Addr, Heap, MOST_PINS, Value};
 use std::alloc::{AllocError, Global};
 
 /// Roots in a list.

@@ -2,6 +2,7 @@
 use Rattle.std.specs.Prelude.{◌≡◌, ℕ, ◌+◌, Bool, true, false, not, ◌&&◌, ◌||◌, ◌==◌, List, [], ◌∷◌, ◌++◌, length, map, position, pos, codes, nat_lt, nat_le, Option, Some, None, Result, Ok, Err, is_some, filter_map, unwrap_or, bytes_eq, if◌then◌else◌}
 use Rattle.std.specs.Option.{option_map, option_to_list}
 use Rattle.std.specs.List.{list_all}
+use Rattle.base.specs.Limits.{most_calls}
 use Rattle.base.specs.Bytes.{Identifier, ByName, lookup}
 use Rattle.base.specs.Options.{some_passes}
 use Rattle.class_rules.specs.Additions.{ClassRule, new_class, with_class, with_field, with_static}
@@ -92,7 +93,7 @@ last_calls (calls ∷ next ∷ threads) = last_calls (next ∷ threads)
 -- the limits on objects, threads and calls
 abbrev pub has_place : Gathered → WorldLine → Bool
 has_place g (ThreadLine function arguments) = nat_lt (length g.threads) 8
-has_place g (CallLine function arguments) = nat_lt (length (last_calls g.threads)) 256
+has_place g (CallLine function arguments) = nat_lt (length (last_calls g.threads)) most_calls
 has_place g line = nat_lt (length g.names + length (option_to_list (name_given line))) 65537
 
 -- the first that is broken

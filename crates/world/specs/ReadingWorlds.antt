@@ -1,13 +1,14 @@
 -- How the text of a world is read: line by line, each by the rules on it after those before it.
 use Rattle.std.specs.Prelude.{ℕ, ◌&&◌, List, [], ◌∷◌, ◌++◌, Option, Some, None, Result, Ok, nat_le, if◌then◌else◌}
 use Rattle.std.specs.List.{list_any}
+use Rattle.base.specs.Limits.{least_cells, most_cells}
 use Rattle.class_rules.specs.Additions.{NameTaken, BadSuperclass, BadSignature, TooMany}
 use Rattle.world_schedules.specs.LineRules.{LineRule, OfClass, LineForm, WrongName, OutOfLimit, HeapFull}
 use Rattle.world_schedules.specs.Reading.{◌>>=◌, refused}
 use Rattle.world_schedules.specs.declared.fault.Rule.{Rule}
 use Rattle.world_schedules.specs.declared.fault.Rule.TheVariants as held
 use Rattle.world_schedules.specs.declared.fault.TextFault.{TextFault}
-use Rattle.semantics.specs.World.{World, least_cells, most_cells}
+use Rattle.semantics.specs.World.{World}
 use Rattle.world_lines.specs.ReadingLines.{heap_of_line, line_of}
 use Rattle.world_values.specs.WorldLines.{WorldLine, Lines, text_lines}
 use Rattle.world_values.specs.WorldMeaning.{world_of}

@@ -3,6 +3,7 @@
 ghost use Rattle.std.specs.Prelude.{◌≡◌, ◌+◌, ◌<◌, ◌≤◌, ◌++◌, ◌∷◌, [], None, pos, length, map, codes, unwrap_or, IfOk, OnOk, IsTrue, if◌then◌else◌};
 ghost use Rattle.std.specs.List.{list_all};
 ghost use Rattle.std.specs.Option.{option_map};
+ghost use Rattle.base.specs.Limits.{most_objects};
 ghost use Rattle.base.specs.Bytes.{lookup};
 ghost use Rattle.base.specs.Element.{JInt};
 ghost use Rattle.class_rules.specs.Additions.{new_class, with_class};
@@ -158,7 +159,7 @@ impl WorldBuilder {
         values: Vec<ObjectValue>,
     ) -> Result<(), AllocError>
         requires new { lookup name.now self.old.names ≡ None }
-        requires few { length self.old.names < 65536 }
+        requires few { length self.old.names < most_objects }
         requires room { self.old.used + (3 + length values.items) ≤ self.old.cells }
         ensures { OnOk result (gathered_of self.new ≡ with_object (gathered_of self.old) name.now class (map object_value_view values.items)) }
     {
@@ -179,7 +180,7 @@ impl WorldBuilder {
         values: &[Value],
     ) -> Result<(), AllocError>
         requires new { lookup name.now self.old.names ≡ None }
-        requires few { length self.old.names < 65536 }
+        requires few { length self.old.names < most_objects }
         requires room { self.old.used + (3 + length values.now) ≤ self.old.cells }
         requires numbers { IsTrue (list_all (value_in_range JInt) (map value_view values.now)) }
         ensures { OnOk result (gathered_of self.new ≡ with_object (gathered_of self.old) name.now class (map (value_at self.old.classes self.old.names) (map value_view values.now))) }

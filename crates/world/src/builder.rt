@@ -1,6 +1,7 @@
 //! What the lines of a world have said so far.
 
 ghost use Rattle.std.specs.Prelude.{◌≤◌, length};
+ghost use Rattle.base.specs.Limits.{most_cells, most_objects};
 
 use crate::names::ObjectNames;
 use classes::table::ClassTable;
@@ -19,6 +20,6 @@ pub struct WorldBuilder {
     /// The part of the last line.
     pub part: u8,
     ghost room: { used ≤ cells },
-    ghost limit: { cells ≤ 1048576 },
-    ghost few: { length names ≤ 65536 },
+    ghost limit: { cells ≤ most_cells },
+    ghost few: { length names ≤ most_objects },
 }

@@ -3,6 +3,7 @@
 ghost use Rattle.std.specs.Prelude.{◌≡◌, ◌&&◌, ◌||◌, ◌==◌, ◌+◌, map, length, nat_le, unwrap_or, is_some, nat_lt};
 ghost use Rattle.std.specs.Option.{option_map};
 ghost use Rattle.std.specs.List.{list_all};
+ghost use Rattle.base.specs.Limits.{most_calls};
 ghost use Rattle.base.specs.Bytes.{lookup};
 ghost use Rattle.base.specs.Options.{some_passes};
 ghost use Rattle.classes.specs.Refusals.{rule_view};
@@ -19,6 +20,7 @@ ghost use Rattle.world_values.specs.WorldRules.{part_of, is_class_allowed, layou
 
 use crate::builder::WorldBuilder;
 use crate::names::ObjectNames;
+use base::limits::{MOST_CALLS, MOST_OBJECTS, MOST_THREADS};
 use class_layouts::LayoutFields;
 use classes::built_ins::CLASS;
 use classes::class::FieldType;
@@ -29,15 +31,6 @@ use world_lines::{
     is_class_allowed, is_formed, is_number, name_given, part_of, values_of,
 };
 use world_schedules::Rule;
-
-/// The most objects of a world.
-const MOST_OBJECTS: usize = 65_536;
-
-/// The most threads of a world.
-const MOST_THREADS: usize = 8;
-
-/// The most calls of a thread.
-const MOST_CALLS: usize = 256;
 
 fn is_name_taken(names: &ObjectNames, line: &Line) -> bool
     ensures { result ≡ some_passes (λ x. is_some (lookup x names.now)) (name_given (line_view line.now)) }
@@ -186,7 +179,7 @@ impl WorldBuilder {
 
     /// Whether the last thread may have one more call.
     fn may_call(&self) -> bool
-        ensures { result ≡ nat_lt (length (last_calls (gathered_of self.now).threads)) 256 }
+        ensures { result ≡ nat_lt (length (last_calls (gathered_of self.now).threads)) most_calls }
     {
         match self.threads.last() {
             Some(calls) => calls.len() < MOST_CALLS,

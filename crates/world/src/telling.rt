@@ -3,6 +3,7 @@
 use crate::builder::WorldBuilder;
 use crate::rules::is_known;
 use crate::text::begun;
+use base::limits::{LEAST_CELLS, MOST_CELLS};
 use classes::table::ClassTable;
 use details::Detail;
 use std::alloc::Global;
@@ -48,7 +49,7 @@ fn builder_of(alloc: Global, line: &[u8]) -> Result<WorldBuilder, Detail> {
         Err(_) => Err(Detail::none()),
         Ok(None) => Err(Detail::of(b"wanted `heap CELLS` first")),
         Ok(Some(cells)) => {
-            if cells < 512 || cells > 1_048_576 {
+            if cells < u64::from(LEAST_CELLS) || cells > u64::from(MOST_CELLS) {
                 return Err(Detail::of(b"wanted 512 to 1048576 cells"));
             }
             match begun(alloc, cells as u32) {

@@ -1,6 +1,7 @@
 -- The texts that journals are read from.
 use Rattle.std.specs.Prelude.{◌≡◌, ℕ, ◌≤◌, List, Bool, length, map, IsTrue}
 use Rattle.std.specs.List.{list_all}
+use Rattle.base.specs.Limits.{most_entries}
 use Rattle.semantics.specs.declared.journal.Entry.{Entry}
 use Rattle.semantics.specs.declared.journal.Entry.TheVariants.{Step}
 use Rattle.semantics.specs.Journal.{Journal}
@@ -15,4 +16,4 @@ has_thread threads (Step k refused) = is_thread threads k
 pub record IsJournalText (threads : ℕ) (text : List ℕ) (journal : Journal) : Type 0 where
   pub spelled : words_of text ≡ map entry_text journal
   pub threads_known : IsTrue (list_all (has_thread threads) journal)
-  pub few : length journal ≤ 1000000
+  pub few : length journal ≤ most_entries

@@ -1,5 +1,6 @@
 -- How the words of a journal are read.
 use Rattle.std.specs.Prelude.{◌≡◌, ℕ, ◌-◌, ◌≤◌, List, [], ◌∷◌, length, Ok, Bool, true, false, ◌&&◌, Option, Some, None, Result, nat_le, ◌==◌, if◌then◌else◌}
+use Rattle.base.specs.Limits.{most_entries}
 use Rattle.semantics.specs.JournalText.{spelled_entries}
 use Rattle.semantics.specs.declared.journal.Entry.{Entry}
 use Rattle.semantics.specs.declared.journal.Entry.TheVariants.{Step}
@@ -34,5 +35,5 @@ AreEntries threads (Step k refused ∷ es) = (1 ≤ k) × (k ≤ 8) × (k ≤ th
 -- the words that are written of entries are read as these entries
 abbrev pub EntriesAreReadAgain : Type 0
 EntriesAreReadAgain =
-    (threads : ℕ) (entries : List Entry) → AreEntries threads entries → length entries ≤ 1000000
+    (threads : ℕ) (entries : List Entry) → AreEntries threads entries → length entries ≤ most_entries
     → journal_of (spelled_entries entries) threads ≡ Ok entries

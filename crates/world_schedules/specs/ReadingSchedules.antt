@@ -1,6 +1,7 @@
 -- How the words of a schedule are read.
 use Rattle.std.specs.Prelude.{ℕ, ◌-◌, List, [], ◌∷◌, Bool, true, ◌&&◌, Option, Some, None, option_and_then, Result, Ok, ◌==◌, nat_le, replicate, if◌then◌else◌}
 use Rattle.std.specs.List.{flat_map}
+use Rattle.base.specs.Limits.{most_entries}
 use Rattle.semantics.specs.declared.schedule.ScheduleWord.{ScheduleWord}
 use Rattle.semantics.specs.declared.schedule.ScheduleWord.TheVariants.{Turn, Collect}
 use Rattle.world_schedules.specs.declared.schedule.Repetition.{Repetition}
@@ -20,7 +21,7 @@ named_word name = if name == 99 then Some Collect else named_turn name
 -- from once to a million times
 abbrev pub repetition : ℕ → ScheduleWord → Option Repetition
 repetition times word =
-    if nat_le 1 times && nat_le times 1000000 then Some (record { word = word; times = times }) else None
+    if nat_le 1 times && nat_le times most_entries then Some (record { word = word; times = times }) else None
 
 -- `1`, or `1*20`
 abbrev pub repetition_of : List ℕ → Option Repetition

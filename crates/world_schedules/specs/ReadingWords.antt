@@ -2,7 +2,7 @@
 use Rattle.std.specs.Prelude.{ℕ, ◌+◌, List, [], ◌∷◌, ◌++◌, Bool, Option, Some, None, Result, Ok, option_and_then, nat_le, sum_by, if◌then◌else◌}
 use Rattle.std.specs.Option.{option_map}
 use Rattle.std.specs.List.{list_all}
-use Rattle.world_schedules.specs.declared.words.TheConstants.{MOST_WORDS}
+use Rattle.base.specs.Limits.{most_entries}
 use Rattle.world_schedules.specs.declared.fault.TextFault.{TextFault}
 use Rattle.world_schedules.specs.declared.fault.Rule.TheVariants.{Form, Name, Limit}
 use Rattle.world_schedules.specs.Split.{parts_of}
@@ -23,7 +23,7 @@ unfoldable pub allowed_words : {W : Type 0} → (W → Bool) → (W → ℕ) →
 allowed_words known times number count None = refused Form number
 allowed_words known times number count (Some words) =
     if list_all known words
-    then (if nat_le (count + sum_by times words) MOST_WORDS then Ok words else refused Limit number)
+    then (if nat_le (count + sum_by times words) most_entries then Ok words else refused Limit number)
     else refused Name number
 
 -- the words of the line of this number, after this number of words

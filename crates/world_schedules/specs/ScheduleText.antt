@@ -1,6 +1,7 @@
 -- The texts that schedules are read from.
 use Rattle.std.specs.Prelude.{◌≡◌, ℕ, ◌≤◌, Bool, true, ◌&&◌, List, [], ◌∷◌, ◌++◌, length, map, replicate, Option, Some, None, codes, decimal, nat_le, IsTrue, flat_map}
 use Rattle.std.specs.List.{list_all}
+use Rattle.base.specs.Limits.{most_entries}
 use Rattle.semantics.specs.declared.schedule.ScheduleWord.{ScheduleWord}
 use Rattle.semantics.specs.declared.schedule.ScheduleWord.TheVariants.{Turn, Collect}
 use Rattle.semantics.specs.Schedule.{Schedule}
@@ -29,7 +30,7 @@ is_turn threads Collect = true
 -- a number that may come after *
 abbrev pub is_count : Option ℕ → Bool
 is_count None = true
-is_count (Some n) = nat_le 1 n && nat_le n 1000000
+is_count (Some n) = nat_le 1 n && nat_le n most_entries
 
 -- the schedule that a text means, for a world of this number of threads (8 at most)
 pub record IsScheduleText (threads : ℕ) (text : List ℕ) (schedule : Schedule) : Type 0 where
@@ -37,4 +38,4 @@ pub record IsScheduleText (threads : ℕ) (text : List ℕ) (schedule : Schedule
   pub spelled : words_of text ≡ map schedule_word words
   pub counted : IsTrue (list_all (λ w. is_turn threads w.0 && is_count w.1) words)
   pub meant : schedule ≡ flat_map words_meant words
-  pub few : length schedule ≤ 1000000
+  pub few : length schedule ≤ most_entries

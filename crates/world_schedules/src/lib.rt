@@ -13,4 +13,3 @@ pub use journal::{entries_are_read_again, journals_are_read, read_journal};
 pub use numbers::{integer, natural};
 pub use schedule::{Repetition, Schedule, read_schedule, schedules_are_read};
 pub use split::Split;
-pub use words::MOST_WORDS;

@@ -9,7 +9,7 @@ ghost use Rattle.world_schedules.specs.ReadingSchedules.{named_word, repetition,
 
 use crate::fault::ReadError;
 use crate::numbers::natural;
-use crate::words::{Word, read_words};
+use crate::words::{MOST_WORDS, Word, read_words};
 use semantics::ScheduleWord;
 use std::alloc::Global;
 use std::marker::Model;
@@ -95,7 +95,7 @@ fn word_of(name: u8) -> Option<ScheduleWord>
 fn repeated(word: ScheduleWord, times: u64) -> Option<Repetition>
     ensures { result ≡ repetition times word }
 {
-    if times < 1 || times > 1_000_000 {
+    if times < 1 || times > MOST_WORDS {
         return None;
     }
     let times = times as u32;

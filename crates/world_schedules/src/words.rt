@@ -3,16 +3,18 @@
 ghost use Rattle.std.specs.Prelude.{◌≡◌, ℕ, ◌+◌, ◌-◌, ◌^◌, ◌<◌, ◌≤◌, List, Option, Bool, IfOk, min, sum_by};
 ghost use Rattle.std.specs.Option.{option_map};
 ghost use Rattle.std.specs.List.{list_all};
+ghost use Rattle.base.specs.Limits.{most_entries};
 ghost use Rattle.world_schedules.specs.Reading.{Gives};
 ghost use Rattle.world_schedules.specs.ReadingWords.{formed_words, line_words, text_words};
 ghost use Rattle.world_schedules.specs.Split.{parts_of};
 
 use crate::fault::{ReadError, Rule, TextFault};
 use crate::split::Split;
+use base::limits::MOST_ENTRIES;
 use std::alloc::{AllocError, Global};
 
 /// The most words of a text, each as often as it is repeated.
-pub const MOST_WORDS: u64 = 1_000_000;
+pub(crate) const MOST_WORDS: u64 = MOST_ENTRIES as u64;
 
 /// A word of a text.
 pub trait Word: Drop {
@@ -75,9 +77,9 @@ fn read_line<W: Word>(
     threads: u8,
     count: u64,
 ) -> Result<Vec<W>, ReadError>
-    requires { count ≤ MOST_WORDS }
+    requires { count ≤ most_entries }
     ensures words { Gives (λ v. v.items) result (line_words W.spelled (W.known threads) W.times number count line.now) }
-    ensures within { IfOk result (λ v. count + sum_by W.times v.items ≤ MOST_WORDS) }
+    ensures within { IfOk result (λ v. count + sum_by W.times v.items ≤ most_entries) }
 {
     let Some(words) = formed::<W>(alloc, line)? else {
         let rule = Rule::Form;

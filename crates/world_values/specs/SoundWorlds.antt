@@ -1,6 +1,7 @@
 -- What holds of each world that was read: its objects fit their classes and the heap, and calls are given what is there.
 use Rattle.std.specs.Prelude.{◌≡◌, ℕ, ◌<◌, ◌≤◌, Bool, true, false, ◌&&◌, ◌==◌, List, [], ◌∷◌, ◌++◌, length, map, nat_lt, nat_le, IsTrue, Some, None, if◌then◌else◌}
 use Rattle.std.specs.List.{list_all, AllZip}
+use Rattle.base.specs.Limits.{most_cells, most_objects}
 use Rattle.base.specs.Element.{JChar}
 use Rattle.class_rules.specs.BuiltIns.{class_class, string_class}
 use Rattle.class_rules.specs.Class.{FieldType, NumberField, ReferenceField, ClassKind, Plain, ArrayOfNumbers, ArrayOfObjects, Classes, class_kind}
@@ -56,9 +57,9 @@ has_call (call ∷ calls) = true
 pub record IsSound (w : World) : Type 0 where
   pub grown : IsGrown w.classes
   pub declares : DeclaresWell w.classes
-  pub cells : w.cells ≤ 1048576
+  pub cells : w.cells ≤ most_cells
   pub fits : IsTrue (fits_cells w)
-  pub few_objects : length w.objects ≤ 65536
+  pub few_objects : length w.objects ≤ most_objects
   pub objects : AreObjectsAfter w.classes (made_before w.classes) w.objects
   pub few_threads : length w.threads ≤ 8
   pub calls : IsTrue (list_all has_call w.threads)

@@ -1,6 +1,7 @@
 -- Which texts are worlds.
 use Rattle.std.specs.Prelude.{◌≡◌, ℕ, ◌≤◌, Bool, true, false, not, ◌&&◌, ◌||◌, ℤ, pos, negsuc, List, [], ◌∷◌, ◌++◌, length, map, codes, decimal, nat_lt, nat_le, ◌==◌, IsTrue, filter, unwrap_or, if◌then◌else◌, is_some}
 use Rattle.std.specs.List.{list_any, list_all, AllZip}
+use Rattle.base.specs.Limits.{least_cells, most_calls, most_cells, most_objects, most_threads}
 use Rattle.base.specs.Bytes.{Identifier, is_from_to}
 use Rattle.base.specs.Element.{ElementType, JInt, JShort, JByte, JChar}
 use Rattle.base.specs.Options.{some_passes}
@@ -10,7 +11,7 @@ use Rattle.class_rules.specs.Fields.{FieldId, layout}
 use Rattle.class_rules.specs.Additions.{ClassRule, class_breaks, field_breaks}
 use Rattle.world_schedules.specs.LineRules.{LineRule, OfClass, LineForm, WrongName, OutOfLimit, HeapFull, line_rules}
 use Rattle.class_rules.specs.Mangling.{is_simple_name, is_class_name}
-use Rattle.semantics.specs.World.{World, least_cells, most_cells}
+use Rattle.semantics.specs.World.{World}
 use Rattle.world_values.specs.WorldLines.{WorldValue, NumberValue, NullValue, NamedObject, NamedClass, WorldLine, ClassLine, FieldLine, StaticLine, ObjectLine, ObjectsLine, ArrayLine, StringLine, ThreadLine, CallLine, Lines, spaced, IsLineText, text_lines}
 use Rattle.world_values.specs.WorldMeaning.{class_number, table_of, object_defined, objects_defined, class_of_object, values_of_line, threads_of, world_of, cells_of}
 
@@ -139,7 +140,7 @@ each_in_range types values = list_all (value_in_range JInt) values
 -- the limits on objects, threads and calls
 abbrev pub is_within_limits : Lines → Bool
 is_within_limits lines =
-    nat_le (length (objects_defined lines)) 65536 && nat_le (length (threads_of lines)) 8 && list_all (λ calls. nat_le (length calls) 256) (threads_of lines)
+    nat_le (length (objects_defined lines)) most_objects && nat_le (length (threads_of lines)) most_threads && list_all (λ calls. nat_le (length calls) most_calls) (threads_of lines)
 
 -- ---- the rules on a line, after earlier lines
 

@@ -1,4 +1,5 @@
 use Rattle.std.proofs.Common.{◌≡◌, ◌+◌, ◌≤◌, List, [], ◌∷◌, ◌++◌, length, refl, ap, sym, ◌∙◌, subst, arith, length-append}
+use Rattle.base.specs.Limits.{most_steps}
 use Rattle.syntax.specs.Tree.{Function}
 use Rattle.syntax.specs.Views.{function_tree}
 use Rattle.code.specs.declared.instr.Instr.{Instr}
@@ -7,7 +8,7 @@ use Rattle.code.specs.declared.slots.SlotCounts.{SlotCounts}
 use Rattle.code.specs.Depth.{IsValid}
 use Rattle.code_meaning.specs.Layout.{Known, entry_layout, function_slots}
 use Rattle.code_meaning.specs.Coding.{block_code, function_code}
-use Rattle.code_meaning.specs.Length.{function_steps, step_limit}
+use Rattle.code_meaning.specs.Length.{function_steps}
 use Rattle.code_meaning.specs.Lowered.{IsCodeOf}
 use Rattle.lower.specs.Listings.{listing_of}
 use Rattle.lower.proofs.Functions.{function_valid, is_code_of}
@@ -36,7 +37,7 @@ returns-clause-ok c =
     let f = function_tree c.args.function.now in
     let is = listed statics f _ _ _ _ c.in_ok-instrs.ensures.instrs c.in_ok-emit.ensures c.in_ok-instrs.ensures.slots c.slots.ensures in
     let steps = steps_emitted statics f _ c.requires.3 c.in_ok-instrs.ensures.instrs in
-    let few : function_steps f ≤ step_limit = omega (arith, c.len.ensures, c.if-len-gt-MOST_STEPS.false, c.in_ok-instrs.instrs.ok, steps) in
+    let few : function_steps f ≤ most_steps = omega (arith, c.len.ensures, c.if-len-gt-MOST_STEPS.false, c.in_ok-instrs.instrs.ok, steps) in
     subst (IsCodeOf statics f) (is ∙ sym c.in_ok-valid_code.ensures) (is_code_of statics f c.requires.0 c.requires.1 c.requires.2 c.requires.3 few)
 
 pub returns-clause-code : goal.returns-clause-code
