@@ -1,5 +1,5 @@
 -- The classes of a table that begins with a list of plain classes.
-use Rattle.std.specs.Prelude.{ℕ, Bool, ◌&&◌, List, [], ◌++◌, map, length, nat_lt}
+use Rattle.std.specs.Prelude.{ℕ, Bool, ◌&&◌, List, [], ◌++◌, map, length, nat_lt, ◌+◌}
 use Rattle.std.specs.List.{list_all, enumerate_from}
 use Rattle.std.specs.Borrow.{Bor}
 use Rattle.base.specs.Limits.{most_classes}

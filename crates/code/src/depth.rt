@@ -37,9 +37,9 @@ fn next_depth(instr: &Instr, depth: usize) -> Option<usize>
         | Instr::Not
         | Instr::Convert
         | Instr::LoadElement(..)
-        | Instr::LoadBuffer(..) => (depth > 0).then_some(depth),
+        | Instr::LoadBuffer { .. } => (depth > 0).then_some(depth),
         Instr::Operate(_) | Instr::OperateOrTrap(..) => depth.checked_sub(1).filter(|d| *d > 0),
-        Instr::StoreElement(..) | Instr::StoreBuffer(..) => depth.checked_sub(2),
+        Instr::StoreElement(..) | Instr::StoreBuffer { .. } => depth.checked_sub(2),
         Instr::Store(_)
         | Instr::JumpIfFalseOrPop(_)
         | Instr::JumpIfTrueOrPop(_)

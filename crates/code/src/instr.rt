@@ -291,10 +291,17 @@ pub enum Instr {
     StoreElement(ElementType, LocalArray, u32),
     /// Takes an index and puts the element there of the buffer in this slot, or traps on this line where there is none
     /// (6.5.2.1). A buffer that is NULL has none.
-    LoadBuffer(u32, u32),
+    LoadBuffer {
+        slot: u32,
+        line: u32,
+    },
     /// Takes a `jint`, then an index, and writes the element there of the buffer in this slot, converted to its type, or traps
     /// on this line where there is none (6.5.16.1 and 6.3.1.3, where the signed types wrap).
-    StoreBuffer(ElementType, u32, u32),
+    StoreBuffer {
+        element: ElementType,
+        slot: u32,
+        line: u32,
+    },
     /// Writes zeros into an array (6.7.8).
     ClearArray(LocalArray),
     /// Puts the truth whether a variable is NULL, or whether it isn't (6.5.9).

@@ -37,7 +37,7 @@ fn within_slots(instr: &Instr, slots: SlotCounts) -> bool
         Instr::LoadElement(array, _)
         | Instr::StoreElement(_, array, _)
         | Instr::ClearArray(array) => array_within(*array, slots.numbers),
-        Instr::LoadBuffer(slot, _) | Instr::StoreBuffer(_, slot, _) => *slot < slots.buffers,
+        Instr::LoadBuffer { slot, .. } | Instr::StoreBuffer { slot, .. } => *slot < slots.buffers,
         Instr::TestNull { variable, equal: _ } | Instr::StoreNull(variable) => {
             variable_within(*variable, slots)
         }

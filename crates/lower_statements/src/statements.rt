@@ -354,7 +354,14 @@ fn emit_write(
                 sort: Sort::Buffer(element, _),
                 index,
             },
-        ) => emit(code, Instr::StoreBuffer(element, index, line)),
+        ) => emit(
+            code,
+            Instr::StoreBuffer {
+                element,
+                slot: index,
+                line,
+            },
+        ),
         _ => Ok(()),
     }
 }

@@ -92,7 +92,7 @@ fn emit_element(
                 sort: Sort::Buffer(..),
                 index,
             },
-        ) => emit(code, Instr::LoadBuffer(index, line)),
+        ) => emit(code, Instr::LoadBuffer { slot: index, line }),
         _ => Ok(()),
     }
 }

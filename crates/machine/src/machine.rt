@@ -529,7 +529,7 @@ fn take_plainly(
                 thread: k,
                 refused: false,
             }),
-            Some(Event::Trapped(trap, line)) => {
+            Some(Event::Trapped { trap, line }) => {
                 journal.push_reserved(Entry::Step {
                     thread: k,
                     refused: false,
@@ -660,7 +660,7 @@ fn note(printed: &mut Vec<Printed>, stop: &mut Option<Stop>, k: u8, event: Event
     match event {
         Event::Quiet => {}
         Event::Printed(number) => printed.push_reserved(Printed { thread: k, number }),
-        Event::Trapped(trap, line) => {
+        Event::Trapped { trap, line } => {
             *stop = Some(Stop {
                 thread: k,
                 trap,

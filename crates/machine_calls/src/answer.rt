@@ -60,7 +60,11 @@ pub enum Answer {
     /// Nothing changes, and this is given.
     Gives(Given),
     /// A value of the object at this address changes, by its place, counted from 0.
-    Writes(Addr, usize, Value),
+    Writes {
+        object: Addr,
+        place: usize,
+        value: Value,
+    },
     /// Numbers of an object go into number slots.
     CopiesOut(ArrayRegion),
     /// What number slots hold goes into an object.
@@ -77,9 +81,15 @@ pub enum Answer {
     Throws(usize),
     /// A string of the call's text at this place is made, and an exception of the class of this number with it as message, which is
     /// pending; 0 is given.
-    Raises(usize, usize),
+    Raises {
+        class: usize,
+        text: usize,
+    },
     /// This exception is pending, or none, and this is given.
-    Pends(Option<Addr>, Given),
+    Pends {
+        exception: Option<Addr>,
+        given: Given,
+    },
     /// The machine stops, all checks being passed.
     Halts(Trap),
     /// The current frame gets room for this number of references more, and 0 is given, where the frames can have them; else as
@@ -636,7 +646,11 @@ pub(crate) fn writes_there(
     ensures { result ≡ writes_there heap.now reference place value }
 {
     match reference {
-        Some(addr) if place < heap.len_of(addr) => Answer::Writes(addr, place, value),
+        Some(addr) if place < heap.len_of(addr) => Answer::Writes {
+            object: addr,
+            place,
+            value,
+        },
         _ => Answer::Gives(Given::Nothing),
     }
 }

@@ -48,7 +48,7 @@ pub fn has_room(classes: &ClassTable, texts: &[Vec<u8>], heap: &Heap, answer: &A
     match *answer {
         Answer::Makes(new) => new.cells(classes, texts) <= heap.left(),
         Answer::Throws(class) => New::Fresh(class).cells(classes, texts) <= heap.left(),
-        Answer::Raises(class, place) => can_raise(classes, texts, heap, class, place),
+        Answer::Raises { class, text: place } => can_raise(classes, texts, heap, class, place),
         _ => true,
     }
 }
@@ -95,7 +95,11 @@ pub fn carry_out(
             given,
             refused: false,
         }),
-        Answer::Writes(addr, place, value) => {
+        Answer::Writes {
+            object: addr,
+            place,
+            value,
+        } => {
             store.heap.set(addr, place, value);
             Ok(Carried {
                 given: Given::Nothing,
@@ -119,7 +123,7 @@ pub fn carry_out(
             }
             None => Ok(refuse(world, store, pending, kind)),
         },
-        Answer::Raises(class, place) => {
+        Answer::Raises { class, text: place } => {
             match raise(world.classes(), texts, store, class, place) {
                 Some(exception) => {
                     *pending = Some(exception);
@@ -145,7 +149,7 @@ pub fn carry_out(
                 refused: false,
             })
         }
-        Answer::Pends(exception, given) => {
+        Answer::Pends { exception, given } => {
             *pending = exception;
             Ok(Carried {
                 given,

@@ -24,14 +24,23 @@ pub(crate) fn work_out_exception(scene: &Scene<'_>, function: &Call) -> Answer
     match function.function {
         JniFunction::Throw => {
             let exception = argument(scene.heap, &scene.references, function, 0);
-            Answer::Pends(exception, Given::Number(0))
+            Answer::Pends {
+                exception,
+                given: Given::Number(0),
+            }
         }
         JniFunction::ThrowNew => {
-            Answer::Raises(name_of(scene.heap, &scene.references, function, 0), 0)
+            Answer::Raises {
+                class: name_of(scene.heap, &scene.references, function, 0),
+                text: 0,
+            }
         }
         JniFunction::ExceptionOccurred => Answer::Gives(Given::Reference(scene.pending)),
         JniFunction::ExceptionCheck => gives_truth(scene.pending.is_some()),
-        JniFunction::ExceptionClear => Answer::Pends(None, Given::Nothing),
+        JniFunction::ExceptionClear => Answer::Pends {
+            exception: None,
+            given: Given::Nothing,
+        },
         JniFunction::FatalError => Answer::Halts(Trap::Fatal),
         _ => unreachable!(),
     }

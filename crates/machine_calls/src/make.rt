@@ -50,7 +50,7 @@ pub fn raise(
         return None;
     }
     let message = make(classes, texts, store, New::Text(place)).unwrap();
-    make(classes, texts, store, New::Exception(class, message))
+    make(classes, texts, store, New::Exception { class, message })
 }
 
 /// Whether a string of a text and an exception of a class with it as message have room.
@@ -84,7 +84,7 @@ fn allocate(
         New::Fresh(class) => allocate_fresh(classes, heap, class, birth),
         New::Array(array) => allocate_array(heap, &array, birth),
         New::Text(place) => allocate_text(heap, text_at(texts, place), birth),
-        New::Exception(class, message) => {
+        New::Exception { class, message } => {
             allocate_exception(classes, heap, class, message, birth)
         }
     }

@@ -23,7 +23,7 @@ pub enum New {
     /// A string of the call's text at this place, one UTF-16 unit a byte.
     Text(usize),
     /// An exception of the class of this number, with the string at this address as message.
-    Exception(usize, Addr),
+    Exception { class: usize, message: Addr },
 }
 
 impl New {
@@ -33,7 +33,7 @@ impl New {
         ensures few { result ≤ 2 ^ 63 + 2 }
     {
         match self {
-            New::Fresh(class) | New::Exception(class, _) => HEADER + classes.layout_len(class),
+            New::Fresh(class) | New::Exception { class, .. } => HEADER + classes.layout_len(class),
             New::Array(array) => HEADER + array.count as usize,
             New::Text(place) => HEADER + text_at(texts, place).len(),
         }

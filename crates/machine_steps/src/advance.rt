@@ -118,8 +118,8 @@ pub fn advance_plainly(program: &Program<'_>, store: &Store, thread: &mut Thread
             match instr {
                 Instr::TestNull { .. }
                 | Instr::StoreNull(_)
-                | Instr::LoadBuffer(..)
-                | Instr::StoreBuffer(..)
+                | Instr::LoadBuffer { .. }
+                | Instr::StoreBuffer { .. }
                 | Instr::PutJint
                 | Instr::Call(_)
                 | Instr::Return

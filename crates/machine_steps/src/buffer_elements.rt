@@ -37,7 +37,10 @@ pub fn load_element(store: &Store, call: &mut Activation, slot: u32, line: u32) 
             call.place += 1;
             Event::Quiet
         }
-        None => Event::Trapped(Trap::OutOfRange, line as usize),
+        None => Event::Trapped {
+            trap: Trap::OutOfRange,
+            line: line as usize,
+        },
     }
 }
 
@@ -72,7 +75,10 @@ pub fn store_element(
     } else {
         call.stack.push(index);
         call.stack.push(word);
-        Event::Trapped(Trap::OutOfRange, line as usize)
+        Event::Trapped {
+            trap: Trap::OutOfRange,
+            line: line as usize,
+        }
     }
 }
 

@@ -80,12 +80,14 @@ pub fn execute(
             store_null(&mut store.statics, call, *variable);
             Ok(Executed::Did(Event::Quiet))
         }
-        Instr::LoadBuffer(slot, line) => {
+        Instr::LoadBuffer { slot, line } => {
             Ok(Executed::Did(load_element(store, call, *slot, *line)))
         }
-        Instr::StoreBuffer(element, slot, line) => Ok(Executed::Did(store_element(
-            store, call, *element, *slot, *line,
-        ))),
+        Instr::StoreBuffer {
+            element,
+            slot,
+            line,
+        } => Ok(Executed::Did(store_element(store, call, *element, *slot, *line))),
         Instr::PutJint => {
             let word = call.stack.pop();
             call.place += 1;
@@ -111,7 +113,10 @@ fn outcome_of(line: u32, invoked: Invoked) -> Executed
     match invoked {
         Invoked::Done => Executed::Did(Event::Quiet),
         Invoked::Refused => Executed::Refused,
-        Invoked::Trapped(trap) => Executed::Did(Event::Trapped(trap, line as usize)),
+        Invoked::Trapped(trap) => Executed::Did(Event::Trapped {
+            trap,
+            line: line as usize,
+        }),
     }
 }
 
@@ -179,6 +184,9 @@ pub(crate) fn run_plain(instr: &Instr, call: &mut Activation) -> Event
             call.place -= back as usize;
             Event::Quiet
         }
-        Plain::Trap(trap, line) => Event::Trapped(trap_of(trap), line as usize),
+        Plain::Trap(trap, line) => Event::Trapped {
+            trap: trap_of(trap),
+            line: line as usize,
+        },
     }
 }

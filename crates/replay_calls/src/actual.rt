@@ -184,8 +184,8 @@ fn field_of<'a>(variables: &Variables<'a>, name: &Name) -> Option<FieldId<'a>>
         None => None,
         Some(content) => match content {
             Content::Field(field) => *field,
-            Content::Number(_) | Content::Reference(_, _) | Content::Array(_, _) => None,
-            Content::Buffer(_) | Content::Copy(_, _, _) | Content::View(_, _) => None,
+            Content::Number(_) | Content::Reference { .. } | Content::Array(_, _) => None,
+            Content::Buffer(_) | Content::Copy { .. } | Content::View { .. } => None,
         },
     }
 }
@@ -210,11 +210,14 @@ fn held_by(shared: &Shared<'_>, variables: &Variables<'_>, name: &Name) -> Stati
             None => StaticReference::Empty,
         },
         Some(content) => match content {
-            Content::Reference(_, Some(object)) => StaticReference::Live(*object),
-            Content::Reference(_, None) | Content::Number(_) => StaticReference::Empty,
+            Content::Reference {
+                object: Some(object),
+                ..
+            } => StaticReference::Live(*object),
+            Content::Reference { object: None, .. } | Content::Number(_) => StaticReference::Empty,
             Content::Field(_) | Content::Array(_, _) => StaticReference::Empty,
-            Content::Buffer(_) | Content::Copy(_, _, _) => StaticReference::Empty,
-            Content::View(_, _) => StaticReference::Empty,
+            Content::Buffer(_) | Content::Copy { .. } => StaticReference::Empty,
+            Content::View { .. } => StaticReference::Empty,
         },
     }
 }
@@ -226,9 +229,9 @@ pub fn level_of(variables: &Variables<'_>, name: &[u8]) -> usize
     match variables.content_named(name) {
         None => 0,
         Some(content) => match content {
-            Content::Reference(level, _) => *level,
+            Content::Reference { level, .. } => *level,
             Content::Number(_) | Content::Field(_) | Content::Array(_, _) => 0,
-            Content::Buffer(_) | Content::Copy(_, _, _) | Content::View(_, _) => 0,
+            Content::Buffer(_) | Content::Copy { .. } | Content::View { .. } => 0,
         },
     }
 }

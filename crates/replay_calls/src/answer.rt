@@ -55,14 +55,21 @@ pub enum Answer<'a> {
     /// Nothing changes, and this is given.
     Gives(Given<'a>),
     /// A value of the object of this name changes, by its place, counted from 0.
-    Writes(usize, usize, ObjectValue),
+    Writes {
+        object: usize,
+        place: usize,
+        value: ObjectValue,
+    },
     /// This object is made, and given.
     Makes(New<'a>),
     /// An exception of the class of this number is made, with zero and null fields, and is pending.
     Raises(usize),
     /// A string of this text is made, and an exception of the class of this number with it as message; the exception is pending,
     /// and 0 is given.
-    ThrowsNew(usize, &'a [u8]),
+    ThrowsNew {
+        class: usize,
+        text: &'a [u8],
+    },
     /// The current frame gets room for this number of references more, and 0 is given.
     Ensures(usize),
     /// A frame of this capacity is made, and 0 is given.
@@ -72,13 +79,22 @@ pub enum Answer<'a> {
     /// The current frame is dropped, and this is given.
     Pops(Option<usize>),
     /// A local reference to the object of this name is deleted, in the frame of a level.
-    DeletesLocal(usize, usize),
+    DeletesLocal {
+        level: usize,
+        object: usize,
+    },
     /// A global reference to the object of this name is made, and given.
     MakesGlobal(usize),
     /// A global reference to the object of this name is deleted, and the static is marked.
-    DeletesGlobal(&'a [u8], usize),
+    DeletesGlobal {
+        variable: &'a [u8],
+        object: usize,
+    },
     /// The exception of this name is pending, or none is, whatever was pending before, and this is given.
-    Pends(Option<usize>, Given<'a>),
+    Pends {
+        exception: Option<usize>,
+        given: Given<'a>,
+    },
     /// The local array of a region begins with the region's numbers.
     GetsRegion(Region<'a>),
     /// The numbers of a region become the first of its local array.
@@ -86,11 +102,18 @@ pub enum Answer<'a> {
     /// This buffer is given.
     Lends(Lent),
     /// The object of this name gets the numbers of the copy that a variable holds, which is given up or not.
-    CopiesBack(usize, &'a [u8], bool),
+    CopiesBack {
+        object: usize,
+        buffer: &'a [u8],
+        frees: bool,
+    },
     /// The buffer that a variable holds is given up.
     Frees(&'a [u8]),
     /// The thread owns the object of this name so many times, and 0 is given.
-    Owns(usize, u8),
+    Owns {
+        object: usize,
+        count: u8,
+    },
     /// Nobody owns the object of this name, and 0 is given.
     Disowns(usize),
     /// The run stops.
@@ -329,17 +352,21 @@ fn field_answer<'a>(
         }
         JniFunction::SetField(element) => {
             let number = convert(element, number_given(actuals, 2));
-            Answer::Writes(object, place, ObjectValue::Number(number))
+            Answer::Writes {
+                object,
+                place,
+                value: ObjectValue::Number(number),
+            }
         }
         JniFunction::GetObjectField => {
             Answer::Gives(Given::Reference(reference_in(store.value_at(object, place))))
         }
         JniFunction::SetObjectField => {
-            Answer::Writes(
+            Answer::Writes {
                 object,
                 place,
-                ObjectValue::Reference(reference_given(actuals, 2)),
-            )
+                value: ObjectValue::Reference(reference_given(actuals, 2)),
+            }
         }
         _ => unreachable!(),
     }
@@ -365,17 +392,21 @@ fn static_answer<'a>(
         }
         JniFunction::SetStaticField(element) => {
             let number = convert(element, number_given(actuals, 2));
-            Answer::Writes(class, place, ObjectValue::Number(number))
+            Answer::Writes {
+                object: class,
+                place,
+                value: ObjectValue::Number(number),
+            }
         }
         JniFunction::GetStaticObjectField => {
             Answer::Gives(Given::Reference(reference_in(store.value_at(class, place))))
         }
         JniFunction::SetStaticObjectField => {
-            Answer::Writes(
-                class,
+            Answer::Writes {
+                object: class,
                 place,
-                ObjectValue::Reference(reference_given(actuals, 2)),
-            )
+                value: ObjectValue::Reference(reference_given(actuals, 2)),
+            }
         }
         _ => unreachable!(),
     }
@@ -483,7 +514,10 @@ fn local_deleted<'a>(variables: &Variables<'_>, actuals: &[Actual<'_>]) -> Answe
 {
     match reference_given(actuals, 0) {
         Some(name) => {
-            Answer::DeletesLocal(level_of(variables, variable_given(actuals, 0)), name)
+            Answer::DeletesLocal {
+                level: level_of(variables, variable_given(actuals, 0)),
+                object: name,
+            }
         }
         None => Answer::Gives(Given::Nothing),
     }
@@ -494,7 +528,10 @@ fn global_deleted<'a>(actuals: &[Actual<'a>]) -> Answer<'a>
     ensures { answer_view result ≡ global_deleted (variable_given (map actual_view actuals.now) 0) (reference_given (map actual_view actuals.now) 0) }
 {
     match reference_given(actuals, 0) {
-        Some(name) => Answer::DeletesGlobal(variable_given(actuals, 0), name),
+        Some(name) => Answer::DeletesGlobal {
+            variable: variable_given(actuals, 0),
+            object: name,
+        },
         None => Answer::Gives(Given::Nothing),
     }
 }
@@ -626,11 +663,11 @@ fn element_set<'a>(classes: &ClassTable, store: &Store, actuals: &[Actual<'_>]) 
         return Answer::Raises(ARRAY_STORE_EXCEPTION);
     }
     let reference = reference_given(actuals, 2);
-    Answer::Writes(
-        object_given(actuals, 0),
-        index,
-        ObjectValue::Reference(reference),
-    )
+    Answer::Writes {
+        object: object_given(actuals, 0),
+        place: index,
+        value: ObjectValue::Reference(reference),
+    }
 }
 
 /// Whether the reference of argument 2 may be an element of the array of argument 0.

@@ -87,8 +87,16 @@ fn released<'a>(object: usize, buffer: &'a [u8], mode: ReleaseMode) -> Answer<'a
     ensures { answer_view result ≡ released object buffer.entry.now (mode_view mode) }
 {
     match mode {
-        ReleaseMode::CopyBackAndFree => Answer::CopiesBack(object, buffer, true),
-        ReleaseMode::CopyBack => Answer::CopiesBack(object, buffer, false),
+        ReleaseMode::CopyBackAndFree => Answer::CopiesBack {
+            object,
+            buffer,
+            frees: true,
+        },
+        ReleaseMode::CopyBack => Answer::CopiesBack {
+            object,
+            buffer,
+            frees: false,
+        },
         ReleaseMode::FreeUncopied => Answer::Frees(buffer),
     }
 }

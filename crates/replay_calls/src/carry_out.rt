@@ -49,7 +49,11 @@ pub fn carry_out<'a>(
 {
     match answer {
         Answer::Gives(given) => Ok(given),
-        Answer::Writes(name, place, value) => {
+        Answer::Writes {
+            object: name,
+            place,
+            value,
+        } => {
             shared.store.set(name, place, value);
             Ok(Given::Nothing)
         }
@@ -62,16 +66,19 @@ pub fn carry_out<'a>(
             *pending = Some(name);
             Ok(failed(kind))
         }
-        Answer::ThrowsNew(class, text) => {
+        Answer::ThrowsNew { class, text } => {
             let name = make_thrown(alloc, classes, &mut shared.store, class, text)?;
             *pending = Some(name);
             Ok(Given::Number(0))
         }
-        Answer::Pends(reference, given) => {
+        Answer::Pends {
+            exception: reference,
+            given,
+        } => {
             *pending = reference;
             Ok(given)
         }
-        Answer::GetsRegion(_) | Answer::SetsRegion(_) | Answer::CopiesBack(_, _, _) => {
+        Answer::GetsRegion(_) | Answer::SetsRegion(_) | Answer::CopiesBack { .. } => {
             carry_out_numbers(shared, variables, answer)
         }
         Answer::Frees(buffer) => {
@@ -101,7 +108,11 @@ fn carry_out_numbers<'a>(
     match answer {
         Answer::GetsRegion(region) => get_region(&shared.store, variables, region),
         Answer::SetsRegion(region) => set_region(&mut shared.store, variables, region),
-        Answer::CopiesBack(object, buffer, frees) => {
+        Answer::CopiesBack {
+            object,
+            buffer,
+            frees,
+        } => {
             copy_back(&mut shared.store, variables, object, buffer, frees)?;
         }
         _ => unreachable!(),
@@ -133,12 +144,15 @@ fn carry_out_references<'a>(
             shared.globals.push(name)?;
             Ok(Given::Reference(Some(name)))
         }
-        Answer::DeletesGlobal(variable, name) => {
+        Answer::DeletesGlobal {
+            variable,
+            object: name,
+        } => {
             shared.statics.set(variable, StaticReference::Deleted)?;
             shared.globals.remove(name);
             Ok(Given::Nothing)
         }
-        Answer::Owns(object, count) => {
+        Answer::Owns { object, count } => {
             shared.monitors.put(object, thread, count)?;
             Ok(Given::Number(0))
         }
@@ -182,7 +196,10 @@ fn carry_out_frames<'a>(
             frames.pop();
             Ok(Given::Reference(reference))
         }
-        Answer::DeletesLocal(level, name) => {
+        Answer::DeletesLocal {
+            level,
+            object: name,
+        } => {
             frames.remove(level, name);
             Ok(Given::Nothing)
         }
@@ -205,15 +222,15 @@ pub fn makes_object(answer: Answer<'_>) -> bool
     ensures { result ≡ makes_object (answer_view answer.entry) }
 {
     match answer {
-        Answer::Gives(_) | Answer::Writes(_, _, _) => false,
-        Answer::Makes(_) | Answer::Raises(_) | Answer::ThrowsNew(_, _) => true,
+        Answer::Gives(_) | Answer::Writes { .. } => false,
+        Answer::Makes(_) | Answer::Raises(_) | Answer::ThrowsNew { .. } => true,
         Answer::Ensures(_) | Answer::Pushes(_) | Answer::RefusesFrames => false,
-        Answer::Pops(_) | Answer::DeletesLocal(_, _) => false,
-        Answer::MakesGlobal(_) | Answer::DeletesGlobal(_, _) => false,
+        Answer::Pops(_) | Answer::DeletesLocal { .. } => false,
+        Answer::MakesGlobal(_) | Answer::DeletesGlobal { .. } => false,
         Answer::GetsRegion(_) | Answer::SetsRegion(_) => false,
-        Answer::Lends(_) | Answer::CopiesBack(_, _, _) | Answer::Frees(_) => false,
-        Answer::Owns(_, _) | Answer::Disowns(_) => false,
-        Answer::Pends(_, _) | Answer::Halts(_) => false,
+        Answer::Lends(_) | Answer::CopiesBack { .. } | Answer::Frees(_) => false,
+        Answer::Owns { .. } | Answer::Disowns(_) => false,
+        Answer::Pends { .. } | Answer::Halts(_) => false,
     }
 }
 

@@ -28,13 +28,22 @@ pub(crate) fn exception_answer<'a>(
     ensures { (classes : Classes) (in_use : BuffersInUse) (k : ℕ) (monitors : List Monitor) (heap : Heap) (variables : Variables) (frames : List Frame) → answer_view result ≡ worked_out classes in_use k monitors heap variables frames pending (map actual_view actuals.now) (function_value function) }
 {
     match function {
-        JniFunction::Throw => Answer::Pends(reference_given(actuals, 0), Given::Number(0)),
+        JniFunction::Throw => Answer::Pends {
+            exception: reference_given(actuals, 0),
+            given: Given::Number(0),
+        },
         JniFunction::ThrowNew => {
-            Answer::ThrowsNew(object_given(actuals, 0), text_given(actuals, 1))
+            Answer::ThrowsNew {
+                class: object_given(actuals, 0),
+                text: text_given(actuals, 1),
+            }
         }
         JniFunction::ExceptionOccurred => Answer::Gives(Given::Reference(pending)),
         JniFunction::ExceptionCheck => Answer::Gives(Given::Flag(pending.is_some())),
-        JniFunction::ExceptionClear => Answer::Pends(None, Given::Nothing),
+        JniFunction::ExceptionClear => Answer::Pends {
+            exception: None,
+            given: Given::Nothing,
+        },
         JniFunction::FatalError => Answer::Halts(Trap::Fatal),
         _ => unreachable!(),
     }

@@ -47,10 +47,13 @@ fn entered<'a>(object: usize, monitor: Option<Monitor>) -> Answer<'a>
     ensures { answer_view result ≡ monitor_entered object (option_map monitor_view monitor) }
 {
     match monitor {
-        None => Answer::Owns(object, 1),
+        None => Answer::Owns { object, count: 1 },
         Some(monitor) => {
             if monitor.count < MOST_MONITOR_ENTRIES {
-                Answer::Owns(object, monitor.count + 1)
+                Answer::Owns {
+                    object,
+                    count: monitor.count + 1,
+                }
             } else {
                 Answer::Gives(Given::Number(-1))
             }
@@ -71,5 +74,8 @@ fn left<'a>(thread: u8, object: usize, monitor: Option<Monitor>) -> Answer<'a>
     if monitor.count == 1 {
         return Answer::Disowns(object);
     }
-    Answer::Owns(object, monitor.count.saturating_sub(1))
+    Answer::Owns {
+        object,
+        count: monitor.count.saturating_sub(1),
+    }
 }

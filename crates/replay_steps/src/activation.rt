@@ -189,7 +189,7 @@ fn leave_block<'a>(turn: Turn<'a>, work: &mut Work<'a>) -> Result<Outcome<'a>, A
     work.rest = rest;
     match end {
         End::If => Ok(Outcome::Ends),
-        End::Turn(line, test, body) => {
+        End::Turn { line, test, body } => {
             begin_turn(turn.alloc, &mut work.task, line, test, body)?;
             Ok(Outcome::Stays)
         }
@@ -216,18 +216,23 @@ fn set_tasks<'a>(work: &mut Work<'a>, outcome: Outcome<'a>) -> Result<(), AllocE
     ensures { IfOk result (λ _. AreSet work.old outcome.entry work.new) }
 {
     match outcome {
-        Outcome::Stays | Outcome::Returned | Outcome::Trapped(_, _) | Outcome::Impossible => {}
+        Outcome::Stays | Outcome::Returned | Outcome::Trapped { .. } | Outcome::Impossible => {}
         Outcome::Enters(block, end) => enter_block(work, block, end)?,
         Outcome::Printed(_) | Outcome::Sets(_, _) | Outcome::SetsNull(_) => {
             put_task(&mut work.task, None);
         }
-        Outcome::Gives(_, _) | Outcome::Lends(_, _) | Outcome::SetsElement(_, _, _) => {
+        Outcome::Gives(_, _) | Outcome::Lends(_, _) | Outcome::SetsElement { .. } => {
             put_task(&mut work.task, None);
         }
-        Outcome::Tests(line, zero, block, otherwise) => {
+        Outcome::Tests {
+            line,
+            zero,
+            block,
+            otherwise,
+        } => {
             begin_branch(&mut work.task, line, zero, block, otherwise);
         }
-        Outcome::Makes(_, _, _) | Outcome::Ends => put_task(&mut work.task, None),
+        Outcome::Makes { .. } | Outcome::Ends => put_task(&mut work.task, None),
     }
     Ok(())
 }

@@ -143,7 +143,12 @@ fn outcome_for<'a>(line: usize, purpose: Purpose<'a>, given: Given<'a>) -> Outco
     match purpose {
         Purpose::Put(target) => Outcome::Gives(target, given),
         Purpose::Test(block, otherwise) => {
-            Outcome::Tests(line, is_zero(given), block, otherwise)
+            Outcome::Tests {
+                line,
+                zero: is_zero(given),
+                block,
+                otherwise,
+            }
         }
     }
 }
@@ -192,7 +197,7 @@ fn call<'a>(
         actuals,
     );
     if let Some(trap) = trap_in(answer) {
-        return Ok(unless_refused(turn.refused, Outcome::Trapped(trap, i.line)));
+        return Ok(unless_refused(turn.refused, Outcome::Trapped { trap, line: i.line }));
     }
     if turn.refused {
         return Ok(refuse_object(turn, pending, i, answer));
@@ -296,6 +301,11 @@ fn lent_outcome<'a>(line: usize, purpose: Purpose<'a>, buffer: Lent) -> Outcome<
 {
     match purpose {
         Purpose::Put(target) => Outcome::Lends(target, buffer),
-        Purpose::Test(block, otherwise) => Outcome::Tests(line, false, block, otherwise),
+        Purpose::Test(block, otherwise) => Outcome::Tests {
+            line,
+            zero: false,
+            block,
+            otherwise,
+        },
     }
 }

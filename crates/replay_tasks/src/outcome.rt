@@ -43,7 +43,11 @@ pub enum End<'a> {
     /// The end of an `if`.
     If,
     /// The end of a turn, with the loop's line, test and body.
-    Turn(usize, &'a Expr, &'a Block),
+    Turn {
+        line: usize,
+        test: &'a Expr,
+        body: &'a Block,
+    },
 }
 
 /// What a step of a task did.
@@ -62,11 +66,24 @@ pub enum Outcome<'a> {
     /// It is over, and the buffer that a call gave goes there.
     Lends(Target<'a>, Lent),
     /// It is over, and the `if` of this line has its test, whether a call gave 0, and its two ways.
-    Tests(usize, bool, &'a Block, Option<&'a Block>),
+    Tests {
+        line: usize,
+        zero: bool,
+        block: &'a Block,
+        otherwise: Option<&'a Block>,
+    },
     /// It is over, and the element has this number, converted to its type.
-    SetsElement(&'a Name, usize, i32),
+    SetsElement {
+        name: &'a Name,
+        index: usize,
+        number: i32,
+    },
     /// It is over, and there is an array of this many zeros.
-    Makes(ElementType, &'a Name, u32),
+    Makes {
+        element: ElementType,
+        name: &'a Name,
+        len: u32,
+    },
     /// It is over, and the statements of this block are to do, up to this end; none where an `else` is missing.
     Enters(Option<&'a Block>, End<'a>),
     /// It is over: a way of an `if` has ended, or a loop.
@@ -74,7 +91,10 @@ pub enum Outcome<'a> {
     /// The call is over.
     Returned,
     /// The machine stops, by a statement of this line.
-    Trapped(Trap, usize),
+    Trapped {
+        trap: Trap,
+        line: usize,
+    },
     /// It can take no step.
     Impossible,
 }

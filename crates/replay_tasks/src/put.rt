@@ -25,7 +25,10 @@ fn blank<'a>(kind: VariableKind, frames: usize) -> Content<'a>
 {
     match kind {
         VariableKind::Number => Content::Number(Value::Int(0)),
-        VariableKind::Reference => Content::Reference(frames, None),
+        VariableKind::Reference => Content::Reference {
+            level: frames,
+            object: None,
+        },
         VariableKind::Field => Content::Field(None),
         VariableKind::Buffer(kind) => Content::Buffer(kind),
     }
@@ -43,9 +46,15 @@ fn filled<'a>(content: &Content<'a>, given: Given<'a>) -> Option<Content<'a>>
             Given::Flag(b) => Some(Content::Number(Value::Flag(b))),
             _ => None,
         },
-        Content::Reference(level, _) => match given {
-            Given::Null => Some(Content::Reference(*level, None)),
-            Given::Reference(reference) => Some(Content::Reference(*level, reference)),
+        Content::Reference { level, .. } => match given {
+            Given::Null => Some(Content::Reference {
+                level: *level,
+                object: None,
+            }),
+            Given::Reference(reference) => Some(Content::Reference {
+                level: *level,
+                object: reference,
+            }),
             _ => None,
         },
         Content::Field(_) => match given {
@@ -53,7 +62,7 @@ fn filled<'a>(content: &Content<'a>, given: Given<'a>) -> Option<Content<'a>>
             Given::Field(found) => Some(Content::Field(found)),
             _ => None,
         },
-        Content::Copy(kind, _, _) | Content::View(kind, _) => match given {
+        Content::Copy { element: kind, .. } | Content::View { element: kind, .. } => match given {
             Given::Null => Some(Content::Buffer(*kind)),
             _ => None,
         },
@@ -115,9 +124,16 @@ fn lent<'a>(
         Lent::Nothing => Ok(Content::Buffer(kind)),
         Lent::Copy(object) => {
             let numbers = store.numbers_of(alloc, object)?;
-            Ok(Content::Copy(kind, object, numbers))
+            Ok(Content::Copy {
+                element: kind,
+                object,
+                numbers,
+            })
         }
-        Lent::View(object) => Ok(Content::View(kind, object)),
+        Lent::View(object) => Ok(Content::View {
+            element: kind,
+            object,
+        }),
     }
 }
 
@@ -127,8 +143,10 @@ fn buffer_type(content: &Content<'_>) -> Option<ElementType>
     ensures none { IfNone result ((b : Buffer) → filled (content_view content.now) (BufferResult b) ≡ content_view content.now) }
 {
     match content {
-        Content::Buffer(kind) | Content::Copy(kind, _, _) | Content::View(kind, _) => Some(*kind),
-        Content::Number(_) | Content::Reference(_, _) => None,
+        Content::Buffer(kind)
+        | Content::Copy { element: kind, .. }
+        | Content::View { element: kind, .. } => Some(*kind),
+        Content::Number(_) | Content::Reference { .. } => None,
         Content::Field(_) | Content::Array(_, _) => None,
     }
 }
@@ -198,7 +216,7 @@ fn write<'a>(
 {
     match variables.write(name, index, number) {
         Written::Done => true,
-        Written::Object(object, number) => {
+        Written::Object { object, number } => {
             store.set(object, index, ObjectValue::Number(number));
             true
         }
@@ -240,13 +258,21 @@ pub fn set_variables<'a>(
         Outcome::Lends(target, buffer) => {
             lend(alloc, store, statics, frames, variables, target, buffer)?;
         }
-        Outcome::Makes(kind, name, size) => make_array(alloc, variables, kind, name, size)?,
-        Outcome::SetsElement(name, index, number) => {
+        Outcome::Makes {
+            element: kind,
+            name,
+            len: size,
+        } => make_array(alloc, variables, kind, name, size)?,
+        Outcome::SetsElement {
+            name,
+            index,
+            number,
+        } => {
             return Ok(write(store, variables, name, index, number));
         }
         Outcome::Stays | Outcome::Printed(_) | Outcome::Enters(_, _) | Outcome::Ends => {}
-        Outcome::Tests(_, _, _, _) => {}
-        Outcome::Returned | Outcome::Trapped(_, _) | Outcome::Impossible => {}
+        Outcome::Tests { .. } => {}
+        Outcome::Returned | Outcome::Trapped { .. } | Outcome::Impossible => {}
     }
     Ok(true)
 }

@@ -26,7 +26,7 @@ pub fn reduced<'a>(line: usize, reduction: Reduction) -> Outcome<'a>
 {
     match reduction {
         Reduction::Reduced => Outcome::Stays,
-        Reduction::Trapped(trap) => Outcome::Trapped(trap, line),
+        Reduction::Trapped(trap) => Outcome::Trapped { trap, line },
         Reduction::Stuck => Outcome::Impossible,
     }
 }
@@ -84,8 +84,12 @@ fn write<'a, O: Objects>(
 {
     match number {
         Value::Int(z) => match place_in(objects, variables, name, index) {
-            Indexed::At(i) => Outcome::SetsElement(name, i, z),
-            Indexed::Traps(trap) => Outcome::Trapped(trap, line),
+            Indexed::At(i) => Outcome::SetsElement {
+                name,
+                index: i,
+                number: z,
+            },
+            Indexed::Traps(trap) => Outcome::Trapped { trap, line },
             Indexed::Stuck => Outcome::Impossible,
         },
         Value::Word(_) | Value::Flag(_) | Value::Truth(_) => Outcome::Impossible,
@@ -181,7 +185,14 @@ fn turn<'a, O: Objects>(
 {
     match &mut i.term {
         Term::Done(v) => match v {
-            Value::Truth(true) => Outcome::Enters(Some(i.body), End::Turn(i.line, i.test, i.body)),
+            Value::Truth(true) => Outcome::Enters(
+                Some(i.body),
+                End::Turn {
+                    line: i.line,
+                    test: i.test,
+                    body: i.body,
+                },
+            ),
             Value::Truth(false) => Outcome::Ends,
             Value::Word(_) | Value::Int(_) | Value::Flag(_) => Outcome::Impossible,
         },
@@ -302,7 +313,11 @@ pub fn plain_step<'a, O: Objects>(
         Task::Print(_) | Task::ReturnValue(_) => evaluate(objects, statics, variables, task),
         Task::Set(_) | Task::SetElement(_) => assign(objects, statics, variables, task),
         Task::SetNull(target) => Outcome::SetsNull(*target),
-        Task::MakeArray(kind, name, size) => Outcome::Makes(*kind, name, *size),
+        Task::MakeArray(kind, name, size) => Outcome::Makes {
+            element: *kind,
+            name,
+            len: *size,
+        },
         Task::Branch(_) | Task::Loop(_) => take_way(objects, statics, variables, task),
         Task::Return => Outcome::Returned,
         Task::Invoke(_) => unreachable!(),

@@ -25,15 +25,15 @@ pub(crate) fn taken(content: &Content<'_>) -> BuffersInUse
     ensures short { result.copied < 2 ^ 63 }
 {
     match content {
-        Content::Copy(_, _, numbers) => BuffersInUse {
+        Content::Copy { numbers, .. } => BuffersInUse {
             copied: numbers.len(),
             views: 0,
         },
-        Content::View(_, _) => BuffersInUse {
+        Content::View { .. } => BuffersInUse {
             copied: 0,
             views: 1,
         },
-        Content::Number(_) | Content::Reference(_, _) => NOTHING,
+        Content::Number(_) | Content::Reference { .. } => NOTHING,
         Content::Field(_) | Content::Buffer(_) | Content::Array(_, _) => NOTHING,
     }
 }

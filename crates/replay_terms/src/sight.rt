@@ -25,11 +25,11 @@ pub fn number_in(variables: &Variables<'_>, name: &Name) -> Evaluated
         None => Evaluated::Stuck,
         Some(content) => match content {
             Content::Number(value) => Evaluated::Gives(*value),
-            Content::Reference(_, _)
+            Content::Reference { .. }
             | Content::Field(_)
             | Content::Buffer(_)
-            | Content::Copy(_, _, _)
-            | Content::View(_, _)
+            | Content::Copy { .. }
+            | Content::View { .. }
             | Content::Array(_, _) => Evaluated::Stuck,
         },
     }
@@ -40,10 +40,10 @@ fn is_null(content: &Content<'_>) -> Evaluated
     ensures { evaluated_view result ≡ outcome_map Truth (variable_is_null (content_view content.now)) }
 {
     match content {
-        Content::Reference(_, object) => truth(object.is_none()),
+        Content::Reference { object, .. } => truth(object.is_none()),
         Content::Field(field) => truth(field.is_none()),
         Content::Buffer(_) => truth(true),
-        Content::Copy(_, _, _) | Content::View(_, _) => truth(false),
+        Content::Copy { .. } | Content::View { .. } => truth(false),
         Content::Number(_) | Content::Array(_, _) => Evaluated::Stuck,
     }
 }
@@ -126,11 +126,11 @@ fn shown_in<'v>(variables: &'v Variables<'_>, name: &Name) -> Option<Shown<'v>>
     match variables.content_of(name) {
         None => None,
         Some(content) => match content {
-            Content::Array(_, numbers) | Content::Copy(_, _, numbers) => {
+            Content::Array(_, numbers) | Content::Copy { numbers, .. } => {
                 Some(Shown::Numbers(numbers.as_slice()))
             }
-            Content::View(_, object) => Some(Shown::Object(*object)),
-            Content::Number(_) | Content::Reference(_, _) => None,
+            Content::View { object, .. } => Some(Shown::Object(*object)),
+            Content::Number(_) | Content::Reference { .. } => None,
             Content::Field(_) | Content::Buffer(_) => None,
         },
     }

@@ -27,15 +27,25 @@ use syntax::{ElementType, Name};
 pub enum Content<'a> {
     Number(Value),
     /// A local reference: its level, the number of frames at its declaration, and NULL or an object, by its name.
-    Reference(usize, Option<usize>),
+    Reference {
+        level: usize,
+        object: Option<usize>,
+    },
     /// A field ID: NULL, or a field or static.
     Field(Option<FieldId<'a>>),
     /// A buffer that is NULL.
     Buffer(ElementType),
     /// A buffer with a copy of the numbers of an array or a string, and its name.
-    Copy(ElementType, usize, Vec<i32>),
+    Copy {
+        element: ElementType,
+        object: usize,
+        numbers: Vec<i32>,
+    },
     /// A buffer that shows an array or a string itself, by its name.
-    View(ElementType, usize),
+    View {
+        element: ElementType,
+        object: usize,
+    },
     /// A local array.
     Array(ElementType, Vec<i32>),
 }
@@ -171,9 +181,11 @@ impl<'a> Variables<'a> {
         ensures { element_value result ≡ element_type (lookup name.now (variables_view self.now)) }
     {
         match self.content_named(name) {
-            Some(Content::Buffer(kind) | Content::Copy(kind, _, _) | Content::View(kind, _)) => {
-                *kind
-            }
+            Some(
+                Content::Buffer(kind)
+                | Content::Copy { element: kind, .. }
+                | Content::View { element: kind, .. },
+            ) => { *kind }
             _ => ElementType::Int,
         }
     }
@@ -222,8 +234,8 @@ fn array_of<'c>(content: &'c Content<'_>) -> &'c [i32]
 {
     match content {
         Content::Array(_, numbers) => numbers.as_slice(),
-        Content::Number(_) | Content::Reference(_, _) | Content::Field(_) => &[],
-        Content::Buffer(_) | Content::Copy(_, _, _) | Content::View(_, _) => &[],
+        Content::Number(_) | Content::Reference { .. } | Content::Field(_) => &[],
+        Content::Buffer(_) | Content::Copy { .. } | Content::View { .. } => &[],
     }
 }
 
@@ -232,9 +244,9 @@ fn copy_of<'c>(content: &'c Content<'_>) -> &'c [i32]
     ensures { result.now ≡ copied_elements (Some (content_view content.now)) }
 {
     match content {
-        Content::Copy(_, _, numbers) => numbers.as_slice(),
-        Content::Number(_) | Content::Reference(_, _) | Content::Field(_) => &[],
-        Content::Buffer(_) | Content::View(_, _) | Content::Array(_, _) => &[],
+        Content::Copy { numbers, .. } => numbers.as_slice(),
+        Content::Number(_) | Content::Reference { .. } | Content::Field(_) => &[],
+        Content::Buffer(_) | Content::View { .. } | Content::Array(_, _) => &[],
     }
 }
 
@@ -255,8 +267,8 @@ fn begin_content(content: &mut Content<'_>, values: &[ObjectValue])
 {
     match content {
         Content::Array(_, numbers) => begin(numbers, values),
-        Content::Number(_) | Content::Reference(_, _) | Content::Field(_) => {}
-        Content::Buffer(_) | Content::Copy(_, _, _) | Content::View(_, _) => {}
+        Content::Number(_) | Content::Reference { .. } | Content::Field(_) => {}
+        Content::Buffer(_) | Content::Copy { .. } | Content::View { .. } => {}
     }
 }
 
@@ -265,12 +277,12 @@ fn push_viewed(names: &mut Vec<usize>, content: &Content<'_>) -> Result<(), Allo
     ensures { IfOk result (λ _. names.new.items ≡ names.old.items ++ viewed (content_view content.now)) }
 {
     match content {
-        Content::View(_, object) => {
+        Content::View { object, .. } => {
             names.push(*object)?;
             Ok(())
         }
-        Content::Number(_) | Content::Reference(_, _) | Content::Field(_) => Ok(()),
-        Content::Buffer(_) | Content::Copy(_, _, _) | Content::Array(_, _) => Ok(()),
+        Content::Number(_) | Content::Reference { .. } | Content::Field(_) => Ok(()),
+        Content::Buffer(_) | Content::Copy { .. } | Content::Array(_, _) => Ok(()),
     }
 }
 
@@ -311,7 +323,7 @@ pub enum Written {
     /// It was written.
     Done,
     /// This number, converted to its type, is to be written into the object of this name.
-    Object(usize, i32),
+    Object { object: usize, number: i32 },
     /// There are no elements.
     Nothing,
 }
@@ -325,12 +337,22 @@ fn write_content(content: &mut Content<'_>, index: usize, number: i32) -> Writte
             write(*kind, numbers, index, number);
             Written::Done
         }
-        Content::Copy(kind, _, numbers) => {
+        Content::Copy {
+            element: kind,
+            numbers,
+            ..
+        } => {
             write(*kind, numbers, index, number);
             Written::Done
         }
-        Content::View(kind, object) => Written::Object(*object, convert(*kind, number)),
-        Content::Number(_) | Content::Reference(_, _) => Written::Nothing,
+        Content::View {
+            element: kind,
+            object,
+        } => Written::Object {
+            object: *object,
+            number: convert(*kind, number),
+        },
+        Content::Number(_) | Content::Reference { .. } => Written::Nothing,
         Content::Field(_) | Content::Buffer(_) => Written::Nothing,
     }
 }
@@ -343,8 +365,9 @@ fn free_content(content: &mut Content<'_>) -> BuffersInUse
 {
     let old = taken(content);
     match content {
-        Content::Copy(kind, _, _) | Content::View(kind, _) => *content = Content::Buffer(*kind),
-        Content::Number(_) | Content::Reference(_, _) | Content::Field(_) => {}
+        Content::Copy { element: kind, .. } | Content::View { element: kind, .. } => *content =
+            Content::Buffer(*kind),
+        Content::Number(_) | Content::Reference { .. } | Content::Field(_) => {}
         Content::Buffer(_) | Content::Array(_, _) => {}
     }
     old

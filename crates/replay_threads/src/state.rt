@@ -56,7 +56,7 @@ fn note(state: &mut State<'_>, k: u8, took: Option<Event>) -> Result<bool, Alloc
             state.printed.push(Printed { thread: k, number })?;
             Ok(true)
         }
-        Some(Event::Trapped(trap, line)) => {
+        Some(Event::Trapped { trap, line }) => {
             state.stop = Some(Stop {
                 thread: k,
                 trap,

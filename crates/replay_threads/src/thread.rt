@@ -56,7 +56,10 @@ fn content_of<'a>(argument: ObjectValue) -> Content<'a>
 {
     match argument {
         ObjectValue::Number(z) => Content::Number(Value::Int(z)),
-        ObjectValue::Reference(reference) => Content::Reference(1, reference),
+        ObjectValue::Reference(reference) => Content::Reference {
+            level: 1,
+            object: reference,
+        },
     }
 }
 
@@ -104,7 +107,13 @@ fn entry_variables<'a>(
         ≡ assign_all ((function.entry.now.class_name, LocalRef 1 (Some class)) ∷ parameter_variables (zip (function_tree function.entry.now).parameters (map object_value_view arguments.now))) []) }
 {
     let mut variables = Variables::new(alloc);
-    variables.set(&function.class_name, Content::Reference(1, Some(class)))?;
+    variables.set(
+        &function.class_name,
+        Content::Reference {
+            level: 1,
+            object: Some(class),
+        },
+    )?;
     add_parameters(&mut variables, &function.parameters, arguments)?;
     Ok(variables)
 }
@@ -233,12 +242,12 @@ fn event_of(outcome: Outcome<'_>) -> Option<Event>
     match outcome {
         Outcome::Stays | Outcome::Sets(_, _) | Outcome::SetsNull(_) => Some(Event::Quiet),
         Outcome::Gives(_, _) | Outcome::Lends(_, _) => Some(Event::Quiet),
-        Outcome::SetsElement(_, _, _) => Some(Event::Quiet),
-        Outcome::Tests(_, _, _, _) | Outcome::Makes(_, _, _) => Some(Event::Quiet),
+        Outcome::SetsElement { .. } => Some(Event::Quiet),
+        Outcome::Tests { .. } | Outcome::Makes { .. } => Some(Event::Quiet),
         Outcome::Enters(_, _) => Some(Event::Quiet),
         Outcome::Ends | Outcome::Returned => Some(Event::Quiet),
         Outcome::Printed(z) => Some(Event::Printed(z)),
-        Outcome::Trapped(trap, line) => Some(Event::Trapped(trap, line)),
+        Outcome::Trapped { trap, line } => Some(Event::Trapped { trap, line }),
         Outcome::Impossible => None,
     }
 }

@@ -15,7 +15,7 @@ use sinks::{Sink, SinkFailed, put_pieces};
 #[derive(Clone, Copy)]
 pub enum ThreadStatus<'a> {
     /// Its step was a trap, of this number, in a statement of this line.
-    Trapped(u8, usize),
+    Trapped { trap: u8, line: usize },
     /// It has taken all its steps.
     Ended,
     /// Its call returned with an exception pending, of the class of this name.
@@ -108,7 +108,7 @@ fn put_standing<S: Sink>(
         ThreadStatus::Uncaught(class) => put_uncaught(sink, name, class),
         ThreadStatus::Blocked => put_words(sink, name, b" blocked"),
         ThreadStatus::Running => put_words(sink, name, b" running"),
-        ThreadStatus::Trapped(trap, line) => put_trap(sink, name, trap, line),
+        ThreadStatus::Trapped { trap, line } => put_trap(sink, name, trap, line),
     }
 }
 

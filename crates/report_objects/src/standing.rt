@@ -22,7 +22,10 @@ pub fn standing_of(
 {
     match stop {
         Some(stop) if usize::from(stop.thread) == k => {
-            ThreadStatus::Trapped(stop.trap.number(), stop.line)
+            ThreadStatus::Trapped {
+                trap: stop.trap.number(),
+                line: stop.line,
+            }
         }
         _ => standing_by_ending(classes, waits, ending),
     }

@@ -13,7 +13,7 @@ pub enum Event {
     /// The thread printed a number.
     Printed(i32),
     /// A statement of this line stopped the run.
-    Trapped(Trap, usize),
+    Trapped { trap: Trap, line: usize },
 }
 
 /// The trap that stopped a run, with its thread, counted from 1, and the line of its statement.

@@ -72,7 +72,7 @@ const PRINTED: [Printed; 2] = [
 ];
 
 const STANDINGS: [ThreadStatus; 4] = [
-    ThreadStatus::Trapped(3, 7),
+    ThreadStatus::Trapped { trap: 3, line: 7 },
     ThreadStatus::Running,
     ThreadStatus::Blocked,
     ThreadStatus::Ended,
