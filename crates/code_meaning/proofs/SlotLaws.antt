@@ -11,6 +11,7 @@ use Rattle.base.specs.Bytes.{Identifier, lookup}
 use Rattle.base.specs.Element.{ElementType}
 use Rattle.type_rules.specs.Sorts.{Sort, Jint, Ref, Global, FieldId, Buffer, Array}
 use Rattle.type_rules.specs.Sorts as sort
+use Rattle.type_rules.specs.SortGroups.{IsNumberSort}
 use Rattle.class_rules.specs.Fields as source
 use Rattle.semantics.specs.Object.{Reference}
 use Rattle.semantics.specs.Task.{VariableKind, ScalarKind, ReferenceKind, FieldKind, BufferKind}
@@ -24,7 +25,7 @@ use Rattle.code.specs.Effect.{cleared}
 use Rattle.code.proofs.Arrays.{cleared_element, cleared_before, cleared_after}
 use Rattle.code_meaning.specs.Layout.{Slot, Known}
 use Rattle.code_meaning.specs.Coding.{nullable_of}
-use Rattle.code_meaning.specs.Slots.{word_of, ValueHasSort, IsNumberSort, Visible, IsAsBefore, OthersStay, IsSet, IsNulled, IsReferred, IsFieldSet, IsBufferSet, IsMade, IsElementSet, IsHeld, HasNoVariable, is_empty, nulled_statics, static_index, Slots, ShowsNumber, ShowsElement, ShowsStatic, ShowsSlot, Shows, with_null}
+use Rattle.code_meaning.specs.Slots.{word_of, ValueHasSort, Visible, IsAsBefore, OthersStay, IsSet, IsNulled, IsReferred, IsFieldSet, IsBufferSet, IsMade, IsElementSet, IsHeld, HasNoVariable, is_empty, nulled_statics, static_index, Slots, ShowsNumber, ShowsElement, ShowsStatic, ShowsSlot, Shows, with_null}
 use Rattle.code_meaning.specs.Fits.{IsPlaceOf, IsBufferSort, IsOwn, IndexWithin}
 use Rattle.code_meaning.specs.Stands.{AreAmong, IsSlotOf}
 use Rattle.code_meaning.proofs.StaticPlaces.{StaticStays, statics_stay, assigned_stays, assigned_place, assigned_held, same_name}

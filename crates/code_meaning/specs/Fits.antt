@@ -11,11 +11,12 @@ use Rattle.jni.specs.JniFunction.{JniFunction, function_named, prototype}
 use Rattle.jni.specs.Prototype.{ParameterKind, Nullable, NonNull, ClassObject, AnyArray, ObjectArray, StringObject, NumberArray, LocalVariable, StaticVariable, FieldID, IntNumber, TextBytes, ArrayVariable, BufferVariable, Mode, IsCopy, ResultKind, NewLocal, NewGlobal, GivesFlag, GivesInt, GivesField, GivesBuffer, GivesNothing}
 use Rattle.type_rules.specs.Sorts.{Sort, Word, Jint, Flag, Truth, Ref, Global, FieldId, Buffer, Array, OperatorGroup, Logic, Equality, Order, OnWords, group, is_buffer_for}
 use Rattle.type_rules.specs.SortRules.{variable_sort, is_droppable, is_mode}
+use Rattle.type_rules.specs.SortGroups.{IsIndexSort, IsNumberSort, OperatorFits}
 use Rattle.code.specs.declared.slots.SlotCounts.{SlotCounts}
 use Rattle.semantics.specs.Term as term
 use Rattle.semantics.specs.Term.{Term, Done, Read, And, Or, IsNull, Prefix, Binary, term_of}
 use Rattle.code_meaning.specs.Layout.{Slot, Known, Layout, width, closed, layout_after, block_layout, entry_layout}
-use Rattle.code_meaning.specs.Slots.{ValueHasSort, IsNumberSort}
+use Rattle.code_meaning.specs.Slots.{ValueHasSort}
 
 -- ---- terms
 
@@ -26,12 +27,6 @@ IsVariable known x s = (i : ℕ) × (lookup x known ≡ Some (record { sort = s;
 -- a name that is known as an array, from this slot on
 abbrev pub IsArray : Known → Identifier → ElementType → (size start : ℕ) → Type 0
 IsArray known x t size start = lookup x known ≡ Some (record { sort = Array t size; index = start })
-
--- the sorts of an index
-abbrev pub IsIndexSort : Sort → Type 0
-IsIndexSort Word = Unit {0}
-IsIndexSort Jint = Unit {0}
-IsIndexSort s = ⊥
 
 -- what can be compared with NULL
 abbrev pub IsNullable : Sort → Type 0
@@ -46,13 +41,6 @@ abbrev pub HasElements : Sort → Type 0
 HasElements (Buffer t writable) = Unit {0}
 HasElements (Array t size) = Unit {0}
 HasElements s = ⊥
-
--- the sort of both operands of an operator, and that of its result
-abbrev pub OperatorFits : OperatorGroup → (operands result : Sort) → Type 0
-OperatorFits Logic r s = ⊥
-OperatorFits Equality r s = IsNumberSort r × (s ≡ Truth)
-OperatorFits Order r s = IsIndexSort r × (s ≡ Truth)
-OperatorFits OnWords r s = (r ≡ Word) × (s ≡ Word)
 
 -- a term whose parts have the sorts that their operators ask for
 abbrev pub TermHasSort : Known → Term → Sort → Type 0

@@ -40,13 +40,6 @@ ValueHasSort (Int z) s = FitsSigned w32 z × (s ≡ Jint)
 ValueHasSort (Flag b) s = s ≡ sort.Flag
 ValueHasSort (Truth b) s = s ≡ sort.Truth
 
--- the sorts whose values are in number slots
-abbrev pub IsNumberSort : Sort → Type 0
-IsNumberSort sort.Word = Unit {0}
-IsNumberSort Jint = Unit {0}
-IsNumberSort sort.Flag = Unit {0}
-IsNumberSort s = ⊥
-
 -- ---- what can be seen
 
 -- what can be seen, the element types of local arrays, of what kind the other variables are declared, the levels of the references

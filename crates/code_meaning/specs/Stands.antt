@@ -11,6 +11,7 @@ use Rattle.jni.specs.Prototype.{ParameterKind, FieldID, IntNumber, TextBytes, Ar
 use Rattle.type_rules.specs.Sorts.{Sort, Jint, Ref, Global, FieldId, Buffer, Array}
 use Rattle.type_rules.specs.Sorts as sort
 use Rattle.type_rules.specs.SortRules.{is_droppable}
+use Rattle.type_rules.specs.SortGroups.{IsIndexSort, IsNumberSort}
 use Rattle.semantics.specs.Arguments.{mode_of}
 use Rattle.semantics.specs.Task.{Task, SetScalar, SetElement, SetNull, MakeArray, Invoke, Print, Branch, EndIf, Loop, EndTurn, Return, ReturnValue, Impossible, Target, Declared, Assigned, Tested, Dropped, VariableKind, ScalarKind, ReferenceKind, FieldKind, BufferKind, Operand, NumberOperand, Given}
 use Rattle.semantics.specs.Term as term
@@ -33,8 +34,8 @@ use Rattle.code.specs.Depth.{Listing}
 use Rattle.code.specs.Effect.{truth_word}
 use Rattle.code_meaning.specs.Layout.{Slot, Known, Layout, block_layout}
 use Rattle.code_meaning.specs.Coding.{mode_code, nullable_of, element_of, write_code, term_code, expr_code, ways_code, turn_code, block_code}
-use Rattle.code_meaning.specs.Fits.{TakesNull, TakesLocal, TakesGlobal, IsArray, IsIndexSort, HasElements, TermHasSort, IsUntouched, NumberFits, IndexWithin, IsOwn, HaveOwnSlots, IsLaidOut, HasRoomFor, BlockFits}
-use Rattle.code_meaning.specs.Slots.{word_of, IsNumberSort}
+use Rattle.code_meaning.specs.Fits.{TakesNull, TakesLocal, TakesGlobal, IsArray, HasElements, TermHasSort, IsUntouched, NumberFits, IndexWithin, IsOwn, HaveOwnSlots, IsLaidOut, HasRoomFor, BlockFits}
+use Rattle.code_meaning.specs.Slots.{word_of}
 
 -- ---- terms
 

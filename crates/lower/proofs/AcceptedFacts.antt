@@ -19,7 +19,9 @@ use Rattle.code_meaning.specs.Stands.{block_returns}
 use Rattle.code_meaning.proofs.SlotLaws.{first_or_after}
 use Rattle.lower.proofs.EntryLayouts.{no_statics, one_static_more}
 use Rattle.lower.proofs.SortFacts.{scope_of, HasNoTruth}
-use Rattle.lower.proofs.PlaceFacts.{and_left, and_right, or_right, static_kept, AreKept, first_kept, front_kept, back_kept, rest_kept}
+use Rattle.type_rules.proofs.PlaceLists.{AreUnbroken, first_unbroken, front_unbroken, back_unbroken, rest_unbroken}
+use Rattle.type_rules.proofs.KeptPlaces.{static_kept}
+use Rattle.lower.proofs.Tests.{and_left, and_right, or_right}
 use Rattle.lower.proofs.NameFacts.{AreTaken, taken_first}
 use Rattle.lower.proofs.BodyFacts.{AreInRange, block_fits}
 use Rattle.lower.proofs.LengthFacts.{block_length}
@@ -90,15 +92,15 @@ entry_no_truth known h x s at e = subst IsEntrySort e (h x s at)
 module _ (statics : Known) (f : Function) (known : AreStatics statics) where
   -- the sorts of the body, after the class and the parameters
   abbrev BodyIsKept : Type 0
-  BodyIsKept = AreKept (places_of f.result (scope_of (entry_layout statics f).known) (parameter_names f ++ map (λ s. s.0) (scope_of statics)) f.body)
+  BodyIsKept = AreUnbroken (places_of f.result (scope_of (entry_layout statics f).known) (parameter_names f ++ map (λ s. s.0) (scope_of statics)) f.body)
 
-  body_kept : (names : List Identifier) → AreKept (function_places names (scope_of statics) f) → BodyIsKept
+  body_kept : (names : List Identifier) → AreUnbroken (function_places names (scope_of statics) f) → BodyIsKept
   body_kept names sorted =
       let taken = parameter_names f ++ map (λ s. s.0) (scope_of statics) in
       let scope : Scope = (f.class_name, Ref) ∷ (map {B = Identifier × Sort} (λ p. (p.name, parameter_sort p.type)) f.parameters ++ scope_of statics) in
-      let inside : AreKept (places_of f.result scope taken f.body) = rest_kept (record { line = f.line; known = scope_of statics; taken = names; returns = f.result; form = HeadForm f }) (places_of f.result scope taken f.body) sorted in
+      let inside : AreUnbroken (places_of f.result scope taken f.body) = rest_unbroken (record { line = f.line; known = scope_of statics; taken = names; returns = f.result; form = HeadForm f }) (places_of f.result scope taken f.body) sorted in
       let same : scope ≡ scope_of (entry_layout statics f).known = ap (λ (further : Scope). (f.class_name, Ref) ∷ further) (parameter_scope f.parameters 0 1 statics) in
-      subst (λ (s : Scope). AreKept (places_of f.result s taken f.body)) same inside
+      subst (λ (s : Scope). AreUnbroken (places_of f.result s taken f.body)) same inside
 
   function_counted : FunctionFits statics f → BodyIsKept → length (function_code statics f) ≡ function_steps f + 1
   function_counted fits kept =
@@ -133,19 +135,19 @@ record HoldAll (items : List Item) : Type 0 where
   low : list_all (λ f. nat_le (block_height f.body) 32) (functions_in items) ≡ true
   regions : AllByRecursion AcceptedFunction (functions_in items)
 
-all_fit : (items : List Item) (names : List Identifier) (statics : Known) → AreStatics statics → AreTaken names statics → AreKept (item_places names (scope_of statics) items) → HoldAll items → AllFit statics items
+all_fit : (items : List Item) (names : List Identifier) (statics : Known) → AreStatics statics → AreTaken names statics → AreUnbroken (item_places names (scope_of statics) items) → HoldAll items → AllFit statics items
 all_fit [] names statics known taken sorted h = tt
 all_fit (StaticItem s ∷ items) names statics known taken sorted h =
     let place : Place = record { line = s.line; known = scope_of statics; taken = names; returns = Void; form = StaticForm s } in
     let further = item_places (s.name ∷ names) (scope_of (with_static s statics)) items in (
-      taken s.name (static_kept s.line (scope_of statics) names Void s (first_kept place further sorted)),
-      all_fit items (s.name ∷ names) (with_static s statics) (one_static_more s statics known) (taken_first names statics s.name (record { sort = Global; index = length statics }) taken) (rest_kept place further sorted)
+      taken s.name (static_kept s.line (scope_of statics) names Void s (first_unbroken place further sorted)),
+      all_fit items (s.name ∷ names) (with_static s statics) (one_static_more s statics known) (taken_first names statics s.name (record { sort = Global; index = length statics }) taken) (rest_unbroken place further sorted)
           (record { numbers = h.numbers; formed = h.formed; low = h.low; regions = h.regions }),
     )
 all_fit (FunctionItem f ∷ items) names statics known taken sorted h =
     let further = item_places (f.name ∷ names) (scope_of statics) items in
     let all = functions_in items in
-    let kept = body_kept statics f known names (front_kept (function_places names (scope_of statics) f) further sorted) in
+    let kept = body_kept statics f known names (front_unbroken (function_places names (scope_of statics) f) further sorted) in
     let fits = function_fits statics f known kept
     (and_left _ (list_all (λ f. list_all (λ s. list_all numbers_in_range (own_expressions s)) (statements_of f.body)) all) h.numbers)
     (and_left _ (list_all (λ f. block_well_formed f.body) all) h.formed)
@@ -154,7 +156,7 @@ all_fit (FunctionItem f ∷ items) names statics known taken sorted h =
       fits,
       function_returns f h.regions.0,
       function_counted statics f known fits kept,
-      all_fit items (f.name ∷ names) statics known (λ x none. taken x (or_right (bytes_eq x f.name) (has_name names x) none)) (back_kept (function_places names (scope_of statics) f) further sorted) (record {
+      all_fit items (f.name ∷ names) statics known (λ x none. taken x (or_right (bytes_eq x f.name) (has_name names x) none)) (back_unbroken (function_places names (scope_of statics) f) further sorted) (record {
         numbers = and_right (list_all (λ s. list_all numbers_in_range (own_expressions s)) (statements_of f.body)) _ h.numbers;
         formed = and_right (block_well_formed f.body) _ h.formed;
         low = and_right (nat_le (block_height f.body) 32) _ h.low;

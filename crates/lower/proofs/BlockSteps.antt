@@ -12,6 +12,7 @@ use Rattle.syntax.specs.Tree as tree
 use Rattle.syntax.specs.Tree.{Expr, Block, BitOr}
 use Rattle.type_rules.specs.Sorts.{Sort, Jint, Ref, Buffer, Array}
 use Rattle.type_rules.specs.Sorts as sort
+use Rattle.type_rules.specs.SortGroups.{IsIndexSort}
 use Rattle.code.specs.declared.instr.ReferenceOperand.TheVariants.{Null, Local}
 use Rattle.code.specs.declared.instr.Instr.TheVariants as instr
 use Rattle.code.specs.declared.instr.Plain.TheVariants as plain
@@ -28,7 +29,7 @@ use Rattle.semantics.specs.Variable as variable
 use Rattle.code_meaning.specs.Layout.{Slot, Known, Layout}
 use Rattle.code_meaning.specs.Coding.{element_of, write_code, term_code, ways_code, turn_code, block_code}
 use Rattle.code_meaning.specs.Slots.{word_of, ValueHasSort, Visible, Slots, is_no_buffer, ShowsBuffer, Shows, elements_in, SeesBuffers, with_element}
-use Rattle.code_meaning.specs.Fits.{IsIndexSort, HasElements, TermHasSort}
+use Rattle.code_meaning.specs.Fits.{HasElements, TermHasSort}
 use Rattle.code_meaning.specs.Stands.{held, HasAt, AreAmong, IsSlotOf, NumberStands, BlockStands, LoopStands, TasksStand, StandsFor, ReferenceReturned, task_returns}
 use Rattle.code_meaning.specs.Does.{Works, WritesBuffer, Stops, DoesEffect}
 use Rattle.code_meaning.proofs.SlotLaws.{fewer_shown, shows_buffer_again, shows_element_set}

@@ -15,7 +15,9 @@ use Rattle.code_meaning.specs.Layout.{Slot, Known, Layout, new_slot, closed, lay
 use Rattle.code_meaning.specs.Fits.{StmtFits, BlockFits}
 use Rattle.code_meaning.proofs.SlotLaws.{first_or_after}
 use Rattle.lower.proofs.SortFacts.{scope_of, HasNoTruth}
-use Rattle.lower.proofs.PlaceFacts.{and_left, and_right, IsKept, AreKept, own_kept, inside_kept, block_kept, ways_kept}
+use Rattle.type_rules.proofs.PlaceLists.{AreUnbroken}
+use Rattle.type_rules.proofs.KeptPlaces.{IsKept, own_kept, inside_kept, block_kept, ways_kept}
+use Rattle.lower.proofs.Tests.{and_left, and_right}
 use Rattle.lower.proofs.NameFacts.{AreTaken, taken_more, taken_after}
 use Rattle.lower.proofs.StatementFacts.{AreFine, are_fine, called_expressions, CallHolds, call_fits_name, right_fits, buffer_fits, assigned_fits, element_fits, jint_fits, truth_fits, tested_fits, returned_fits, size_fits}
 
@@ -27,7 +29,7 @@ AreInRange statements = list_all (λ s. list_all numbers_in_range (own_expressio
 
 -- a statement of an accepted function, with what is known before it
 pub record StmtHolds (l : Layout) (taken : List Identifier) (returns : ResultType) (s : Stmt) : Type 0 where
-  pub sorted : AreKept (places_within returns (scope_of l.known) taken s)
+  pub sorted : AreUnbroken (places_within returns (scope_of l.known) taken s)
   pub numbers : AreInRange (statements_within s)
   pub formed : well_formed s ≡ true
   pub low : statement_height s ≤ 31
@@ -36,7 +38,7 @@ pub record StmtHolds (l : Layout) (taken : List Identifier) (returns : ResultTyp
 
 -- the same of the rest of a block
 pub record BlockHolds (l : Layout) (taken : List Identifier) (returns : ResultType) (b : Block) : Type 0 where
-  pub sorted : AreKept (places_of returns (scope_of l.known) taken b)
+  pub sorted : AreUnbroken (places_of returns (scope_of l.known) taken b)
   pub numbers : AreInRange (statements_of b)
   pub formed : block_well_formed b ≡ true
   pub low : block_height b ≤ 32
@@ -95,7 +97,7 @@ module _ (l : Layout) (taken : List Identifier) (returns : ResultType) where
   kept s h = own_kept returns (scope_of l.known) taken s h.sorted
 
   call_holds : (s : Stmt) → StmtHolds l taken returns s → CallHolds l.known (own_call s)
-  call_holds s h = record { function = (kept s h).function; arguments = (kept s h).arguments; count = (kept s h).count; modes = (kept s h).modes; fine = called_fine s (all_fine s h) }
+  call_holds s h = record { function = (kept s h).there; arguments = (kept s h).arguments; count = (kept s h).count; modes = (kept s h).modes; fine = called_fine s (all_fine s h) }
 
 -- ---- after a statement
 
@@ -151,7 +153,7 @@ module _ (l : Layout) (taken : List Identifier) (returns : ResultType) (s : Stmt
 
   rest_holds : BlockHolds (layout_after l s) (taken ++ names_declared (statements_within s)) returns rest
   rest_holds = record {
-    sorted = subst (λ scope. AreKept (places_of returns scope (taken ++ names_declared (statements_within s)) rest)) (scope_after s l) (block_kept returns (scope_of l.known) taken s rest h.sorted).1;
+    sorted = subst (λ scope. AreUnbroken (places_of returns scope (taken ++ names_declared (statements_within s)) rest)) (scope_after s l) (block_kept returns (scope_of l.known) taken s rest h.sorted).1;
     numbers = (both_in_range (statements_within s) (statements_of rest) h.numbers).1;
     formed = (next_formed s rest h.formed).1;
     low = omega (arith, h.low);

@@ -1,6 +1,6 @@
 -- The steps of a call: its numbers are worked out one after another, and then it is made.
 use Rattle.lower.proofs.Steps.{step_inside}
-use Rattle.lower.proofs.PlaceFacts.{and_left, and_right}
+use Rattle.lower.proofs.Tests.{and_left, and_right}
 use Rattle.std.proofs.Common.{◌≡◌, ℕ, ◌+◌, Bool, true, List, [], ◌∷◌, ◌++◌, length, Some, None, inl, inr, refl, sym, ap, ◌∙◌, subst, arith, append_assoc, length-append, suc, false, ℤ, pos}
 use Rattle.std.specs.Prelude.{slice_set, IsTrue, zip, map, FitsSigned, ◌||◌}
 use Rattle.std.specs.List.{list_any, AllZip}
@@ -14,6 +14,7 @@ use Rattle.jni.specs.JniFunction.{JniFunction, prototype}
 use Rattle.jni.specs.Prototype.{ParameterKind, LocalVariable, StaticVariable, FieldID, ArrayVariable, BufferVariable, Mode, IsCopy, IntNumber, ResultKind, GivesInt, GivesFlag}
 use Rattle.type_rules.specs.Sorts.{Sort, Jint, Ref, Global, FieldId, Buffer, Array}
 use Rattle.type_rules.specs.Sorts as sort
+use Rattle.type_rules.specs.SortGroups.{IsNumberSort}
 use Rattle.code.specs.declared.instr.Operand.{Operand as Where}
 use Rattle.code.specs.declared.instr.Operand.TheVariants as operand
 use Rattle.code.specs.declared.instr.Target.{Target as Destination}
@@ -30,7 +31,7 @@ use Rattle.semantics.specs.Term.{Term, Done, reduce}
 use Rattle.semantics.specs.Value.{Word, Int, Flag, Truth, Gives, Outcome, Traps, Stuck, outcome_map}
 use Rattle.code_meaning.specs.Layout.{Slot, Known}
 use Rattle.code_meaning.specs.Coding.{term_code}
-use Rattle.code_meaning.specs.Slots.{word_of, IsNumberSort, Visible, Slots, Shows, SeesBuffers}
+use Rattle.code_meaning.specs.Slots.{word_of, Visible, Slots, Shows, SeesBuffers}
 use Rattle.code_meaning.specs.Fits.{IsReferenceKind, TakesNull, TakesLocal, TakesGlobal, TermHasSort}
 use Rattle.code_meaning.specs.Stands.{held, IsBegun, HasAt, operand_text, operands_texts, ResultStands, ResultGoes, StaticStands, TestStands, number_sort, OperandStands, TargetStands, InvokeStands, TasksStand, task_returns, operands_rest, operand_held, operands_held, AreUntouched, AreBegun}
 use Rattle.code_meaning.specs.Does.{IsOperand, TakesNumber, TakesReference, TakesField, TakesStatic, TakesBuffer, TakesTest, GoesInto, TakesResult, DoesEffect, word_given, words_given, text_given, texts_given, OperandFits, IsVariableKind, ActualFits}

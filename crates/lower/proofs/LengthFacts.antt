@@ -26,7 +26,8 @@ use Rattle.code_meaning.specs.Length.{binary_steps, expr_steps, argument_steps, 
 use Rattle.lower.proofs.Bodies.{one_write}
 use Rattle.lower.proofs.SortFacts.{scope_of, slot_of_name}
 use Rattle.lower.proofs.StatementFacts.{jint_is, ref_is}
-use Rattle.lower.proofs.PlaceFacts.{AreKept, own_kept, inside_kept, block_kept, ways_kept}
+use Rattle.type_rules.proofs.PlaceLists.{AreUnbroken}
+use Rattle.type_rules.proofs.KeptPlaces.{own_kept, inside_kept, block_kept, ways_kept}
 use Rattle.lower.proofs.BodyFacts.{scope_after}
 
 -- ---- expressions
@@ -229,7 +230,7 @@ write_length l line x i e h =
 
 module _ (returns : ResultType) where
   mutual
-    stmt_length : (s : Stmt) (l : Layout) (taken : List Identifier) → StmtFits l s → AreKept (places_within returns (scope_of l.known) taken s) → length (stmt_code l s) ≡ stmt_steps returns s
+    stmt_length : (s : Stmt) (l : Layout) (taken : List Identifier) → StmtFits l s → AreUnbroken (places_within returns (scope_of l.known) taken s) → length (stmt_code l s) ≡ stmt_steps returns s
     stmt_length (tree.Declare line t x r) l taken fits kept = right_length l.known line (new_slot (variable_sort t) l) r fits.1
     stmt_length (tree.DeclareBuffer line t x r) l taken fits kept = right_length l.known line (new_slot (Buffer t true) l) r fits.1
     stmt_length (tree.DeclareChars line x r) l taken fits kept = right_length l.known line (new_slot (Buffer JChar false) l) r fits.1
@@ -252,11 +253,11 @@ module _ (returns : ResultType) where
     stmt_length (tree.Return line) l taken fits kept = refl
     stmt_length (tree.ReturnValue line e) l taken fits kept = return_length l.known line returns e (own_kept returns (scope_of l.known) taken (tree.ReturnValue line e) kept).fits fits
 
-    pub block_length : (b : Block) (l : Layout) (taken : List Identifier) → BlockFits l b → AreKept (places_of returns (scope_of l.known) taken b) → length (block_code l b) ≡ block_steps returns b
+    pub block_length : (b : Block) (l : Layout) (taken : List Identifier) → BlockFits l b → AreUnbroken (places_of returns (scope_of l.known) taken b) → length (block_code l b) ≡ block_steps returns b
     block_length (End line) l taken fits kept = refl
     block_length (Next s rest) l taken fits kept =
         let both = block_kept returns (scope_of l.known) taken s rest kept in
         let more = taken ++ names_declared (statements_within s) in
         let first = stmt_length s l taken fits.0 both.0 in
-        let second = block_length rest (layout_after l s) more fits.1 (subst (λ scope. AreKept (places_of returns scope more rest)) (scope_after s l) both.1) in
+        let second = block_length rest (layout_after l s) more fits.1 (subst (λ scope. AreUnbroken (places_of returns scope more rest)) (scope_after s l) both.1) in
         omega (arith, length-append (stmt_code l s) (block_code (layout_after l s) rest))

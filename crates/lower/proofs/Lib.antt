@@ -13,7 +13,7 @@ pub mod Within
 pub mod Functions
 pub mod RegionFacts
 pub mod SortFacts
-pub mod PlaceFacts
+pub mod Tests
 pub mod NameFacts
 pub mod StatementFacts
 pub mod BodyFacts

@@ -10,7 +10,7 @@ use Rattle.syntax.specs.Tree.{ResultType, Stmt, Block, End, Next}
 use Rattle.type_rules.specs.Sorts.{Buffer, Array}
 use Rattle.type_rules.specs.SortRules.{variable_sort, has_name}
 use Rattle.code_meaning.specs.Layout.{Slot, Known, Layout, new_slot, layout_after}
-use Rattle.lower.proofs.PlaceFacts.{or_left, or_right}
+use Rattle.lower.proofs.Tests.{or_left, or_right}
 
 -- a name that isn't taken isn't known
 abbrev pub AreTaken : List Identifier → Known → Type 0

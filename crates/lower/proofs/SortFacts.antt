@@ -8,11 +8,12 @@ use Rattle.syntax.specs.Limits.{height, number_limit, numbers_in_range}
 use Rattle.syntax.specs.Parts.{null_tested}
 use Rattle.syntax.specs.Tree.{Constant, True, False, Null, PrefixOp, LogicalNot, Complement, ToWord, ToInt, BinaryOp, LogicalOr, LogicalAnd, Equal, NotEqual, Expr, Number, Named, Variable, Element, Prefix, Binary, Paren}
 use Rattle.type_rules.specs.Sorts.{Sort, Word, Jint, Flag, Truth, Ref, Global, FieldId, Buffer, Array, Scope, OperatorGroup, Logic, Equality, Order, OnWords, group, binary_sort, prefix_sort, is_castable, is_index, has_elements, is_nullable, constant_sort, null_test_sort, sort_in, sort_of}
+use Rattle.type_rules.specs.SortGroups.{IsIndexSort, IsNumberSort, OperatorFits}
+use Rattle.type_rules.proofs.SortCases.{IsValueSort, given, and_true, castable, indexed, operands, number_is_value, index_is_value, null_cases, none_right, or_none}
 use Rattle.semantics.specs.Term as term
 use Rattle.semantics.specs.Term.{Term, binary_term, term_of}
 use Rattle.code_meaning.specs.Layout.{Slot, Known}
-use Rattle.code_meaning.specs.Slots.{IsNumberSort}
-use Rattle.code_meaning.specs.Fits.{IsVariable, IsIndexSort, IsNullable, HasElements, OperatorFits, TermHasSort, IsUntouched, term_height, NumberFits}
+use Rattle.code_meaning.specs.Fits.{IsVariable, IsNullable, HasElements, TermHasSort, IsUntouched, term_height, NumberFits}
 
 -- the sorts of the known names
 abbrev pub scope_of : Known → Scope
@@ -33,34 +34,7 @@ slot_of_name x ((y, slot) ∷ rest) s h =
 abbrev pub HasNoTruth : Known → Type 0
 HasNoTruth known = (x : Identifier) (s : Slot) → lookup x known ≡ Some s → s.sort ≡ Truth → ⊥
 
--- the sorts that an expression is worked out to
-abbrev pub IsValueSort : Sort → Type 0
-IsValueSort Word = Unit {0}
-IsValueSort Jint = Unit {0}
-IsValueSort Flag = Unit {0}
-IsValueSort Truth = Unit {0}
-IsValueSort s = ⊥
-
--- ---- the rules of sorts, turned round
-
-given : {A : Type 0} (b : Bool) (a s : A) → (if b then Some a else None) ≡ Some s → (b ≡ true) × (s ≡ a)
-given true a s h = (refl, cc)
-given false a s h = absurd (cc)
-
-and_true : (a b : Bool) → (a && b) ≡ true → (a ≡ true) × (b ≡ true)
-and_true true b h = (refl, h)
-and_true false b h = absurd (cc)
-
-castable : (o : Option Sort) → is_castable o ≡ true → (r : Sort) × (o ≡ Some r) × IsNumberSort r
-castable (Some Word) h = (Word, refl, tt)
-castable (Some Jint) h = (Jint, refl, tt)
-castable (Some Flag) h = (Flag, refl, tt)
-castable o h = absurd (cc)
-
-pub indexed : (o : Option Sort) → is_index o ≡ true → (r : Sort) × (o ≡ Some r) × IsIndexSort r
-indexed (Some Word) h = (Word, refl, tt)
-indexed (Some Jint) h = (Jint, refl, tt)
-indexed o h = absurd (cc)
+-- ---- what can be NULL, and what has elements
 
 nullable : (o : Option Sort) → is_nullable o ≡ true → (r : Sort) × (o ≡ Some r) × IsNullable r
 nullable (Some Ref) h = (Ref, refl, tt)
@@ -73,47 +47,6 @@ pub elements : (o : Option Sort) → has_elements o ≡ true → (r : Sort) × (
 elements (Some (Buffer t w)) h = (Buffer t w, refl, tt)
 elements (Some (Array t n)) h = (Array t n, refl, tt)
 elements o h = absurd (cc)
-
-operands : (g : OperatorGroup) (a b : Option Sort) (s : Sort) → binary_sort g a b ≡ Some s → (r : Sort) × (a ≡ Some r) × (b ≡ Some r) × IsValueSort r × (s ≡ Truth ⊎ s ≡ Word) × ((g ≡ Logic) × (r ≡ Truth) × (s ≡ Truth) ⊎ OperatorFits g r s)
-operands Logic (Some Truth) (Some Truth) s h = (Truth, refl, refl, tt, inl (cc), inl (refl, refl, cc))
-operands Equality (Some Word) (Some Word) s h = (Word, refl, refl, tt, inl (cc), inr (tt, cc))
-operands Equality (Some Jint) (Some Jint) s h = (Jint, refl, refl, tt, inl (cc), inr (tt, cc))
-operands Equality (Some Flag) (Some Flag) s h = (Flag, refl, refl, tt, inl (cc), inr (tt, cc))
-operands Order (Some Word) (Some Word) s h = (Word, refl, refl, tt, inl (cc), inr (tt, cc))
-operands Order (Some Jint) (Some Jint) s h = (Jint, refl, refl, tt, inl (cc), inr (tt, cc))
-operands OnWords (Some Word) (Some Word) s h = (Word, refl, refl, tt, inr (cc), inr (refl, cc))
-operands g a b s h = absurd (cc)
-
-number_is_value : (s : Sort) → IsNumberSort s → IsValueSort s
-number_is_value Word h = tt
-number_is_value Jint h = tt
-number_is_value Flag h = tt
-number_is_value s h = absurd h
-
-pub index_is_value : (s : Sort) → IsIndexSort s → IsValueSort s
-index_is_value Word h = tt
-index_is_value Jint h = tt
-index_is_value s h = absurd h
-
--- no null test, or one of a name
-null_cases : (op : BinaryOp) (a b : Expr) → (null_tested (Binary op a b) ≡ None) ⊎ ((x : Identifier) × (a ≡ Variable x) × (b ≡ Named Null) × ((op ≡ Equal) ⊎ (op ≡ NotEqual)))
-null_cases Equal (Variable x) (Named Null) = inr (x, refl, refl, inl refl)
-null_cases NotEqual (Variable x) (Named Null) = inr (x, refl, refl, inr refl)
-null_cases op a b = inl refl
-
-none_right : (g : OperatorGroup) (o : Option Sort) → binary_sort g o None ≡ None
-none_right Logic (Some Truth) = refl
-none_right Equality (Some Word) = refl
-none_right Equality (Some Jint) = refl
-none_right Equality (Some Flag) = refl
-none_right Order (Some Word) = refl
-none_right Order (Some Jint) = refl
-none_right OnWords (Some Word) = refl
-none_right g o = refl
-
-or_none : (o : Option Sort) → option_or o None ≡ o
-or_none None = refl
-or_none (Some s) = refl
 
 -- ---- terms
 

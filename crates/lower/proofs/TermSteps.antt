@@ -20,6 +20,7 @@ use Rattle.code_meaning.proofs.StaticPlaces.{there_at}
 use Rattle.base.specs.Element.{ElementType, JInt}
 use Rattle.type_rules.specs.Sorts.{Sort, Jint, Ref, Global, FieldId, Buffer, Array, OperatorGroup, Logic, Equality, Order, OnWords, group, is_jint}
 use Rattle.type_rules.specs.Sorts as sort
+use Rattle.type_rules.specs.SortGroups.{IsIndexSort, IsNumberSort, OperatorFits}
 use Rattle.code.specs.declared.instr.Operator.TheVariants as operator
 use Rattle.code.specs.declared.instr.TrappingOperator.TheVariants as trapping
 use Rattle.code.specs.declared.instr.NullableVariable.{NullableVariable}
@@ -36,8 +37,8 @@ use Rattle.semantics.specs.Term as term
 use Rattle.semantics.specs.Term.{Term, Done, Read, IsNull, Prefix, And, Or, Binary, Reduction, done, with_part, reduce}
 use Rattle.code_meaning.specs.Layout.{Slot, Known}
 use Rattle.code_meaning.specs.Coding.{nullable_of, test_of, null_code, element_code, of_slot, load_code, prefix_code, operator_code, is_signed, skip_code, term_code}
-use Rattle.code_meaning.specs.Slots.{word_of, ValueHasSort, IsNumberSort, Visible, Slots, is_empty, is_no_buffer, ShowsNumber, ShowsArray, ShowsBuffer, ShowsSlot, elements_in, seen_element, SeesBuffers, slot_elements, holds_null}
-use Rattle.code_meaning.specs.Fits.{IsIndexSort, IsNullable, HasElements, OperatorFits, TermHasSort, IsUntouched}
+use Rattle.code_meaning.specs.Slots.{word_of, ValueHasSort, Visible, Slots, is_empty, is_no_buffer, ShowsNumber, ShowsArray, ShowsBuffer, ShowsSlot, elements_in, seen_element, SeesBuffers, slot_elements, holds_null}
+use Rattle.code_meaning.specs.Fits.{IsNullable, HasElements, TermHasSort, IsUntouched}
 use Rattle.code_meaning.specs.Stands.{held, IsBegun}
 use Rattle.code_meaning.specs.Does.{trap_of, Loads, Works}
 

@@ -18,10 +18,11 @@ use Rattle.type_rules.specs.Sorts.{Sort, Word, Jint, Flag, Ref, Global, Buffer, 
 use Rattle.type_rules.specs.Sorts as sort
 use Rattle.type_rules.specs.SortRules as rules
 use Rattle.type_rules.specs.SortRules.{result_fits, call_fits, value_sets}
+use Rattle.type_rules.specs.SortGroups.{IsNumberSort}
 use Rattle.region_rules.specs.RegionRules.{HeldBuffer, ArrayInUse, WrongLevel, is_reference_now, is_level, is_held, is_array_in_use, Obeys}
 use Rattle.region_rules.specs.RegionStates.{VariableState, BufferState, Free, Untested, Usable, ReferenceAt, BufferIn, RegionState, state_of, held_by, held_buffers, function_called, get_of, Release, release_of, deleted_name, pops, frame_count_after, made_free, killed, killed_from, with_changed, with_some_changed, after_release, after_pop, after_call, buffer_from, set_to, FunctionCall}
 use Rattle.semantics.specs.Task.{Assigned, set_task}
-use Rattle.semantics_safety.specs.Points.{Point, AreOnce, IsNumberSort}
+use Rattle.semantics_safety.specs.Points.{Point, AreOnce}
 use Rattle.semantics_safety.specs.Wanted.{Holds, IsUnused, MaySet, AssignsNull, AssignsResult, RunsPlain, revived, at}
 use Rattle.semantics_safety.proofs.ArgumentFits.{first_read, is_a_jint, is_a_flag, is_a_ref, buffer_for}
 use Rattle.semantics_safety.proofs.CallFits.{not_so, neither, both_so, second_fails, unbroken, none_holds, statement_reads}

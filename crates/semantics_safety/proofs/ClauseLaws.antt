@@ -13,6 +13,7 @@ use Rattle.jni.specs.JniFunction.{JniFunction, prototype}
 use Rattle.jni.specs.Prototype.{ParameterKind, FieldID, IntNumber, TextBytes, LocalVariable, StaticVariable, ArrayVariable, BufferVariable, Mode, IsCopy}
 use Rattle.type_rules.specs.Sorts.{Sort, sort_in}
 use Rattle.type_rules.specs.Sorts as sort
+use Rattle.type_rules.specs.SortGroups.{IsNumberSort}
 use Rattle.semantics.specs.Object.{Reference}
 use Rattle.region_rules.specs.RegionRules.{is_critical_call}
 use Rattle.region_rules.specs.RegionStates.{VariableState, Untested, Usable, ReferenceAt, BufferIn, state_of}
@@ -23,7 +24,7 @@ use Rattle.semantics.specs.Term.{Term, Done, Read, IsNull, Prefix, And, Or, Bina
 use Rattle.semantics.specs.Thread.{Frame}
 use Rattle.semantics.specs.Variable.{Variable, LocalRef, Elements, Buffer, NoBuffer, Copy, View, StaticReference, Variables, Statics, viewed}
 use Rattle.semantics_safety.specs.Owners.{Owners, IsOwn}
-use Rattle.semantics_safety.specs.Points.{Point, AreOnce, IsLive, IsUsable, NullTestFits, ElementsFit, ReferenceFits, HasSort, IsNumberSort, ReferenceArgumentFits, NameFits, FieldArgumentFits, ModeFits, CopyFits, TextFits, GivenFits, OperandFits, OperandsFit, is_copy, owns, owners}
+use Rattle.semantics_safety.specs.Points.{Point, AreOnce, IsLive, IsUsable, NullTestFits, ElementsFit, ReferenceFits, HasSort, ReferenceArgumentFits, NameFits, FieldArgumentFits, ModeFits, CopyFits, TextFits, GivenFits, OperandFits, OperandsFit, is_copy, owns, owners}
 use Rattle.semantics_safety.specs.StepSafe.{MayMeetView, is_lent, references_at, IsAlive}
 use Rattle.semantics_safety.specs.Stands.{VariableFits, IsOf, Shows, Stands}
 use Rattle.semantics_safety.specs.Used.{term_names, argument_names, operand_names, task_names}

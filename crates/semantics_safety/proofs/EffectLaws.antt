@@ -9,6 +9,7 @@ use Rattle.jni.specs.JniFunction.{JniFunction, prototype}
 use Rattle.jni.specs.Prototype.{ParameterKind, IntNumber}
 use Rattle.type_rules.specs.Sorts.{Sort, sort_in}
 use Rattle.type_rules.specs.Sorts as sort
+use Rattle.type_rules.specs.SortGroups.{IsIndexSort, IsNumberSort}
 use Rattle.semantics.specs.Arguments.{actuals}
 use Rattle.semantics.specs.Effect.{Effect, Becomes, Sets, SetsElement, Prints, Calls, Returns, at_line, goes_on, with_value, print_effect, branch_effect, loop_effect, element_effect, is_given, is_ready, reduce_number, reduce_first, call_effect_of, returned_name, return_effect, effect_of}
 use Rattle.semantics.specs.Heap.{Heap}
@@ -23,7 +24,7 @@ use Rattle.semantics.specs.Thread.{Frame}
 use Rattle.semantics.specs.Value.{Value, Int, Truth, Outcome, Gives, Traps, Stuck, outcome_map}
 use Rattle.semantics.specs.Variable.{Variable, LocalRef, Variables, Statics}
 use Rattle.semantics_safety.specs.Owners.{Owners}
-use Rattle.semantics_safety.specs.Points.{Point, value_sort, IsNumberSort, IsIndexSort, ElementsFit, HasSort, OperandFits, OperandsFit}
+use Rattle.semantics_safety.specs.Points.{Point, value_sort, ElementsFit, HasSort, OperandFits, OperandsFit}
 use Rattle.semantics_safety.specs.Stands.{Stands}
 use Rattle.semantics_safety.specs.Wanted.{at, Teaches, Nothing, ForNull, ForOther, IsTrueNow, IsFalseNow, Closes, Outside, MayReturnFrom, ReturnedFits, ReturnFits, SetsNumber, ResultGoes, CallFits, CallKeeps, operand_argument, call_seen, RunsTest, RunsBlock, Turns, Runs, GoesOn}
 use Rattle.semantics_safety.specs.Follows.{Follows}

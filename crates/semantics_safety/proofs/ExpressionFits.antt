@@ -9,11 +9,13 @@ use Rattle.syntax.specs.Parts.{null_tested, names_in, elements_in}
 use Rattle.syntax.specs.Tree.{Constant, True, False, Null, PrefixOp, LogicalNot, Complement, ToWord, ToInt, BinaryOp, LogicalOr, LogicalAnd, Equal, NotEqual, Expr, Number, Named, Variable, Element, Prefix, Binary, Paren}
 use Rattle.type_rules.specs.Sorts.{Sort, Word, Jint, Flag, Truth, Ref, Global, Buffer, Array, OperatorGroup, Logic, Equality, Order, OnWords, group, binary_sort, prefix_sort, is_castable, is_index, has_elements, is_nullable, constant_sort, null_test_sort, sort_in, sort_of}
 use Rattle.type_rules.specs.Sorts as sort
+use Rattle.type_rules.specs.SortGroups.{IsIndexSort, IsNumberSort, OperatorFits}
+use Rattle.type_rules.proofs.SortCases.{IsValueSort, given, and_true, castable, indexed, operands, number_is_value, index_is_value, null_cases, none_right, or_none}
 use Rattle.region_rules.specs.RegionRules.{is_dead, is_untested, is_free}
 use Rattle.region_rules.specs.RegionStates.{RegionState, BufferState, Free, Untested, Usable, ReferenceAt, BufferIn, state_of}
 use Rattle.semantics.specs.Term as term
 use Rattle.semantics.specs.Term.{Term, binary_term, term_of}
-use Rattle.semantics_safety.specs.Points.{Point, IsLive, IsUsable, NullTestFits, ElementsFit, IsNumberSort, IsIndexSort, OperatorFits, HasSort}
+use Rattle.semantics_safety.specs.Points.{Point, IsLive, IsUsable, NullTestFits, ElementsFit, HasSort}
 
 -- ---- what is given of the names
 
@@ -28,14 +30,6 @@ pub record MayRead (regions : RegionState) (e : Expr) : Type 0 where
   pub alive : list_any (λ x. is_dead (state_of regions x)) (names_in e) ≡ false
   pub unfree : list_any (λ x. is_free (state_of regions x)) (names_in e) ≡ false
   pub tested : list_any (λ x. is_untested (state_of regions x)) (elements_in e) ≡ false
-
--- the sorts that an expression is worked out to
-abbrev pub IsValueSort : Sort → Type 0
-IsValueSort Word = Unit {0}
-IsValueSort Jint = Unit {0}
-IsValueSort Flag = Unit {0}
-IsValueSort Truth = Unit {0}
-IsValueSort s = ⊥
 
 -- ---- names by their states
 
@@ -74,68 +68,6 @@ usable_if p x (Untested access a) e free untested = absurd (let there : is_untes
 
 pub is_live : (p : Point) → AreStated p → (x : Identifier) → sort_in p.names x ≡ Some Ref → is_dead (state_of p.regions x) ≡ false → IsLive p x
 is_live p stated x e h = let found = stated.reference x e in (found.0, live_if p.regions x found.0 found.1 found.2 h)
-
--- ---- the rules of sorts, turned round
-
-given : {A : Type 0} (b : Bool) (a s : A) → (if b then Some a else None) ≡ Some s → (b ≡ true) × (s ≡ a)
-given true a s h = (refl, cc)
-given false a s h = absurd (cc)
-
-both_so : (a b : Bool) → (a && b) ≡ true → (a ≡ true) × (b ≡ true)
-both_so true b h = (refl, h)
-both_so false b h = absurd (cc)
-
-castable : (o : Option Sort) → is_castable o ≡ true → (r : Sort) × (o ≡ Some r) × IsNumberSort r
-castable (Some Word) h = (Word, refl, tt)
-castable (Some Jint) h = (Jint, refl, tt)
-castable (Some Flag) h = (Flag, refl, tt)
-castable o h = absurd (cc)
-
-pub indexed : (o : Option Sort) → is_index o ≡ true → (r : Sort) × (o ≡ Some r) × IsIndexSort r
-indexed (Some Word) h = (Word, refl, tt)
-indexed (Some Jint) h = (Jint, refl, tt)
-indexed o h = absurd (cc)
-
-operands : (g : OperatorGroup) (a b : Option Sort) (s : Sort) → binary_sort g a b ≡ Some s → (r : Sort) × (a ≡ Some r) × (b ≡ Some r) × IsValueSort r × ((g ≡ Logic) × (r ≡ Truth) × (s ≡ Truth) ⊎ OperatorFits g r s)
-operands Logic (Some Truth) (Some Truth) s h = (Truth, refl, refl, tt, inl (refl, refl, cc))
-operands Equality (Some Word) (Some Word) s h = (Word, refl, refl, tt, inr (tt, cc))
-operands Equality (Some Jint) (Some Jint) s h = (Jint, refl, refl, tt, inr (tt, cc))
-operands Equality (Some Flag) (Some Flag) s h = (Flag, refl, refl, tt, inr (tt, cc))
-operands Order (Some Word) (Some Word) s h = (Word, refl, refl, tt, inr (tt, cc))
-operands Order (Some Jint) (Some Jint) s h = (Jint, refl, refl, tt, inr (tt, cc))
-operands OnWords (Some Word) (Some Word) s h = (Word, refl, refl, tt, inr (refl, cc))
-operands g a b s h = absurd (cc)
-
-pub number_is_value : (s : Sort) → IsNumberSort s → IsValueSort s
-number_is_value Word h = tt
-number_is_value Jint h = tt
-number_is_value Flag h = tt
-number_is_value s h = absurd h
-
-pub index_is_value : (s : Sort) → IsIndexSort s → IsValueSort s
-index_is_value Word h = tt
-index_is_value Jint h = tt
-index_is_value s h = absurd h
-
--- no null test, or one of a name
-pub null_cases : (op : BinaryOp) (a b : Expr) → (null_tested (Binary op a b) ≡ None) ⊎ ((x : Identifier) × (a ≡ Variable x) × (b ≡ Named Null) × ((op ≡ Equal) ⊎ (op ≡ NotEqual)))
-null_cases Equal (Variable x) (Named Null) = inr (x, refl, refl, inl refl)
-null_cases NotEqual (Variable x) (Named Null) = inr (x, refl, refl, inr refl)
-null_cases op a b = inl refl
-
-none_right : (g : OperatorGroup) (o : Option Sort) → binary_sort g o None ≡ None
-none_right Logic (Some Truth) = refl
-none_right Equality (Some Word) = refl
-none_right Equality (Some Jint) = refl
-none_right Equality (Some Flag) = refl
-none_right Order (Some Word) = refl
-none_right Order (Some Jint) = refl
-none_right OnWords (Some Word) = refl
-none_right g o = refl
-
-or_none : (o : Option Sort) → option_or o None ≡ o
-or_none None = refl
-or_none (Some s) = refl
 
 -- ---- terms
 
@@ -194,7 +126,7 @@ module _ (p : Point) (stated : AreStated p) where
       → HasSort p (term.Element x t) s
   element_fits x o s t h free untested sorts =
       let passed = given (has_elements (sort_in p.names x) && is_index o) Jint s h in
-      let both = both_so (has_elements (sort_in p.names x)) (is_index o) passed.0 in
+      let both = and_true (has_elements (sort_in p.names x)) (is_index o) passed.0 in
       let r = indexed o both.1 in
       (elements_fit x (sort_in p.names x) refl both.0 free untested, (r.0, r.2, sorts r.0 r.1 (index_is_value r.0 r.2)), passed.1)
 
@@ -209,7 +141,7 @@ module _ (p : Point) (stated : AreStated p) where
   binary_fits : (op : BinaryOp) (o o' : Option Sort) (s : Sort) (a b : Term) → binary_sort (group op) o o' ≡ Some s → HasSorts a o → HasSorts b o' → HasSort p (binary_term op None a b) s
   binary_fits op o o' s a b h sorts sorts' =
       let r = operands (group op) o o' s h in
-      operator_fits op r.0 s a b (sorts r.0 r.1 r.3) (sorts' r.0 r.2 r.3) r.4
+      operator_fits op r.0 s a b (sorts r.0 r.1 r.3) (sorts' r.0 r.2 r.3) r.5
 
   -- what has operands, by whether it is a null test
   operation_fits : (op : BinaryOp) (a b : Expr) (s : Sort) → sort_of p.names (Binary op a b) ≡ Some s → MayRead p.regions a → HasSorts (term_of a) (sort_of p.names a) → HasSorts (term_of b) (sort_of p.names b) → HasSort p (term_of (Binary op a b)) s

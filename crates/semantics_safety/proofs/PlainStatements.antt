@@ -16,12 +16,13 @@ use Rattle.jni.specs.Prototype.{ResultKind, NewGlobal, GivesBuffer}
 use Rattle.type_rules.specs.Sorts.{Sort, Jint, Array, sort_in, sort_of, is_jint, is_ref, is_index, has_elements, is_null, name_sort}
 use Rattle.type_rules.specs.SortRules as rules
 use Rattle.type_rules.specs.SortRules.{may_be_dropped, is_droppable, return_fits}
+use Rattle.type_rules.specs.SortGroups.{IsNumberSort}
 use Rattle.region_rules.specs.RegionRules.{CallWhileCritical, ReturnWithBuffer, ReturnInFrame, UntestedBuffer, WrongBuffer, is_return, is_put_jint, is_critical_call, is_dead, is_held, is_free, is_untested, holds_buffer, Obeys}
 use Rattle.region_rules.specs.RegionStates.{VariableState, BufferState, Free, Untested, Usable, BufferIn, state_of, held_by, held_buffers, function_called, after_call}
 use Rattle.semantics.specs.Task.{Target, Dropped, set_task}
 use Rattle.semantics.specs.Term as term
 use Rattle.semantics.specs.Term.{Term, Read, term_of}
-use Rattle.semantics_safety.specs.Points.{Point, IsNumberSort, HasSort}
+use Rattle.semantics_safety.specs.Points.{Point, HasSort}
 use Rattle.semantics_safety.specs.Wanted.{HasNoView, MayReturnFrom, ReturnedFits, ReturnFits, SetsNumber, MayDrop, RunsPlain, at}
 use Rattle.semantics_safety.proofs.ArgumentFits.{first_read, is_a_jint, is_a_ref}
 use Rattle.semantics_safety.proofs.CallFits.{neither, both_so, second_fails, some_any, unbroken, statement_reads, holds_any}

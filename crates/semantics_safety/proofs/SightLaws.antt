@@ -5,13 +5,14 @@ use Rattle.base.specs.Bytes.{Identifier, lookup}
 use Rattle.jni.specs.Access.{is_critical}
 use Rattle.type_rules.specs.Sorts.{Sort, sort_in}
 use Rattle.type_rules.specs.Sorts as sort
+use Rattle.type_rules.specs.SortGroups.{IsNumberSort}
 use Rattle.semantics.specs.Heap.{Heap, numbers_of}
 use Rattle.semantics.specs.Sight.{seen, scalar, variable_is_null, static_is_null, holds_null, elements_of, in_range}
 use Rattle.semantics.specs.Thread.{Frame}
 use Rattle.semantics.specs.Value.{Outcome, Gives, outcome_then}
 use Rattle.semantics.specs.Variable.{Variable, Elements, Buffer, NoBuffer, Copy, View, StaticReference, Empty, Live, Deleted, Variables, Statics}
 use Rattle.semantics_safety.specs.Owners.{Owners}
-use Rattle.semantics_safety.specs.Points.{Point, IsNumberSort, IsUsable, NullTestFits, ElementsFit}
+use Rattle.semantics_safety.specs.Points.{Point, IsUsable, NullTestFits, ElementsFit}
 use Rattle.semantics_safety.specs.Stands.{VariableFits, IsOf, Stands}
 use Rattle.semantics_safety.proofs.Values.{ValueFits}
 use Rattle.semantics_safety.proofs.TermLaws.{Answers, Sees}

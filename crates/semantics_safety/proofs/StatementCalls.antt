@@ -17,7 +17,7 @@ use Rattle.semantics.specs.Task.{Target, Tested, invocation, task_of}
 use Rattle.semantics_safety.specs.Points.{Point}
 use Rattle.semantics_safety.specs.Wanted.{CallFits, CallKeeps, ResultGoes, RunsPlain, RunsPush, call_seen, is_push, at}
 use Rattle.semantics_safety.proofs.CallFits.{not_so, operands_of, after_same, get_same, call_rules, call_fits, unbroken}
-use Rattle.semantics_safety.proofs.KeptPlaces.{IsKept}
+use Rattle.type_rules.proofs.KeptPlaces.{IsKept}
 use Rattle.semantics_safety.proofs.KnownPoints.{IsKnown, Kin, kin_same, known_changed}
 use Rattle.semantics_safety.proofs.WaysGive.{Pushes, free_kin, known_one}
 

@@ -6,6 +6,7 @@ use Rattle.base.specs.Element.{ElementType}
 use Rattle.class_rules.specs.Class.{Classes}
 use Rattle.type_rules.specs.Sorts.{Sort, sort_in}
 use Rattle.type_rules.specs.Sorts as sort
+use Rattle.type_rules.specs.SortGroups.{IsNumberSort}
 use Rattle.semantics.specs.Effect.{Effect, Becomes, Sets, SetsNull, SetsElement, MakesArray, Prints, Calls, Returns, TrapsAt, NoEffect}
 use Rattle.semantics.specs.Heap.{Heap}
 use Rattle.semantics.specs.Task.{Task}
@@ -14,7 +15,7 @@ use Rattle.semantics.specs.ThreadStep.{set_element, with_tasks, after_effect}
 use Rattle.semantics.specs.Value.{Value, Word, Int, Flag, Truth, convert}
 use Rattle.semantics.specs.Variable.{Variable, Scalar, LocalRef, FieldHandle, Elements, LocalArray, Buffer, NoBuffer, Copy, View, StaticReference, Variables, Statics, assign}
 use Rattle.semantics_safety.specs.Owners.{Owners}
-use Rattle.semantics_safety.specs.Points.{Point, IsNumberSort, value_sort, ElementsFit, is_copy, owns}
+use Rattle.semantics_safety.specs.Points.{Point, value_sort, ElementsFit, is_copy, owns}
 use Rattle.semantics_safety.specs.Stands.{VariableFits, IsOf, Shows, Goes, Stands}
 use Rattle.region_rules.specs.RegionStates.{VariableState, Free, Untested, Usable, ReferenceAt, BufferIn, with_new}
 use Rattle.jni.specs.Access.{is_critical}

@@ -5,11 +5,12 @@ use Rattle.base.specs.Bytes.{Identifier}
 use Rattle.syntax.specs.Tree as tree
 use Rattle.type_rules.specs.Sorts.{Sort, sort_in}
 use Rattle.type_rules.specs.Sorts as sort
+use Rattle.type_rules.specs.SortGroups.{IsNumberSort}
 use Rattle.semantics.specs.Sight.{Sight}
 use Rattle.semantics.specs.Term as term
 use Rattle.semantics.specs.Term.{Term, Done, Read, IsNull, Prefix, And, Or, Binary, Reduction, done, with_part, and_then, or_else, element_value, index_of, reduce}
 use Rattle.semantics.specs.Value.{Value, Int, Truth, Outcome, Gives, Traps, Stuck, outcome_map, outcome_then, prefix_value, binary_value}
-use Rattle.semantics_safety.specs.Points.{Point, value_sort, IsNumberSort, NullTestFits, ElementsFit, HasSort}
+use Rattle.semantics_safety.specs.Points.{Point, value_sort, NullTestFits, ElementsFit, HasSort}
 use Rattle.semantics_safety.proofs.Values.{ValueFits, binary_fits, prefix_fits, IndexFits, index_fits}
 
 -- an answer, or a trap

@@ -5,9 +5,10 @@ use Rattle.std.proofs.lemmas.Bool.{cond_both}
 use Rattle.syntax.specs.Tree.{PrefixOp, LogicalNot, Complement, ToWord, ToInt, BinaryOp, LogicalOr, LogicalAnd, BitOr, BitXor, BitAnd, Equal, NotEqual, Less, LessEqual, Greater, GreaterEqual, ShiftLeft, ShiftRight, Add, Subtract, Multiply, Divide, Remainder}
 use Rattle.type_rules.specs.Sorts.{Sort, OperatorGroup, Logic, Equality, Order, OnWords, group}
 use Rattle.type_rules.specs.Sorts as sort
+use Rattle.type_rules.specs.SortGroups.{IsIndexSort, IsNumberSort, OperatorFits}
 use Rattle.semantics.specs.Term.{index_of}
 use Rattle.semantics.specs.Value.{Value, Word, Int, Flag, Truth, Outcome, Gives, Traps, Stuck, on_words, on_ints, on_flags, binary_value, prefix_value, DivisionByZero, ShiftTooFar}
-use Rattle.semantics_safety.specs.Points.{value_sort, IsNumberSort, IsIndexSort, OperatorFits, PrefixFits}
+use Rattle.semantics_safety.specs.Points.{value_sort, PrefixFits}
 
 -- a value of this sort, or a trap
 abbrev pub ValueFits : Sort → Outcome Value → Type 0

@@ -21,7 +21,7 @@ use Rattle.semantics_safety.proofs.ArgumentFits.{first_read}
 use Rattle.semantics_safety.proofs.BlockLaws.{block_more}
 use Rattle.semantics_safety.proofs.CallFits.{statement_reads}
 use Rattle.semantics_safety.proofs.ExpressionFits.{expression_fits}
-use Rattle.semantics_safety.proofs.KeptPlaces.{IsKept, own_kept, inside_kept}
+use Rattle.type_rules.proofs.KeptPlaces.{IsKept, own_kept, inside_kept}
 use Rattle.semantics_safety.proofs.KnownPoints.{IsKnown, Covers, known_more, Kin, kin_same, known_changed, IsWithin, end_point, known_end, closes_end}
 use Rattle.semantics_safety.proofs.NameLaws.{front_other}
 use Rattle.type_rules.proofs.PlaceLists.{AreUnbroken, front_unbroken, back_unbroken}

@@ -10,6 +10,7 @@ use Rattle.jni.specs.Prototype.{ResultKind, NewLocal, NewGlobal, GivesFlag, Give
 use Rattle.region_rules.specs.RegionStates.{RegionState, Free, BufferIn, state_of, get_of, after_call, after_pop}
 use Rattle.type_rules.specs.Sorts.{Sort, sort_in}
 use Rattle.type_rules.specs.Sorts as sort
+use Rattle.type_rules.specs.SortGroups.{IsNumberSort}
 use Rattle.semantics.specs.Arguments.{Actual, look_up, actuals, address_in_actual}
 use Rattle.semantics.specs.Effect.{Effect, Sets, SetsNull, MakesArray, Calls}
 use Rattle.semantics.specs.Sight.{Sight}
@@ -19,7 +20,7 @@ use Rattle.semantics.specs.Value.{Value}
 use Rattle.semantics.specs.Variable.{Variable, Scalar, LocalRef, FieldHandle, Elements, StaticReference, Variables, Statics}
 use Rattle.semantics_safety.specs.Owners.{Owners, is_target}
 use Rattle.semantics_safety.specs.Follows.{Follows}
-use Rattle.semantics_safety.specs.Points.{Point, IsNumberSort, value_sort, OperandFits, OperandsFit}
+use Rattle.semantics_safety.specs.Points.{Point, value_sort, OperandFits, OperandsFit}
 use Rattle.semantics_safety.specs.Stands.{VariableFits, Stands}
 use Rattle.semantics_safety.specs.StepSafe.{HoldsNoBuffer, IsTold, SetsWhole}
 use Rattle.semantics_safety.specs.Wanted.{IsNew, at, DeclaresNull, AssignsNull, SetsNumber, SetsNullThere, DeclaresResult, AssignsResult, ResultGoes, CallFits, Runs, GoesOn, call_seen, operand_argument}

@@ -1,6 +1,7 @@
 -- What the effect of a task's step has to meet: the point after it has what is wanted of the tasks that are left.
 use Rattle.std.specs.Prelude.{◌≡◌, List, ◌++◌, IsTrue}
 use Rattle.type_rules.specs.Sorts.{Array, sort_in}
+use Rattle.type_rules.specs.SortGroups.{IsNumberSort}
 use Rattle.semantics.specs.Arguments.{actuals}
 use Rattle.semantics.specs.Effect.{Effect, Becomes, Sets, SetsNull, SetsElement, MakesArray, Prints, Calls, Returns, TrapsAt, NoEffect, is_ready}
 use Rattle.semantics.specs.Sight.{Sight}
@@ -8,7 +9,7 @@ use Rattle.semantics.specs.Task.{Task, Operand, Invoke}
 use Rattle.semantics.specs.Thread.{Frame}
 use Rattle.semantics.specs.Variable.{Variables, Statics}
 use Rattle.semantics_safety.specs.Owners.{Owners}
-use Rattle.semantics_safety.specs.Points.{Point, value_sort, IsNumberSort, ElementsFit}
+use Rattle.semantics_safety.specs.Points.{Point, value_sort, ElementsFit}
 use Rattle.semantics_safety.specs.Wanted.{IsNew, named, SetsNumber, SetsNullThere, HasNoView, MayReturnFrom, GoesOn, Runs}
 use Rattle.semantics_safety.specs.Stands.{Stands}
 

@@ -7,6 +7,7 @@ use Rattle.jni.specs.Access.{Access}
 use Rattle.jni.specs.Prototype.{ParameterKind, FieldID, IntNumber, TextBytes, LocalVariable, StaticVariable, ArrayVariable, BufferVariable, Mode, IsCopy}
 use Rattle.type_rules.specs.Sorts.{Sort, Word, Jint, Flag, Truth, Ref, Global, FieldId, Buffer, Array, Scope, OperatorGroup, Logic, Equality, Order, OnWords, group, sort_in}
 use Rattle.type_rules.specs.Sorts as sort
+use Rattle.type_rules.specs.SortGroups.{IsIndexSort, IsNumberSort, OperatorFits}
 use Rattle.region_rules.specs.RegionStates.{RegionState, VariableState, ReferenceAt, BufferIn, Usable, state_of}
 use Rattle.semantics.specs.Variable.{Variable, LocalRef, Variables}
 use Rattle.semantics.specs.Task.{Operand, NumberOperand, Given}
@@ -64,27 +65,7 @@ value_sort (value.Int z) = Jint
 value_sort (value.Flag b) = Flag
 value_sort (value.Truth b) = Truth
 
--- the sorts of variables that hold numbers
-abbrev pub IsNumberSort : Sort → Type 0
-IsNumberSort Word = Unit {0}
-IsNumberSort Jint = Unit {0}
-IsNumberSort Flag = Unit {0}
-IsNumberSort s = ⊥
-
--- the sorts of an index
-abbrev pub IsIndexSort : Sort → Type 0
-IsIndexSort Word = Unit {0}
-IsIndexSort Jint = Unit {0}
-IsIndexSort s = ⊥
-
--- the sort of both operands, and that of the result
-abbrev pub OperatorFits : OperatorGroup → (operands result : Sort) → Type 0
-OperatorFits Logic r s = ⊥
-OperatorFits Equality r s = IsNumberSort r × (s ≡ Truth)
-OperatorFits Order r s = IsIndexSort r × (s ≡ Truth)
-OperatorFits OnWords r s = (r ≡ Word) × (s ≡ Word)
-
--- the same of a prefix
+-- the sort of a prefix's operand, and that of its result
 abbrev pub PrefixFits : PrefixOp → (operand result : Sort) → Type 0
 PrefixFits LogicalNot r s = (r ≡ Truth) × (s ≡ Truth)
 PrefixFits Complement r s = (r ≡ Word) × (s ≡ Word)

@@ -8,6 +8,7 @@ use Rattle.jni.specs.JniFunction.{JniFunction, GetBuffer, ReleaseBuffer, DeleteL
 use Rattle.jni.specs.Prototype.{ResultKind, NewLocal, NewGlobal, GivesFlag, GivesInt, GivesField, GivesBuffer}
 use Rattle.type_rules.specs.Sorts.{Sort, Jint, Flag, Truth, Ref, Global, Buffer, Array, sort_in, is_buffer_for}
 use Rattle.type_rules.specs.Sorts as sort
+use Rattle.type_rules.specs.SortGroups.{IsIndexSort, IsNumberSort}
 use Rattle.region_rules.specs.RegionRules.{is_critical_call}
 use Rattle.region_rules.specs.RegionStates.{RegionState, VariableState, Free, Untested, Usable, ReferenceAt, BufferIn, state_of, with_new, with_changed, made_free, after_call, get_of, buffer_from, has_commit, FunctionCall}
 use Rattle.region_rules.specs.Regions.{made_usable}
@@ -18,7 +19,7 @@ use Rattle.semantics.specs.Term as term
 use Rattle.semantics.specs.Value.{Value}
 use Rattle.semantics.specs.Value as value
 use Rattle.semantics.specs.Variable.{Variables}
-use Rattle.semantics_safety.specs.Points.{Point, AreOnce, IsLive, IsNumberSort, IsIndexSort, ElementsFit, HasSort, OperandsFit, owners}
+use Rattle.semantics_safety.specs.Points.{Point, AreOnce, IsLive, ElementsFit, HasSort, OperandsFit, owners}
 
 -- ---- points that follow
 

@@ -23,6 +23,12 @@ front_unbroken xs ys h = first_empty (flat_map broken_at xs) (flat_map broken_at
 pub back_unbroken : (xs ys : List Place) → AreUnbroken (xs ++ ys) → AreUnbroken ys
 back_unbroken xs ys h = second_empty (flat_map broken_at xs) (flat_map broken_at ys) (sym (flat_map-append broken_at xs ys) ∙ h)
 
+pub first_unbroken : (p : Place) (ps : List Place) → AreUnbroken (p ∷ ps) → broken_at p ≡ []
+first_unbroken p ps h = first_empty (broken_at p) (flat_map broken_at ps) h
+
+pub rest_unbroken : (p : Place) (ps : List Place) → AreUnbroken (p ∷ ps) → AreUnbroken ps
+rest_unbroken p ps h = second_empty (broken_at p) (flat_map broken_at ps) h
+
 pub none_broken : (p : SortRule → Bool) (line : ℕ) (rules : List SortRule) → map {B = ℕ × SortRule} (λ rule. (line, rule)) (filter p rules) ≡ [] → list_any p rules ≡ false
 none_broken p line [] none = refl
 none_broken p line (rule ∷ rules) none = by_test (p rule) none (none_broken p line rules)

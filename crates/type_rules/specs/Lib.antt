@@ -5,3 +5,4 @@ pub mod SortRules
 pub mod SortViews
 pub mod Declarations
 pub mod Uses
+pub mod SortGroups

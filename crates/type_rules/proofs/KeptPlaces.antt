@@ -1,16 +1,16 @@
 -- What is known of a statement that breaks no rule of sorts, and of the statements inside it.
-use Rattle.std.proofs.Common.{◌≡◌, Bool, true, false, not, ◌||◌, List, [], ◌∷◌, ◌++◌, refl}
+use Rattle.std.proofs.Common.{◌≡◌, ℕ, Bool, true, false, not, ◌||◌, List, [], ◌∷◌, ◌++◌, refl}
 use Rattle.std.specs.Prelude.{flat_map}
 use Rattle.std.specs.List.{list_any, list_all}
 use Rattle.std.specs.Option.{is_none}
 use Rattle.base.specs.Bytes.{Identifier}
 use Rattle.base.specs.Options.{some_passes}
-use Rattle.syntax.specs.Parts.{statements_of, line_of, declared_name, right_side, own_call, own_expressions, names_declared}
-use Rattle.syntax.specs.Tree.{ResultType, Stmt, If, IfElse, While}
+use Rattle.syntax.specs.Parts.{statements_of, statements_within, line_of, declared_name, right_side, own_call, own_expressions, names_declared}
+use Rattle.syntax.specs.Tree.{ResultType, Static, Test, Stmt, If, IfElse, While, Block, Next}
 use Rattle.jni.specs.JniFunction.{function_named}
 use Rattle.type_rules.specs.Sorts.{Scope, call_arguments_fit}
-use Rattle.type_rules.specs.SortRules.{SortRule, UnknownName, DeclaredTwice, SortMisfit, UnknownFunction, ArgumentCount, ReferenceCopied, BadMode, ReadOnlyWrite, sort_rules, Place, StatementForm, has_name, is_formed, statement_fits, has_wrong_count, has_wrong_mode, copies_reference, set_sort, breaks, broken_at, places_within, places_of}
-use Rattle.type_rules.proofs.PlaceLists.{AreUnbroken, first_empty, second_empty, none_broken, first_false, second_false}
+use Rattle.type_rules.specs.SortRules.{SortRule, UnknownName, DeclaredTwice, SortMisfit, UnknownFunction, ArgumentCount, ReferenceCopied, BadMode, ReadOnlyWrite, sort_rules, Place, StaticForm, StatementForm, has_name, is_formed, statement_fits, has_wrong_count, has_wrong_mode, copies_reference, set_sort, breaks, broken_at, with_declared, places_within, places_of}
+use Rattle.type_rules.proofs.PlaceLists.{AreUnbroken, first_empty, second_empty, front_unbroken, back_unbroken, none_broken, first_false, second_false, not_twice}
 
 -- what a statement that breaks no rule is known for
 pub record IsKept (known : Scope) (taken : List Identifier) (returns : ResultType) (s : Stmt) : Type 0 where
@@ -90,3 +90,22 @@ own_kept returns known taken s h =
 
 pub inside_kept : (returns : ResultType) (known : Scope) (taken : List Identifier) (s : Stmt) → AreUnbroken (places_within returns known taken s) → AreUnbroken (places_inside returns known taken s)
 inside_kept returns known taken s h = second_empty (broken_at (statement_place returns known taken s)) (flat_map broken_at (places_inside returns known taken s)) (parts_kept returns known taken s h)
+
+-- the first statement of a block, and those after it
+pub block_kept : (returns : ResultType) (known : Scope) (taken : List Identifier) (s : Stmt) (rest : Block) → AreUnbroken (places_of returns known taken (Next s rest))
+    → AreUnbroken (places_within returns known taken s) × AreUnbroken (places_of returns (with_declared known s) (taken ++ names_declared (statements_within s)) rest)
+block_kept returns known taken s rest h =
+    let after = places_of returns (with_declared known s) (taken ++ names_declared (statements_within s)) rest in
+    (front_unbroken (places_within returns known taken s) after h, back_unbroken (places_within returns known taken s) after h)
+
+-- both blocks of an if-else
+pub ways_kept : (returns : ResultType) (known : Scope) (taken : List Identifier) (line : ℕ) (test : Test) (then' else' : Block) → AreUnbroken (places_within returns known taken (IfElse line test then' else'))
+    → AreUnbroken (places_of returns known taken then') × AreUnbroken (places_of returns known (taken ++ names_declared (statements_of then')) else')
+ways_kept returns known taken line test then' else' h =
+    let second = places_of returns known (taken ++ names_declared (statements_of then')) else' in
+    let both = inside_kept returns known taken (IfElse line test then' else') h in
+    (front_unbroken (places_of returns known taken then') second both, back_unbroken (places_of returns known taken then') second both)
+
+-- the name of a static that breaks no rule isn't taken
+pub static_kept : (line : ℕ) (known : Scope) (taken : List Identifier) (returns : ResultType) (g : Static) → broken_at (record { line = line; known = known; taken = taken; returns = returns; form = StaticForm g }) ≡ [] → has_name taken g.name ≡ false
+static_kept line known taken returns g none = not_twice (record { line = line; known = known; taken = taken; returns = returns; form = StaticForm g }) none
