@@ -11,9 +11,9 @@ use Rattle.semantics.specs.Thread as source
 use Rattle.semantics.specs.Thread.{Shared}
 use Rattle.semantics.specs.World.{World, loaded_objects}
 use Rattle.semantics_safety.specs.Owners.{Owners, owners_after}
-use Rattle.machine_calls.specs.declared.store.Store.{Store}
-use Rattle.machine_calls.specs.Buffers.{Acquired, acquired_by, beside}
-use Rattle.machine_calls.specs.StoreAgrees.{StoreAgrees}
+use Rattle.machine_scenes.specs.declared.store.Store.{Store}
+use Rattle.machine_scenes.specs.Buffers.{Acquired, acquired_by, beside}
+use Rattle.machine_scenes.specs.StoreAgrees.{StoreAgrees}
 use Rattle.machine_steps.specs.declared.fault.StepFault.{StepFault}
 use Rattle.machine_steps.specs.declared.fault.StepFault.TheVariants.{Memory, NoRoom}
 use Rattle.semantics.specs.declared.event.Ending.TheVariants.{Unfinished}

@@ -18,7 +18,7 @@ use Rattle.semantics.specs.World.{World, loaded_objects}
 use Rattle.semantics_safety.specs.Owners.{owners_after}
 use Rattle.heap.specs.Heap.{left_of}
 use Rattle.code_meaning.specs.Lowered.{Lowered}
-use Rattle.machine_calls.specs.declared.store.Store.{Store}
+use Rattle.machine_scenes.specs.declared.store.Store.{Store}
 use Rattle.machine_steps.specs.declared.thread.Thread.{Thread}
 use Rattle.machine_steps.proofs.ThreadLoads.{agree_length}
 use Rattle.semantics.specs.EventViews.{ending_view, stop_view}

@@ -5,8 +5,8 @@ use Rattle.heap.specs.Heap.{Block, Space, IsAddress, name_at}
 use Rattle.machine_steps.specs.declared.thread.Thread.{Thread}
 use Rattle.tables.specs.Locals.{AreStacked}
 use Rattle.monitors.specs.Monitors.{addresses}
-use Rattle.machine_calls.specs.declared.activation.Activation.{Activation}
-use Rattle.machine_calls.specs.declared.store.Store.{Store}
+use Rattle.machine_scenes.specs.declared.activation.Activation.{Activation}
+use Rattle.machine_scenes.specs.declared.store.Store.{Store}
 
 -- the name of the object at an address
 abbrev pub name_of : Space → ℕ → ℕ

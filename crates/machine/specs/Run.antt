@@ -44,9 +44,9 @@ use Rattle.machine.specs.declared.fault.RunFault.TheVariants as running
 use Rattle.machine.specs.declared.turn.Turn.{Turn as Answer}
 use Rattle.machine.specs.declared.turn.Turn.TheVariants as turn
 use Rattle.semantics.specs.declared.event.Stop.{Stop}
-use Rattle.machine_calls.specs.declared.store.Store.{Store}
-use Rattle.machine_calls.specs.Buffers.{Acquired, acquired_by, beside}
-use Rattle.machine_calls.specs.StoreAgrees.{StoreAgrees}
+use Rattle.machine_scenes.specs.declared.store.Store.{Store}
+use Rattle.machine_scenes.specs.Buffers.{Acquired, acquired_by, beside}
+use Rattle.machine_scenes.specs.StoreAgrees.{StoreAgrees}
 use Rattle.machine_steps.specs.Advances.{AdvancesBy}
 use Rattle.machine_steps.specs.Executes.{IsSteady, cells_made, in_use_with}
 use Rattle.machine_steps.specs.ThreadAgrees.{ThreadAgrees, ThreadsAgree}

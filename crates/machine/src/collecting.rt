@@ -5,7 +5,7 @@ ghost use Rattle.machine.specs.Moving.{AreCollected, AreReferred};
 
 use crate::roots::{gather, put_back};
 use compact::collect;
-use machine_calls::store::Store;
+use machine_scenes::store::Store;
 use machine_steps::thread::Thread;
 use std::alloc::{AllocError, Global};
 

@@ -42,20 +42,20 @@ use Rattle.code_meaning.specs.Does.{AtEnd, GoesOn, Loads, Stops, Works, WritesBu
 use Rattle.code_meaning.specs.Lowered.{Lowered}
 use Rattle.code_meaning.proofs.BufferLaws.{buffer_by_kind, buffer_stays as buffer_seen_still, set_same}
 use Rattle.code_meaning.proofs.ElementWords.{convert_fits, element_words}
-use Rattle.machine_calls.specs.Answers.{WritesAt}
-use Rattle.machine_calls.specs.Copies.{word_of}
-use Rattle.machine_calls.specs.Buffers.{Acquired, AreViewed, BufferAgrees, BuffersAgree, KeepsCopies, acquired_by, beside, viewed_in}
-use Rattle.machine_calls.specs.HeapAgrees.{ReferenceAgrees, times}
+use Rattle.machine_answers.specs.Answers.{WritesAt}
+use Rattle.machine_answers.specs.Copies.{word_of}
+use Rattle.machine_scenes.specs.Buffers.{Acquired, AreViewed, BufferAgrees, BuffersAgree, KeepsCopies, acquired_by, beside, viewed_in}
+use Rattle.machine_scenes.specs.HeapAgrees.{ReferenceAgrees, times}
 use Rattle.machine_steps.proofs.ViewCounts.{views_stay}
-use Rattle.machine_calls.specs.StoreAgrees.{StoreAgrees}
-use Rattle.machine_calls.specs.WorkedOut.{buffer_there}
-use Rattle.machine_calls.specs.declared.activation.Activation.{Activation}
-use Rattle.machine_calls.specs.declared.buffer.Buffer.{Buffer as HeldBuffer}
-use Rattle.machine_calls.specs.declared.buffer.Buffer.TheVariants as held_as
-use Rattle.machine_calls.specs.declared.store.Store.{Store}
+use Rattle.machine_scenes.specs.StoreAgrees.{StoreAgrees}
+use Rattle.machine_answers.specs.WorkedOut.{buffer_there}
+use Rattle.machine_scenes.specs.declared.activation.Activation.{Activation}
+use Rattle.machine_scenes.specs.declared.buffer.Buffer.{Buffer as HeldBuffer}
+use Rattle.machine_scenes.specs.declared.buffer.Buffer.TheVariants as held_as
+use Rattle.machine_scenes.specs.declared.store.Store.{Store}
 use Rattle.semantics.specs.declared.trap.Trap.TheVariants.{OutOfRange}
-use Rattle.machine_calls.proofs.Keeping.{frames_stay, keeps_same, keys_stay, reference_stays}
-use Rattle.machine_calls.proofs.Writes.{written_agrees, written_keeps}
+use Rattle.machine_scenes.proofs.Keeping.{frames_stay, keeps_same, keys_stay, reference_stays}
+use Rattle.machine_answers.proofs.Writes.{written_agrees, written_keeps}
 use Rattle.machine_steps.specs.BufferElements.{LoadsElement, StoresElement, with_word, words_held}
 use Rattle.machine_steps.specs.Executes as agrees
 use Rattle.machine_steps.specs.Executes.{Executes, IsSteady}

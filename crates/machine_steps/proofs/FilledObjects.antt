@@ -12,11 +12,11 @@ use Rattle.semantics.specs.Object.{Object, ObjectValue, Number, Refers}
 use Rattle.world_schedules.proofs.WordLaws.{both_true}
 use Rattle.world_values.specs.CallArguments.{is_argument}
 use Rattle.machine_steps.specs.Held.{held_value}
-use Rattle.machine_calls.specs.HeapAgrees.{ValueAgrees, ValuesAgree, IsTable, AreMade}
-use Rattle.machine_calls.proofs.HeapLaws.{IsNext}
-use Rattle.machine_calls.proofs.Loaded.{made_more}
+use Rattle.machine_scenes.specs.HeapAgrees.{ValueAgrees, ValuesAgree, IsTable, AreMade}
+use Rattle.machine_scenes.proofs.HeapLaws.{IsNext}
+use Rattle.machine_scenes.proofs.Loaded.{made_more}
 use Rattle.machine_steps.proofs.LoadLemmas.{in_range}
-use Rattle.machine_calls.proofs.FilledBlocks.{cells_all, filled_block}
+use Rattle.machine_scenes.proofs.FilledBlocks.{cells_all, filled_block}
 
 -- ---- what is held
 

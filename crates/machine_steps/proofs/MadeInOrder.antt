@@ -10,7 +10,7 @@ use Rattle.semantics.specs.Object.{Object, size, sizes}
 use Rattle.semantics.specs.World.{World, loaded_objects}
 use Rattle.world_values.proofs.LoadedWorlds.{few_objects, loaded_fit}
 use Rattle.world_values.specs.SoundWorlds.{IsSound}
-use Rattle.machine_calls.specs.HeapAgrees.{AreMade}
+use Rattle.machine_scenes.specs.HeapAgrees.{AreMade}
 use Rattle.machine_steps.proofs.Lists.{take_next}
 
 size_within : (objects : Heap) (i : ℕ) (o : Object) → slice_get objects i ≡ Some o → sizes (take i objects) + size o ≤ sizes objects

@@ -17,9 +17,9 @@ use Rattle.code_meaning.specs.Does.{IsOperand}
 use Rattle.code_meaning.specs.Lowered.{Lowered}
 use Rattle.semantics_safety.specs.Owners.{Owners}
 use Rattle.code_meaning.specs.Slots.{visible_to}
-use Rattle.machine_calls.specs.declared.activation.Activation.{Activation}
-use Rattle.machine_calls.specs.Answers.{HoldsObject}
-use Rattle.machine_calls.specs.Given.{operand_of}
+use Rattle.machine_scenes.specs.declared.activation.Activation.{Activation}
+use Rattle.machine_answers.specs.Answers.{HoldsObject}
+use Rattle.machine_scenes.specs.Given.{operand_of}
 use Rattle.machine_steps.proofs.Calls.{Ready}
 use Rattle.machine_steps.specs.SlotsHold.{slots_of}
 

@@ -7,8 +7,8 @@ use Rattle.world_values.specs.Views.{object_value_view}
 use Rattle.code.specs.Depth.{Listing}
 use Rattle.code_meaning.specs.Lowered.{Lowered}
 use Rattle.code_meaning.specs.Slots.{argument_word, HasRoom}
-use Rattle.machine_calls.specs.declared.activation.Activation.{Activation}
-use Rattle.machine_calls.specs.declared.buffer.Buffer.TheVariants as held
+use Rattle.machine_scenes.specs.declared.activation.Activation.{Activation}
+use Rattle.machine_scenes.specs.declared.buffer.Buffer.TheVariants as held
 use Rattle.tables.specs.Locals.{LocalTable}
 use Rattle.tables.specs.References.{references_in}
 use Rattle.machine_steps.specs.declared.thread.PendingCall.{PendingCall}

@@ -29,20 +29,20 @@ use Rattle.code_meaning.specs.Stands.{StandsFor}
 use Rattle.code_meaning.specs.Lowered.{Lowered}
 use Rattle.semantics.specs.declared.event.Event.{Event}
 use Rattle.semantics.specs.declared.event.Event.TheVariants.{Quiet}
-use Rattle.machine_calls.specs.declared.activation.Activation.{Activation}
+use Rattle.machine_scenes.specs.declared.activation.Activation.{Activation}
 use Rattle.machine_steps.specs.declared.execute.Executed.{Executed}
 use Rattle.machine_steps.specs.declared.execute.Executed.TheVariants.{Did, Refused, Returned}
 use Rattle.machine_steps.specs.declared.fault.StepFault.{StepFault}
 use Rattle.machine_steps.specs.declared.fault.StepFault.TheVariants.{NoRoom, Memory}
-use Rattle.machine_calls.specs.declared.store.Store.{Store}
+use Rattle.machine_scenes.specs.declared.store.Store.{Store}
 use Rattle.tables.specs.Elements.{OwnedNumbers}
-use Rattle.machine_calls.specs.Buffers.{Acquired, AreViewed, KeepsCopies, acquired_by, beside, in_use_of}
+use Rattle.machine_scenes.specs.Buffers.{Acquired, AreViewed, KeepsCopies, acquired_by, beside, in_use_of}
 use Rattle.machine_calls.specs.CarriedOut.{IsShortOf}
-use Rattle.machine_calls.specs.HeapAgrees.{ReferenceAgrees}
-use Rattle.machine_calls.specs.Locals.{FramesAgree}
+use Rattle.machine_scenes.specs.HeapAgrees.{ReferenceAgrees}
+use Rattle.machine_scenes.specs.Locals.{FramesAgree}
 use Rattle.machine_steps.specs.SlotsHold.{Meant, SlotsHold, slots_of, values_in}
 use Rattle.semantics.specs.EventViews.{event_view}
-use Rattle.machine_calls.specs.StoreAgrees.{StoreAgrees, Keeps}
+use Rattle.machine_scenes.specs.StoreAgrees.{StoreAgrees, Keeps}
 
 -- ---- a call in progress
 

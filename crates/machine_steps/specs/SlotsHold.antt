@@ -9,13 +9,13 @@ use Rattle.heap.specs.Heap.{Space}
 use Rattle.semantics.specs.Object.{Reference}
 use Rattle.semantics.specs.Variable as source
 use Rattle.code_meaning.specs.Slots.{Slots}
-use Rattle.machine_calls.specs.declared.activation.Activation.{Activation}
-use Rattle.machine_calls.specs.FieldIds.{FieldsAgree}
-use Rattle.machine_calls.specs.Locals.{KeysAgree}
+use Rattle.machine_scenes.specs.declared.activation.Activation.{Activation}
+use Rattle.machine_scenes.specs.FieldIds.{FieldsAgree}
+use Rattle.machine_scenes.specs.Locals.{KeysAgree}
 use Rattle.tables.specs.Elements.{OwnedNumbers}
 use Rattle.tables.specs.Locals.{LocalTable}
-use Rattle.machine_calls.specs.Buffers.{BuffersAgree}
-use Rattle.machine_calls.specs.declared.buffer.Buffer.{Buffer}
+use Rattle.machine_scenes.specs.Buffers.{BuffersAgree}
+use Rattle.machine_scenes.specs.declared.buffer.Buffer.{Buffer}
 
 -- numbers, keys, field IDs and buffers, as they lie in slots
 pub record SlotValues : Type 0 where

@@ -17,10 +17,10 @@ use Rattle.code_meaning.specs.Slots.{ArgumentsFit, visible_to}
 use Rattle.code_meaning.specs.Lowered.{Lowered}
 use Rattle.machine_steps.specs.declared.thread.Thread.{Thread}
 use Rattle.machine_steps.specs.declared.thread.PendingCall.{PendingCall}
-use Rattle.machine_calls.specs.declared.activation.Activation.{Activation}
-use Rattle.machine_calls.specs.declared.buffer.Buffer.{Buffer}
-use Rattle.machine_calls.specs.Buffers.{AreViewed}
-use Rattle.machine_calls.specs.HeapAgrees.{ReferenceAgrees}
+use Rattle.machine_scenes.specs.declared.activation.Activation.{Activation}
+use Rattle.machine_scenes.specs.declared.buffer.Buffer.{Buffer}
+use Rattle.machine_scenes.specs.Buffers.{AreViewed}
+use Rattle.machine_scenes.specs.HeapAgrees.{ReferenceAgrees}
 use Rattle.machine_steps.specs.Executes.{WorkAgrees}
 use Rattle.semantics.specs.declared.event.Ending.TheVariants.{Unfinished}
 use Rattle.semantics.specs.EventViews.{ending_view}

@@ -1,7 +1,7 @@
 //! Threads, which call functions one after another.
 
 use heap::Addr;
-use machine_calls::activation::Activation;
+use machine_scenes::activation::Activation;
 use semantics::Ending;
 use std::collections::VecDeque;
 use world_values::ObjectValue;

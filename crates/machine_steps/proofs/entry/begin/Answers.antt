@@ -4,7 +4,7 @@ use Rattle.std.proofs.lemmas.List.{take_all, length-map}
 use Rattle.code.specs.declared.slots.SlotCounts.{SlotCounts}
 use Rattle.world_values.specs.Views.{object_value_view}
 use Rattle.code_meaning.specs.Slots.{argument_reference}
-use Rattle.machine_calls.specs.declared.buffer.Buffer.TheVariants as buffer
+use Rattle.machine_scenes.specs.declared.buffer.Buffer.TheVariants as buffer
 use Rattle.machine_steps.specs.Entry.{entry_locals, keys_from}
 use Rattle.machine_steps.proofs.ArgumentSlots.{addresses_count}
 use Rattle.machine_steps.proofs.EntryTables.{given_few}

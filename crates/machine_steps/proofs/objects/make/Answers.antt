@@ -11,7 +11,7 @@ use Rattle.world_values.specs.CallArguments.{is_argument}
 use Rattle.semantics.specs.declared.object_value.ObjectValue.{ObjectValue as InMemory}
 use Rattle.world_values.specs.Views.{object_value_view}
 use Rattle.machine_steps.specs.Held.{held_value}
-use Rattle.machine_calls.proofs.FilledBlocks.{filled_block, filled_fresh, filled_within, filled_more}
+use Rattle.machine_scenes.proofs.FilledBlocks.{filled_block, filled_fresh, filled_within, filled_more}
 use Rattle.machine_steps.proofs.FilledObjects.{filled_made}
 use Rattle.machine_steps.proofs.objects.make.Goals as goal
 

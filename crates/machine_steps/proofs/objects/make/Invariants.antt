@@ -2,7 +2,7 @@ use Rattle.std.proofs.Common.{◌≡◌, ◌+◌, length, map}
 use Rattle.heap.specs.Heap.{with_block}
 use Rattle.world_values.specs.Views.{object_value_view}
 use Rattle.machine_steps.specs.Held.{held_value}
-use Rattle.machine_calls.proofs.FilledBlocks.{filled_block}
+use Rattle.machine_scenes.proofs.FilledBlocks.{filled_block}
 use Rattle.machine_steps.proofs.objects.make.Given as goal
 
 abbrev pub invariant-loop-place : goal.invariant-loop-place

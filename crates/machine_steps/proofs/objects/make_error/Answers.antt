@@ -11,7 +11,7 @@ use Rattle.semantics.specs.World.{initial, fresh_object, loaded_objects}
 use Rattle.world_values.proofs.LoadedWorlds.{loaded_error, initial_given}
 use Rattle.world_values.specs.CallArguments.{is_argument}
 use Rattle.world_values.specs.Views.{object_value_view}
-use Rattle.machine_calls.specs.HeapAgrees.{AreMade}
+use Rattle.machine_scenes.specs.HeapAgrees.{AreMade}
 use Rattle.machine_steps.proofs.MadeInOrder.{room, few, next}
 use Rattle.machine_steps.proofs.objects.make_error.Goals.{After-deref}
 use Rattle.machine_steps.proofs.objects.make_error.Goals as goal

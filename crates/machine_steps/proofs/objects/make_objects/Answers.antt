@@ -10,7 +10,7 @@ use Rattle.semantics.proofs.ShownRows.{length-loaded}
 use Rattle.world_values.proofs.LoadedWorlds.{loaded_object, object_class, object_given}
 use Rattle.world_values.specs.CallArguments.{is_argument}
 use Rattle.world_values.specs.Views.{object_value_view}
-use Rattle.machine_calls.specs.HeapAgrees.{AreMade}
+use Rattle.machine_scenes.specs.HeapAgrees.{AreMade}
 use Rattle.machine_steps.proofs.MadeInOrder.{room, counted, next}
 use Rattle.machine_steps.proofs.objects.make_objects.Goals.{After-values}
 use Rattle.machine_steps.proofs.objects.make_objects.Goals as goal

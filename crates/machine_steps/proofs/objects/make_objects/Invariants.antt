@@ -1,6 +1,6 @@
 use Rattle.std.proofs.Common.{◌≡◌, ◌+◌, length, take}
 use Rattle.semantics.specs.World.{loaded_objects}
-use Rattle.machine_calls.specs.HeapAgrees.{AreMade}
+use Rattle.machine_scenes.specs.HeapAgrees.{AreMade}
 use Rattle.machine_steps.proofs.objects.make_objects.Given as goal
 
 abbrev pub invariant-loop-object : goal.invariant-loop-object
