@@ -17,9 +17,9 @@ use Rattle.machine_scenes.specs.StoreAgrees.{StoreAgrees}
 use Rattle.machine_steps.specs.declared.fault.StepFault.{StepFault}
 use Rattle.machine_steps.specs.declared.fault.StepFault.TheVariants.{Memory, NoRoom}
 use Rattle.semantics.specs.declared.event.Ending.TheVariants.{Unfinished}
-use Rattle.machine_steps.specs.declared.thread.Thread.{Thread}
+use Rattle.machine_threads.specs.declared.thread.Thread.{Thread}
 use Rattle.machine_steps.specs.Executes.{IsHindered, IsSteady}
-use Rattle.machine_steps.specs.ThreadAgrees.{ThreadAgrees}
+use Rattle.machine_threads.specs.ThreadAgrees.{ThreadAgrees}
 use Rattle.machine.specs.Moving.{AreCollected, moved_thread}
 use Rattle.machine_steps.specs.declared.advance.Advanced.{Advanced}
 use Rattle.machine.specs.Run.{AdvancesFrom, CanAdvance, MakesObjects, acquired}

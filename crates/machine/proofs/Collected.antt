@@ -27,7 +27,7 @@ use Rattle.machine_scenes.specs.HeapAgrees.{times}
 use Rattle.machine_scenes.proofs.BlocksOfNames.{is_address, named}
 use Rattle.machine_steps.specs.declared.advance.Advanced.{Advanced}
 use Rattle.machine_steps.specs.declared.advance.Advanced.TheVariants as advanced
-use Rattle.machine_steps.specs.declared.thread.Thread.{Thread}
+use Rattle.machine_threads.specs.declared.thread.Thread.{Thread}
 use Rattle.semantics.specs.declared.event.Stop.{Stop}
 use Rattle.machine.specs.Moving.{AreCollected, AreReferred, moved_thread}
 use Rattle.machine.specs.Roots.{ThreadsAreStacked, root_places, slots_of}

@@ -30,9 +30,9 @@ use Rattle.machine_scenes.specs.declared.statics.StaticReference.TheVariants as 
 use Rattle.machine_scenes.specs.HeapAgrees.{HeapAgrees, IsTable, SlotsAgree, times}
 use Rattle.machine_scenes.specs.Statics.{all_held, held, held_at}
 use Rattle.machine_scenes.specs.StoreAgrees.{StaticsAgree, StoreAgrees}
-use Rattle.machine_steps.specs.declared.thread.Thread.{Thread}
-use Rattle.machine_steps.specs.Executes.{CallStands, WorkAgrees}
-use Rattle.machine_steps.specs.ThreadAgrees.{ThreadsAgree, buffers_of}
+use Rattle.machine_threads.specs.declared.thread.Thread.{Thread}
+use Rattle.machine_threads.specs.InProgress.{CallStands, WorkAgrees}
+use Rattle.machine_threads.specs.ThreadAgrees.{ThreadsAgree, buffers_of}
 use Rattle.semantics.specs.declared.event.Stop.{Stop}
 use Rattle.compact.specs.Same.{MovesBy}
 use Rattle.machine.specs.Moving.{IsMoved, moved_call, moved_monitors, moved_slots, moved_thread}

@@ -19,7 +19,7 @@ use Rattle.code_meaning.proofs.BufferLaws.{set_same}
 use Rattle.machine_answers.proofs.SetPlaces.{get_set_same}
 use Rattle.machine_scenes.specs.Buffers.{Acquired}
 use Rattle.machine_scenes.specs.declared.store.Store.{Store}
-use Rattle.machine_steps.specs.declared.thread.Thread.{Thread}
+use Rattle.machine_threads.specs.declared.thread.Thread.{Thread}
 use Rattle.machine_steps.specs.Advances.{Stands}
 use Rattle.machine_steps.specs.Moved.{IsSilent}
 use Rattle.machine.specs.declared.turn.Turn.TheVariants as turn

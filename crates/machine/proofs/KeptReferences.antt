@@ -4,7 +4,7 @@ use Rattle.heap.specs.declared.value.Value.{Value}
 use Rattle.heap.specs.declared.value.Value.TheVariants.{Number, Null, Block as Address}
 use Rattle.heap.specs.Heap.{Block, Space, IsAddress, block_at}
 use Rattle.tables.specs.References.{references_in}
-use Rattle.machine_steps.specs.declared.thread.Thread.{Thread}
+use Rattle.machine_threads.specs.declared.thread.Thread.{Thread}
 use Rattle.machine_scenes.specs.declared.activation.Activation.{Activation}
 use Rattle.machine_scenes.specs.declared.references.Held.{Held}
 use Rattle.machine_scenes.specs.declared.references.Held.TheVariants.{Empty, At, Deleted}

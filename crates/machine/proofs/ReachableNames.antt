@@ -18,7 +18,7 @@ use Rattle.semantics.proofs.ReachableLemmas.{In, contains_in, in_append_cases, i
 use Rattle.tables.specs.Locals.{FrameSlots, by_frame}
 use Rattle.tables.specs.References.{references_in}
 use Rattle.machine_scenes.specs.declared.activation.Activation.{Activation}
-use Rattle.machine_steps.specs.declared.thread.Thread.{Thread}
+use Rattle.machine_threads.specs.declared.thread.Thread.{Thread}
 use Rattle.machine_scenes.specs.HeapAgrees.{HeapAgrees, IsNamed, IsTable, NamesAgree, ReferenceAgrees, SlotsAgree, ValuesAgree, times}
 use Rattle.machine_scenes.specs.Locals.{FrameAgrees}
 use Rattle.machine_scenes.proofs.BlocksOfNames.{named}

@@ -31,10 +31,10 @@ use Rattle.code_meaning.specs.Lowered.{Lowered, IsLowered}
 use Rattle.code_meaning.specs.Slots.{Visible, visible_to}
 use Rattle.report_objects.specs.Rows.{AreReported}
 use Rattle.machine_scenes.specs.declared.activation.Activation.{Activation}
-use Rattle.machine_steps.specs.declared.thread.Thread.{Thread}
+use Rattle.machine_threads.specs.declared.thread.Thread.{Thread}
 use Rattle.semantics.specs.declared.event.Stop.{Stop}
-use Rattle.machine_steps.specs.ThreadAgrees.{ThreadAgrees, ThreadsAgree}
-use Rattle.machine_steps.specs.Executes.{WorkAgrees}
+use Rattle.machine_threads.specs.ThreadAgrees.{ThreadAgrees, ThreadsAgree}
+use Rattle.machine_threads.specs.InProgress.{WorkAgrees}
 use Rattle.tables.specs.Elements.{OwnedNumbers}
 use Rattle.machine_scenes.specs.HeapAgrees.{IsNamed}
 use Rattle.machine.specs.Rows.{AreSeen}

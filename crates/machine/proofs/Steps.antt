@@ -33,14 +33,14 @@ use Rattle.semantics.specs.declared.event.Ending.{Ending}
 use Rattle.semantics.specs.declared.event.Ending.TheVariants.{Unfinished, Ended, Uncaught}
 use Rattle.semantics.specs.declared.event.Event.{Event}
 use Rattle.semantics.specs.declared.event.Event.TheVariants as event
-use Rattle.machine_steps.specs.declared.thread.Thread.{Thread}
+use Rattle.machine_threads.specs.declared.thread.Thread.{Thread}
 use Rattle.semantics.specs.declared.event.Stop.{Stop}
 use Rattle.semantics.specs.EventViews.{ending_view, event_view, printed_after, stop_after, stop_view}
 use Rattle.machine_scenes.specs.declared.store.Store.{Store}
 use Rattle.machine_steps.specs.Executes.{IsSteady, cells_made, in_use_with}
 use Rattle.machine_scenes.specs.Buffers.{Acquired, SameAcquired, acquired_by, beside}
 use Rattle.machine_scenes.specs.StoreAgrees.{StoreAgrees}
-use Rattle.machine_steps.specs.ThreadAgrees.{ThreadAgrees, ThreadsAgree}
+use Rattle.machine_threads.specs.ThreadAgrees.{ThreadAgrees, ThreadsAgree}
 use Rattle.machine_steps.specs.Advances.{Advances, Stands}
 use Rattle.machine_steps.specs.Moved.{IsSilent}
 use Rattle.machine_steps.specs.declared.advance.Advanced.{Advanced}

@@ -16,7 +16,7 @@ use compact::Roots;
 use heap::{Addr, Heap};
 use machine_scenes::activation::Activation;
 use machine_scenes::store::Store;
-use machine_steps::thread::Thread;
+use machine_threads::thread::Thread;
 use monitors::Monitors;
 use std::alloc::{AllocError, Global};
 use tables::{Globals, Locals};

@@ -106,8 +106,9 @@ fn releases(buffers: &[Buffer], object: Option<Addr>, slot: usize, mode: Release
 
 // ---- what they do
 
-/// Copies an object's numbers into a list of this owner; NULL where all lists together would be too long. Only a list takes
-/// host memory.
+/// Copies an object's numbers into a list of this owner; NULL where all lists together would be too long.
+///
+/// Only a list takes host memory.
 pub fn acquire_copy(
     alloc: Global,
     heap: &Heap,

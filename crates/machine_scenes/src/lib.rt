@@ -1,5 +1,5 @@
-//! What a call of a function of the JNI sees: the store, the frames and the slots of the call in progress, what its operands give,
-//! and objects that are to be made.
+//! What a call of a function of the JNI sees: the store, the frames and the slots of the call in progress, what its
+//! operands give, and objects that are to be made.
 #![tactic(auto)]
 
 pub mod activation;

@@ -43,7 +43,7 @@ use Rattle.machine_calls.proofs.HeldStatics.{static_there}
 use Rattle.machine_scenes.proofs.KeyLaws.{address_there}
 use Rattle.machine_scenes.specs.Given.{HasArray, HasElements, held_in, IsGiven}
 use Rattle.machine_steps.proofs.Calls.{Ready}
-use Rattle.machine_steps.specs.SlotsHold.{slots_of}
+use Rattle.machine_threads.specs.SlotsHold.{slots_of}
 
 -- ---- slots
 

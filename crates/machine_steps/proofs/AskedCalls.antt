@@ -43,7 +43,7 @@ use Rattle.machine_steps.specs.Received.{HasRoom, HasTarget, HasTold, HasStatic,
 use Rattle.machine_steps.proofs.Arguments.{all_given, arrays_held, none_left_after}
 use Rattle.machine_answers.proofs.CallTraps.{found_is}
 use Rattle.machine_steps.proofs.Calls.{Ready, fields_count, ready}
-use Rattle.machine_steps.specs.SlotsHold.{slots_of}
+use Rattle.machine_threads.specs.SlotsHold.{slots_of}
 use Rattle.machine_steps.proofs.Effects.{call_cases}
 use Rattle.machine_scenes.proofs.KeyLaws.{OwnKey, keys_count}
 use Rattle.machine_steps.proofs.OwnedKeys.{DeletesKey, deletes_key, operands_owned}
@@ -67,7 +67,8 @@ use Rattle.machine_answers.specs.declared.answer.Given.{Given}
 use Rattle.semantics.specs.declared.trap.Trap.{Trap}
 use Rattle.semantics.specs.declared.event.Event.TheVariants as event
 use Rattle.machine_steps.specs.declared.execute.Executed.TheVariants.{Did}
-use Rattle.machine_steps.specs.Executes.{Executes, GoesOn, WorkAgrees, cells_made}
+use Rattle.machine_steps.specs.Executes.{Executes, GoesOn, cells_made}
+use Rattle.machine_threads.specs.InProgress.{WorkAgrees}
 use Rattle.machine_calls.specs.CarriedOut.{CarriesOut, frames_left, made_by}
 use Rattle.machine_answers.specs.Checked.{puts_local}
 use Rattle.semantics.specs.EventViews.{trap_view}

@@ -55,10 +55,11 @@ use Rattle.machine_answers.specs.WorkedOut.{IsWorkedOut}
 use Rattle.machine_calls.proofs.BufferLaws.{buffers_stay, keeps_others, new_apart}
 use Rattle.machine_scenes.proofs.KeyLaws.{fewer_owned, keys_left}
 use Rattle.semantics.specs.declared.event.Event.TheVariants as event
-use Rattle.machine_steps.specs.Executes.{CallStands, GoesOn, after_any, in_use_with}
+use Rattle.machine_steps.specs.Executes.{GoesOn, after_any, in_use_with}
+use Rattle.machine_threads.specs.InProgress.{CallStands}
 use Rattle.machine_steps.specs.Invoked.{AtCall}
 use Rattle.machine_steps.specs.Received.{Receives, numbers_with, statics_with, told_slot, told_with}
-use Rattle.machine_steps.specs.SlotsHold.{slots_of}
+use Rattle.machine_threads.specs.SlotsHold.{slots_of}
 use Rattle.machine_steps.proofs.Acquisitions.{taken_by}
 use Rattle.machine_steps.proofs.AskedCalls.{CalledAs, called as called_at, cells_wanted, effect_is, next_is, r as ready_at, room_after}
 use Rattle.machine_steps.proofs.Calls.{Ready, ready, ready_known, ready_owners}

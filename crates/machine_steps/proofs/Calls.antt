@@ -35,8 +35,8 @@ use Rattle.tables.specs.Locals.{LocalTable}
 use Rattle.machine_scenes.specs.Buffers.{BuffersAgree}
 use Rattle.machine_scenes.specs.declared.buffer.Buffer.{Buffer as HeldBuffer}
 use Rattle.machine_scenes.specs.Locals.{FramesAgree, KeysAgree}
-use Rattle.machine_steps.specs.Executes.{CallStands}
-use Rattle.machine_steps.specs.SlotsHold.{Meant, SlotValues, SlotsHold, slots_of, values_in}
+use Rattle.machine_threads.specs.InProgress.{CallStands}
+use Rattle.machine_threads.specs.SlotsHold.{Meant, SlotValues, SlotsHold, slots_of, values_in}
 use Rattle.machine_steps.specs.Moved.{HasMoved}
 use Rattle.machine_scenes.specs.FieldIds.{FieldsAgree}
 

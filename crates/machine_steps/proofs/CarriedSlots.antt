@@ -70,7 +70,7 @@ use Rattle.machine_scenes.proofs.KeyLaws.{set_cases}
 use Rattle.machine_steps.specs.Executes.{in_use_with}
 use Rattle.machine_steps.specs.Invoked.{AtCall}
 use Rattle.machine_steps.specs.Received.{told_slot, told_with}
-use Rattle.machine_steps.specs.SlotsHold.{IsSmallCopy, slots_of}
+use Rattle.machine_threads.specs.SlotsHold.{IsSmallCopy, slots_of}
 use Rattle.machine_steps.proofs.Acquisitions.{taken_by}
 use Rattle.machine_steps.proofs.AskedCalls.{CalledAs, called as called_at, r as ready_at}
 use Rattle.machine_steps.proofs.Calls.{Ready}

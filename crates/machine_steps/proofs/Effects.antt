@@ -50,12 +50,13 @@ use Rattle.machine_scenes.specs.declared.buffer.Buffer.{Buffer as HeldBuffer}
 use Rattle.machine_steps.proofs.ViewCounts.{views_nulled}
 use Rattle.machine_scenes.specs.StoreAgrees.{StoreAgrees}
 use Rattle.machine_scenes.specs.Buffers.{Acquired, AreViewed, acquired_by, beside, viewed_in}
-use Rattle.machine_steps.specs.Executes.{Executes, CallStands, IsSteady, in_use_with}
+use Rattle.machine_steps.specs.Executes.{Executes, IsSteady, in_use_with}
+use Rattle.machine_threads.specs.InProgress.{CallStands, WorkAgrees}
 use Rattle.semantics.specs.EventViews.{event_view, trap_view}
 use Rattle.machine_answers.specs.Asked.{references_of}
 use Rattle.machine_scenes.specs.declared.statics.StaticReference.{StaticReference}
 use Rattle.machine_steps.specs.Moved.{HasMoved, end_of_way, WayIsSeen}
-use Rattle.machine_steps.specs.SlotsHold.{slots_of, values_in}
+use Rattle.machine_threads.specs.SlotsHold.{slots_of, values_in}
 use Rattle.machine_steps.specs.Variables.{is_null, HasSlot, nulled_buffers, nulled_slots, nulled_statics}
 use Rattle.machine_steps.proofs.Acquisitions.{assigned_nothing, assigned_same, copied_there, store_same, taken_by, viewed_there}
 use Rattle.machine_steps.proofs.SlotBuffers.{buffers_count}
@@ -333,7 +334,7 @@ module _ (p : Lowered) (w : World) (store : Store) (others : Acquired) (k : ℕ)
         record {
           next = s;
           steps = ap (λ (t : Trap). source.Advances shared s (source.Trapped t line)) trap_is ∙ ap (λ (v : Event). source.Advances shared s (event_view v)) (sym seen_trap.2);
-          work = subst (λ (o : Option (List Task)). agrees.WorkAgrees p classes space store.elements k seen (Some after) s.frames o) (sym tasks_are) stands;
+          work = subst (λ (o : Option (List Task)). WorkAgrees p classes space store.elements k seen (Some after) s.frames o) (sym tasks_are) stands;
           next_shared = shared;
           store_agrees = shares;
           keeps = keeps_same space shared;

@@ -40,7 +40,7 @@ use Rattle.machine_scenes.specs.declared.store.Store.{Store}
 use Rattle.machine_answers.specs.Answers.{Brought, IsAnswer}
 use Rattle.machine_calls.specs.CarriedOut.{ResultAgrees, result_after}
 use Rattle.machine_calls.proofs.AnswerCases.{gives_it, makes_it, throws_it, writes_it}
-use Rattle.machine_steps.specs.SlotsHold.{IsSmallCopy}
+use Rattle.machine_threads.specs.SlotsHold.{IsSmallCopy}
 use Rattle.machine_steps.proofs.Acquisitions.{assigned_nothing, taken_by}
 use Rattle.machine_steps.proofs.Changes.{lookup_other, lookup_same}
 use Rattle.machine_steps.proofs.Invocations.{plain_result}

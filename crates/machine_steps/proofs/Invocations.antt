@@ -47,7 +47,7 @@ use Rattle.semantics_safety.specs.StepSafe.{HoldsNoBuffer}
 use Rattle.machine_answers.specs.declared.answer.Given.{Given}
 use Rattle.machine_answers.specs.declared.answer.Given.TheVariants as given
 use Rattle.machine_scenes.specs.declared.activation.Activation.{Activation}
-use Rattle.machine_steps.specs.Executes.{CallStands}
+use Rattle.machine_threads.specs.InProgress.{CallStands}
 use Rattle.machine_scenes.specs.FieldIds.{FieldAgrees, FieldsAgree}
 use Rattle.machine_scenes.specs.StoreAgrees.{HeldAgrees, Keeps, StoreAgrees}
 use Rattle.machine_scenes.specs.Locals.{FramesAgree, IsKeyOf, KeysAgree}
@@ -71,7 +71,7 @@ use Rattle.machine_calls.proofs.StaticStores.{with_same, with_static}
 use Rattle.machine_scenes.specs.HeapAgrees.{ReferenceAgrees}
 use Rattle.machine_steps.specs.Received.{HasRoom, MakesLocal, Receives, buffers_with, fields_with, numbers_with, stack_with, statics_with}
 use Rattle.machine_steps.proofs.Calls.{Ready, depth_behind}
-use Rattle.machine_steps.specs.SlotsHold.{IsSmallCopy, Meant, SlotsHold, slots_of, values_in}
+use Rattle.machine_threads.specs.SlotsHold.{IsSmallCopy, Meant, SlotsHold, slots_of, values_in}
 use Rattle.machine_steps.proofs.Changes.{OthersOwn, lookup_same, buffer_by_kind, field_by_kind, is_buffer_set, is_field_set, is_referred, is_set, local_by_kind, scalar_by_kind}
 use Rattle.machine_steps.proofs.StillShown.{shows_stay}
 use Rattle.machine_scenes.proofs.KeyLaws.{key_put, keys_left, live_there}

@@ -42,7 +42,7 @@ use Rattle.machine_answers.specs.WorkedOut.{buffer_there}
 use Rattle.machine_scenes.proofs.KeyLaws.{key_nulled, null_there}
 use Rattle.machine_scenes.specs.Given.{held_in}
 use Rattle.machine_scenes.specs.Statics.{References}
-use Rattle.machine_steps.specs.SlotsHold.{IsSmallCopy}
+use Rattle.machine_threads.specs.SlotsHold.{IsSmallCopy}
 use Rattle.machine_steps.specs.Variables.{is_null, is_null_buffer, nulled_references, nulled_fields, nulled_buffers}
 use Rattle.machine_steps.proofs.Changes.{is_nulled, lookup_other, lookup_same}
 use Rattle.machine_steps.proofs.Acquisitions.{assigned_nothing, taken_by}

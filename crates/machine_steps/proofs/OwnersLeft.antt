@@ -23,7 +23,7 @@ use Rattle.machine_calls.specs.CarriedOut.{IsLeft}
 use Rattle.machine_scenes.specs.Given.{held_in, key_at}
 use Rattle.machine_steps.specs.Invoked.{AtCall}
 use Rattle.machine_steps.proofs.Calls.{Ready}
-use Rattle.machine_steps.specs.SlotsHold.{slots_of}
+use Rattle.machine_threads.specs.SlotsHold.{slots_of}
 use Rattle.machine_scenes.proofs.KeyLaws.{name_there, set_cases}
 use Rattle.machine_steps.proofs.KeysLeft.{may_end, none_left_out, others_end_none, others_get}
 use Rattle.machine_scenes.proofs.LocalFrames.{as_many_frames}

@@ -33,7 +33,7 @@ use Rattle.machine_answers.proofs.FieldValues.{values_there}
 use Rattle.machine_scenes.proofs.KeyLaws.{set_cases}
 use Rattle.machine_scenes.proofs.Loaded.{agree_length}
 use Rattle.machine_steps.specs.BufferElements.{IsOfBlock, words_held}
-use Rattle.machine_steps.specs.SlotsHold.{IsSmallCopy}
+use Rattle.machine_threads.specs.SlotsHold.{IsSmallCopy}
 use Rattle.machine_steps.specs.Variables.{is_null_buffer}
 
 -- ---- lists

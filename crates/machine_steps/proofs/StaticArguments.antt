@@ -21,7 +21,7 @@ use Rattle.machine_scenes.specs.declared.activation.Activation.{Activation}
 use Rattle.machine_answers.specs.Answers.{HoldsObject}
 use Rattle.machine_scenes.specs.Given.{operand_of}
 use Rattle.machine_steps.proofs.Calls.{Ready}
-use Rattle.machine_steps.specs.SlotsHold.{slots_of}
+use Rattle.machine_threads.specs.SlotsHold.{slots_of}
 
 live_is : (r : StaticReference) (n : ℕ) (x : Identifier) → reference_in_actual (Some (ReferenceActual x r)) ≡ Some n → r ≡ Live n
 live_is Empty n x e = absurd (cc)

@@ -44,10 +44,10 @@ use Rattle.machine_scenes.specs.StoreAgrees.{StoreAgrees}
 use Rattle.machine_answers.proofs.CallOperands.{GivenObject, object_at_place}
 use Rattle.machine_answers.proofs.CallTraps.{none_deleted, none_lacking}
 use Rattle.machine_calls.proofs.MonitorCarries.{agrees_monitors}
-use Rattle.machine_steps.specs.declared.thread.Thread.{Thread}
+use Rattle.machine_threads.specs.declared.thread.Thread.{Thread}
 use Rattle.machine_steps.specs.Executes.{IsExecuting, IsSteady}
-use Rattle.machine_steps.specs.SlotsHold.{slots_of}
-use Rattle.machine_steps.specs.ThreadAgrees.{ThreadAgrees, buffers_of}
+use Rattle.machine_threads.specs.SlotsHold.{slots_of}
+use Rattle.machine_threads.specs.ThreadAgrees.{ThreadAgrees, buffers_of}
 use Rattle.machine_steps.specs.Waiting.{MayWait, is_busy, store_unowned, unowned}
 use Rattle.machine_steps.proofs.AskedCalls.{CalledAs, called, r as ready_at}
 use Rattle.machine_steps.proofs.Calls.{Ready, does_cases, here, ready}

@@ -14,7 +14,7 @@ use Rattle.machine_answers.specs.Copies.{words_at}
 use Rattle.semantics.specs.declared.event.Event.{Event}
 use Rattle.semantics.specs.declared.event.Event.TheVariants.{Quiet, Trapped}
 use Rattle.machine_steps.specs.Moved.{HasMoved}
-use Rattle.machine_steps.specs.SlotsHold.{values_in}
+use Rattle.machine_threads.specs.SlotsHold.{values_in}
 
 -- the elements of a buffer, as words; NULL has none
 abbrev pub words_held : Store → Buffer → List ℕ

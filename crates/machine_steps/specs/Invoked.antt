@@ -33,7 +33,8 @@ use Rattle.machine_answers.specs.Checked.{element_wanted, trap_found}
 use Rattle.machine_scenes.specs.Locals.{locals_after}
 use Rattle.machine_scenes.specs.StoreAgrees.{StoreAgrees}
 use Rattle.machine_answers.specs.WorkedOut.{IsWorkedOut}
-use Rattle.machine_steps.specs.Executes.{CallStands, IsSteady}
+use Rattle.machine_steps.specs.Executes.{IsSteady}
+use Rattle.machine_threads.specs.InProgress.{CallStands}
 use Rattle.machine_scenes.specs.HeapAgrees.{ReferenceAgrees}
 
 -- Thread k of the source has a call as its first task, the machine is at the instruction that stands for it, and all that the

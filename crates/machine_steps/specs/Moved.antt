@@ -8,7 +8,7 @@ use Rattle.code_meaning.specs.Does.{trap_of}
 use Rattle.machine_scenes.specs.declared.activation.Activation.{Activation}
 use Rattle.semantics.specs.declared.trap.Trap.{Trap as TrapInMemory}
 use Rattle.semantics.specs.EventViews.{trap_view}
-use Rattle.machine_steps.specs.SlotsHold.{SlotValues, values_in}
+use Rattle.machine_threads.specs.SlotsHold.{SlotValues, values_in}
 use Rattle.semantics.specs.declared.event.Event.{Event}
 use Rattle.semantics.specs.declared.event.Event.TheVariants as event
 

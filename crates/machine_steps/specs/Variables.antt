@@ -8,7 +8,7 @@ use Rattle.machine_scenes.specs.declared.buffer.Buffer.TheVariants as held
 use Rattle.machine_scenes.specs.declared.statics.StaticReference.{StaticReference}
 use Rattle.machine_scenes.specs.declared.statics.StaticReference.TheVariants.{Empty}
 use Rattle.machine_scenes.specs.Given.{held_in}
-use Rattle.machine_steps.specs.SlotsHold.{SlotValues}
+use Rattle.machine_threads.specs.SlotsHold.{SlotValues}
 use Rattle.machine_scenes.specs.Statics.{References, holds_null, static_at}
 use Rattle.machine_answers.specs.WorkedOut.{buffer_there}
 

@@ -16,7 +16,7 @@ ghost use Rattle.machine_scenes.specs.Buffers.{Acquired};
 ghost use Rattle.machine_steps.specs.Executes.{IsExecuting, IsHindered, Executes, cells_made, in_use_with};
 ghost use Rattle.machine_steps.specs.Invoked.{executed_as};
 ghost use Rattle.machine_steps.specs.Moved.{HasMoved, IsReachable, MovesPlainly};
-ghost use Rattle.machine_steps.specs.SlotsHold.{values_in};
+ghost use Rattle.machine_threads.specs.SlotsHold.{values_in};
 ghost use Rattle.machine_steps.specs.Variables.{is_null, HasSlot, nulled_slots, nulled_statics};
 
 use crate::buffer_elements::{load_element, store_element};

@@ -15,11 +15,10 @@ ghost use Rattle.code_meaning.specs.Lowered.{IsLowered, Lowered};
 ghost use Rattle.machine_scenes.specs.Buffers.{Acquired, acquired_by, beside};
 ghost use Rattle.machine_scenes.specs.StoreAgrees.{StoreAgrees};
 ghost use Rattle.machine_steps.specs.Executes.{IsSteady};
-ghost use Rattle.machine_steps.specs.ThreadAgrees.{ThreadAgrees};
+ghost use Rattle.machine_threads.specs.ThreadAgrees.{ThreadAgrees};
 ghost use Rattle.machine_steps.specs.Waiting.{MayWait, is_busy};
 
 use crate::scene::scene_of;
-use crate::thread::Thread;
 use code::instr::{Call, Instr};
 use code_meaning::Program;
 use heap::Addr;
@@ -28,6 +27,7 @@ use machine_answers::answer::argument;
 use machine_answers::check::check;
 use machine_scenes::activation::Activation;
 use machine_scenes::store::Store;
+use machine_threads::thread::Thread;
 use monitors::Enter;
 use world_values::World;
 

@@ -10,7 +10,7 @@ use Rattle.world_values.proofs.LoadedWorlds.{few_loaded}
 use Rattle.std.proofs.lemmas.List.{length-map}
 use Rattle.machine.proofs.TextBytes.{texts_are_bytes}
 use Rattle.semantics_typing.specs.Texts.{HasTexts}
-use Rattle.machine_steps.proofs.ThreadLoads.{agree_length}
+use Rattle.machine_threads.proofs.ThreadLoads.{agree_length}
 use Rattle.syntax.specs.Parts.{statics_of}
 use Rattle.syntax.specs.declared.unit.Item.{Item}
 use Rattle.machine_scenes.specs.StoreAgrees.{StaticsAgree}
