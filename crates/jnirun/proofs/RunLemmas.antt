@@ -25,11 +25,11 @@ use Rattle.semantics.specs.Start.{start}
 use Rattle.lower.specs.declared.fault.LowerFault.{LowerFault}
 use Rattle.lower.specs.declared.fault.LowerFault.TheVariants as lowering
 use Rattle.code_meaning.specs.Length.{IsTooLong}
-use Rattle.machine_steps.specs.declared.fault.LoadFault.{LoadFault}
-use Rattle.machine_steps.specs.declared.fault.LoadFault.TheVariants as loading
+use Rattle.machine_threads.specs.declared.fault.LoadFault.{LoadFault}
+use Rattle.machine_threads.specs.declared.fault.LoadFault.TheVariants as loading
 use Rattle.machine.specs.declared.fault.ReportFault.{ReportFault}
 use Rattle.machine.specs.declared.fault.ReportFault.TheVariants as reporting
-use Rattle.machine_steps.specs.Loading.{IsLoadFault}
+use Rattle.machine_threads.specs.Loading.{IsLoadFault}
 use Rattle.machine.specs.declared.fault.RunFault.TheVariants.{Full}
 use Rattle.machine.specs.Run.{Run, IsUnstarted, RunsAlong, RunsInto, ReportsRun, StoppedBy, replay_of}
 use Rattle.semantics.specs.declared.event.Stop.{Stop}

@@ -21,9 +21,9 @@ use Rattle.semantics.specs.World.{World}
 use Rattle.lower.specs.declared.fault.LowerFault.{LowerFault}
 use Rattle.lower.specs.declared.fault.LowerFault.TheVariants as lowering
 use Rattle.code_meaning.specs.Length.{IsTooLong}
-use Rattle.machine_steps.specs.declared.fault.LoadFault.{LoadFault}
-use Rattle.machine_steps.specs.declared.fault.LoadFault.TheVariants as loading
-use Rattle.machine_steps.specs.Loading.{IsLoadFault}
+use Rattle.machine_threads.specs.declared.fault.LoadFault.{LoadFault}
+use Rattle.machine_threads.specs.declared.fault.LoadFault.TheVariants as loading
+use Rattle.machine_threads.specs.Loading.{IsLoadFault}
 use Rattle.machine.specs.declared.fault.ReportFault.{ReportFault}
 use Rattle.machine.specs.declared.fault.ReportFault.TheVariants as reporting
 use Rattle.semantics.specs.declared.event.Stop.{Stop}

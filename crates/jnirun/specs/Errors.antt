@@ -5,8 +5,8 @@ use Rattle.program_check.specs.Errors.{too_long}
 use Rattle.world_schedules.specs.declared.fault.ReadError.{ReadError}
 use Rattle.world_schedules.specs.declared.fault.ReadError.TheVariants as reading
 use Rattle.world_schedules.specs.Rule.{rule_number}
-use Rattle.machine_steps.specs.declared.fault.LoadFault.{LoadFault}
-use Rattle.machine_steps.specs.declared.fault.LoadFault.TheVariants as loading
+use Rattle.machine_threads.specs.declared.fault.LoadFault.{LoadFault}
+use Rattle.machine_threads.specs.declared.fault.LoadFault.TheVariants as loading
 use Rattle.machine.specs.declared.fault.ReportFault.{ReportFault}
 use Rattle.machine.specs.declared.fault.ReportFault.TheVariants as reporting
 use Rattle.replay.specs.declared.fault.ReplayFault.{ReplayFault}

@@ -14,9 +14,9 @@ use Rattle.heap.specs.Heap.{Block, Space, IsAddress, block_at, class_at, name_at
 use Rattle.heap.proofs.Names.{one_address}
 use Rattle.semantics.specs.Object.{Object, ObjectValue, Number, Refers, Reference}
 use Rattle.semantics.specs.Heap.{Heap, object_at, class_of, values_of}
-use Rattle.machine_calls.specs.HeapAgrees.{ValueAgrees, ValuesAgree, HeapAgrees}
+use Rattle.machine_scenes.specs.HeapAgrees.{ValueAgrees, ValuesAgree, HeapAgrees}
 use Rattle.machine.specs.Rows.{value_in, object_in, object_of, heap_of, IsThere, AreSeen, AreThere, AreBlocks}
-use Rattle.machine_calls.proofs.BlocksOfNames.{Named, named, is_address, name_within}
+use Rattle.machine_scenes.proofs.BlocksOfNames.{Named, named, is_address, name_within}
 
 -- ---- what cells hold
 

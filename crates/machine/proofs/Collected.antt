@@ -22,12 +22,12 @@ use Rattle.semantics.specs.Reachable.{live_size, roots, Reachable}
 use Rattle.semantics.specs.State.{State, views}
 use Rattle.semantics.specs.World.{World}
 use Rattle.semantics.proofs.ReachableLemmas.{In, in_append_left, in_append_right, in_cases, in_head}
-use Rattle.machine_calls.specs.declared.store.Store.{Store}
-use Rattle.machine_calls.specs.HeapAgrees.{times}
-use Rattle.machine_calls.proofs.BlocksOfNames.{is_address, named}
+use Rattle.machine_scenes.specs.declared.store.Store.{Store}
+use Rattle.machine_scenes.specs.HeapAgrees.{times}
+use Rattle.machine_scenes.proofs.BlocksOfNames.{is_address, named}
 use Rattle.machine_steps.specs.declared.advance.Advanced.{Advanced}
 use Rattle.machine_steps.specs.declared.advance.Advanced.TheVariants as advanced
-use Rattle.machine_steps.specs.declared.thread.Thread.{Thread}
+use Rattle.machine_threads.specs.declared.thread.Thread.{Thread}
 use Rattle.semantics.specs.declared.event.Stop.{Stop}
 use Rattle.machine.specs.Moving.{AreCollected, AreReferred, moved_thread}
 use Rattle.machine.specs.Roots.{ThreadsAreStacked, root_places, slots_of}

@@ -19,20 +19,20 @@ use Rattle.semantics_safety.specs.Owners.{AllOwners, owners_after}
 use Rattle.tables.specs.Elements.{OwnedNumbers}
 use Rattle.tables.specs.Locals.{Frame, slots_by_frame}
 use Rattle.tables.specs.References.{address_at, references_in}
-use Rattle.machine_calls.specs.declared.activation.Activation.{Activation}
-use Rattle.machine_calls.specs.declared.buffer.Buffer.{Buffer}
-use Rattle.machine_calls.specs.declared.buffer.Buffer.TheVariants as buffer
-use Rattle.machine_calls.specs.declared.store.Store.{Store}
-use Rattle.machine_calls.specs.Buffers.{Acquired, AreViewed, BufferAgrees, IsTaken, viewed_in}
-use Rattle.machine_calls.specs.declared.references.Held.{Held}
-use Rattle.machine_calls.specs.declared.statics.StaticReference.{StaticReference}
-use Rattle.machine_calls.specs.declared.statics.StaticReference.TheVariants as static
-use Rattle.machine_calls.specs.HeapAgrees.{HeapAgrees, IsTable, SlotsAgree, times}
-use Rattle.machine_calls.specs.Statics.{all_held, held, held_at}
-use Rattle.machine_calls.specs.StoreAgrees.{StaticsAgree, StoreAgrees}
-use Rattle.machine_steps.specs.declared.thread.Thread.{Thread}
-use Rattle.machine_steps.specs.Executes.{CallStands, WorkAgrees}
-use Rattle.machine_steps.specs.ThreadAgrees.{ThreadsAgree, buffers_of}
+use Rattle.machine_scenes.specs.declared.activation.Activation.{Activation}
+use Rattle.machine_scenes.specs.declared.buffer.Buffer.{Buffer}
+use Rattle.machine_scenes.specs.declared.buffer.Buffer.TheVariants as buffer
+use Rattle.machine_scenes.specs.declared.store.Store.{Store}
+use Rattle.machine_scenes.specs.Buffers.{Acquired, AreViewed, BufferAgrees, IsTaken, viewed_in}
+use Rattle.machine_scenes.specs.declared.references.Held.{Held}
+use Rattle.machine_scenes.specs.declared.statics.StaticReference.{StaticReference}
+use Rattle.machine_scenes.specs.declared.statics.StaticReference.TheVariants as static
+use Rattle.machine_scenes.specs.HeapAgrees.{HeapAgrees, IsTable, SlotsAgree, times}
+use Rattle.machine_scenes.specs.Statics.{all_held, held, held_at}
+use Rattle.machine_scenes.specs.StoreAgrees.{StaticsAgree, StoreAgrees}
+use Rattle.machine_threads.specs.declared.thread.Thread.{Thread}
+use Rattle.machine_threads.specs.InProgress.{CallStands, WorkAgrees}
+use Rattle.machine_threads.specs.ThreadAgrees.{ThreadsAgree, buffers_of}
 use Rattle.semantics.specs.declared.event.Stop.{Stop}
 use Rattle.compact.specs.Same.{MovesBy}
 use Rattle.machine.specs.Moving.{IsMoved, moved_call, moved_monitors, moved_slots, moved_thread}

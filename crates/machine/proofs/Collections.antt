@@ -16,17 +16,17 @@ use Rattle.semantics.specs.Variable.{StaticReference, Empty, Live, Deleted, Stat
 use Rattle.tables.specs.Locals.{Frame, FrameSlots, LocalTable, by_frame, slots_by_frame}
 use Rattle.tables.specs.References.{address_at, references_in}
 use Rattle.tables.specs.Elements.{OwnedNumbers}
-use Rattle.machine_calls.specs.declared.buffer.Buffer.{Buffer}
-use Rattle.machine_calls.specs.declared.buffer.Buffer.TheVariants as buffer
-use Rattle.machine_calls.specs.Buffers.{BufferAgrees, IsTaken, Acquired}
-use Rattle.machine_calls.specs.declared.references.Held.{Held}
-use Rattle.machine_calls.specs.declared.references.Held.TheVariants as held
-use Rattle.machine_calls.specs.HeapAgrees.{BlockAgrees, BlocksAgree, HeapAgrees, IsTable, NamesAgree, ReferenceAgrees, SlotsAgree, ValueAgrees, ValuesAgree}
-use Rattle.machine_calls.specs.Locals.{FrameAgrees, FramesAgree, IsKeyOf, KeysAgree}
-use Rattle.machine_calls.specs.StoreAgrees.{HeldAgrees, StaticsAgree}
+use Rattle.machine_scenes.specs.declared.buffer.Buffer.{Buffer}
+use Rattle.machine_scenes.specs.declared.buffer.Buffer.TheVariants as buffer
+use Rattle.machine_scenes.specs.Buffers.{BufferAgrees, IsTaken, Acquired}
+use Rattle.machine_scenes.specs.declared.references.Held.{Held}
+use Rattle.machine_scenes.specs.declared.references.Held.TheVariants as held
+use Rattle.machine_scenes.specs.HeapAgrees.{BlockAgrees, BlocksAgree, HeapAgrees, IsTable, NamesAgree, ReferenceAgrees, SlotsAgree, ValueAgrees, ValuesAgree}
+use Rattle.machine_scenes.specs.Locals.{FrameAgrees, FramesAgree, IsKeyOf, KeysAgree}
+use Rattle.machine_scenes.specs.StoreAgrees.{HeldAgrees, StaticsAgree}
 use Rattle.compact.specs.Same.{MovesBy, moved, moved_value}
 use Rattle.machine.specs.Moving.{moved_locals, moved_slots}
-use Rattle.machine_calls.proofs.BlocksOfNames.{is_address}
+use Rattle.machine_scenes.proofs.BlocksOfNames.{is_address}
 use Rattle.machine.proofs.KeptReferences.{AreKept, HeldIsKept, AllHeldAreKept, IsClosedUnder, ValueIsKept, ValuesAreKept, moved_held}
 
 -- ---- lists

@@ -36,8 +36,8 @@ use Rattle.code.specs.contracts.instr.BoxedCall.TheInside as boxed-call-inside
 use Rattle.world_values.specs.contracts.world.World as world
 use Rattle.heap.specs.contracts.heap.Heap as heap
 use Rattle.tables.specs.contracts.locals.Locals as locals
-use Rattle.machine_calls.specs.contracts.store.Store as store
-use Rattle.machine_steps.specs.contracts.thread.Thread as thread
+use Rattle.machine_scenes.specs.contracts.store.Store as store
+use Rattle.machine_threads.specs.contracts.thread.Thread as thread
 use Rattle.machine.specs.contracts.machine.Machine as machine
 use Rattle.machine.specs.contracts.machine.Machine.TheInside as machine-inside
 use Rattle.code_meaning.specs.contracts.program.Program as program

@@ -16,10 +16,10 @@ use Rattle.semantics.specs.World.{World}
 use Rattle.semantics_safety.specs.Owners.{Owners}
 use Rattle.code_meaning.specs.Lowered.{Lowered}
 use Rattle.code_meaning.proofs.BufferLaws.{set_same}
-use Rattle.machine_calls.proofs.SetPlaces.{get_set_same}
-use Rattle.machine_calls.specs.Buffers.{Acquired}
-use Rattle.machine_calls.specs.declared.store.Store.{Store}
-use Rattle.machine_steps.specs.declared.thread.Thread.{Thread}
+use Rattle.machine_answers.proofs.SetPlaces.{get_set_same}
+use Rattle.machine_scenes.specs.Buffers.{Acquired}
+use Rattle.machine_scenes.specs.declared.store.Store.{Store}
+use Rattle.machine_threads.specs.declared.thread.Thread.{Thread}
 use Rattle.machine_steps.specs.Advances.{Stands}
 use Rattle.machine_steps.specs.Moved.{IsSilent}
 use Rattle.machine.specs.declared.turn.Turn.TheVariants as turn

@@ -11,15 +11,15 @@ use Rattle.semantics.specs.Thread as source
 use Rattle.semantics.proofs.ReachableLemmas.{In, in_append_cases, in_append_left, in_append_right, in_cases, in_head, in_tail, contains_in, to_contains}
 use Rattle.tables.specs.Locals.{Frame, slots_by_frame}
 use Rattle.tables.specs.References.{references_in}
-use Rattle.machine_calls.specs.declared.activation.Activation.{Activation}
-use Rattle.machine_calls.specs.declared.store.Store.{Store}
-use Rattle.machine_steps.specs.declared.thread.Thread.{Thread}
-use Rattle.machine_calls.specs.HeapAgrees.{IsTable, NamesAgree, ReferenceAgrees, SlotsAgree, times}
-use Rattle.machine_calls.specs.Locals.{FrameAgrees}
+use Rattle.machine_scenes.specs.declared.activation.Activation.{Activation}
+use Rattle.machine_scenes.specs.declared.store.Store.{Store}
+use Rattle.machine_threads.specs.declared.thread.Thread.{Thread}
+use Rattle.machine_scenes.specs.HeapAgrees.{IsTable, NamesAgree, ReferenceAgrees, SlotsAgree, times}
+use Rattle.machine_scenes.specs.Locals.{FrameAgrees}
 use Rattle.semantics.proofs.ShownRows.{from_one-contains}
-use Rattle.machine_calls.proofs.HeapLaws.{from_one-bounds}
+use Rattle.machine_scenes.proofs.HeapLaws.{from_one-bounds}
 use Rattle.machine.specs.Roots.{CallIsStacked, ThreadsAreStacked, loaded_places, root_places, slots_of, thread_places}
-use Rattle.machine_steps.proofs.EntryTables.{references_after}
+use Rattle.machine_threads.proofs.EntryTables.{references_after}
 use Rattle.compact.proofs.Blocks.{Contains-from_get, get-from_contains}
 use Rattle.std.proofs.lemmas.List.Concat.{flat_map-cons}
 use Rattle.machine_monitors.specs.Fit.{AreThere, MonitorsAgree}

@@ -14,12 +14,12 @@ use Rattle.semantics.proofs.ReachableLemmas.{In, in_append_right, in_cases, in_h
 use Rattle.code_meaning.specs.Lowered.{Lowered}
 use Rattle.code_meaning.specs.Slots.{Visible}
 use Rattle.tables.specs.Elements.{OwnedNumbers}
-use Rattle.machine_calls.specs.declared.activation.Activation.{Activation}
-use Rattle.machine_calls.specs.declared.buffer.Buffer.{Buffer}
-use Rattle.machine_calls.specs.declared.buffer.Buffer.TheVariants as held
-use Rattle.machine_calls.specs.Buffers.{BufferAgrees, viewed_in}
-use Rattle.machine_steps.specs.Executes.{WorkAgrees}
-use Rattle.machine_steps.specs.ThreadAgrees.{buffers_of}
+use Rattle.machine_scenes.specs.declared.activation.Activation.{Activation}
+use Rattle.machine_scenes.specs.declared.buffer.Buffer.{Buffer}
+use Rattle.machine_scenes.specs.declared.buffer.Buffer.TheVariants as held
+use Rattle.machine_scenes.specs.Buffers.{BufferAgrees, viewed_in}
+use Rattle.machine_threads.specs.InProgress.{WorkAgrees}
+use Rattle.machine_threads.specs.ThreadAgrees.{buffers_of}
 use Rattle.machine.specs.Roots.{pinned_names}
 use Rattle.std.proofs.lemmas.Bool.{ltb-false, ltb-true}
 

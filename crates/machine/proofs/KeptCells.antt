@@ -11,7 +11,7 @@ use Rattle.semantics.specs.State.{State}
 use Rattle.semantics.specs.World.{World}
 use Rattle.semantics.proofs.ShownNames.{is_reachable}
 use Rattle.semantics.proofs.ReachableLemmas.{In, in_cases, in_head, in_tail}
-use Rattle.machine_calls.specs.HeapAgrees.{BlocksAgree, HeapAgrees, IsNamed}
+use Rattle.machine_scenes.specs.HeapAgrees.{BlocksAgree, HeapAgrees, IsNamed}
 use Rattle.machine.proofs.LiveBlocks.{AreApart, births, live_below, others, size_is}
 
 -- some names take no more than all

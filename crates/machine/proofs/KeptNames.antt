@@ -13,8 +13,8 @@ use Rattle.semantics.specs.State.{State}
 use Rattle.semantics.specs.World.{World}
 use Rattle.semantics.proofs.ReachableLemmas.{In, contains_in, in_cases, in_head, in_tail, to_contains}
 use Rattle.semantics.proofs.ShownRows.{from_one-contains}
-use Rattle.machine_calls.specs.HeapAgrees.{HeapAgrees, ValuesAgree}
-use Rattle.machine_calls.proofs.BlocksOfNames.{Named, named, name_within}
+use Rattle.machine_scenes.specs.HeapAgrees.{HeapAgrees, ValuesAgree}
+use Rattle.machine_scenes.proofs.BlocksOfNames.{Named, named, name_within}
 use Rattle.compact.specs.Reach.{IsKept}
 use Rattle.compact.specs.Reach.IsKept.{root, pinned, referred}
 

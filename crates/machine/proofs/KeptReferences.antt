@@ -4,10 +4,10 @@ use Rattle.heap.specs.declared.value.Value.{Value}
 use Rattle.heap.specs.declared.value.Value.TheVariants.{Number, Null, Block as Address}
 use Rattle.heap.specs.Heap.{Block, Space, IsAddress, block_at}
 use Rattle.tables.specs.References.{references_in}
-use Rattle.machine_steps.specs.declared.thread.Thread.{Thread}
-use Rattle.machine_calls.specs.declared.activation.Activation.{Activation}
-use Rattle.machine_calls.specs.declared.references.Held.{Held}
-use Rattle.machine_calls.specs.declared.references.Held.TheVariants.{Empty, At, Deleted}
+use Rattle.machine_threads.specs.declared.thread.Thread.{Thread}
+use Rattle.machine_scenes.specs.declared.activation.Activation.{Activation}
+use Rattle.machine_scenes.specs.declared.references.Held.{Held}
+use Rattle.machine_scenes.specs.declared.references.Held.TheVariants.{Empty, At, Deleted}
 
 -- each address among these is kept
 abbrev pub AreKept : (ℕ → Type 0) → List ℕ → Type 0

@@ -12,18 +12,18 @@ use Rattle.semantics.specs.Variable.{NoBuffer, Copy, View}
 use Rattle.code_meaning.specs.Lowered.{Lowered}
 use Rattle.code_meaning.specs.Slots.{visible_to}
 use Rattle.tables.specs.Elements.{OwnedNumbers, owned}
-use Rattle.machine_calls.specs.declared.activation.Activation.{Activation}
-use Rattle.machine_calls.specs.declared.buffer.Buffer.{Buffer}
-use Rattle.machine_calls.specs.declared.buffer.Buffer.TheVariants as held
+use Rattle.machine_scenes.specs.declared.activation.Activation.{Activation}
+use Rattle.machine_scenes.specs.declared.buffer.Buffer.{Buffer}
+use Rattle.machine_scenes.specs.declared.buffer.Buffer.TheVariants as held
 use Rattle.semantics_safety.specs.Owners.{Owners, AllOwners}
-use Rattle.machine_steps.specs.declared.thread.Thread.{Thread}
-use Rattle.machine_calls.specs.Buffers.{BufferAgrees, BuffersAgree, KeepsCopies, viewed_in}
-use Rattle.machine_calls.specs.HeapAgrees.{times}
-use Rattle.machine_calls.specs.StoreAgrees.{Keeps}
-use Rattle.machine_steps.specs.Executes.{CallStands, WorkAgrees}
-use Rattle.machine_steps.specs.SlotsHold.{slots_of}
-use Rattle.machine_steps.specs.ThreadAgrees.{ThreadAgrees, ThreadsAgree, buffers_of}
-use Rattle.machine_calls.proofs.Keeping.{reference_stays, keys_stay, frames_stay}
+use Rattle.machine_threads.specs.declared.thread.Thread.{Thread}
+use Rattle.machine_scenes.specs.Buffers.{BufferAgrees, BuffersAgree, KeepsCopies, viewed_in}
+use Rattle.machine_scenes.specs.HeapAgrees.{times}
+use Rattle.machine_scenes.specs.StoreAgrees.{Keeps}
+use Rattle.machine_threads.specs.InProgress.{CallStands, WorkAgrees}
+use Rattle.machine_threads.specs.SlotsHold.{slots_of}
+use Rattle.machine_threads.specs.ThreadAgrees.{ThreadAgrees, ThreadsAgree, buffers_of}
+use Rattle.machine_scenes.proofs.Keeping.{reference_stays, keys_stay, frames_stay}
 use Rattle.machine_steps.proofs.StillShown.{shows_stay}
 use Rattle.machine.proofs.HeldViews.{slots_agree, viewed_same}
 

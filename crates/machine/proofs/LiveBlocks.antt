@@ -12,9 +12,9 @@ use Rattle.semantics.specs.Reachable.{Reachable, from_one, is_in, live_size, rea
 use Rattle.semantics.specs.State.{State}
 use Rattle.semantics.specs.World.{World}
 use Rattle.semantics.proofs.ReachableLemmas.{In, in_append_cases, in_cases, in_head, in_tail, reachable_lists, to_contains}
-use Rattle.machine_calls.specs.HeapAgrees.{BlockAgrees, BlocksAgree, IsNamed}
-use Rattle.machine_calls.proofs.HeapLaws.{from_one-bounds}
-use Rattle.machine_calls.proofs.Loaded.{agree_length}
+use Rattle.machine_scenes.specs.HeapAgrees.{BlockAgrees, BlocksAgree, IsNamed}
+use Rattle.machine_scenes.proofs.HeapLaws.{from_one-bounds}
+use Rattle.machine_scenes.proofs.Loaded.{agree_length}
 
 -- ---- lists without repetition
 

@@ -6,9 +6,9 @@ use Rattle.std.proofs.lemmas.List.{length-map}
 use Rattle.std.proofs.lemmas.List.Concat.{flat_map-cons}
 use Rattle.std.proofs.lemmas.Option.{slice_get_within}
 use Rattle.tables.specs.References.{address_at}
-use Rattle.machine_steps.specs.declared.thread.Thread.{Thread}
-use Rattle.machine_steps.proofs.Lists.{drop_next}
-use Rattle.machine_calls.specs.declared.store.Store.{Store}
+use Rattle.machine_threads.specs.declared.thread.Thread.{Thread}
+use Rattle.machine_threads.proofs.Lists.{drop_next}
+use Rattle.machine_scenes.specs.declared.store.Store.{Store}
 use Rattle.compact.proofs.Fronts.{front, front_get, front_same, front_step}
 use Rattle.compact.proofs.Tight.{get_map}
 use Rattle.machine.specs.Moving.{AreMovedAt, moved_slots, moved_thread}

@@ -20,8 +20,8 @@ use Rattle.semantics.specs.Thread.{Advance, Shared}
 use Rattle.semantics.specs.ThreadStep.{thread_step}
 use Rattle.semantics.specs.World.{World}
 use Rattle.tables.specs.Elements.{OwnedNumbers}
-use Rattle.machine_steps.specs.declared.thread.Thread.{Thread}
-use Rattle.machine_steps.specs.ThreadAgrees.{ThreadAgrees, ThreadsAgree}
+use Rattle.machine_threads.specs.declared.thread.Thread.{Thread}
+use Rattle.machine_threads.specs.ThreadAgrees.{ThreadAgrees, ThreadsAgree}
 
 -- ---- one more entry
 

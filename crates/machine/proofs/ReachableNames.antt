@@ -17,12 +17,12 @@ use Rattle.semantics.specs.World.{World}
 use Rattle.semantics.proofs.ReachableLemmas.{In, contains_in, in_append_cases, in_cases, in_head, in_tail, to_contains}
 use Rattle.tables.specs.Locals.{FrameSlots, by_frame}
 use Rattle.tables.specs.References.{references_in}
-use Rattle.machine_calls.specs.declared.activation.Activation.{Activation}
-use Rattle.machine_steps.specs.declared.thread.Thread.{Thread}
-use Rattle.machine_calls.specs.HeapAgrees.{HeapAgrees, IsNamed, IsTable, NamesAgree, ReferenceAgrees, SlotsAgree, ValuesAgree, times}
-use Rattle.machine_calls.specs.Locals.{FrameAgrees}
-use Rattle.machine_calls.proofs.BlocksOfNames.{named}
-use Rattle.machine_calls.proofs.HeapLaws.{from_one-bounds}
+use Rattle.machine_scenes.specs.declared.activation.Activation.{Activation}
+use Rattle.machine_threads.specs.declared.thread.Thread.{Thread}
+use Rattle.machine_scenes.specs.HeapAgrees.{HeapAgrees, IsNamed, IsTable, NamesAgree, ReferenceAgrees, SlotsAgree, ValuesAgree, times}
+use Rattle.machine_scenes.specs.Locals.{FrameAgrees}
+use Rattle.machine_scenes.proofs.BlocksOfNames.{named}
+use Rattle.machine_scenes.proofs.HeapLaws.{from_one-bounds}
 use Rattle.machine.proofs.RootNames.{CallFrames, HasRootsOf}
 
 -- ---- among as often

@@ -30,13 +30,13 @@ use Rattle.heap.specs.Heap.{Block, Space, block_at, left_of, name_at, pins_at}
 use Rattle.code_meaning.specs.Lowered.{Lowered, IsLowered}
 use Rattle.code_meaning.specs.Slots.{Visible, visible_to}
 use Rattle.report_objects.specs.Rows.{AreReported}
-use Rattle.machine_calls.specs.declared.activation.Activation.{Activation}
-use Rattle.machine_steps.specs.declared.thread.Thread.{Thread}
+use Rattle.machine_scenes.specs.declared.activation.Activation.{Activation}
+use Rattle.machine_threads.specs.declared.thread.Thread.{Thread}
 use Rattle.semantics.specs.declared.event.Stop.{Stop}
-use Rattle.machine_steps.specs.ThreadAgrees.{ThreadAgrees, ThreadsAgree}
-use Rattle.machine_steps.specs.Executes.{WorkAgrees}
+use Rattle.machine_threads.specs.ThreadAgrees.{ThreadAgrees, ThreadsAgree}
+use Rattle.machine_threads.specs.InProgress.{WorkAgrees}
 use Rattle.tables.specs.Elements.{OwnedNumbers}
-use Rattle.machine_calls.specs.HeapAgrees.{IsNamed}
+use Rattle.machine_scenes.specs.HeapAgrees.{IsNamed}
 use Rattle.machine.specs.Rows.{AreSeen}
 use Rattle.machine.proofs.HeldViews.{name_pinned, pinned_block}
 use Rattle.compact.proofs.Tight.{get_map}
@@ -47,12 +47,12 @@ use Rattle.semantics_safety.specs.Owners.{AllOwners, owners_after}
 use Rattle.semantics.specs.EventViews.{stop_view}
 use Rattle.machine.specs.Run as run
 use Rattle.semantics.specs.Run.{MarkedAreFair, UnmarkedFit}
-use Rattle.machine_calls.specs.declared.store.Store.{Store}
+use Rattle.machine_scenes.specs.declared.store.Store.{Store}
 use Rattle.machine.specs.Run.{Run, Corresponds, WritesRun, AllRest, AreShown, ShowsObjects, ShowsStandings, IsFinished, standings_in}
 use Rattle.machine.specs.Roots.{AreAddresses, name_of, pinned_names, root_places, ThreadsAreStacked}
 use Rattle.std.specs.Prelude.{Contains}
 use Rattle.compact.proofs.Blocks.{Contains-from_get}
-use Rattle.machine_calls.proofs.BlocksOfNames.{is_address}
+use Rattle.machine_scenes.proofs.BlocksOfNames.{is_address}
 use Rattle.tables.specs.References.{references_in}
 use Rattle.machine.proofs.GatheredRoots.{gathered_roots, in_map, in_place, map_in, names_gathered, place_in, places_are, roots_gathered}
 use Rattle.machine.proofs.OwnedMonitors.{monitor_names}

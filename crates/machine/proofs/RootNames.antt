@@ -9,12 +9,12 @@ use Rattle.tables.specs.Locals.{AreStacked, LocalTable, slots_by_frame}
 use Rattle.tables.specs.References.{references_in}
 use Rattle.heap.specs.Heap.{Space}
 use Rattle.semantics.specs.Thread as source
-use Rattle.machine_calls.specs.declared.activation.Activation.{Activation}
-use Rattle.machine_steps.specs.declared.thread.Thread.{Thread}
-use Rattle.machine_calls.specs.HeapAgrees.{NamesAgree, ReferenceAgrees, times}
-use Rattle.machine_calls.specs.Locals.{FrameAgrees, FramesAgree}
+use Rattle.machine_scenes.specs.declared.activation.Activation.{Activation}
+use Rattle.machine_threads.specs.declared.thread.Thread.{Thread}
+use Rattle.machine_scenes.specs.HeapAgrees.{NamesAgree, ReferenceAgrees, times}
+use Rattle.machine_scenes.specs.Locals.{FrameAgrees, FramesAgree}
 use Rattle.machine.specs.Roots.{name_of, reference_names, AreAddresses, CallIsStacked, ReferenceIsThere}
-use Rattle.machine_steps.proofs.EntryTables.{references_after}
+use Rattle.machine_threads.proofs.EntryTables.{references_after}
 
 -- ---- names
 

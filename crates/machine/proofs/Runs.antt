@@ -25,7 +25,7 @@ use Rattle.semantics.specs.Step.{can_step, is_live, is_waiting, world_step}
 use Rattle.semantics.proofs.RunLaws.{replay_from-append, follows-replay, follows-append}
 use Rattle.machine.specs.declared.turn.Turn.{Turn as Answer}
 use Rattle.machine.specs.declared.turn.Turn.TheVariants as turn
-use Rattle.machine_steps.proofs.Lists.{take_next}
+use Rattle.machine_threads.proofs.Lists.{take_next}
 use Rattle.machine.specs.declared.fault.RunFault.{RunFault}
 use Rattle.machine.specs.declared.fault.RunFault.TheVariants as running
 use Rattle.machine.specs.Run.{Run, replay_of, can_turn, EndsAt, HasEnded, IsCollected, TurnHolds, GivesNoStep, RunsAlong, RunsInto}

@@ -18,9 +18,9 @@ use Rattle.semantics.specs.World.{World, loaded_objects}
 use Rattle.semantics_safety.specs.Owners.{owners_after}
 use Rattle.heap.specs.Heap.{left_of}
 use Rattle.code_meaning.specs.Lowered.{Lowered}
-use Rattle.machine_calls.specs.declared.store.Store.{Store}
-use Rattle.machine_steps.specs.declared.thread.Thread.{Thread}
-use Rattle.machine_steps.proofs.ThreadLoads.{agree_length}
+use Rattle.machine_scenes.specs.declared.store.Store.{Store}
+use Rattle.machine_threads.specs.declared.thread.Thread.{Thread}
+use Rattle.machine_threads.proofs.ThreadLoads.{agree_length}
 use Rattle.semantics.specs.EventViews.{ending_view, stop_view}
 use Rattle.semantics.specs.declared.event.Stop.{Stop}
 use Rattle.machine.specs.Run.{Run, Corresponds, InState, Waits, AllRest, ShowsStandings, all_rest, is_resting, standings_in}

@@ -21,7 +21,7 @@ use Rattle.semantics.proofs.RunLaws.{replay_more, each-more}
 use Rattle.semantics.specs.Run.{Fits, FitsUnmarked, IsFair, IsFairMarked, made, made_between}
 use Rattle.semantics.specs.Object.{sizes}
 use Rattle.semantics.specs.Reachable.{live_size, Reachable}
-use Rattle.machine_calls.specs.HeapAgrees.{IsNamed}
+use Rattle.machine_scenes.specs.HeapAgrees.{IsNamed}
 use Rattle.machine.proofs.Reports.{reachable_there}
 use Rattle.semantics.specs.Start.{start}
 use Rattle.semantics.proofs.StepLaws.{Steps, steps, step-thread}
@@ -33,14 +33,14 @@ use Rattle.semantics.specs.declared.event.Ending.{Ending}
 use Rattle.semantics.specs.declared.event.Ending.TheVariants.{Unfinished, Ended, Uncaught}
 use Rattle.semantics.specs.declared.event.Event.{Event}
 use Rattle.semantics.specs.declared.event.Event.TheVariants as event
-use Rattle.machine_steps.specs.declared.thread.Thread.{Thread}
+use Rattle.machine_threads.specs.declared.thread.Thread.{Thread}
 use Rattle.semantics.specs.declared.event.Stop.{Stop}
 use Rattle.semantics.specs.EventViews.{ending_view, event_view, printed_after, stop_after, stop_view}
-use Rattle.machine_calls.specs.declared.store.Store.{Store}
+use Rattle.machine_scenes.specs.declared.store.Store.{Store}
 use Rattle.machine_steps.specs.Executes.{IsSteady, cells_made, in_use_with}
-use Rattle.machine_calls.specs.Buffers.{Acquired, SameAcquired, acquired_by, beside}
-use Rattle.machine_calls.specs.StoreAgrees.{StoreAgrees}
-use Rattle.machine_steps.specs.ThreadAgrees.{ThreadAgrees, ThreadsAgree}
+use Rattle.machine_scenes.specs.Buffers.{Acquired, SameAcquired, acquired_by, beside}
+use Rattle.machine_scenes.specs.StoreAgrees.{StoreAgrees}
+use Rattle.machine_threads.specs.ThreadAgrees.{ThreadAgrees, ThreadsAgree}
 use Rattle.machine_steps.specs.Advances.{Advances, Stands}
 use Rattle.machine_steps.specs.Moved.{IsSilent}
 use Rattle.machine_steps.specs.declared.advance.Advanced.{Advanced}

@@ -6,8 +6,8 @@ use Rattle.std.proofs.lemmas.List.Sums.{sum_by-cons}
 use Rattle.semantics.specs.Start.{waiting_thread}
 use Rattle.semantics.specs.Thread.{BuffersInUse, Thread, copied_by, viewed_by}
 use Rattle.semantics.specs.World.{Invocation}
-use Rattle.machine_calls.specs.Buffers.{Acquired, SameAcquired, acquired_by, beside, in_use_of}
-use Rattle.machine_calls.specs.HeapAgrees.{times}
+use Rattle.machine_scenes.specs.Buffers.{Acquired, SameAcquired, acquired_by, beside, in_use_of}
+use Rattle.machine_scenes.specs.HeapAgrees.{times}
 use Rattle.machine.proofs.RootNames.{times_append}
 use Rattle.std.proofs.Common.{map}
 

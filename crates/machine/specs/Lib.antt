@@ -3,4 +3,4 @@ pub mod Roots
 pub mod Moving
 pub mod Run
 -- what loading answers
-pub use Rattle.machine_steps.specs.Loading
+pub use Rattle.machine_threads.specs.Loading

@@ -8,9 +8,9 @@ use Rattle.compact.specs.Same.{MovesBy}
 use Rattle.tables.specs.Locals.{LocalTable}
 use Rattle.monitors.specs.declared.monitors.Monitor.{Monitor}
 use Rattle.monitors.specs.Monitors.{moved}
-use Rattle.machine_steps.specs.declared.thread.Thread.{Thread}
-use Rattle.machine_calls.specs.declared.activation.Activation.{Activation}
-use Rattle.machine_calls.specs.declared.store.Store.{Store}
+use Rattle.machine_threads.specs.declared.thread.Thread.{Thread}
+use Rattle.machine_scenes.specs.declared.activation.Activation.{Activation}
+use Rattle.machine_scenes.specs.declared.store.Store.{Store}
 use Rattle.machine.specs.Roots.{ThreadsAreStacked, root_places}
 
 -- ---- references where addresses have moved

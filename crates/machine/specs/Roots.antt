@@ -2,11 +2,11 @@
 use Rattle.std.specs.Prelude.{◌≡◌, ℕ, List, [], ◌∷◌, ◌++◌, flat_map, map, Option, Some, None, slice_get, nat_lt, if◌then◌else◌}
 use Rattle.std.specs.Option.{option_map, option_map_or, option_to_list}
 use Rattle.heap.specs.Heap.{Block, Space, IsAddress, name_at}
-use Rattle.machine_steps.specs.declared.thread.Thread.{Thread}
+use Rattle.machine_threads.specs.declared.thread.Thread.{Thread}
 use Rattle.tables.specs.Locals.{AreStacked}
 use Rattle.monitors.specs.Monitors.{addresses}
-use Rattle.machine_calls.specs.declared.activation.Activation.{Activation}
-use Rattle.machine_calls.specs.declared.store.Store.{Store}
+use Rattle.machine_scenes.specs.declared.activation.Activation.{Activation}
+use Rattle.machine_scenes.specs.declared.store.Store.{Store}
 
 -- the name of the object at an address
 abbrev pub name_of : Space → ℕ → ℕ

@@ -5,7 +5,7 @@ use Rattle.std.specs.Int.{w32, cast_signed}
 use Rattle.heap.specs.declared.value.Value.{Value}
 use Rattle.heap.specs.declared.value.Value.TheVariants.{Number as Word, Null, Block as Address}
 use Rattle.heap.specs.Heap.{Space, IsAddress, class_at, name_at, values_at}
-use Rattle.machine_calls.specs.HeapAgrees.{IsNamed}
+use Rattle.machine_scenes.specs.HeapAgrees.{IsNamed}
 use Rattle.semantics.specs.Heap.{Heap, object_at}
 use Rattle.semantics.specs.Object.{Object, ObjectValue, Number, Refers}
 

@@ -32,7 +32,7 @@ use Rattle.semantics_safety.specs.Owners.{Owners, owners_after}
 use Rattle.semantics_safety.specs.StepSafe.{IsSafe}
 use Rattle.semantics_typing.specs.Law.{RunsTyped}
 use Rattle.code_meaning.specs.Lowered.{Lowered, IsLowered}
-use Rattle.machine_steps.specs.declared.thread.Thread.{Thread}
+use Rattle.machine_threads.specs.declared.thread.Thread.{Thread}
 use Rattle.semantics.specs.declared.event.Ending.TheVariants.{Unfinished}
 use Rattle.machine_steps.specs.declared.advance.Advanced.{Advanced}
 use Rattle.machine_steps.specs.declared.advance.Advanced.TheVariants as advanced
@@ -45,12 +45,12 @@ use Rattle.machine.specs.declared.fault.RunFault.TheVariants as running
 use Rattle.machine.specs.declared.turn.Turn.{Turn as Answer}
 use Rattle.machine.specs.declared.turn.Turn.TheVariants as turn
 use Rattle.semantics.specs.declared.event.Stop.{Stop}
-use Rattle.machine_calls.specs.declared.store.Store.{Store}
-use Rattle.machine_calls.specs.Buffers.{Acquired, acquired_by, beside}
-use Rattle.machine_calls.specs.StoreAgrees.{StoreAgrees}
+use Rattle.machine_scenes.specs.declared.store.Store.{Store}
+use Rattle.machine_scenes.specs.Buffers.{Acquired, acquired_by, beside}
+use Rattle.machine_scenes.specs.StoreAgrees.{StoreAgrees}
 use Rattle.machine_steps.specs.Advances.{AdvancesBy}
 use Rattle.machine_steps.specs.Executes.{IsSteady, cells_made, in_use_with}
-use Rattle.machine_steps.specs.ThreadAgrees.{ThreadAgrees, ThreadsAgree}
+use Rattle.machine_threads.specs.ThreadAgrees.{ThreadAgrees, ThreadsAgree}
 use Rattle.machine.specs.Moving.{AreCollected}
 use Rattle.semantics.specs.EventViews.{stop_view}
 

@@ -5,8 +5,8 @@ ghost use Rattle.machine.specs.Moving.{AreCollected, AreReferred};
 
 use crate::roots::{gather, put_back};
 use compact::collect;
-use machine_calls::store::Store;
-use machine_steps::thread::Thread;
+use machine_scenes::store::Store;
+use machine_threads::thread::Thread;
 use std::alloc::{AllocError, Global};
 
 /// Moves the blocks that roots lead to together; the others are gone. Where host memory is refused, nothing has moved.

@@ -10,5 +10,5 @@ mod turn;
 
 pub use fault::{ReportFault, RunFault};
 pub use machine::Machine;
-pub use machine_steps::fault::LoadFault;
+pub use machine_threads::fault::LoadFault;
 pub use turn::Turn;

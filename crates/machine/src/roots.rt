@@ -14,9 +14,9 @@ ghost use Rattle.machine.specs.Roots.{AreAddresses, CallIsStacked, ReferenceIsTh
 
 use compact::Roots;
 use heap::{Addr, Heap};
-use machine_calls::activation::Activation;
-use machine_calls::store::Store;
-use machine_steps::thread::Thread;
+use machine_scenes::activation::Activation;
+use machine_scenes::store::Store;
+use machine_threads::thread::Thread;
 use monitors::Monitors;
 use std::alloc::{AllocError, Global};
 use tables::{Globals, Locals};

@@ -3,7 +3,7 @@
 ghost use Rattle.std.specs.Prelude.{◌≡◌, length, IfOk};
 ghost use Rattle.heap.specs.Heap.{IsLaidOut};
 ghost use Rattle.semantics.specs.Heap.{Heap as SourceHeap};
-ghost use Rattle.machine_calls.specs.HeapAgrees.{HeapAgrees};
+ghost use Rattle.machine_scenes.specs.HeapAgrees.{HeapAgrees};
 ghost use Rattle.machine.specs.Rows.{AreSeen};
 
 use heap::{Addr, Heap, Value};

@@ -8,12 +8,12 @@ use Rattle.semantics.specs.CallEffects.{CallResult, NoResult, NullResult, Scalar
 use Rattle.semantics.specs.Heap.{next_name}
 use Rattle.semantics.specs.Thread.{Shared, Thread}
 use Rattle.semantics.specs.Object.{Object}
-use Rattle.machine_calls.specs.declared.answer.Given.{Given}
-use Rattle.machine_calls.specs.declared.answer.Answer.TheVariants as answer
-use Rattle.machine_calls.specs.declared.new_object.New.{New}
+use Rattle.machine_answers.specs.declared.answer.Given.{Given}
+use Rattle.machine_answers.specs.declared.answer.Answer.TheVariants as answer
+use Rattle.machine_scenes.specs.declared.new_object.New.{New}
 use Rattle.tables.specs.Locals.{LocalTable}
-use Rattle.machine_calls.specs.Answers.{Brought, GivenAgrees, IsAnswer, WritesAt}
-use Rattle.machine_calls.specs.NewObjects.{Describes, IsMakeable}
+use Rattle.machine_answers.specs.Answers.{Brought, GivenAgrees, IsAnswer, WritesAt}
+use Rattle.machine_scenes.specs.NewObjects.{Describes, IsMakeable}
 
 module _ (classes : Classes) (brought : Brought) (space : Space) (locals : LocalTable) (kind : ResultKind) (shared : Shared) (s : Thread) where
   -- nothing changes, and this is given

@@ -28,33 +28,33 @@ use Rattle.tables.specs.Elements.{OwnedNumbers, lengths, owned}
 use Rattle.tables.specs.Keys.{value_at}
 use Rattle.tables.specs.Locals.{LocalTable}
 use Rattle.tables.proofs.Keys.{set_other}
-use Rattle.machine_calls.specs.declared.answer.Answer.{Answer}
-use Rattle.machine_calls.specs.declared.answer.Answer.TheVariants as answer
-use Rattle.machine_calls.specs.declared.answer.Given.{Given}
-use Rattle.machine_calls.specs.declared.answer.Given.TheVariants as given
-use Rattle.machine_calls.specs.declared.buffer.Buffer.{Buffer}
-use Rattle.machine_calls.specs.declared.buffer.Buffer.TheVariants as held
-use Rattle.machine_calls.specs.declared.buffer.Release.{Release}
-use Rattle.machine_calls.specs.declared.store.Store.{Store}
-use Rattle.machine_calls.specs.Answers.{Brought, GivenAgrees, IsAnswer}
-use Rattle.machine_calls.specs.BufferChanges.{CanCopyBack, CanGiveUp, GivesUp, MakesCopy, MakesView, MayGiveUp, copied_back, space_back, written_back}
-use Rattle.machine_calls.specs.Buffers.{Acquired, BufferAgrees, IsCopyOf, SameAcquired, acquired_by, acquired_of, beside, copies_back, gives_up, in_use_of, nothing_acquired}
+use Rattle.machine_answers.specs.declared.answer.Answer.{Answer}
+use Rattle.machine_answers.specs.declared.answer.Answer.TheVariants as answer
+use Rattle.machine_answers.specs.declared.answer.Given.{Given}
+use Rattle.machine_answers.specs.declared.answer.Given.TheVariants as given
+use Rattle.machine_scenes.specs.declared.buffer.Buffer.{Buffer}
+use Rattle.machine_scenes.specs.declared.buffer.Buffer.TheVariants as held
+use Rattle.machine_scenes.specs.declared.buffer.Release.{Release}
+use Rattle.machine_scenes.specs.declared.store.Store.{Store}
+use Rattle.machine_answers.specs.Answers.{Brought, GivenAgrees, IsAnswer}
+use Rattle.machine_answers.specs.BufferChanges.{CanCopyBack, CanGiveUp, GivesUp, MakesCopy, MakesView, MayGiveUp, copied_back, space_back, written_back}
+use Rattle.machine_scenes.specs.Buffers.{Acquired, BufferAgrees, IsCopyOf, SameAcquired, acquired_by, acquired_of, beside, copies_back, gives_up, in_use_of, nothing_acquired}
 use Rattle.machine_calls.specs.CarriedOut.{CarriesOut, CopiesStay, IsPossible, ResultAgrees, acquired_with}
-use Rattle.machine_calls.specs.Copies.{overlaid, words_at}
-use Rattle.machine_calls.specs.HeapAgrees.{ReferenceAgrees, ValuesAgree}
-use Rattle.machine_calls.specs.Locals.{FramesAgree}
-use Rattle.machine_calls.specs.StoreAgrees.{Keeps, StoreAgrees}
-use Rattle.machine_calls.proofs.BlocksOfNames.{Named, name_within, named}
-use Rattle.machine_calls.proofs.BufferOperands.{words_back}
+use Rattle.machine_answers.specs.Copies.{overlaid, words_at}
+use Rattle.machine_scenes.specs.HeapAgrees.{ReferenceAgrees, ValuesAgree}
+use Rattle.machine_scenes.specs.Locals.{FramesAgree}
+use Rattle.machine_scenes.specs.StoreAgrees.{Keeps, StoreAgrees}
+use Rattle.machine_scenes.proofs.BlocksOfNames.{Named, name_within, named}
+use Rattle.machine_answers.proofs.BufferOperands.{words_back}
 use Rattle.machine_calls.proofs.BufferStores.{agrees_copies, agrees_pinned, agrees_same, keeps_pinned, names_pinned}
 use Rattle.machine_calls.proofs.CellsMade.{nothing_asked}
-use Rattle.machine_calls.proofs.CopiedRegions.{words_agree}
-use Rattle.machine_calls.proofs.HeldSums.{IsMoreBy, beside_freed, beside_more, beside_nothing}
-use Rattle.machine_calls.proofs.Keeping.{frames_stay, keeps_same, key_stays, reference_stays}
-use Rattle.machine_calls.proofs.Loaded.{agree_length}
-use Rattle.machine_calls.proofs.Overlays.{length_overlaid, overlaid_whole}
-use Rattle.machine_calls.proofs.Taken.{counted_view, left_copy, left_view, taken_copy, taken_view}
-use Rattle.machine_calls.proofs.Writes.{values_agree, values_keep}
+use Rattle.machine_answers.proofs.CopiedRegions.{words_agree}
+use Rattle.machine_scenes.proofs.HeldSums.{IsMoreBy, beside_freed, beside_more, beside_nothing}
+use Rattle.machine_scenes.proofs.Keeping.{frames_stay, keeps_same, key_stays, reference_stays}
+use Rattle.machine_scenes.proofs.Loaded.{agree_length}
+use Rattle.machine_answers.proofs.Overlays.{length_overlaid, overlaid_whole}
+use Rattle.machine_scenes.proofs.Taken.{counted_view, left_copy, left_view, taken_copy, taken_view}
+use Rattle.machine_answers.proofs.Writes.{values_agree, values_keep}
 
 -- a test that doesn't hold
 not_within : (n m : ℕ) → m < n → nat_le n m ≡ false

@@ -12,16 +12,16 @@ use Rattle.semantics.specs.Variable.{NoBuffer, Copy, View}
 use Rattle.tables.specs.Elements.{OwnedNumbers, owned}
 use Rattle.tables.specs.Keys.{value_at}
 use Rattle.tables.specs.Locals.{LocalTable}
-use Rattle.machine_calls.specs.declared.answer.Answer.{Answer}
-use Rattle.machine_calls.specs.declared.answer.Answer.TheVariants as answer
-use Rattle.machine_calls.specs.declared.answer.Given.TheVariants as given
-use Rattle.machine_calls.specs.declared.buffer.Buffer.{Buffer}
-use Rattle.machine_calls.specs.declared.buffer.Buffer.TheVariants as held
-use Rattle.machine_calls.specs.declared.buffer.Release.{Release}
-use Rattle.machine_calls.specs.Answers.{Brought, IsAnswer}
-use Rattle.machine_calls.specs.Buffers.{BufferAgrees, BuffersAgree, KeepsCopies, gives_up}
+use Rattle.machine_answers.specs.declared.answer.Answer.{Answer}
+use Rattle.machine_answers.specs.declared.answer.Answer.TheVariants as answer
+use Rattle.machine_answers.specs.declared.answer.Given.TheVariants as given
+use Rattle.machine_scenes.specs.declared.buffer.Buffer.{Buffer}
+use Rattle.machine_scenes.specs.declared.buffer.Buffer.TheVariants as held
+use Rattle.machine_scenes.specs.declared.buffer.Release.{Release}
+use Rattle.machine_answers.specs.Answers.{Brought, IsAnswer}
+use Rattle.machine_scenes.specs.Buffers.{BufferAgrees, BuffersAgree, KeepsCopies, gives_up}
 use Rattle.machine_calls.specs.CarriedOut.{CopiesStay, IsNewCopy, buffers_after}
-use Rattle.machine_calls.proofs.KeyLaws.{set_cases}
+use Rattle.machine_scenes.proofs.KeyLaws.{set_cases}
 
 -- ---- one slot after another
 

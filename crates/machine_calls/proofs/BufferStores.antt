@@ -14,13 +14,13 @@ use Rattle.semantics.specs.World.{World}
 use Rattle.code_meaning.specs.Lowered.{Lowered}
 use Rattle.tables.specs.Elements.{OwnedNumbers}
 use Rattle.machine_monitors.proofs.Places.{there_stays}
-use Rattle.machine_calls.specs.declared.store.Store.{Store}
-use Rattle.machine_calls.specs.Buffers.{Acquired, IsTaken, SameAcquired}
-use Rattle.machine_calls.specs.HeapAgrees.{BlockAgrees, BlocksAgree, ValueAgrees, ValuesAgree}
-use Rattle.machine_calls.specs.Statics.{all_held}
-use Rattle.machine_calls.specs.StoreAgrees.{Keeps, StoreAgrees}
-use Rattle.machine_calls.proofs.Keeping.{none_made, reference_stays, slots_stay, statics_stay}
-use Rattle.machine_calls.proofs.Taken.{taken_same}
+use Rattle.machine_scenes.specs.declared.store.Store.{Store}
+use Rattle.machine_scenes.specs.Buffers.{Acquired, IsTaken, SameAcquired}
+use Rattle.machine_scenes.specs.HeapAgrees.{BlockAgrees, BlocksAgree, ValueAgrees, ValuesAgree}
+use Rattle.machine_scenes.specs.Statics.{all_held}
+use Rattle.machine_scenes.specs.StoreAgrees.{Keeps, StoreAgrees}
+use Rattle.machine_scenes.proofs.Keeping.{none_made, reference_stays, slots_stay, statics_stay}
+use Rattle.machine_scenes.proofs.Taken.{taken_same}
 
 -- ---- pins
 

@@ -11,9 +11,9 @@ use Rattle.semantics.specs.Variable.{Empty, Live, Deleted, assign}
 use Rattle.semantics.specs.Variable as variable
 use Rattle.tables.specs.Globals.{without}
 use Rattle.tables.specs.References.{address_at}
-use Rattle.machine_calls.specs.declared.statics.StaticReference.{StaticReference}
-use Rattle.machine_calls.specs.declared.statics.StaticReference.TheVariants as static
-use Rattle.machine_calls.specs.Statics.{held as held_of, held_at}
+use Rattle.machine_scenes.specs.declared.statics.StaticReference.{StaticReference}
+use Rattle.machine_scenes.specs.declared.statics.StaticReference.TheVariants as static
+use Rattle.machine_scenes.specs.Statics.{held as held_of, held_at}
 use Rattle.machine_calls.proofs.StaticStores.{fresh_global, keeps_but_statics, live_there, with_deleted, with_global}
 use Rattle.std.specs.Prelude.{slice_get, slice_set, nat_le, if◌then◌else◌}
 use Rattle.std.proofs.lemmas.Bool.{le-leb, leb-true}
@@ -31,36 +31,37 @@ use Rattle.semantics.specs.Value.{Int}
 use Rattle.semantics.specs.World.{World, fresh_object, loaded_objects}
 use Rattle.world_values.proofs.LoadedWorlds.{loaded_error}
 use Rattle.code_meaning.specs.Lowered.{Lowered}
-use Rattle.machine_calls.specs.declared.answer.Answer.{Answer}
-use Rattle.machine_calls.specs.declared.answer.Answer.TheVariants as answer
-use Rattle.machine_calls.specs.declared.answer.Given.{Given}
-use Rattle.machine_calls.specs.declared.answer.Given.TheVariants as given
-use Rattle.machine_calls.specs.declared.new_object.New.{New}
-use Rattle.machine_calls.specs.declared.new_object.New.TheVariants.{Exception, Fresh, Text}
-use Rattle.machine_calls.specs.declared.store.Store.{Store}
-use Rattle.machine_calls.specs.StoreAgrees.{HeldAgrees, StoreAgrees, Keeps}
-use Rattle.machine_calls.specs.Answers.{Brought, GivenAgrees, IsAnswer}
+use Rattle.machine_answers.specs.declared.answer.Answer.{Answer}
+use Rattle.machine_answers.specs.declared.answer.Answer.TheVariants as answer
+use Rattle.machine_answers.specs.declared.answer.Given.{Given}
+use Rattle.machine_answers.specs.declared.answer.Given.TheVariants as given
+use Rattle.machine_scenes.specs.declared.new_object.New.{New}
+use Rattle.machine_scenes.specs.declared.new_object.New.TheVariants.{Exception, Fresh, Text}
+use Rattle.machine_scenes.specs.declared.store.Store.{Store}
+use Rattle.machine_scenes.specs.StoreAgrees.{HeldAgrees, StoreAgrees, Keeps}
+use Rattle.machine_answers.specs.Answers.{Brought, GivenAgrees, IsAnswer}
 use Rattle.machine_calls.specs.CarriedOut.{CarriesOut, IsFresh, IsLeft, IsPossible, ResultAgrees, acquired_with, failed, made_by}
-use Rattle.machine_calls.specs.Buffers.{Acquired, acquired_by, beside, nothing_acquired}
+use Rattle.machine_scenes.specs.Buffers.{Acquired, acquired_by, beside, nothing_acquired}
 use Rattle.machine_calls.proofs.BufferStores.{agrees_same}
-use Rattle.machine_calls.proofs.HeldSums.{beside_nothing, begun_same}
-use Rattle.machine_calls.specs.Locals.{FramesAgree, IsKeyOf}
+use Rattle.machine_scenes.proofs.HeldSums.{beside_nothing, begun_same}
+use Rattle.machine_scenes.specs.Locals.{FramesAgree, IsKeyOf}
 use Rattle.tables.specs.Locals as tables
 use Rattle.tables.specs.Locals.{Frame, LocalTable, capacities, popped}
-use Rattle.machine_calls.specs.HeapAgrees.{ReferenceAgrees}
-use Rattle.machine_calls.specs.Made.{HasMade, MakesGlobal}
-use Rattle.machine_calls.specs.NewObjects.{Describes, cells_of_new, text_in}
+use Rattle.machine_scenes.specs.HeapAgrees.{ReferenceAgrees}
+use Rattle.machine_calls.specs.Made.{HasMade}
+use Rattle.machine_scenes.specs.Statics.{MakesGlobal}
+use Rattle.machine_scenes.specs.NewObjects.{Describes, cells_of_new, text_in}
 use Rattle.machine_calls.proofs.AnswerCases.{gives_it, makes_it, throws_it, writes_it}
 use Rattle.machine_calls.proofs.CellsMade.{both_sizes, cells_made, described_size, nothing_asked}
-use Rattle.machine_calls.proofs.HeapLaws.{object_kept}
-use Rattle.machine_calls.proofs.Keeping.{frames_stay, keeps_same, key_stays, more_made, reference_stays}
+use Rattle.machine_scenes.proofs.HeapLaws.{object_kept}
+use Rattle.machine_scenes.proofs.Keeping.{frames_stay, keeps_same, key_stays, more_made, reference_stays}
 use Rattle.machine_calls.proofs.NewValues.{same_cells}
 use Rattle.machine_calls.proofs.Makes as making
-use Rattle.machine_calls.proofs.LocalFrames.{frame_ended, frame_made, key_deleted, key_ensured, key_popped, key_pushed, no_frames, reference_deleted, room_ensured, same_capacities}
-use Rattle.machine_calls.proofs.Writes as writing
-use Rattle.machine_calls.proofs.CopiedRegions as copying
-use Rattle.machine_calls.specs.Copies.{space_with}
-use Rattle.machine_calls.specs.declared.array_region.ArrayRegion.{ArrayRegion}
+use Rattle.machine_scenes.proofs.LocalFrames.{frame_ended, frame_made, key_deleted, key_ensured, key_popped, key_pushed, no_frames, reference_deleted, room_ensured, same_capacities}
+use Rattle.machine_answers.proofs.Writes as writing
+use Rattle.machine_answers.proofs.CopiedRegions as copying
+use Rattle.machine_answers.specs.Copies.{space_with}
+use Rattle.machine_scenes.specs.declared.array_region.ArrayRegion.{ArrayRegion}
 
 -- what is carried out, by the answer's case
 module _ (p : Lowered) (w : World) (space : Space) (before : LocalTable) (kind : ResultKind) (others : Acquired) (k : ℕ) (shared : Shared) (s : Thread) (effect : CallEffect) (brought : Brought) where

@@ -17,14 +17,14 @@ use Rattle.semantics.specs.Thread as source
 use Rattle.semantics.specs.Thread.{Shared, Thread}
 use Rattle.semantics.specs.World.{fresh_object}
 use Rattle.tables.specs.Locals.{LocalTable}
-use Rattle.machine_calls.specs.declared.answer.Answer.{Answer}
-use Rattle.machine_calls.specs.declared.answer.Answer.TheVariants as answer
-use Rattle.machine_calls.specs.declared.new_object.New.{New}
-use Rattle.machine_calls.specs.declared.new_object.New.TheVariants.{Fresh, Text}
-use Rattle.machine_calls.specs.Answers.{Brought, IsAnswer}
+use Rattle.machine_answers.specs.declared.answer.Answer.{Answer}
+use Rattle.machine_answers.specs.declared.answer.Answer.TheVariants as answer
+use Rattle.machine_scenes.specs.declared.new_object.New.{New}
+use Rattle.machine_scenes.specs.declared.new_object.New.TheVariants.{Fresh, Text}
+use Rattle.machine_answers.specs.Answers.{Brought, IsAnswer}
 use Rattle.machine_calls.specs.CarriedOut.{takes_memory, is_of_references, made_by}
 use Rattle.machine_calls.specs.Made.{cells_of}
-use Rattle.machine_calls.specs.NewObjects.{IsObject, cells_of_new, text_in, values_of_new}
+use Rattle.machine_scenes.specs.NewObjects.{IsObject, cells_of_new, text_in, values_of_new}
 use Rattle.machine_calls.proofs.NewValues.{as_many}
 use Rattle.machine_calls.proofs.AnswerCases.{gives_it, makes_it, throws_it, writes_it}
 

@@ -11,12 +11,12 @@ use Rattle.semantics.specs.Start.{null_static}
 use Rattle.semantics.specs.Variable.{StaticReference, Empty, Live, Deleted, Statics, assign}
 use Rattle.code_meaning.specs.Slots.{is_empty, static_index}
 use Rattle.tables.specs.References.{address_at}
-use Rattle.machine_calls.specs.declared.references.Held.{Held}
-use Rattle.machine_calls.specs.declared.references.Held.TheVariants as held
-use Rattle.machine_calls.specs.declared.statics.StaticReference.{StaticReference as InMemory}
-use Rattle.machine_calls.specs.declared.statics.StaticReference.TheVariants as static
-use Rattle.machine_calls.specs.StoreAgrees.{HeldAgrees, StaticsAgree}
-use Rattle.machine_calls.specs.Statics.{HaveKeys, all_held, held as held_of, held_or_null, holds_null}
+use Rattle.machine_scenes.specs.declared.references.Held.{Held}
+use Rattle.machine_scenes.specs.declared.references.Held.TheVariants as held
+use Rattle.machine_scenes.specs.declared.statics.StaticReference.{StaticReference as InMemory}
+use Rattle.machine_scenes.specs.declared.statics.StaticReference.TheVariants as static
+use Rattle.machine_scenes.specs.StoreAgrees.{HeldAgrees, StaticsAgree}
+use Rattle.machine_scenes.specs.Statics.{HaveKeys, all_held, held as held_of, held_or_null, holds_null}
 
 -- ---- places
 

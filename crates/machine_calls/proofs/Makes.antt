@@ -13,21 +13,21 @@ use Rattle.code_meaning.specs.Lowered.{Lowered}
 use Rattle.monitors.specs.declared.monitors.Monitor.{Monitor}
 use Rattle.machine_monitors.specs.Fit.{AreThere, MonitorsAgree}
 use Rattle.machine_monitors.proofs.Places.{there_stays}
-use Rattle.machine_calls.specs.declared.store.Store.{Store}
-use Rattle.machine_calls.specs.HeapAgrees.{SlotsAgree}
-use Rattle.machine_calls.specs.Buffers.{Acquired}
-use Rattle.machine_calls.specs.StoreAgrees.{Keeps, StaticsAgree, StoreAgrees}
-use Rattle.machine_calls.specs.Statics.{HaveKeys, all_held}
-use Rattle.machine_calls.specs.declared.references.Held.{Held}
-use Rattle.machine_calls.specs.declared.statics.StaticReference.{StaticReference}
-use Rattle.machine_calls.specs.declared.new_object.New.{New}
-use Rattle.machine_calls.specs.HeapAgrees.{HeapAgrees, IsTable}
+use Rattle.machine_scenes.specs.declared.store.Store.{Store}
+use Rattle.machine_scenes.specs.HeapAgrees.{SlotsAgree}
+use Rattle.machine_scenes.specs.Buffers.{Acquired}
+use Rattle.machine_scenes.specs.StoreAgrees.{Keeps, StaticsAgree, StoreAgrees}
+use Rattle.machine_scenes.specs.Statics.{HaveKeys, all_held}
+use Rattle.machine_scenes.specs.declared.references.Held.{Held}
+use Rattle.machine_scenes.specs.declared.statics.StaticReference.{StaticReference}
+use Rattle.machine_scenes.specs.declared.new_object.New.{New}
+use Rattle.machine_scenes.specs.HeapAgrees.{HeapAgrees, IsTable}
 use Rattle.machine_calls.specs.Made.{HasMade, new_block}
-use Rattle.machine_calls.specs.NewObjects.{Describes, cells_of_new, values_of_new}
-use Rattle.machine_calls.proofs.HeapLaws.{IsNext, agrees_with_block, name_kept, name_new, object_kept, table_kept}
-use Rattle.machine_calls.proofs.Keeping.{more_made, slots_stay, statics_stay}
+use Rattle.machine_scenes.specs.NewObjects.{Describes, cells_of_new, values_of_new}
+use Rattle.machine_scenes.proofs.HeapLaws.{IsNext, agrees_with_block, name_kept, name_new, object_kept, table_kept}
+use Rattle.machine_scenes.proofs.Keeping.{more_made, slots_stay, statics_stay}
 use Rattle.machine_calls.proofs.NewValues.{as_many, new_agree, same_class}
-use Rattle.machine_calls.proofs.Taken.{taken_as, taken_push}
+use Rattle.machine_scenes.proofs.Taken.{taken_as, taken_push}
 
 module _ (p : Lowered) (w : World) (texts : List (List ℕ)) (store after : Store) (shared : Shared) (new : New) (o : Object) (a : ℕ) (all : Acquired) (h : StoreAgrees p w store shared all) (made : HasMade w.classes texts store new after a) (d : Describes w.classes texts store.heap new o) where
   abbrev b : Block

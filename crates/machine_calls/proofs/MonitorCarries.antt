@@ -21,18 +21,18 @@ use Rattle.machine_monitors.proofs.FitLaws as fit
 use Rattle.machine_monitors.proofs.Foretold.{enters_so, leaves_so}
 use Rattle.machine_monitors.proofs.Places.{there_entered, there_left}
 use Rattle.tables.specs.Locals.{LocalTable}
-use Rattle.machine_calls.specs.declared.answer.Answer.{Answer}
-use Rattle.machine_calls.specs.declared.answer.Answer.TheVariants as answer
-use Rattle.machine_calls.specs.declared.answer.Given.TheVariants as given
-use Rattle.machine_calls.specs.declared.store.Store.{Store}
-use Rattle.machine_calls.specs.Answers.{Brought, GivenAgrees, IsAnswer, IsEntered, IsExited}
-use Rattle.machine_calls.specs.Buffers.{Acquired, acquired_by, beside, nothing_acquired}
+use Rattle.machine_answers.specs.declared.answer.Answer.{Answer}
+use Rattle.machine_answers.specs.declared.answer.Answer.TheVariants as answer
+use Rattle.machine_answers.specs.declared.answer.Given.TheVariants as given
+use Rattle.machine_scenes.specs.declared.store.Store.{Store}
+use Rattle.machine_answers.specs.Answers.{Brought, GivenAgrees, IsAnswer, IsEntered, IsExited}
+use Rattle.machine_scenes.specs.Buffers.{Acquired, acquired_by, beside, nothing_acquired}
 use Rattle.machine_calls.specs.CarriedOut.{CarriesOut, IsPossible}
-use Rattle.machine_calls.specs.StoreAgrees.{Keeps, StoreAgrees}
+use Rattle.machine_scenes.specs.StoreAgrees.{Keeps, StoreAgrees}
 use Rattle.machine_calls.proofs.BufferCarries.{effected}
 use Rattle.machine_calls.proofs.BufferStores.{agrees_same}
-use Rattle.machine_calls.proofs.HeldSums.{beside_nothing}
-use Rattle.machine_calls.proofs.Keeping.{none_made}
+use Rattle.machine_scenes.proofs.HeldSums.{beside_nothing}
+use Rattle.machine_scenes.proofs.Keeping.{none_made}
 
 -- other monitors
 pub agrees_monitors : (p : Lowered) (w : World) (store : Store) (shared : Shared) (all : Acquired) → StoreAgrees p w store shared all → (ms : List Monitor) (ss : List source.Monitor) → MonitorsAgree ms ss → AreThere store.heap ms

@@ -8,10 +8,10 @@ use Rattle.heap.specs.Heap.{Space}
 use Rattle.heap.specs.declared.value.Value.{Value}
 use Rattle.semantics.specs.Object.{Object, ObjectValue, Number, Refers}
 use Rattle.semantics.specs.World.{fresh_object, initial}
-use Rattle.machine_calls.specs.declared.new_object.New.{New}
-use Rattle.machine_calls.specs.declared.new_object.New.TheVariants.{Fresh, Array, Text, Exception}
-use Rattle.machine_calls.specs.HeapAgrees.{ValueAgrees, ValuesAgree}
-use Rattle.machine_calls.specs.NewObjects.{cells_of_new, initial_values, values_of_exception, AreBytes, IsObject, IsOfBytes, class_of_new, initial_value, text_in, units, values_of_new}
+use Rattle.machine_scenes.specs.declared.new_object.New.{New}
+use Rattle.machine_scenes.specs.declared.new_object.New.TheVariants.{Fresh, Array, Text, Exception}
+use Rattle.machine_scenes.specs.HeapAgrees.{ValueAgrees, ValuesAgree}
+use Rattle.machine_scenes.specs.NewObjects.{cells_of_new, initial_values, values_of_exception, AreBytes, IsObject, IsOfBytes, class_of_new, initial_value, text_in, units, values_of_new}
 
 -- zero and NULL
 initial_agree : (space : Space) (fields : List FieldId) → ValuesAgree space (map (λ (f : FieldId). initial_value f.field.type) fields) (map (λ (f : FieldId). initial f.field.type) fields)

@@ -6,8 +6,8 @@ use Rattle.heap.specs.Heap.{name_at}
 use Rattle.tables.specs.Keys.{Gains}
 use Rattle.tables.specs.References.{address_at}
 use Rattle.machine_calls.specs.CarriedOut.{IsFresh}
-use Rattle.machine_calls.proofs.GlobalLaws.{slots_deleted, slots_gained, helds_kept, helds_marked, key_fresh, keys_kept, keys_marked, slot_there}
-use Rattle.machine_calls.specs.declared.references.Held.TheVariants as memory
+use Rattle.machine_scenes.proofs.GlobalLaws.{slots_deleted, slots_gained, helds_kept, helds_marked, key_fresh, keys_kept, keys_marked, slot_there}
+use Rattle.machine_scenes.specs.declared.references.Held.TheVariants as memory
 use Rattle.semantics.specs.CallEffects.{without_one}
 use Rattle.tables.specs.Globals.{without}
 use Rattle.std.proofs.lemmas.List.{length-map}
@@ -22,15 +22,15 @@ use Rattle.semantics.specs.Variable.{Live, Deleted, Statics, StaticReference, as
 use Rattle.semantics.specs.World.{World}
 use Rattle.code_meaning.specs.Lowered.{Lowered}
 use Rattle.code_meaning.specs.Slots.{static_index}
-use Rattle.machine_calls.specs.declared.references.Held.{Held}
-use Rattle.machine_calls.specs.declared.statics.StaticReference.{StaticReference as InMemory}
-use Rattle.machine_calls.specs.declared.statics.StaticReference.TheVariants as static
-use Rattle.machine_calls.specs.declared.store.Store.{Store}
-use Rattle.machine_calls.specs.Buffers.{Acquired}
-use Rattle.machine_calls.specs.HeapAgrees.{SlotsAgree}
-use Rattle.machine_calls.specs.StoreAgrees.{AreNamed, HeldAgrees, Keeps, MayChange, StaticsAgree, StoreAgrees}
-use Rattle.machine_calls.specs.Statics.{HaveKeys, all_held, held, held_at, held_or_null}
-use Rattle.machine_calls.proofs.Keeping.{none_made}
+use Rattle.machine_scenes.specs.declared.references.Held.{Held}
+use Rattle.machine_scenes.specs.declared.statics.StaticReference.{StaticReference as InMemory}
+use Rattle.machine_scenes.specs.declared.statics.StaticReference.TheVariants as static
+use Rattle.machine_scenes.specs.declared.store.Store.{Store}
+use Rattle.machine_scenes.specs.Buffers.{Acquired}
+use Rattle.machine_scenes.specs.HeapAgrees.{SlotsAgree}
+use Rattle.machine_scenes.specs.StoreAgrees.{AreNamed, HeldAgrees, Keeps, MayChange, StaticsAgree, StoreAgrees}
+use Rattle.machine_scenes.specs.Statics.{HaveKeys, all_held, held, held_at, held_or_null}
+use Rattle.machine_scenes.proofs.Keeping.{none_made}
 use Rattle.machine_calls.proofs.HeldStatics.{held_set, same_names, static_put, static_there, statics_count}
 
 module _ (p : Lowered) (w : World) (store : Store) (shared : Shared) (all : Acquired) (h : StoreAgrees p w store shared all) where

@@ -14,25 +14,25 @@ use Rattle.code_meaning.specs.Lowered.{Lowered}
 use Rattle.code_meaning.specs.Stands.{IsBufferResult}
 use Rattle.tables.specs.Elements.{OwnedNumbers}
 use Rattle.tables.specs.Keys.{value_at}
-use Rattle.machine_calls.specs.Buffers.{Acquired, BufferAgrees, acquired_by, acquired_of, beside, gives_up, nothing_acquired}
-use Rattle.machine_calls.specs.declared.buffer.Buffer.{Buffer}
-use Rattle.machine_calls.specs.declared.buffer.Buffer.TheVariants as buffer
-use Rattle.machine_calls.specs.declared.answer.Given.{Given}
-use Rattle.machine_calls.specs.declared.answer.Given.TheVariants as given
-use Rattle.machine_calls.specs.declared.store.Store.{Store}
+use Rattle.machine_scenes.specs.Buffers.{Acquired, BufferAgrees, acquired_by, acquired_of, beside, gives_up, nothing_acquired}
+use Rattle.machine_scenes.specs.declared.buffer.Buffer.{Buffer}
+use Rattle.machine_scenes.specs.declared.buffer.Buffer.TheVariants as buffer
+use Rattle.machine_answers.specs.declared.answer.Given.{Given}
+use Rattle.machine_answers.specs.declared.answer.Given.TheVariants as given
+use Rattle.machine_scenes.specs.declared.store.Store.{Store}
 use Rattle.semantics.specs.Variable.{Variables, as_static}
 use Rattle.tables.specs.References.{address_at}
-use Rattle.machine_calls.specs.Statics.{held}
-use Rattle.machine_calls.specs.declared.statics.StaticReference.{StaticReference}
-use Rattle.machine_calls.specs.declared.statics.StaticReference.TheVariants as static
-use Rattle.machine_calls.specs.StoreAgrees.{HeldAgrees, StoreAgrees, Keeps}
-use Rattle.machine_calls.specs.Answers.{GivenAgrees}
-use Rattle.machine_calls.specs.declared.answer.Answer.{Answer}
-use Rattle.machine_calls.specs.declared.answer.Answer.TheVariants as answer
-use Rattle.machine_calls.specs.Copies.{numbers_with}
-use Rattle.machine_calls.specs.Locals.{FramesAgree, IsKeyOf}
+use Rattle.machine_scenes.specs.Statics.{held}
+use Rattle.machine_scenes.specs.declared.statics.StaticReference.{StaticReference}
+use Rattle.machine_scenes.specs.declared.statics.StaticReference.TheVariants as static
+use Rattle.machine_scenes.specs.StoreAgrees.{HeldAgrees, StoreAgrees, Keeps}
+use Rattle.machine_answers.specs.Answers.{GivenAgrees}
+use Rattle.machine_answers.specs.declared.answer.Answer.{Answer}
+use Rattle.machine_answers.specs.declared.answer.Answer.TheVariants as answer
+use Rattle.machine_answers.specs.Copies.{numbers_with}
+use Rattle.machine_scenes.specs.Locals.{FramesAgree, IsKeyOf}
 use Rattle.tables.specs.Locals.{LocalTable}
-use Rattle.machine_calls.specs.HeapAgrees.{ReferenceAgrees}
+use Rattle.machine_scenes.specs.HeapAgrees.{ReferenceAgrees}
 
 -- the shared state after a call of this effect, or after the same with its allocation refused
 abbrev pub shared_after : Classes → (refused : Bool) → Shared → CallEffect → Shared

@@ -4,15 +4,12 @@ use Rattle.class_rules.specs.Class.{Classes}
 use Rattle.semantics.specs.Object.{object_size}
 use Rattle.heap.specs.Heap.{Block, Space, end_of, left_of, with_block}
 use Rattle.heap.specs.declared.value.Value.{Value}
-use Rattle.tables.specs.Keys.{Gains}
-use Rattle.machine_calls.specs.declared.answer.Answer.{Answer}
-use Rattle.machine_calls.specs.declared.answer.Answer.TheVariants as answer
-use Rattle.machine_calls.specs.declared.new_object.New.{New}
-use Rattle.machine_calls.specs.declared.new_object.New.TheVariants.{Fresh, Text, Exception}
-use Rattle.machine_calls.specs.declared.statics.StaticReference.{StaticReference}
-use Rattle.machine_calls.specs.declared.statics.StaticReference.TheVariants as static
-use Rattle.machine_calls.specs.declared.store.Store.{Store}
-use Rattle.machine_calls.specs.NewObjects.{IsOfBytes, cells_of_new, class_of_new, values_of_new}
+use Rattle.machine_answers.specs.declared.answer.Answer.{Answer}
+use Rattle.machine_answers.specs.declared.answer.Answer.TheVariants as answer
+use Rattle.machine_scenes.specs.declared.new_object.New.{New}
+use Rattle.machine_scenes.specs.declared.new_object.New.TheVariants.{Fresh, Text, Exception}
+use Rattle.machine_scenes.specs.declared.store.Store.{Store}
+use Rattle.machine_scenes.specs.NewObjects.{IsOfBytes, cells_of_new, class_of_new, values_of_new}
 
 -- the next block, after all others
 abbrev pub next_block : Space → (class birth : ℕ) → List Value → Block
@@ -58,8 +55,3 @@ abbrev pub Raises : Classes → (texts : List (List ℕ)) → Store → (class p
 Raises classes texts before class place after None = (after ≡ before) × (left_of before.heap < cells_of classes texts (answer.Raises class place))
 Raises classes texts before class place after (Some a) =
     (between : Store) × (message : ℕ) × HasMade classes texts before (Text place) between message × HasMade classes texts between (Exception class message) after a
-
--- a global reference to the object at an address is made, and none for NULL
-abbrev pub MakesGlobal : (old : List (Option ℕ)) → Option ℕ → (new : List (Option ℕ)) → StaticReference → Type 0
-MakesGlobal old None new held = (new ≡ old) × (held ≡ static.Empty)
-MakesGlobal old (Some a) new held = (key : ℕ) × (held ≡ static.Live key) × Gains old key a new

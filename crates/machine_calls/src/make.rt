@@ -4,17 +4,17 @@ ghost use Rattle.std.specs.Prelude.{◌≡◌, ◌+◌, ◌<◌, ◌^◌, nat_le
 ghost use Rattle.class_rules.specs.BuiltIns.{string_class};
 ghost use Rattle.classes.specs.Views.{field_type_view};
 ghost use Rattle.heap.specs.Heap.{left_of};
-ghost use Rattle.machine_calls.specs.declared.answer.Answer.TheVariants as answer;
+ghost use Rattle.machine_answers.specs.declared.answer.Answer.TheVariants as answer;
 ghost use Rattle.machine_calls.specs.Made.{cells_of, Allocates, Makes, Raises};
-ghost use Rattle.machine_calls.specs.NewObjects.{class_of_new, initial_value, initial_values, texts_in, units, values_of_exception, values_of_new, AreBytes, IsOfBytes};
+ghost use Rattle.machine_scenes.specs.NewObjects.{class_of_new, initial_value, initial_values, texts_in, units, values_of_exception, values_of_new, AreBytes, IsOfBytes};
 
-use crate::new_object::{New, NewArray, text_at};
-use crate::store::Store;
 use class_layouts::LayoutFields;
 use classes::built_ins::STRING;
 use classes::class::FieldType;
 use classes::table::ClassTable;
 use heap::{Addr, Heap, Value};
+use machine_scenes::new_object::{New, NewArray, text_at};
+use machine_scenes::store::Store;
 
 /// Makes an object for a call with these texts, if the heap has room. It takes no host memory. The cost goes by the number of its values, and the depth of
 /// its class.

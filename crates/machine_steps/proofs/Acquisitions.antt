@@ -16,12 +16,12 @@ use Rattle.semantics.specs.Variable.{Variable, Variables, Scalar, LocalRef, Fiel
 use Rattle.semantics.specs.World.{World}
 use Rattle.semantics_safety.specs.StepSafe.{HoldsNoBuffer, is_lent}
 use Rattle.code_meaning.specs.Lowered.{Lowered}
-use Rattle.machine_calls.specs.Buffers.{Acquired, SameAcquired, acquired_of, beside, nothing_acquired}
-use Rattle.machine_calls.specs.HeapAgrees.{times}
-use Rattle.machine_calls.specs.StoreAgrees.{StoreAgrees}
-use Rattle.machine_calls.specs.declared.store.Store.{Store}
-use Rattle.machine_calls.proofs.HeldSums.{times_append}
-use Rattle.machine_calls.proofs.Taken.{taken_same}
+use Rattle.machine_scenes.specs.Buffers.{Acquired, SameAcquired, acquired_of, beside, nothing_acquired}
+use Rattle.machine_scenes.specs.HeapAgrees.{times}
+use Rattle.machine_scenes.specs.StoreAgrees.{StoreAgrees}
+use Rattle.machine_scenes.specs.declared.store.Store.{Store}
+use Rattle.machine_scenes.proofs.HeldSums.{times_append}
+use Rattle.machine_scenes.proofs.Taken.{taken_same}
 
 -- what the buffers of these variables take
 abbrev pub taken_by : Variables → Acquired

@@ -14,23 +14,23 @@ use Rattle.semantics.specs.World.{World}
 use Rattle.code.specs.Call.{call_view}
 use Rattle.code.specs.declared.instr.Call.{Call}
 use Rattle.code_meaning.specs.Lowered.{Lowered}
-use Rattle.machine_calls.specs.declared.answer.Answer.{Answer}
-use Rattle.machine_calls.specs.declared.answer.Answer.TheVariants as answer
+use Rattle.machine_answers.specs.declared.answer.Answer.{Answer}
+use Rattle.machine_answers.specs.declared.answer.Answer.TheVariants as answer
 use Rattle.semantics.specs.declared.trap.Trap.{Trap}
 use Rattle.semantics.specs.EventViews.{trap_view}
-use Rattle.machine_calls.specs.declared.store.Store.{Store}
-use Rattle.machine_calls.specs.declared.activation.Activation.{Activation}
-use Rattle.machine_calls.specs.Answers.{Brought, IsAnswer}
-use Rattle.machine_calls.specs.Asked.{brought_by, scene_of}
+use Rattle.machine_scenes.specs.declared.store.Store.{Store}
+use Rattle.machine_scenes.specs.declared.activation.Activation.{Activation}
+use Rattle.machine_answers.specs.Answers.{Brought, IsAnswer}
+use Rattle.machine_answers.specs.Asked.{brought_by, scene_of}
 use Rattle.machine_calls.specs.CarriedOut.{IsPossible}
 use Rattle.machine_calls.specs.Made.{cells_of}
-use Rattle.machine_calls.specs.NewObjects.{texts_in}
-use Rattle.machine_calls.specs.WorkedOut.{IsWorkedOut}
+use Rattle.machine_scenes.specs.NewObjects.{texts_in}
+use Rattle.machine_answers.specs.WorkedOut.{IsWorkedOut}
 use Rattle.semantics_safety.specs.Owners.{Owners}
 use Rattle.machine_steps.specs.Executes.{cells_made, in_use_with}
-use Rattle.machine_calls.specs.Buffers.{Acquired}
+use Rattle.machine_scenes.specs.Buffers.{Acquired}
 use Rattle.machine_steps.specs.Invoked.{AtCall, IsAnswered}
-use Rattle.machine_calls.proofs.CallAnswers.{answers}
+use Rattle.machine_answers.proofs.CallAnswers.{answers}
 use Rattle.machine_calls.proofs.CellsMade.{cells_made as cells_answered}
 use Rattle.machine_steps.proofs.AskedCalls.{CalledAs, called, effect_is, cells_wanted, r, held, possible, owned_key, trap_is}
 

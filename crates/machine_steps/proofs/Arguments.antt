@@ -34,16 +34,16 @@ use Rattle.code.specs.Depth.{Listing, words_taken, with_fewer}
 use Rattle.code_meaning.specs.Slots.{Shows, Slots, Visible, visible_to}
 use Rattle.code_meaning.specs.Does.{IsOperand, word_given, words_given}
 use Rattle.code_meaning.specs.Lowered.{Lowered}
-use Rattle.machine_calls.specs.declared.activation.Activation.{Activation}
-use Rattle.machine_calls.specs.FieldIds.{FieldAgrees, FieldsAgree}
-use Rattle.machine_calls.specs.StoreAgrees.{StaticsAgree}
-use Rattle.machine_calls.specs.Statics.{References}
-use Rattle.machine_calls.specs.declared.references.Held.{Held}
+use Rattle.machine_scenes.specs.declared.activation.Activation.{Activation}
+use Rattle.machine_scenes.specs.FieldIds.{FieldAgrees, FieldsAgree}
+use Rattle.machine_scenes.specs.StoreAgrees.{StaticsAgree}
+use Rattle.machine_scenes.specs.Statics.{References}
+use Rattle.machine_scenes.specs.declared.references.Held.{Held}
 use Rattle.machine_calls.proofs.HeldStatics.{static_there}
-use Rattle.machine_calls.proofs.KeyLaws.{address_there}
-use Rattle.machine_calls.specs.Given.{HasArray, HasElements, held_in, IsGiven}
+use Rattle.machine_scenes.proofs.KeyLaws.{address_there}
+use Rattle.machine_scenes.specs.Given.{HasArray, HasElements, held_in, IsGiven}
 use Rattle.machine_steps.proofs.Calls.{Ready}
-use Rattle.machine_steps.specs.SlotsHold.{slots_of}
+use Rattle.machine_threads.specs.SlotsHold.{slots_of}
 
 -- ---- slots
 

@@ -28,29 +28,29 @@ use Rattle.code_meaning.specs.Does.{CallsFunction, IsOperand, OperandFits, Takes
 use Rattle.code_meaning.specs.Lowered.{Lowered}
 use Rattle.code_meaning.specs.Fits.{HaveOwnSlots}
 use Rattle.code_meaning.specs.Slots.{Visible, visible_to}
-use Rattle.machine_calls.specs.declared.store.Store.{Store}
-use Rattle.machine_calls.specs.declared.activation.Activation.{Activation}
-use Rattle.machine_calls.specs.Locals.{FramesAgree}
-use Rattle.machine_calls.specs.Answers.{HoldsObject}
-use Rattle.machine_calls.specs.Asked.{IsAsked, references_of, scene_of}
-use Rattle.machine_calls.specs.Statics.{all_held}
+use Rattle.machine_scenes.specs.declared.store.Store.{Store}
+use Rattle.machine_scenes.specs.declared.activation.Activation.{Activation}
+use Rattle.machine_scenes.specs.Locals.{FramesAgree}
+use Rattle.machine_answers.specs.Answers.{HoldsObject}
+use Rattle.machine_answers.specs.Asked.{IsAsked, references_of, scene_of}
+use Rattle.machine_scenes.specs.Statics.{all_held}
 use Rattle.machine_calls.specs.CarriedOut.{IsPossible}
-use Rattle.machine_calls.specs.Checked.{trap_found}
+use Rattle.machine_answers.specs.Checked.{trap_found}
 use Rattle.tables.specs.Locals.{has_room}
-use Rattle.machine_calls.specs.Given.{held_in, key_at, operand_of}
+use Rattle.machine_scenes.specs.Given.{held_in, key_at, operand_of}
 use Rattle.machine_steps.specs.Invoked.{AtCall, trap_at}
 use Rattle.machine_steps.specs.Received.{HasRoom, HasTarget, HasTold, HasStatic, told_slot}
 use Rattle.machine_steps.proofs.Arguments.{all_given, arrays_held, none_left_after}
-use Rattle.machine_calls.proofs.CallTraps.{found_is}
+use Rattle.machine_answers.proofs.CallTraps.{found_is}
 use Rattle.machine_steps.proofs.Calls.{Ready, fields_count, ready}
-use Rattle.machine_steps.specs.SlotsHold.{slots_of}
+use Rattle.machine_threads.specs.SlotsHold.{slots_of}
 use Rattle.machine_steps.proofs.Effects.{call_cases}
-use Rattle.machine_calls.proofs.KeyLaws.{OwnKey, keys_count}
+use Rattle.machine_scenes.proofs.KeyLaws.{OwnKey, keys_count}
 use Rattle.machine_steps.proofs.OwnedKeys.{DeletesKey, deletes_key, operands_owned}
 use Rattle.semantics_safety.specs.Owners.{Owners}
 use Rattle.tables.specs.Locals.{LocalTable}
-use Rattle.machine_calls.specs.Locals.{locals_after}
-use Rattle.machine_calls.proofs.LocalFrames.{full_where}
+use Rattle.machine_scenes.specs.Locals.{locals_after}
+use Rattle.machine_scenes.proofs.LocalFrames.{full_where}
 use Rattle.machine_steps.proofs.StaticArguments.{object_held}
 use Rattle.semantics.specs.Checks.{is_full}
 use Rattle.semantics.specs.ThreadStep.{next_effect}
@@ -62,23 +62,24 @@ use Rattle.semantics.specs.CallEffects.{Halts}
 use Rattle.semantics.specs.CallStep.{after_call, checked, effect_of_call}
 use Rattle.semantics.specs.CallTable.{call_effect}
 use Rattle.semantics.specs.Value.{Trap as SourceTrap}
-use Rattle.machine_calls.specs.declared.answer.Answer.{Answer}
-use Rattle.machine_calls.specs.declared.answer.Given.{Given}
+use Rattle.machine_answers.specs.declared.answer.Answer.{Answer}
+use Rattle.machine_answers.specs.declared.answer.Given.{Given}
 use Rattle.semantics.specs.declared.trap.Trap.{Trap}
 use Rattle.semantics.specs.declared.event.Event.TheVariants as event
 use Rattle.machine_steps.specs.declared.execute.Executed.TheVariants.{Did}
-use Rattle.machine_steps.specs.Executes.{Executes, GoesOn, WorkAgrees, cells_made}
+use Rattle.machine_steps.specs.Executes.{Executes, GoesOn, cells_made}
+use Rattle.machine_threads.specs.InProgress.{WorkAgrees}
 use Rattle.machine_calls.specs.CarriedOut.{CarriesOut, frames_left, made_by}
-use Rattle.machine_calls.specs.Checked.{puts_local}
+use Rattle.machine_answers.specs.Checked.{puts_local}
 use Rattle.semantics.specs.EventViews.{trap_view}
-use Rattle.machine_calls.proofs.CallTraps.{room_left}
+use Rattle.machine_answers.proofs.CallTraps.{room_left}
 use Rattle.machine_steps.proofs.EffectFrames.{left_is}
-use Rattle.machine_calls.proofs.LocalFrames.{frames_left as frames_after_agree}
+use Rattle.machine_scenes.proofs.LocalFrames.{frames_left as frames_after_agree}
 use Rattle.semantics.specs.Checks.{frames_after as source_frames_after}
 use Rattle.semantics.specs.ThreadStep.{after_effect}
 use Rattle.semantics.proofs.HeapGrows.{effect_keeps}
 use Rattle.machine_steps.proofs.CellsMade.{call_cells}
-use Rattle.machine_calls.proofs.Keeping.{keeps_same}
+use Rattle.machine_scenes.proofs.Keeping.{keeps_same}
 use Rattle.machine_steps.specs.Executes.{in_use_with}
 use Rattle.base.specs.Element.{ElementType, JInt, JShort, JByte, JChar}
 use Rattle.base.specs.declared.element.ElementType.{ElementType as ElementOfCode}
@@ -95,9 +96,9 @@ use Rattle.semantics.specs.Variable as source_variable
 use Rattle.semantics.specs.Variable.{Scalar, FieldHandle, Elements, LocalArray}
 use Rattle.semantics_safety.specs.StepSafe.{MayMeetView}
 use Rattle.tables.specs.Elements.{OwnedNumbers}
-use Rattle.machine_calls.specs.Buffers.{Acquired, holding}
-use Rattle.machine_calls.specs.Checked.{element_wanted}
-use Rattle.machine_calls.specs.Given.{HasBuffer}
+use Rattle.machine_scenes.specs.Buffers.{Acquired, holding}
+use Rattle.machine_answers.specs.Checked.{element_wanted}
+use Rattle.machine_scenes.specs.Given.{HasBuffer}
 use Rattle.machine_steps.proofs.Changes.{buffer_by_kind, field_by_kind, local_by_kind, scalar_by_kind}
 use Rattle.machine_steps.proofs.OwnedKeys.{called as invoked}
 use Rattle.machine_steps.proofs.SlotBuffers.{buffer_held, buffers_count}

@@ -37,28 +37,29 @@ use Rattle.type_rules.specs.SortRules.{is_droppable}
 use Rattle.code_meaning.proofs.BufferLaws.{sees_buffers}
 use Rattle.tables.specs.Locals.{LocalTable, AreStacked}
 use Rattle.world_values.specs.SoundWorlds.{IsSound}
-use Rattle.machine_calls.specs.declared.activation.Activation.{Activation}
-use Rattle.machine_calls.specs.declared.activation.Slots.{Slots as SlotsInMemory}
-use Rattle.machine_calls.specs.declared.answer.Answer.{Answer}
-use Rattle.machine_calls.specs.declared.answer.Answer.TheVariants as answers
-use Rattle.machine_calls.specs.declared.answer.Given.{Given}
-use Rattle.machine_calls.specs.declared.answer.Given.TheVariants as given
-use Rattle.machine_calls.specs.declared.buffer.Buffer.{Buffer as HeldBuffer}
-use Rattle.machine_calls.specs.declared.buffer.Buffer.TheVariants as held
-use Rattle.machine_calls.specs.declared.statics.StaticReference.{StaticReference}
-use Rattle.machine_calls.specs.declared.store.Store.{Store}
-use Rattle.machine_calls.specs.Answers.{IsAnswer, is_halt}
-use Rattle.machine_calls.specs.Asked.{brought_by, scene_of}
-use Rattle.machine_calls.specs.Buffers.{Acquired, AreViewed, BuffersAgree, acquired_by, beside, gives_up}
+use Rattle.machine_scenes.specs.declared.activation.Activation.{Activation}
+use Rattle.machine_scenes.specs.declared.activation.Slots.{Slots as SlotsInMemory}
+use Rattle.machine_answers.specs.declared.answer.Answer.{Answer}
+use Rattle.machine_answers.specs.declared.answer.Answer.TheVariants as answers
+use Rattle.machine_answers.specs.declared.answer.Given.{Given}
+use Rattle.machine_answers.specs.declared.answer.Given.TheVariants as given
+use Rattle.machine_scenes.specs.declared.buffer.Buffer.{Buffer as HeldBuffer}
+use Rattle.machine_scenes.specs.declared.buffer.Buffer.TheVariants as held
+use Rattle.machine_scenes.specs.declared.statics.StaticReference.{StaticReference}
+use Rattle.machine_scenes.specs.declared.store.Store.{Store}
+use Rattle.machine_answers.specs.Answers.{IsAnswer, is_halt}
+use Rattle.machine_answers.specs.Asked.{brought_by, scene_of}
+use Rattle.machine_scenes.specs.Buffers.{Acquired, AreViewed, BuffersAgree, acquired_by, beside, gives_up}
 use Rattle.machine_calls.specs.CarriedOut.{CarriesOut, CopiesStay, GoesByRoom, IsNewCopy, IsShortOf, buffers_after, frames_left, made_by, pending_after, result_after, shared_after, slots_after, variables_left}
-use Rattle.machine_calls.specs.WorkedOut.{IsWorkedOut}
+use Rattle.machine_answers.specs.WorkedOut.{IsWorkedOut}
 use Rattle.machine_calls.proofs.BufferLaws.{buffers_stay, keeps_others, new_apart}
-use Rattle.machine_calls.proofs.KeyLaws.{fewer_owned, keys_left}
+use Rattle.machine_scenes.proofs.KeyLaws.{fewer_owned, keys_left}
 use Rattle.semantics.specs.declared.event.Event.TheVariants as event
-use Rattle.machine_steps.specs.Executes.{CallStands, GoesOn, after_any, in_use_with}
+use Rattle.machine_steps.specs.Executes.{GoesOn, after_any, in_use_with}
+use Rattle.machine_threads.specs.InProgress.{CallStands}
 use Rattle.machine_steps.specs.Invoked.{AtCall}
 use Rattle.machine_steps.specs.Received.{Receives, numbers_with, statics_with, told_slot, told_with}
-use Rattle.machine_steps.specs.SlotsHold.{slots_of}
+use Rattle.machine_threads.specs.SlotsHold.{slots_of}
 use Rattle.machine_steps.proofs.Acquisitions.{taken_by}
 use Rattle.machine_steps.proofs.AskedCalls.{CalledAs, called as called_at, cells_wanted, effect_is, next_is, r as ready_at, room_after}
 use Rattle.machine_steps.proofs.Calls.{Ready, ready, ready_known, ready_owners}

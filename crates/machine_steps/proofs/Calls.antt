@@ -25,20 +25,20 @@ use Rattle.code_meaning.specs.Slots.{Visible, Slots, Shows, SeesBuffers, IsSet, 
 use Rattle.code_meaning.specs.Stands.{StandsFor}
 use Rattle.code_meaning.specs.Does.{DoesEffect, GoesOn, Writes, WritesBuffer, StoresNull, PrintsTop, CallsFunction, LeavesCall, Stops, Works, IsReturn}
 use Rattle.code_meaning.specs.Lowered.{Lowered, IsLowered, IsCodeOf, AreCodesOf}
-use Rattle.machine_calls.specs.declared.activation.Activation.{Activation}
+use Rattle.machine_scenes.specs.declared.activation.Activation.{Activation}
 use Rattle.class_rules.specs.Class.{Classes}
 use Rattle.class_rules.specs.Fields.{FieldId}
 use Rattle.classes.specs.declared.class.FieldHandle.{FieldHandle}
 use Rattle.semantics.specs.Thread.{Frame}
 use Rattle.tables.specs.Elements.{OwnedNumbers}
 use Rattle.tables.specs.Locals.{LocalTable}
-use Rattle.machine_calls.specs.Buffers.{BuffersAgree}
-use Rattle.machine_calls.specs.declared.buffer.Buffer.{Buffer as HeldBuffer}
-use Rattle.machine_calls.specs.Locals.{FramesAgree, KeysAgree}
-use Rattle.machine_steps.specs.Executes.{CallStands}
-use Rattle.machine_steps.specs.SlotsHold.{Meant, SlotValues, SlotsHold, slots_of, values_in}
+use Rattle.machine_scenes.specs.Buffers.{BuffersAgree}
+use Rattle.machine_scenes.specs.declared.buffer.Buffer.{Buffer as HeldBuffer}
+use Rattle.machine_scenes.specs.Locals.{FramesAgree, KeysAgree}
+use Rattle.machine_threads.specs.InProgress.{CallStands}
+use Rattle.machine_threads.specs.SlotsHold.{Meant, SlotValues, SlotsHold, slots_of, values_in}
 use Rattle.machine_steps.specs.Moved.{HasMoved}
-use Rattle.machine_calls.specs.FieldIds.{FieldsAgree}
+use Rattle.machine_scenes.specs.FieldIds.{FieldsAgree}
 
 -- ---- a function's code
 

@@ -14,9 +14,9 @@ use Rattle.semantics.specs.Task.{Target, Task}
 use Rattle.semantics.specs.Thread as source
 use Rattle.semantics.specs.Thread.{BuffersInUse, Shared}
 use Rattle.semantics.specs.Value.{Int}
-use Rattle.machine_calls.specs.declared.answer.Answer.{Answer}
-use Rattle.machine_calls.specs.declared.answer.Answer.TheVariants as answers
-use Rattle.machine_calls.specs.Answers.{Brought, IsAnswer, is_halt}
+use Rattle.machine_answers.specs.declared.answer.Answer.{Answer}
+use Rattle.machine_answers.specs.declared.answer.Answer.TheVariants as answers
+use Rattle.machine_answers.specs.Answers.{Brought, IsAnswer, is_halt}
 use Rattle.machine_calls.specs.CarriedOut.{frames_left, pending_after, result_after, shared_after, variables_left}
 use Rattle.machine_calls.proofs.AnswerCases.{gives_it, makes_it, writes_it}
 use Rattle.tables.specs.Locals.{LocalTable}

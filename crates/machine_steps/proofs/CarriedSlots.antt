@@ -46,31 +46,31 @@ use Rattle.code_meaning.specs.Slots.{Shows, Slots, Visible, held_buffer, visible
 use Rattle.code_meaning.specs.Stands.{IsBufferResult}
 use Rattle.code_meaning.proofs.SlotLaws.{fewer_shown, known_among, shows_buffer_again, shows_set}
 use Rattle.tables.specs.Elements.{OwnedNumbers}
-use Rattle.machine_calls.specs.declared.activation.Activation.{Activation}
-use Rattle.machine_calls.specs.declared.answer.Answer.{Answer}
-use Rattle.machine_calls.specs.declared.answer.Answer.TheVariants as answers
-use Rattle.machine_calls.specs.declared.answer.Given.{Given}
-use Rattle.machine_calls.specs.declared.answer.Given.TheVariants as given
-use Rattle.machine_calls.specs.declared.array_region.ArrayRegion.{ArrayRegion}
-use Rattle.machine_calls.specs.declared.buffer.Buffer.{Buffer as HeldBuffer}
-use Rattle.machine_calls.specs.declared.buffer.Buffer.TheVariants as held
-use Rattle.machine_calls.specs.declared.buffer.Release.{Release}
-use Rattle.machine_calls.specs.declared.store.Store.{Store}
+use Rattle.machine_scenes.specs.declared.activation.Activation.{Activation}
+use Rattle.machine_answers.specs.declared.answer.Answer.{Answer}
+use Rattle.machine_answers.specs.declared.answer.Answer.TheVariants as answers
+use Rattle.machine_answers.specs.declared.answer.Given.{Given}
+use Rattle.machine_answers.specs.declared.answer.Given.TheVariants as given
+use Rattle.machine_scenes.specs.declared.array_region.ArrayRegion.{ArrayRegion}
+use Rattle.machine_scenes.specs.declared.buffer.Buffer.{Buffer as HeldBuffer}
+use Rattle.machine_scenes.specs.declared.buffer.Buffer.TheVariants as held
+use Rattle.machine_scenes.specs.declared.buffer.Release.{Release}
+use Rattle.machine_scenes.specs.declared.store.Store.{Store}
 use Rattle.semantics.specs.declared.trap.Trap.TheVariants.{OutOfRange}
-use Rattle.machine_calls.specs.Answers.{IsAnswer, is_halt}
-use Rattle.machine_calls.specs.Asked.{brought_by, buffers_of, references_of, scene_of}
-use Rattle.machine_calls.specs.Buffers.{Acquired, AreViewed, BuffersAgree, gives_up}
+use Rattle.machine_answers.specs.Answers.{IsAnswer, is_halt}
+use Rattle.machine_answers.specs.Asked.{brought_by, buffers_of, references_of, scene_of}
+use Rattle.machine_scenes.specs.Buffers.{Acquired, AreViewed, BuffersAgree, gives_up}
 use Rattle.machine_calls.specs.CarriedOut.{LeavesCopy, ResultAgrees, buffers_after, result_after, slots_after, variables_left}
-use Rattle.machine_calls.specs.Copies.{overlaid, word_of as word_in, words_of}
-use Rattle.machine_calls.specs.Given.{operand_of}
-use Rattle.machine_calls.specs.Scenes.{Scene}
-use Rattle.machine_calls.specs.WorkedOut.{IsWorkedOut, buffer_there, copies_in, copies_out, deletes, deletes_global, local_array, mode_of, region, releases, slot_of, stores_there, writes_there}
-use Rattle.machine_calls.proofs.BufferOperands.{given_buffer, given_mode}
-use Rattle.machine_calls.proofs.KeyLaws.{set_cases}
+use Rattle.machine_answers.specs.Copies.{overlaid, word_of as word_in, words_of}
+use Rattle.machine_scenes.specs.Given.{operand_of}
+use Rattle.machine_scenes.specs.Scenes.{Scene}
+use Rattle.machine_answers.specs.WorkedOut.{IsWorkedOut, buffer_there, copies_in, copies_out, deletes, deletes_global, local_array, mode_of, region, releases, slot_of, stores_there, writes_there}
+use Rattle.machine_answers.proofs.BufferOperands.{given_buffer, given_mode}
+use Rattle.machine_scenes.proofs.KeyLaws.{set_cases}
 use Rattle.machine_steps.specs.Executes.{in_use_with}
 use Rattle.machine_steps.specs.Invoked.{AtCall}
 use Rattle.machine_steps.specs.Received.{told_slot, told_with}
-use Rattle.machine_steps.specs.SlotsHold.{IsSmallCopy, slots_of}
+use Rattle.machine_threads.specs.SlotsHold.{IsSmallCopy, slots_of}
 use Rattle.machine_steps.proofs.Acquisitions.{taken_by}
 use Rattle.machine_steps.proofs.AskedCalls.{CalledAs, called as called_at, r as ready_at}
 use Rattle.machine_steps.proofs.Calls.{Ready}

@@ -18,7 +18,7 @@ use Rattle.semantics.specs.Variable.{Variable, Scalar, LocalRef, FieldHandle, El
 use Rattle.semantics.specs.Task.{VariableKind, ScalarKind, ReferenceKind, FieldKind, BufferKind}
 use Rattle.semantics_safety.specs.Owners.{Owners}
 use Rattle.code_meaning.specs.Slots.{visible_to, type_of_array, kind_of_variable, held_buffer, is_no_buffer, OthersStay, IsSet, IsNulled, IsReferred, IsFieldSet, IsBufferSet, IsMade, IsElementSet}
-use Rattle.machine_calls.proofs.SetPlaces.{get_set_same, get_set_other}
+use Rattle.machine_answers.proofs.SetPlaces.{get_set_same, get_set_other}
 
 -- ---- lists by name
 

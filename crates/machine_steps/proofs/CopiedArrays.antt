@@ -32,17 +32,17 @@ use Rattle.semantics.specs.Variable as source_variable
 use Rattle.semantics.specs.Variable.{Variable, LocalArray, NoBuffer, Variables, assign, change}
 use Rattle.semantics_safety.specs.Owners.{Owners}
 use Rattle.tables.specs.Locals.{LocalTable}
-use Rattle.machine_calls.specs.declared.answer.Answer.{Answer}
-use Rattle.machine_calls.specs.declared.answer.Answer.TheVariants as answers
-use Rattle.machine_calls.specs.declared.array_region.ArrayRegion.{ArrayRegion}
-use Rattle.machine_calls.specs.Answers.{AreWordsOf, Brought, IsAnswer, IsCopiedOut, IsReleased, array_given, is_halt, named_array}
-use Rattle.machine_calls.specs.Buffers.{gives_up}
+use Rattle.machine_answers.specs.declared.answer.Answer.{Answer}
+use Rattle.machine_answers.specs.declared.answer.Answer.TheVariants as answers
+use Rattle.machine_scenes.specs.declared.array_region.ArrayRegion.{ArrayRegion}
+use Rattle.machine_answers.specs.Answers.{AreWordsOf, Brought, IsAnswer, IsCopiedOut, IsReleased, array_given, is_halt, named_array}
+use Rattle.machine_scenes.specs.Buffers.{gives_up}
 use Rattle.machine_calls.specs.CarriedOut.{buffers_after, slots_after, variables_left}
-use Rattle.machine_calls.specs.declared.buffer.Buffer.{Buffer}
-use Rattle.machine_calls.specs.declared.buffer.Release.{Release}
-use Rattle.machine_calls.specs.Copies.{overlaid}
+use Rattle.machine_scenes.specs.declared.buffer.Buffer.{Buffer}
+use Rattle.machine_scenes.specs.declared.buffer.Release.{Release}
+use Rattle.machine_answers.specs.Copies.{overlaid}
 use Rattle.machine_calls.proofs.AnswerCases.{gives_it, makes_it, throws_it, writes_it}
-use Rattle.machine_calls.proofs.Overlays.{get_outside, get_within, length_overlaid, overlaid_is}
+use Rattle.machine_answers.proofs.Overlays.{get_outside, get_within, length_overlaid, overlaid_is}
 use Rattle.machine_steps.proofs.Arguments.{array_held}
 use Rattle.machine_steps.proofs.Changes.{change_is, element_of, found, others}
 use Rattle.machine_steps.proofs.Acquisitions.{assigned_same, copied_there, taken_by, viewed_there}

@@ -40,29 +40,30 @@ use Rattle.code_meaning.specs.Does.{IsStoredIn, kind_of_target, GoesOn, Writes, 
 use Rattle.code_meaning.specs.Lowered.{Lowered}
 use Rattle.semantics.specs.declared.event.Event.{Event}
 use Rattle.semantics.specs.declared.event.Event.TheVariants as event
-use Rattle.machine_calls.specs.declared.activation.Activation.{Activation}
+use Rattle.machine_scenes.specs.declared.activation.Activation.{Activation}
 use Rattle.machine_steps.specs.declared.execute.Executed.TheVariants.{Did, Returned}
 use Rattle.machine_steps.specs.Executes as agrees
 use Rattle.semantics.specs.World.{World}
-use Rattle.machine_calls.specs.declared.store.Store.{Store}
-use Rattle.machine_calls.specs.HeapAgrees.{ReferenceAgrees, times}
-use Rattle.machine_calls.specs.declared.buffer.Buffer.{Buffer as HeldBuffer}
+use Rattle.machine_scenes.specs.declared.store.Store.{Store}
+use Rattle.machine_scenes.specs.HeapAgrees.{ReferenceAgrees, times}
+use Rattle.machine_scenes.specs.declared.buffer.Buffer.{Buffer as HeldBuffer}
 use Rattle.machine_steps.proofs.ViewCounts.{views_nulled}
-use Rattle.machine_calls.specs.StoreAgrees.{StoreAgrees}
-use Rattle.machine_calls.specs.Buffers.{Acquired, AreViewed, acquired_by, beside, viewed_in}
-use Rattle.machine_steps.specs.Executes.{Executes, CallStands, IsSteady, in_use_with}
+use Rattle.machine_scenes.specs.StoreAgrees.{StoreAgrees}
+use Rattle.machine_scenes.specs.Buffers.{Acquired, AreViewed, acquired_by, beside, viewed_in}
+use Rattle.machine_steps.specs.Executes.{Executes, IsSteady, in_use_with}
+use Rattle.machine_threads.specs.InProgress.{CallStands, WorkAgrees}
 use Rattle.semantics.specs.EventViews.{event_view, trap_view}
-use Rattle.machine_calls.specs.Asked.{references_of}
-use Rattle.machine_calls.specs.declared.statics.StaticReference.{StaticReference}
+use Rattle.machine_answers.specs.Asked.{references_of}
+use Rattle.machine_scenes.specs.declared.statics.StaticReference.{StaticReference}
 use Rattle.machine_steps.specs.Moved.{HasMoved, end_of_way, WayIsSeen}
-use Rattle.machine_steps.specs.SlotsHold.{slots_of, values_in}
+use Rattle.machine_threads.specs.SlotsHold.{slots_of, values_in}
 use Rattle.machine_steps.specs.Variables.{is_null, HasSlot, nulled_buffers, nulled_slots, nulled_statics}
 use Rattle.machine_steps.proofs.Acquisitions.{assigned_nothing, assigned_same, copied_there, store_same, taken_by, viewed_there}
 use Rattle.machine_steps.proofs.SlotBuffers.{buffers_count}
 use Rattle.machine_steps.proofs.Calls.{does_cases, Ready, holds_with, plain_instr, plain_works, LooksAtSlots, no_return, stands_at, runs, room, leads, depth_behind, fields_count}
 use Rattle.machine_steps.proofs.Changes.{array_of, is_set, is_made, is_element_set}
-use Rattle.machine_calls.proofs.Keeping.{keeps_same}
-use Rattle.machine_calls.proofs.KeyLaws.{keys_count}
+use Rattle.machine_scenes.proofs.Keeping.{keeps_same}
+use Rattle.machine_scenes.proofs.KeyLaws.{keys_count}
 use Rattle.machine_steps.proofs.Elements.{SetsWhatIsThere, sets_what_is_there}
 use Rattle.machine_steps.proofs.NullLaws.{puts_null, nulled_agree, variable_null_agrees}
 use Rattle.machine_calls.proofs.StaticStores.{keeps_but_statics}
@@ -333,7 +334,7 @@ module _ (p : Lowered) (w : World) (store : Store) (others : Acquired) (k : ℕ)
         record {
           next = s;
           steps = ap (λ (t : Trap). source.Advances shared s (source.Trapped t line)) trap_is ∙ ap (λ (v : Event). source.Advances shared s (event_view v)) (sym seen_trap.2);
-          work = subst (λ (o : Option (List Task)). agrees.WorkAgrees p classes space store.elements k seen (Some after) s.frames o) (sym tasks_are) stands;
+          work = subst (λ (o : Option (List Task)). WorkAgrees p classes space store.elements k seen (Some after) s.frames o) (sym tasks_are) stands;
           next_shared = shared;
           store_agrees = shares;
           keeps = keeps_same space shared;

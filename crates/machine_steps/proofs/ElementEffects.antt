@@ -42,25 +42,26 @@ use Rattle.code_meaning.specs.Does.{AtEnd, GoesOn, Loads, Stops, Works, WritesBu
 use Rattle.code_meaning.specs.Lowered.{Lowered}
 use Rattle.code_meaning.proofs.BufferLaws.{buffer_by_kind, buffer_stays as buffer_seen_still, set_same}
 use Rattle.code_meaning.proofs.ElementWords.{convert_fits, element_words}
-use Rattle.machine_calls.specs.Answers.{WritesAt}
-use Rattle.machine_calls.specs.Copies.{word_of}
-use Rattle.machine_calls.specs.Buffers.{Acquired, AreViewed, BufferAgrees, BuffersAgree, KeepsCopies, acquired_by, beside, viewed_in}
-use Rattle.machine_calls.specs.HeapAgrees.{ReferenceAgrees, times}
+use Rattle.machine_answers.specs.Answers.{WritesAt}
+use Rattle.machine_answers.specs.Copies.{word_of}
+use Rattle.machine_scenes.specs.Buffers.{Acquired, AreViewed, BufferAgrees, BuffersAgree, KeepsCopies, acquired_by, beside, viewed_in}
+use Rattle.machine_scenes.specs.HeapAgrees.{ReferenceAgrees, times}
 use Rattle.machine_steps.proofs.ViewCounts.{views_stay}
-use Rattle.machine_calls.specs.StoreAgrees.{StoreAgrees}
-use Rattle.machine_calls.specs.WorkedOut.{buffer_there}
-use Rattle.machine_calls.specs.declared.activation.Activation.{Activation}
-use Rattle.machine_calls.specs.declared.buffer.Buffer.{Buffer as HeldBuffer}
-use Rattle.machine_calls.specs.declared.buffer.Buffer.TheVariants as held_as
-use Rattle.machine_calls.specs.declared.store.Store.{Store}
+use Rattle.machine_scenes.specs.StoreAgrees.{StoreAgrees}
+use Rattle.machine_answers.specs.WorkedOut.{buffer_there}
+use Rattle.machine_scenes.specs.declared.activation.Activation.{Activation}
+use Rattle.machine_scenes.specs.declared.buffer.Buffer.{Buffer as HeldBuffer}
+use Rattle.machine_scenes.specs.declared.buffer.Buffer.TheVariants as held_as
+use Rattle.machine_scenes.specs.declared.store.Store.{Store}
 use Rattle.semantics.specs.declared.trap.Trap.TheVariants.{OutOfRange}
-use Rattle.machine_calls.proofs.Keeping.{frames_stay, keeps_same, keys_stay, reference_stays}
-use Rattle.machine_calls.proofs.Writes.{written_agrees, written_keeps}
+use Rattle.machine_scenes.proofs.Keeping.{frames_stay, keeps_same, keys_stay, reference_stays}
+use Rattle.machine_answers.proofs.Writes.{written_agrees, written_keeps}
 use Rattle.machine_steps.specs.BufferElements.{LoadsElement, StoresElement, with_word, words_held}
 use Rattle.machine_steps.specs.Executes as agrees
+use Rattle.machine_threads.specs.InProgress.{WorkAgrees}
 use Rattle.machine_steps.specs.Executes.{Executes, IsSteady}
 use Rattle.semantics.specs.EventViews.{event_view}
-use Rattle.machine_steps.specs.SlotsHold.{IsSmallCopy, slots_of, values_in}
+use Rattle.machine_threads.specs.SlotsHold.{IsSmallCopy, slots_of, values_in}
 use Rattle.machine_steps.specs.Moved.{HasMoved}
 use Rattle.semantics.specs.declared.event.Event.{Event}
 use Rattle.semantics.specs.declared.event.Event.TheVariants as event
@@ -182,7 +183,7 @@ module _ (p : Lowered) (w : World) (store : Store) (others : Acquired) (k : ℕ)
     store_agrees = shares;
     keeps = keeps_same space shared;
     keeps_copies = λ key c there other. there;
-    work = subst (λ (o : Option (List Task)). agrees.WorkAgrees p classes space store.elements k seen (Some after) s.frames o) (sym tasks_are)
+    work = subst (λ (o : Option (List Task)). WorkAgrees p classes space store.elements k seen (Some after) s.frames o) (sym tasks_are)
         (stands_at p classes space store.elements k call code seen s.frames task rest r after call.place call.stack (values_in call) r.meant r.known seen (task ∷ rest) r.depth
         (subst (λ (a : Activation). HasMoved call a call.place call.stack (values_in call)) (sym same) (record { function = refl; place = refl; stack = refl; numbers = refl; references = refl; fields = refl; buffers = refl; locals = refl }))
         r.holds r.stands r.shows);

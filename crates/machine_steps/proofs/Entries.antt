@@ -34,29 +34,30 @@ use Rattle.code_meaning.specs.Slots.{visible_to, AreOfLowest, EntrySlots, HasRoo
 use Rattle.code_meaning.specs.Stands.{StandsFor}
 use Rattle.code_meaning.specs.Lowered.{Lowered, IsLowered, IsCodeOf, AreCodesOf}
 use Rattle.semantics.specs.declared.event.Event.TheVariants as event
-use Rattle.machine_steps.specs.declared.thread.Thread.{Thread}
-use Rattle.machine_steps.specs.declared.thread.PendingCall.{PendingCall}
-use Rattle.machine_calls.specs.declared.activation.Activation.{Activation}
-use Rattle.machine_calls.specs.declared.store.Store.{Store}
-use Rattle.machine_calls.specs.StoreAgrees.{AreNamed, StoreAgrees}
-use Rattle.machine_calls.specs.FieldIds.{FieldsAgree}
-use Rattle.machine_steps.specs.ThreadAgrees.{CallAgrees, CallsAgree, ThreadAgrees, buffers_of}
+use Rattle.machine_threads.specs.declared.thread.Thread.{Thread}
+use Rattle.machine_threads.specs.declared.thread.PendingCall.{PendingCall}
+use Rattle.machine_scenes.specs.declared.activation.Activation.{Activation}
+use Rattle.machine_scenes.specs.declared.store.Store.{Store}
+use Rattle.machine_scenes.specs.StoreAgrees.{AreNamed, StoreAgrees}
+use Rattle.machine_scenes.specs.FieldIds.{FieldsAgree}
+use Rattle.machine_threads.specs.ThreadAgrees.{CallAgrees, CallsAgree, ThreadAgrees, buffers_of}
 use Rattle.semantics.specs.EventViews.{ending_view}
 use Rattle.machine_steps.specs.Advances.{Advances}
-use Rattle.machine_calls.specs.Buffers.{Acquired, AreViewed, BuffersAgree, acquired_by, beside}
-use Rattle.machine_calls.specs.HeapAgrees.{times}
+use Rattle.machine_scenes.specs.Buffers.{Acquired, AreViewed, BuffersAgree, acquired_by, beside}
+use Rattle.machine_scenes.specs.HeapAgrees.{times}
 use Rattle.machine_steps.proofs.ViewCounts.{none_viewed}
-use Rattle.machine_calls.specs.declared.buffer.Buffer.{Buffer as HeldBuffer}
+use Rattle.machine_scenes.specs.declared.buffer.Buffer.{Buffer as HeldBuffer}
 use Rattle.tables.specs.Elements.{OwnedNumbers}
-use Rattle.machine_steps.specs.SlotsHold.{slots_of}
-use Rattle.machine_steps.specs.Executes.{CallStands, WorkAgrees, in_use_with}
-use Rattle.machine_calls.specs.Locals.{FramesAgree, KeysAgree}
+use Rattle.machine_threads.specs.SlotsHold.{slots_of}
+use Rattle.machine_steps.specs.Executes.{in_use_with}
+use Rattle.machine_threads.specs.InProgress.{CallStands, WorkAgrees}
+use Rattle.machine_scenes.specs.Locals.{FramesAgree, KeysAgree}
 use Rattle.machine_steps.proofs.Acquisitions.{entered_nothing, store_same, taken_by}
 use Rattle.machine_steps.proofs.SlotBuffers.{no_buffers, none_small}
-use Rattle.machine_calls.proofs.Keeping.{keeps_same}
+use Rattle.machine_scenes.proofs.Keeping.{keeps_same}
 use Rattle.machine_calls.proofs.HeldStatics.{held_there, index_is, name_place, other_after, place_after, place_in_front}
-use Rattle.machine_steps.specs.Entry.{argument_address, keys_from, Begins, IsReady}
-use Rattle.machine_calls.specs.HeapAgrees.{ReferenceAgrees, IsTable}
+use Rattle.machine_threads.specs.Entry.{argument_address, keys_from, Begins, IsReady}
+use Rattle.machine_scenes.specs.HeapAgrees.{ReferenceAgrees, IsTable}
 use Rattle.tables.specs.Locals.{LocalTable}
 use Rattle.machine_steps.proofs.EntryKeys.{AddressesAgree, entry_frames, entry_keys}
 use Rattle.machine_steps.proofs.Threads.{resting}

@@ -9,10 +9,10 @@ use Rattle.semantics.specs.Object.{ObjectValue, Number, Refers, Reference}
 use Rattle.code_meaning.specs.Slots.{argument_reference}
 use Rattle.tables.specs.Locals.{level_of}
 use Rattle.tables.specs.References.{address_at, references_in}
-use Rattle.machine_steps.specs.Entry.{entry_locals, keys_from}
-use Rattle.machine_calls.specs.HeapAgrees.{NamesAgree, ReferenceAgrees}
-use Rattle.machine_calls.specs.Locals.{FramesAgree, KeysAgree}
-use Rattle.machine_steps.proofs.EntryTables.{all_taken, taken_references}
+use Rattle.machine_threads.specs.Entry.{entry_locals, keys_from}
+use Rattle.machine_scenes.specs.HeapAgrees.{NamesAgree, ReferenceAgrees}
+use Rattle.machine_scenes.specs.Locals.{FramesAgree, KeysAgree}
+use Rattle.machine_threads.proofs.EntryTables.{all_taken, taken_references}
 
 -- ---- keys
 

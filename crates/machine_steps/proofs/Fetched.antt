@@ -17,9 +17,9 @@ use Rattle.semantics_safety.specs.Owners.{Owners}
 use Rattle.code_meaning.specs.Lowered.{Lowered, IsLowered}
 use Rattle.code_meaning.specs.Slots.{SeesBuffers, visible_to}
 use Rattle.code_meaning.proofs.BufferLaws.{sees_buffers}
-use Rattle.machine_calls.specs.declared.activation.Activation.{Activation}
-use Rattle.machine_calls.specs.declared.store.Store.{Store}
-use Rattle.machine_calls.specs.Buffers.{Acquired, acquired_by, beside}
+use Rattle.machine_scenes.specs.declared.activation.Activation.{Activation}
+use Rattle.machine_scenes.specs.declared.store.Store.{Store}
+use Rattle.machine_scenes.specs.Buffers.{Acquired, acquired_by, beside}
 use Rattle.machine_steps.specs.Executes.{IsExecuting}
 use Rattle.machine_steps.specs.Invoked.{AtCall}
 use Rattle.machine_steps.specs.Moved.{IsReachable}

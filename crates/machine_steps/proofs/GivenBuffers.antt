@@ -33,14 +33,14 @@ use Rattle.code_meaning.specs.Stands.{IsBufferResult}
 use Rattle.type_rules.specs.Sorts as sort
 use Rattle.semantics_safety.specs.Owners.{Owners}
 use Rattle.tables.specs.Locals.{LocalTable}
-use Rattle.machine_calls.specs.declared.answer.Answer.{Answer}
-use Rattle.machine_calls.specs.declared.answer.Answer.TheVariants as answers
-use Rattle.machine_calls.specs.declared.answer.Given.{Given}
-use Rattle.machine_calls.specs.declared.store.Store.{Store}
-use Rattle.machine_calls.specs.Answers.{Brought, IsAnswer}
+use Rattle.machine_answers.specs.declared.answer.Answer.{Answer}
+use Rattle.machine_answers.specs.declared.answer.Answer.TheVariants as answers
+use Rattle.machine_answers.specs.declared.answer.Given.{Given}
+use Rattle.machine_scenes.specs.declared.store.Store.{Store}
+use Rattle.machine_answers.specs.Answers.{Brought, IsAnswer}
 use Rattle.machine_calls.specs.CarriedOut.{ResultAgrees, result_after}
 use Rattle.machine_calls.proofs.AnswerCases.{gives_it, makes_it, throws_it, writes_it}
-use Rattle.machine_steps.specs.SlotsHold.{IsSmallCopy}
+use Rattle.machine_threads.specs.SlotsHold.{IsSmallCopy}
 use Rattle.machine_steps.proofs.Acquisitions.{assigned_nothing, taken_by}
 use Rattle.machine_steps.proofs.Changes.{lookup_other, lookup_same}
 use Rattle.machine_steps.proofs.Invocations.{plain_result}

@@ -44,39 +44,39 @@ use Rattle.base.specs.Element.{ElementType}
 use Rattle.base.specs.declared.element.ElementType.{ElementType as ElementOfCode}
 use Rattle.jni.specs.Access.{Access}
 use Rattle.semantics_safety.specs.StepSafe.{HoldsNoBuffer}
-use Rattle.machine_calls.specs.declared.answer.Given.{Given}
-use Rattle.machine_calls.specs.declared.answer.Given.TheVariants as given
-use Rattle.machine_calls.specs.declared.activation.Activation.{Activation}
-use Rattle.machine_steps.specs.Executes.{CallStands}
-use Rattle.machine_calls.specs.FieldIds.{FieldAgrees, FieldsAgree}
-use Rattle.machine_calls.specs.StoreAgrees.{HeldAgrees, Keeps, StoreAgrees}
-use Rattle.machine_calls.specs.Locals.{FramesAgree, IsKeyOf, KeysAgree}
+use Rattle.machine_answers.specs.declared.answer.Given.{Given}
+use Rattle.machine_answers.specs.declared.answer.Given.TheVariants as given
+use Rattle.machine_scenes.specs.declared.activation.Activation.{Activation}
+use Rattle.machine_threads.specs.InProgress.{CallStands}
+use Rattle.machine_scenes.specs.FieldIds.{FieldAgrees, FieldsAgree}
+use Rattle.machine_scenes.specs.StoreAgrees.{HeldAgrees, Keeps, StoreAgrees}
+use Rattle.machine_scenes.specs.Locals.{FramesAgree, IsKeyOf, KeysAgree}
 use Rattle.tables.specs.Locals.{LocalTable, AreStacked}
 use Rattle.semantics_safety.specs.Owners.{Owners, is_target, level_held}
 use Rattle.std.specs.Str.{bytes_eq}
 use Rattle.std.proofs.lemmas.Slice.Eq.{bytes_eq-Decides}
-use Rattle.machine_calls.specs.Answers.{GivenAgrees}
+use Rattle.machine_answers.specs.Answers.{GivenAgrees}
 use Rattle.machine_calls.specs.CarriedOut.{IsFresh, ResultAgrees, acquired_with}
-use Rattle.machine_calls.specs.Buffers.{Acquired, AreViewed, BufferAgrees, BuffersAgree, acquired_of, beside, nothing_acquired}
-use Rattle.machine_calls.specs.declared.buffer.Buffer.{Buffer as HeldBuffer}
-use Rattle.machine_calls.specs.declared.buffer.Buffer.TheVariants as held_as
+use Rattle.machine_scenes.specs.Buffers.{Acquired, AreViewed, BufferAgrees, BuffersAgree, acquired_of, beside, nothing_acquired}
+use Rattle.machine_scenes.specs.declared.buffer.Buffer.{Buffer as HeldBuffer}
+use Rattle.machine_scenes.specs.declared.buffer.Buffer.TheVariants as held_as
 use Rattle.tables.specs.Elements.{OwnedNumbers}
-use Rattle.machine_calls.specs.Statics.{held as held_of}
-use Rattle.machine_calls.specs.declared.statics.StaticReference.{StaticReference as InMemory}
-use Rattle.machine_calls.specs.declared.store.Store.{Store}
+use Rattle.machine_scenes.specs.Statics.{held as held_of}
+use Rattle.machine_scenes.specs.declared.statics.StaticReference.{StaticReference as InMemory}
+use Rattle.machine_scenes.specs.declared.store.Store.{Store}
 use Rattle.code_meaning.proofs.StaticLaws.{is_held}
 use Rattle.code_meaning.proofs.OwnerLaws.{fewer_owners}
 use Rattle.machine_calls.proofs.HeldStatics.{keys_put}
 use Rattle.machine_calls.proofs.StaticStores.{with_same, with_static}
-use Rattle.machine_calls.specs.HeapAgrees.{ReferenceAgrees}
+use Rattle.machine_scenes.specs.HeapAgrees.{ReferenceAgrees}
 use Rattle.machine_steps.specs.Received.{HasRoom, MakesLocal, Receives, buffers_with, fields_with, numbers_with, stack_with, statics_with}
 use Rattle.machine_steps.proofs.Calls.{Ready, depth_behind}
-use Rattle.machine_steps.specs.SlotsHold.{IsSmallCopy, Meant, SlotsHold, slots_of, values_in}
+use Rattle.machine_threads.specs.SlotsHold.{IsSmallCopy, Meant, SlotsHold, slots_of, values_in}
 use Rattle.machine_steps.proofs.Changes.{OthersOwn, lookup_same, buffer_by_kind, field_by_kind, is_buffer_set, is_field_set, is_referred, is_set, local_by_kind, scalar_by_kind}
 use Rattle.machine_steps.proofs.StillShown.{shows_stay}
-use Rattle.machine_calls.proofs.KeyLaws.{key_put, keys_left, live_there}
+use Rattle.machine_scenes.proofs.KeyLaws.{key_put, keys_left, live_there}
 use Rattle.machine_steps.proofs.MadeKeys.{made_left, made_new, room_frame}
-use Rattle.machine_calls.proofs.LocalFrames.{as_many_frames}
+use Rattle.machine_scenes.proofs.LocalFrames.{as_many_frames}
 use Rattle.machine_steps.proofs.Receives.{received_count, IsNoBuffer, field_put, frames_agree, frames_received, no_buffer, received_is}
 use Rattle.machine_steps.proofs.Acquisitions.{assigned_buffer, assigned_nothing, nothing_more, store_taken, taken_by}
 use Rattle.machine_steps.proofs.SlotBuffers.{all_put}

@@ -15,19 +15,19 @@ use Rattle.heap.specs.Heap.{Space, values_at}
 use Rattle.heap.specs.declared.value.Value.{Value}
 use Rattle.jni.specs.Access.{Access, is_critical}
 use Rattle.jni.specs.declared.mode.ReleaseMode.{ReleaseMode}
-use Rattle.machine_calls.specs.declared.buffer.Buffer.{Buffer}
+use Rattle.machine_scenes.specs.declared.buffer.Buffer.{Buffer}
 use Rattle.jni.specs.JniFunction.{GetBuffer, ReleaseBuffer, JniFunction, FindClass, DeleteLocalRef, DeleteGlobalRef, EnsureLocalCapacity, PushLocalFrame, PopLocalFrame, GetFieldID, GetStaticFieldID, SetField, SetStaticField, SetObjectField, SetStaticObjectField, NewArray, NewObjectArray, GetObjectArrayElement, SetObjectArrayElement, MonitorEnter, MonitorExit, GetArrayRegion, SetArrayRegion, GetStringRegion}
 use Rattle.semantics_safety.specs.Owners.{other_than}
 use Rattle.code.specs.declared.instr.LocalArray.{LocalArray}
-use Rattle.machine_calls.specs.declared.array_region.ArrayRegion.{ArrayRegion}
+use Rattle.machine_scenes.specs.declared.array_region.ArrayRegion.{ArrayRegion}
 use Rattle.semantics.specs.declared.trap.Trap.TheVariants.{OutOfRange}
-use Rattle.machine_calls.specs.declared.answer.Answer.{Answer}
-use Rattle.machine_calls.specs.declared.answer.Given.TheVariants.{Nothing}
-use Rattle.machine_calls.specs.declared.answer.Answer.TheVariants as answer
+use Rattle.machine_answers.specs.declared.answer.Answer.{Answer}
+use Rattle.machine_answers.specs.declared.answer.Given.TheVariants.{Nothing}
+use Rattle.machine_answers.specs.declared.answer.Answer.TheVariants as answer
 use Rattle.machine_calls.specs.CarriedOut.{IsLeft}
-use Rattle.machine_calls.specs.Scenes.{Scene}
-use Rattle.machine_calls.specs.Given.{name_there}
-use Rattle.machine_calls.specs.WorkedOut.{acquires, releases, IsFoundField, IsWorkedOut, copies_in, copies_out, local_array, region, deletes_global, element_there, entered_by, enters, found_class, frame_for, leaves, left_by, new_array, room_for, stores_there, writes_there}
+use Rattle.machine_scenes.specs.Scenes.{Scene}
+use Rattle.machine_scenes.specs.Given.{name_there}
+use Rattle.machine_answers.specs.WorkedOut.{acquires, releases, IsFoundField, IsWorkedOut, copies_in, copies_out, local_array, region, deletes_global, element_there, entered_by, enters, found_class, frame_for, leaves, left_by, new_array, room_for, stores_there, writes_there}
 use Rattle.monitors.specs.declared.monitors.Enter.{Enter}
 use Rattle.monitors.specs.declared.monitors.Enter.TheVariants as enter
 use Rattle.monitors.specs.declared.monitors.Exit.{Exit}

@@ -30,14 +30,6 @@ pub mod CarriedSlots
 pub mod AnsweredCalls
 pub mod GivenBuffers
 pub mod CallInstructions
-pub mod ArgumentSlots
-pub mod EntryTables
 pub mod EntryKeys
 pub mod Threads
 pub mod Entries
-pub mod Lists
-pub mod LoadLemmas
-pub mod FilledObjects
-pub mod MadeInOrder
-pub mod WaitingThreads
-pub mod ThreadLoads

@@ -8,10 +8,10 @@ use Rattle.semantics.specs.Object.{Reference}
 use Rattle.tables.specs.Locals.{Frame, LocalTable, AreStacked, IsMade, has_room, live_in}
 use Rattle.tables.specs.References.{address_at}
 use Rattle.tables.proofs.FrameLaws.{made_level, made_new_level, made_was_free, made_there, made_others}
-use Rattle.machine_calls.specs.declared.answer.Given.{Given}
-use Rattle.machine_calls.specs.declared.answer.Given.TheVariants as given
-use Rattle.machine_calls.specs.HeapAgrees.{ReferenceAgrees}
-use Rattle.machine_calls.specs.Locals.{IsKeyOf}
+use Rattle.machine_answers.specs.declared.answer.Given.{Given}
+use Rattle.machine_answers.specs.declared.answer.Given.TheVariants as given
+use Rattle.machine_scenes.specs.HeapAgrees.{ReferenceAgrees}
+use Rattle.machine_scenes.specs.Locals.{IsKeyOf}
 use Rattle.machine_steps.specs.Received.{MakesLocal}
 
 -- where there is room there is a frame

@@ -30,19 +30,19 @@ use Rattle.code.specs.Depth.{Listing}
 use Rattle.class_rules.specs.Class.{Classes}
 use Rattle.class_rules.specs.Fields.{FieldId}
 use Rattle.classes.specs.declared.class.FieldHandle.{FieldHandle as Handle}
-use Rattle.machine_calls.specs.FieldIds.{FieldAgrees, FieldsAgree}
-use Rattle.machine_calls.specs.StoreAgrees.{StaticsAgree}
+use Rattle.machine_scenes.specs.FieldIds.{FieldAgrees, FieldsAgree}
+use Rattle.machine_scenes.specs.StoreAgrees.{StaticsAgree}
 use Rattle.machine_calls.proofs.HeldStatics.{null_at}
-use Rattle.machine_calls.specs.Locals.{KeysAgree}
+use Rattle.machine_scenes.specs.Locals.{KeysAgree}
 use Rattle.tables.specs.Elements.{OwnedNumbers}
 use Rattle.tables.specs.Locals.{LocalTable}
-use Rattle.machine_calls.specs.Buffers.{BuffersAgree}
-use Rattle.machine_calls.specs.declared.buffer.Buffer.{Buffer as HeldBuffer}
-use Rattle.machine_calls.specs.WorkedOut.{buffer_there}
-use Rattle.machine_calls.proofs.KeyLaws.{key_nulled, null_there}
-use Rattle.machine_calls.specs.Given.{held_in}
-use Rattle.machine_calls.specs.Statics.{References}
-use Rattle.machine_steps.specs.SlotsHold.{IsSmallCopy}
+use Rattle.machine_scenes.specs.Buffers.{BuffersAgree}
+use Rattle.machine_scenes.specs.declared.buffer.Buffer.{Buffer as HeldBuffer}
+use Rattle.machine_answers.specs.WorkedOut.{buffer_there}
+use Rattle.machine_scenes.proofs.KeyLaws.{key_nulled, null_there}
+use Rattle.machine_scenes.specs.Given.{held_in}
+use Rattle.machine_scenes.specs.Statics.{References}
+use Rattle.machine_threads.specs.SlotsHold.{IsSmallCopy}
 use Rattle.machine_steps.specs.Variables.{is_null, is_null_buffer, nulled_references, nulled_fields, nulled_buffers}
 use Rattle.machine_steps.proofs.Changes.{is_nulled, lookup_other, lookup_same}
 use Rattle.machine_steps.proofs.Acquisitions.{assigned_nothing, taken_by}

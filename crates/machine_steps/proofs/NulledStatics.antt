@@ -15,11 +15,11 @@ use Rattle.code_meaning.specs.Lowered.{Lowered}
 use Rattle.code_meaning.specs.Slots as lower
 use Rattle.semantics_safety.specs.Owners.{Owners}
 use Rattle.code_meaning.specs.Slots.{Slots, visible_to}
-use Rattle.machine_calls.specs.declared.statics.StaticReference.{StaticReference as InMemory}
-use Rattle.machine_calls.specs.declared.statics.StaticReference.TheVariants as static
-use Rattle.machine_calls.specs.declared.store.Store.{Store}
-use Rattle.machine_calls.specs.Buffers.{Acquired}
-use Rattle.machine_calls.specs.StoreAgrees.{MayChange, StoreAgrees}
+use Rattle.machine_scenes.specs.declared.statics.StaticReference.{StaticReference as InMemory}
+use Rattle.machine_scenes.specs.declared.statics.StaticReference.TheVariants as static
+use Rattle.machine_scenes.specs.declared.store.Store.{Store}
+use Rattle.machine_scenes.specs.Buffers.{Acquired}
+use Rattle.machine_scenes.specs.StoreAgrees.{MayChange, StoreAgrees}
 use Rattle.machine_steps.specs.Variables.{nulled_statics}
 use Rattle.machine_calls.proofs.HeldStatics.{keys_left}
 use Rattle.machine_calls.proofs.StaticStores.{with_same, with_static}

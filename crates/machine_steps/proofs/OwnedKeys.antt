@@ -31,13 +31,13 @@ use Rattle.code.specs.declared.instr.Operand.TheVariants as operand
 use Rattle.code_meaning.specs.Does.{IsOperand, OperandFits}
 use Rattle.code_meaning.specs.Lowered.{Lowered}
 use Rattle.code_meaning.specs.Slots.{visible_to}
-use Rattle.machine_calls.specs.declared.activation.Activation.{Activation}
+use Rattle.machine_scenes.specs.declared.activation.Activation.{Activation}
 use Rattle.machine_steps.proofs.Arguments.{HasOwner}
 use Rattle.machine_steps.proofs.Calls.{Ready}
-use Rattle.machine_steps.specs.SlotsHold.{slots_of}
+use Rattle.machine_threads.specs.SlotsHold.{slots_of}
 use Rattle.machine_steps.proofs.Changes.{local_by_kind}
-use Rattle.machine_calls.proofs.KeyLaws.{OwnKey, own_key_there}
-use Rattle.machine_calls.specs.Given.{held_in, operand_of}
+use Rattle.machine_scenes.proofs.KeyLaws.{OwnKey, own_key_there}
+use Rattle.machine_scenes.specs.Given.{held_in, operand_of}
 
 -- ---- only an Invoke calls
 

@@ -14,24 +14,24 @@ use Rattle.code.specs.declared.instr.Operand.{Operand}
 use Rattle.code_meaning.specs.Lowered.{Lowered}
 use Rattle.code_meaning.specs.Slots.{Shows, visible_to}
 use Rattle.type_rules.specs.Sorts.{Ref}
-use Rattle.machine_calls.specs.declared.answer.Answer.{Answer}
-use Rattle.machine_calls.specs.declared.store.Store.{Store}
-use Rattle.machine_calls.specs.declared.activation.Activation.{Activation}
-use Rattle.machine_calls.specs.WorkedOut.{IsWorkedOut, deletes}
-use Rattle.machine_calls.specs.Asked.{references_of, scene_of}
+use Rattle.machine_answers.specs.declared.answer.Answer.{Answer}
+use Rattle.machine_scenes.specs.declared.store.Store.{Store}
+use Rattle.machine_scenes.specs.declared.activation.Activation.{Activation}
+use Rattle.machine_answers.specs.WorkedOut.{IsWorkedOut, deletes}
+use Rattle.machine_answers.specs.Asked.{references_of, scene_of}
 use Rattle.machine_calls.specs.CarriedOut.{IsLeft}
-use Rattle.machine_calls.specs.Given.{held_in, key_at}
+use Rattle.machine_scenes.specs.Given.{held_in, key_at}
 use Rattle.machine_steps.specs.Invoked.{AtCall}
 use Rattle.machine_steps.proofs.Calls.{Ready}
-use Rattle.machine_steps.specs.SlotsHold.{slots_of}
-use Rattle.machine_calls.proofs.KeyLaws.{name_there, set_cases}
+use Rattle.machine_threads.specs.SlotsHold.{slots_of}
+use Rattle.machine_scenes.proofs.KeyLaws.{name_there, set_cases}
 use Rattle.machine_steps.proofs.KeysLeft.{may_end, none_left_out, others_end_none, others_get}
-use Rattle.machine_calls.proofs.LocalFrames.{as_many_frames}
+use Rattle.machine_scenes.proofs.LocalFrames.{as_many_frames}
 use Rattle.machine_steps.proofs.OwnedKeys.{DeletesKey}
 use Rattle.code_meaning.proofs.OwnerLaws.{owner_lost_with_slot, owners_mapped}
 use Rattle.semantics_safety.specs.Owners.{Owners, other_than, left_by as left_by_call}
 use Rattle.std.specs.Str.{bytes_eq}
-use Rattle.machine_calls.specs.Buffers.{Acquired}
+use Rattle.machine_scenes.specs.Buffers.{Acquired}
 use Rattle.machine_steps.proofs.AskedCalls.{CalledAs, called as called_at, deleted, r as ready_at}
 
 module _ (p : Lowered) (w : World) (store : Store) (pending : Option ℕ) (call : Activation) (in_memory : InMemory) (others : Acquired) (k : ℕ) (own : Owners) (shared : Shared) (s : source.Thread) (task : Task) (rest : List Task) (h : AtCall p w store pending call in_memory others k own shared s task rest) where

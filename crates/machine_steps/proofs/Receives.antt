@@ -11,13 +11,13 @@ use Rattle.semantics.specs.CallEffects.{CallResult, NoResult, NullResult, Scalar
 use Rattle.semantics.specs.CallStep.{received, tell_copy}
 use Rattle.semantics.specs.Thread as source
 use Rattle.semantics.specs.Variable.{Variables}
-use Rattle.machine_calls.specs.declared.answer.Given.{Given}
-use Rattle.machine_calls.specs.declared.answer.Given.TheVariants as given
-use Rattle.machine_calls.specs.FieldIds.{FieldAgrees, FieldsAgree}
-use Rattle.machine_calls.specs.Locals.{FramesAgree}
-use Rattle.machine_calls.specs.Answers.{GivenAgrees}
+use Rattle.machine_answers.specs.declared.answer.Given.{Given}
+use Rattle.machine_answers.specs.declared.answer.Given.TheVariants as given
+use Rattle.machine_scenes.specs.FieldIds.{FieldAgrees, FieldsAgree}
+use Rattle.machine_scenes.specs.Locals.{FramesAgree}
+use Rattle.machine_answers.specs.Answers.{GivenAgrees}
 use Rattle.machine_steps.specs.Received.{MakesLocal}
-use Rattle.machine_calls.proofs.LocalFrames.{reference_made}
+use Rattle.machine_scenes.proofs.LocalFrames.{reference_made}
 use Rattle.tables.specs.Locals.{AreStacked, LocalTable}
 
 -- ---- no buffers

@@ -14,16 +14,16 @@ use Rattle.semantics.specs.World.{World}
 use Rattle.semantics_safety.specs.Owners.{Owners}
 use Rattle.code_meaning.specs.Lowered.{Lowered}
 use Rattle.tables.specs.Locals.{has_room}
-use Rattle.machine_calls.specs.declared.activation.Activation.{Activation}
-use Rattle.machine_calls.specs.declared.store.Store.{Store}
-use Rattle.machine_calls.specs.Asked.{scene_of}
-use Rattle.machine_calls.specs.Buffers.{Acquired}
-use Rattle.machine_calls.specs.Checked.{arguments_fit, element_wanted, trap_found}
-use Rattle.machine_calls.specs.Given.{AreAddresses, AreHandles}
-use Rattle.machine_calls.specs.Locals.{locals_after}
-use Rattle.machine_calls.specs.Scenes.{Scene}
-use Rattle.machine_calls.proofs.BlocksOfNames.{is_address}
-use Rattle.machine_calls.proofs.CallTraps.{handles_there, has_passed, objects_there}
+use Rattle.machine_scenes.specs.declared.activation.Activation.{Activation}
+use Rattle.machine_scenes.specs.declared.store.Store.{Store}
+use Rattle.machine_answers.specs.Asked.{scene_of}
+use Rattle.machine_scenes.specs.Buffers.{Acquired}
+use Rattle.machine_answers.specs.Checked.{arguments_fit, element_wanted, trap_found}
+use Rattle.machine_scenes.specs.Given.{AreAddresses, AreHandles}
+use Rattle.machine_scenes.specs.Locals.{locals_after}
+use Rattle.machine_scenes.specs.Scenes.{Scene}
+use Rattle.machine_scenes.proofs.BlocksOfNames.{is_address}
+use Rattle.machine_answers.proofs.CallTraps.{handles_there, has_passed, objects_there}
 use Rattle.machine_steps.specs.Invoked.{AtCall}
 use Rattle.machine_steps.proofs.AskedCalls.{CalledAs, called, r, trap_is}
 

@@ -18,22 +18,22 @@ use Rattle.tables.specs.Elements.{OwnedNumbers, owned}
 use Rattle.tables.specs.Keys.{value_at}
 use Rattle.code_meaning.specs.Lowered.{Lowered}
 use Rattle.code_meaning.specs.Slots.{elements_in, is_no_buffer}
-use Rattle.machine_calls.specs.Answers.{AreWordsOf}
-use Rattle.machine_calls.specs.Buffers.{Acquired, BufferAgrees, BuffersAgree}
-use Rattle.machine_calls.specs.Copies.{word_of, words_at}
-use Rattle.machine_calls.specs.HeapAgrees.{ValueAgrees, ValuesAgree}
-use Rattle.machine_calls.specs.StoreAgrees.{StoreAgrees}
-use Rattle.machine_calls.specs.WorkedOut.{buffer_there}
-use Rattle.machine_calls.specs.declared.buffer.Buffer.{Buffer as HeldBuffer}
-use Rattle.machine_calls.specs.declared.buffer.Buffer.TheVariants as held
-use Rattle.machine_calls.specs.declared.store.Store.{Store}
-use Rattle.machine_calls.proofs.BlocksOfNames.{is_address}
-use Rattle.machine_calls.proofs.FewValues.{few_values}
-use Rattle.machine_calls.proofs.FieldValues.{values_there}
-use Rattle.machine_calls.proofs.KeyLaws.{set_cases}
-use Rattle.machine_calls.proofs.Loaded.{agree_length}
+use Rattle.machine_answers.specs.Answers.{AreWordsOf}
+use Rattle.machine_scenes.specs.Buffers.{Acquired, BufferAgrees, BuffersAgree}
+use Rattle.machine_answers.specs.Copies.{word_of, words_at}
+use Rattle.machine_scenes.specs.HeapAgrees.{ValueAgrees, ValuesAgree}
+use Rattle.machine_scenes.specs.StoreAgrees.{StoreAgrees}
+use Rattle.machine_answers.specs.WorkedOut.{buffer_there}
+use Rattle.machine_scenes.specs.declared.buffer.Buffer.{Buffer as HeldBuffer}
+use Rattle.machine_scenes.specs.declared.buffer.Buffer.TheVariants as held
+use Rattle.machine_scenes.specs.declared.store.Store.{Store}
+use Rattle.machine_scenes.proofs.BlocksOfNames.{is_address}
+use Rattle.machine_answers.proofs.FewValues.{few_values}
+use Rattle.machine_answers.proofs.FieldValues.{values_there}
+use Rattle.machine_scenes.proofs.KeyLaws.{set_cases}
+use Rattle.machine_scenes.proofs.Loaded.{agree_length}
 use Rattle.machine_steps.specs.BufferElements.{IsOfBlock, words_held}
-use Rattle.machine_steps.specs.SlotsHold.{IsSmallCopy}
+use Rattle.machine_threads.specs.SlotsHold.{IsSmallCopy}
 use Rattle.machine_steps.specs.Variables.{is_null_buffer}
 
 -- ---- lists

@@ -17,11 +17,11 @@ use Rattle.code_meaning.specs.Does.{IsOperand}
 use Rattle.code_meaning.specs.Lowered.{Lowered}
 use Rattle.semantics_safety.specs.Owners.{Owners}
 use Rattle.code_meaning.specs.Slots.{visible_to}
-use Rattle.machine_calls.specs.declared.activation.Activation.{Activation}
-use Rattle.machine_calls.specs.Answers.{HoldsObject}
-use Rattle.machine_calls.specs.Given.{operand_of}
+use Rattle.machine_scenes.specs.declared.activation.Activation.{Activation}
+use Rattle.machine_answers.specs.Answers.{HoldsObject}
+use Rattle.machine_scenes.specs.Given.{operand_of}
 use Rattle.machine_steps.proofs.Calls.{Ready}
-use Rattle.machine_steps.specs.SlotsHold.{slots_of}
+use Rattle.machine_threads.specs.SlotsHold.{slots_of}
 
 live_is : (r : StaticReference) (n : ℕ) (x : Identifier) → reference_in_actual (Some (ReferenceActual x r)) ≡ Some n → r ≡ Live n
 live_is Empty n x e = absurd (cc)

@@ -15,7 +15,7 @@ use Rattle.code_meaning.specs.Slots.{Slots, Shows, ShowsSlot, static_index, visi
 use Rattle.code_meaning.proofs.StaticLaws.{shows_still}
 use Rattle.machine_steps.proofs.Changes.{array_of}
 use Rattle.semantics_safety.specs.Owners.{Owners}
-use Rattle.machine_calls.specs.StoreAgrees.{MayChange}
+use Rattle.machine_scenes.specs.StoreAgrees.{MayChange}
 
 -- what the slots show, where the statics are as they were
 module _ (own : Owners) (shared shared' : Shared) (statics : shared'.statics ≡ shared.statics) (s : source.Thread) where

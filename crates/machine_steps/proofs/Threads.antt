@@ -23,25 +23,26 @@ use Rattle.machine_monitors.proofs.FitLaws.{drops}
 use Rattle.machine_monitors.proofs.Places.{there_dropped}
 use Rattle.tables.specs.Elements.{OwnedNumbers}
 use Rattle.tables.specs.Keys.{value_at}
-use Rattle.machine_calls.specs.Buffers.{Acquired, AreViewed, acquired_by, beside}
+use Rattle.machine_scenes.specs.Buffers.{Acquired, AreViewed, acquired_by, beside}
 use Rattle.semantics_safety.specs.StepSafe.{MayReturn}
 use Rattle.semantics.specs.declared.event.Ending.{Ending}
 use Rattle.semantics.specs.declared.event.Ending.TheVariants.{Unfinished}
 use Rattle.semantics.specs.declared.event.Event.{Event}
 use Rattle.semantics.specs.declared.event.Event.TheVariants as event
-use Rattle.machine_steps.specs.declared.thread.Thread.{Thread}
-use Rattle.machine_steps.specs.declared.thread.PendingCall.{PendingCall}
-use Rattle.machine_calls.specs.declared.activation.Activation.{Activation}
+use Rattle.machine_threads.specs.declared.thread.Thread.{Thread}
+use Rattle.machine_threads.specs.declared.thread.PendingCall.{PendingCall}
+use Rattle.machine_scenes.specs.declared.activation.Activation.{Activation}
 use Rattle.semantics_safety.specs.Owners.{Owners, after_event, after_tasks}
-use Rattle.machine_calls.specs.declared.store.Store.{Store}
-use Rattle.machine_calls.specs.StoreAgrees.{StoreAgrees, Keeps}
-use Rattle.machine_steps.specs.ThreadAgrees.{CallsAgree, ThreadAgrees, buffers_of}
+use Rattle.machine_scenes.specs.declared.store.Store.{Store}
+use Rattle.machine_scenes.specs.StoreAgrees.{StoreAgrees, Keeps}
+use Rattle.machine_threads.specs.ThreadAgrees.{CallsAgree, ThreadAgrees, buffers_of}
 use Rattle.semantics.specs.EventViews.{ending_view, event_view}
 use Rattle.machine_steps.specs.Advances.{Advances, GivesUp, LeavesMonitors, calls_after, ending_after, ends_with}
-use Rattle.machine_steps.specs.Executes.{CallStands, WorkAgrees, GoesOn, after_any, cells_made, in_use_with, owners_left}
+use Rattle.machine_steps.specs.Executes.{GoesOn, after_any, cells_made, in_use_with, owners_left}
+use Rattle.machine_threads.specs.InProgress.{CallStands, WorkAgrees}
 use Rattle.machine_calls.specs.CarriedOut.{IsShortOf}
 use Rattle.machine_calls.proofs.MonitorCarries.{agrees_monitors, keeps_monitors}
-use Rattle.machine_calls.specs.HeapAgrees.{ReferenceAgrees, BlocksAgree}
+use Rattle.machine_scenes.specs.HeapAgrees.{ReferenceAgrees, BlocksAgree}
 use Rattle.machine_steps.proofs.Acquisitions.{nothing_lent, store_same}
 
 -- ---- work

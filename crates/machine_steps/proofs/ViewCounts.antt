@@ -16,11 +16,11 @@ use Rattle.code.specs.declared.instr.NullableVariable.TheVariants as nullable
 use Rattle.code_meaning.specs.Slots.{held_buffer}
 use Rattle.machine_steps.specs.Variables.{nulled_buffers}
 use Rattle.tables.specs.Elements.{OwnedNumbers}
-use Rattle.machine_calls.specs.declared.buffer.Buffer.{Buffer}
-use Rattle.machine_calls.specs.declared.buffer.Buffer.TheVariants as held
-use Rattle.machine_calls.specs.Buffers.{Acquired, AreViewed, BufferAgrees, acquired_of, nothing_acquired, viewed_in}
-use Rattle.machine_calls.specs.HeapAgrees.{times}
-use Rattle.machine_calls.proofs.HeldSums.{beside_freed, times_append}
+use Rattle.machine_scenes.specs.declared.buffer.Buffer.{Buffer}
+use Rattle.machine_scenes.specs.declared.buffer.Buffer.TheVariants as held
+use Rattle.machine_scenes.specs.Buffers.{Acquired, AreViewed, BufferAgrees, acquired_of, nothing_acquired, viewed_in}
+use Rattle.machine_scenes.specs.HeapAgrees.{times}
+use Rattle.machine_scenes.proofs.HeldSums.{beside_freed, times_append}
 use Rattle.machine_steps.proofs.Acquisitions.{assigned_buffer, counted, taken_by, views_assigned}
 
 -- ---- slots

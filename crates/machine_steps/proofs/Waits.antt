@@ -34,20 +34,20 @@ use Rattle.monitors.specs.declared.monitors.Enter.TheVariants.{Entered, Limit, B
 use Rattle.monitors.specs.declared.monitors.Monitor.{Monitor}
 use Rattle.monitors.specs.Monitors.{entering, monitor_of}
 use Rattle.machine_monitors.specs.Fit.{MonitorAgrees}
-use Rattle.machine_calls.specs.declared.activation.Activation.{Activation}
-use Rattle.machine_calls.specs.declared.store.Store.{Store}
-use Rattle.machine_calls.specs.Asked.{references_of}
-use Rattle.machine_calls.specs.Buffers.{Acquired, AreViewed, acquired_by, beside}
-use Rattle.machine_calls.specs.Checked.{some_missing}
-use Rattle.machine_calls.specs.Given.{operand_at, operand_of}
-use Rattle.machine_calls.specs.StoreAgrees.{StoreAgrees}
-use Rattle.machine_calls.proofs.CallOperands.{GivenObject, object_at_place}
-use Rattle.machine_calls.proofs.CallTraps.{none_deleted, none_lacking}
+use Rattle.machine_scenes.specs.declared.activation.Activation.{Activation}
+use Rattle.machine_scenes.specs.declared.store.Store.{Store}
+use Rattle.machine_answers.specs.Asked.{references_of}
+use Rattle.machine_scenes.specs.Buffers.{Acquired, AreViewed, acquired_by, beside}
+use Rattle.machine_answers.specs.Checked.{some_missing}
+use Rattle.machine_scenes.specs.Given.{operand_at, operand_of}
+use Rattle.machine_scenes.specs.StoreAgrees.{StoreAgrees}
+use Rattle.machine_answers.proofs.CallOperands.{GivenObject, object_at_place}
+use Rattle.machine_answers.proofs.CallTraps.{none_deleted, none_lacking}
 use Rattle.machine_calls.proofs.MonitorCarries.{agrees_monitors}
-use Rattle.machine_steps.specs.declared.thread.Thread.{Thread}
+use Rattle.machine_threads.specs.declared.thread.Thread.{Thread}
 use Rattle.machine_steps.specs.Executes.{IsExecuting, IsSteady}
-use Rattle.machine_steps.specs.SlotsHold.{slots_of}
-use Rattle.machine_steps.specs.ThreadAgrees.{ThreadAgrees, buffers_of}
+use Rattle.machine_threads.specs.SlotsHold.{slots_of}
+use Rattle.machine_threads.specs.ThreadAgrees.{ThreadAgrees, buffers_of}
 use Rattle.machine_steps.specs.Waiting.{MayWait, is_busy, store_unowned, unowned}
 use Rattle.machine_steps.proofs.AskedCalls.{CalledAs, called, r as ready_at}
 use Rattle.machine_steps.proofs.Calls.{Ready, does_cases, here, ready}

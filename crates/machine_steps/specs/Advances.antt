@@ -13,16 +13,16 @@ use Rattle.semantics.specs.declared.event.Event.{Event}
 use Rattle.semantics.specs.declared.event.Event.TheVariants.{Quiet}
 use Rattle.machine_steps.specs.declared.advance.Advanced.{Advanced}
 use Rattle.machine_steps.specs.declared.advance.Advanced.TheVariants as advanced
-use Rattle.machine_steps.specs.declared.thread.Thread.{Thread}
-use Rattle.machine_steps.specs.declared.thread.PendingCall.{PendingCall}
-use Rattle.machine_calls.specs.declared.store.Store.{Store}
+use Rattle.machine_threads.specs.declared.thread.Thread.{Thread}
+use Rattle.machine_threads.specs.declared.thread.PendingCall.{PendingCall}
+use Rattle.machine_scenes.specs.declared.store.Store.{Store}
 use Rattle.monitors.specs.Monitors.{kept_from, monitor_of, without_owner}
-use Rattle.machine_calls.specs.Buffers.{Acquired, KeepsCopies, acquired_by, beside}
+use Rattle.machine_scenes.specs.Buffers.{Acquired, KeepsCopies, acquired_by, beside}
 use Rattle.machine_calls.specs.CarriedOut.{IsShortOf}
-use Rattle.machine_calls.specs.StoreAgrees.{StoreAgrees, Keeps}
+use Rattle.machine_scenes.specs.StoreAgrees.{StoreAgrees, Keeps}
 use Rattle.machine_steps.specs.Executes.{IsSteady, cells_made, in_use_with}
 use Rattle.semantics.specs.EventViews.{event_view}
-use Rattle.machine_steps.specs.ThreadAgrees.{ThreadAgrees}
+use Rattle.machine_threads.specs.ThreadAgrees.{ThreadAgrees}
 
 -- ---- steps
 

@@ -4,17 +4,17 @@ use Rattle.std.specs.Int.{w32, cast_signed, cast_unsigned}
 use Rattle.heap.specs.Heap.{Space, IsAddress, with_value}
 use Rattle.heap.specs.declared.value.Value.TheVariants.{Number}
 use Rattle.tables.specs.Elements.{written}
-use Rattle.machine_calls.specs.declared.activation.Activation.{Activation}
-use Rattle.machine_calls.specs.declared.buffer.Buffer.{Buffer}
-use Rattle.machine_calls.specs.declared.buffer.Buffer.TheVariants as held
-use Rattle.machine_calls.specs.declared.store.Store.{Store}
+use Rattle.machine_scenes.specs.declared.activation.Activation.{Activation}
+use Rattle.machine_scenes.specs.declared.buffer.Buffer.{Buffer}
+use Rattle.machine_scenes.specs.declared.buffer.Buffer.TheVariants as held
+use Rattle.machine_scenes.specs.declared.store.Store.{Store}
 use Rattle.semantics.specs.declared.trap.Trap.TheVariants.{OutOfRange}
-use Rattle.machine_calls.specs.BufferChanges.{numbers_at}
-use Rattle.machine_calls.specs.Copies.{words_at}
+use Rattle.machine_answers.specs.BufferChanges.{numbers_at}
+use Rattle.machine_answers.specs.Copies.{words_at}
 use Rattle.semantics.specs.declared.event.Event.{Event}
 use Rattle.semantics.specs.declared.event.Event.TheVariants.{Quiet, Trapped}
 use Rattle.machine_steps.specs.Moved.{HasMoved}
-use Rattle.machine_steps.specs.SlotsHold.{values_in}
+use Rattle.machine_threads.specs.SlotsHold.{values_in}
 
 -- the elements of a buffer, as words; NULL has none
 abbrev pub words_held : Store → Buffer → List ℕ

@@ -1,12 +1,10 @@
--- How a call in progress stands for its tasks, and what an instruction does to it.
-use Rattle.std.specs.Prelude.{◌≡◌, ◌≢◌, ℕ, ◌<◌, Bool, true, false, List, [], ◌∷◌, length, drop, Option, Some, None, slice_get}
+-- What an instruction does to a call in progress.
+use Rattle.std.specs.Prelude.{◌≡◌, ◌≢◌, ℕ, ◌<◌, Bool, true, false, List, [], ◌∷◌, length, drop, Option, Some}
 use Rattle.std.specs.List.{AllByRecursion}
 use Rattle.base.specs.Bytes.{Identifier, lookup}
 use Rattle.class_rules.specs.Class.{Classes}
-use Rattle.heap.specs.Heap.{Space}
 use Rattle.semantics.specs.Object.{Reference, sizes}
 use Rattle.semantics.specs.World.{World}
-use Rattle.code.specs.Depth.{Listing, depth_at}
 use Rattle.semantics.specs.CallStep.{waits_with}
 use Rattle.semantics.specs.Effect.{Effect, Calls, Returns, NoEffect, effect_of}
 use Rattle.semantics.specs.Task.{Task, Target, Assigned}
@@ -23,49 +21,22 @@ use Rattle.semantics.specs.Thread as source
 use Rattle.semantics.specs.Thread.{BuffersInUse, Shared, Advance, Advances, NoAdvance, sight_of, viewed_by}
 use Rattle.semantics.specs.Variable.{LocalRef, Variables}
 use Rattle.semantics.specs.ThreadStep.{next_effect, after_effect, after_refused_effect}
-use Rattle.code_meaning.specs.Layout.{Known}
-use Rattle.code_meaning.specs.Slots.{Visible, visible_to, Shows}
-use Rattle.code_meaning.specs.Stands.{StandsFor}
+use Rattle.code_meaning.specs.Slots.{visible_to}
 use Rattle.code_meaning.specs.Lowered.{Lowered}
 use Rattle.semantics.specs.declared.event.Event.{Event}
 use Rattle.semantics.specs.declared.event.Event.TheVariants.{Quiet}
-use Rattle.machine_calls.specs.declared.activation.Activation.{Activation}
+use Rattle.machine_scenes.specs.declared.activation.Activation.{Activation}
 use Rattle.machine_steps.specs.declared.execute.Executed.{Executed}
 use Rattle.machine_steps.specs.declared.execute.Executed.TheVariants.{Did, Refused, Returned}
 use Rattle.machine_steps.specs.declared.fault.StepFault.{StepFault}
 use Rattle.machine_steps.specs.declared.fault.StepFault.TheVariants.{NoRoom, Memory}
-use Rattle.machine_calls.specs.declared.store.Store.{Store}
-use Rattle.tables.specs.Elements.{OwnedNumbers}
-use Rattle.machine_calls.specs.Buffers.{Acquired, AreViewed, KeepsCopies, acquired_by, beside, in_use_of}
+use Rattle.machine_scenes.specs.declared.store.Store.{Store}
+use Rattle.machine_scenes.specs.Buffers.{Acquired, AreViewed, KeepsCopies, acquired_by, beside, in_use_of}
 use Rattle.machine_calls.specs.CarriedOut.{IsShortOf}
-use Rattle.machine_calls.specs.HeapAgrees.{ReferenceAgrees}
-use Rattle.machine_calls.specs.Locals.{FramesAgree}
-use Rattle.machine_steps.specs.SlotsHold.{Meant, SlotsHold, slots_of, values_in}
+use Rattle.machine_scenes.specs.HeapAgrees.{ReferenceAgrees}
+use Rattle.machine_threads.specs.InProgress.{CallStands, WorkAgrees}
 use Rattle.semantics.specs.EventViews.{event_view}
-use Rattle.machine_calls.specs.StoreAgrees.{StoreAgrees, Keeps}
-
--- ---- a call in progress
-
--- A call in progress of thread k stands for its tasks still to do, where this can be seen.
-pub record CallStands (p : Lowered) (classes : Classes) (space : Space) (copies : List (Option OwnedNumbers)) (k : ℕ) (call : Activation) (visible : Visible) (frames : List source.Frame) (tasks : List Task) : Type 0 where
-  pub code : Listing
-  pub of_function : slice_get p.codes call.function ≡ Some code
-  pub known : Known
-  pub stands : StandsFor code known call.place call.stack tasks
-  pub meant : Meant
-  pub holds : SlotsHold classes space copies k call.locals (values_in call) meant
-  pub shows : Shows code known visible (slots_of call meant)
-  pub depth : depth_at code.instrs call.place ≡ Some (length call.stack)
-  pub frames_agree : FramesAgree space call.locals frames
-
--- a call in progress, or none, which has no frame
-abbrev pub WorkAgrees : Lowered → Classes → Space → List (Option OwnedNumbers) → (k : ℕ) → Visible → Option Activation → List source.Frame → Option (List Task) → Type 0
-WorkAgrees p classes space copies k visible None frames None = frames ≡ []
-WorkAgrees p classes space copies k visible None frames (Some tasks) = ⊥
-WorkAgrees p classes space copies k visible (Some call) frames None = ⊥
-WorkAgrees p classes space copies k visible (Some call) frames (Some tasks) = CallStands p classes space copies k call visible frames tasks
-
--- ---- steps
+use Rattle.machine_scenes.specs.StoreAgrees.{StoreAgrees, Keeps}
 
 -- What no step of an accepted unit breaks, as `StepSafe` has it of the thread alone, and what its objects and variables are made of.
 pub record IsSteady (classes : Classes) (own : Owners) (shared : Shared) (s : source.Thread) : Type 0 where

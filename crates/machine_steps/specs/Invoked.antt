@@ -21,20 +21,21 @@ use Rattle.semantics.specs.declared.event.Event.TheVariants.{Quiet, Trapped}
 use Rattle.machine_steps.specs.declared.execute.Executed.{Executed}
 use Rattle.machine_steps.specs.declared.execute.Executed.TheVariants.{Did, Refused}
 use Rattle.tables.specs.Locals.{has_room}
-use Rattle.machine_calls.specs.declared.answer.Answer.{Answer}
-use Rattle.machine_calls.specs.declared.answer.Answer.TheVariants as answer
+use Rattle.machine_answers.specs.declared.answer.Answer.{Answer}
+use Rattle.machine_answers.specs.declared.answer.Answer.TheVariants as answer
 use Rattle.semantics.specs.declared.trap.Trap.{Trap}
 use Rattle.semantics.specs.EventViews.{trap_view}
-use Rattle.machine_calls.specs.declared.store.Store.{Store}
-use Rattle.machine_calls.specs.declared.activation.Activation.{Activation}
-use Rattle.machine_calls.specs.Asked.{scene_of}
-use Rattle.machine_calls.specs.Buffers.{Acquired, AreViewed, acquired_by, beside}
-use Rattle.machine_calls.specs.Checked.{element_wanted, trap_found}
-use Rattle.machine_calls.specs.Locals.{locals_after}
-use Rattle.machine_calls.specs.StoreAgrees.{StoreAgrees}
-use Rattle.machine_calls.specs.WorkedOut.{IsWorkedOut}
-use Rattle.machine_steps.specs.Executes.{CallStands, IsSteady}
-use Rattle.machine_calls.specs.HeapAgrees.{ReferenceAgrees}
+use Rattle.machine_scenes.specs.declared.store.Store.{Store}
+use Rattle.machine_scenes.specs.declared.activation.Activation.{Activation}
+use Rattle.machine_answers.specs.Asked.{scene_of}
+use Rattle.machine_scenes.specs.Buffers.{Acquired, AreViewed, acquired_by, beside}
+use Rattle.machine_answers.specs.Checked.{element_wanted, trap_found}
+use Rattle.machine_scenes.specs.Locals.{locals_after}
+use Rattle.machine_scenes.specs.StoreAgrees.{StoreAgrees}
+use Rattle.machine_answers.specs.WorkedOut.{IsWorkedOut}
+use Rattle.machine_steps.specs.Executes.{IsSteady}
+use Rattle.machine_threads.specs.InProgress.{CallStands}
+use Rattle.machine_scenes.specs.HeapAgrees.{ReferenceAgrees}
 
 -- Thread k of the source has a call as its first task, the machine is at the instruction that stands for it, and all that the
 -- call can change agrees. What is seen of buffers are their elements. The thread doesn't wait for a monitor.

@@ -1,13 +1,8 @@
-pub mod SlotsHold
 pub mod Variables
 pub mod Moved
 pub mod BufferElements
 pub mod Executes
 pub mod Received
 pub mod Invoked
-pub mod Entry
-pub mod ThreadAgrees
 pub mod Advances
 pub mod Waiting
-pub mod Held
-pub mod Loading

@@ -5,10 +5,10 @@ use Rattle.code.specs.declared.instr.Instr.{Instr}
 use Rattle.code.specs.declared.instr.Plain.{Plain}
 use Rattle.code.specs.declared.instr.Plain.TheVariants as plain
 use Rattle.code_meaning.specs.Does.{trap_of}
-use Rattle.machine_calls.specs.declared.activation.Activation.{Activation}
+use Rattle.machine_scenes.specs.declared.activation.Activation.{Activation}
 use Rattle.semantics.specs.declared.trap.Trap.{Trap as TrapInMemory}
 use Rattle.semantics.specs.EventViews.{trap_view}
-use Rattle.machine_steps.specs.SlotsHold.{SlotValues, values_in}
+use Rattle.machine_threads.specs.SlotsHold.{SlotValues, values_in}
 use Rattle.semantics.specs.declared.event.Event.{Event}
 use Rattle.semantics.specs.declared.event.Event.TheVariants as event
 

@@ -7,13 +7,13 @@ use Rattle.code.specs.declared.instr.Target.TheVariants.{Number, Local, FieldId,
 use Rattle.code.specs.declared.instr.Operand.{Operand}
 use Rattle.code.specs.declared.instr.Operand.TheVariants.{IsCopy}
 use Rattle.jni.specs.Prototype.{ResultKind, NewLocal}
-use Rattle.machine_calls.specs.declared.answer.Given.{Given}
-use Rattle.machine_calls.specs.declared.answer.Given.TheVariants as given
-use Rattle.machine_calls.specs.declared.activation.Activation.{Activation}
-use Rattle.machine_calls.specs.declared.buffer.Buffer.{Buffer as HeldBuffer}
-use Rattle.machine_calls.specs.declared.buffer.Buffer.TheVariants as held
+use Rattle.machine_answers.specs.declared.answer.Given.{Given}
+use Rattle.machine_answers.specs.declared.answer.Given.TheVariants as given
+use Rattle.machine_scenes.specs.declared.activation.Activation.{Activation}
+use Rattle.machine_scenes.specs.declared.buffer.Buffer.{Buffer as HeldBuffer}
+use Rattle.machine_scenes.specs.declared.buffer.Buffer.TheVariants as held
 use Rattle.tables.specs.Locals.{LocalTable, IsMade, has_room}
-use Rattle.machine_calls.specs.declared.statics.StaticReference.{StaticReference}
+use Rattle.machine_scenes.specs.declared.statics.StaticReference.{StaticReference}
 
 -- the stack, on which the test of an `if` finds the truth whether a number is 0
 abbrev pub stack_with : Target → Given → List ℕ

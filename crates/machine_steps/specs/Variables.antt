@@ -3,14 +3,14 @@ use Rattle.std.specs.Prelude.{ℕ, ◌<◌, Bool, true, false, is_none, List, sl
 use Rattle.classes.specs.declared.class.FieldHandle.{FieldHandle}
 use Rattle.code.specs.declared.instr.NullableVariable.{NullableVariable}
 use Rattle.code.specs.declared.instr.NullableVariable.TheVariants.{Local, Static, FieldId, Buffer}
-use Rattle.machine_calls.specs.declared.buffer.Buffer.{Buffer as HeldBuffer}
-use Rattle.machine_calls.specs.declared.buffer.Buffer.TheVariants as held
-use Rattle.machine_calls.specs.declared.statics.StaticReference.{StaticReference}
-use Rattle.machine_calls.specs.declared.statics.StaticReference.TheVariants.{Empty}
-use Rattle.machine_calls.specs.Given.{held_in}
-use Rattle.machine_steps.specs.SlotsHold.{SlotValues}
-use Rattle.machine_calls.specs.Statics.{References, holds_null, static_at}
-use Rattle.machine_calls.specs.WorkedOut.{buffer_there}
+use Rattle.machine_scenes.specs.declared.buffer.Buffer.{Buffer as HeldBuffer}
+use Rattle.machine_scenes.specs.declared.buffer.Buffer.TheVariants as held
+use Rattle.machine_scenes.specs.declared.statics.StaticReference.{StaticReference}
+use Rattle.machine_scenes.specs.declared.statics.StaticReference.TheVariants.{Empty}
+use Rattle.machine_scenes.specs.Given.{held_in}
+use Rattle.machine_threads.specs.SlotsHold.{SlotValues}
+use Rattle.machine_scenes.specs.Statics.{References, holds_null, static_at}
+use Rattle.machine_answers.specs.WorkedOut.{buffer_there}
 
 -- whether a buffer is NULL
 abbrev pub is_null_buffer : HeldBuffer → Bool

@@ -2,9 +2,9 @@
 
 ghost use Rattle.std.specs.Prelude.{◌≡◌, ◌<◌, ◌+◌, ◌^◌, ℕ, ◌∷◌, List, length, nat_lt, slice_get};
 ghost use Rattle.code.specs.Effect.{element_word};
-ghost use Rattle.machine_calls.specs.Copies.{words_at};
-ghost use Rattle.machine_calls.specs.BufferChanges.{numbers_at};
-ghost use Rattle.machine_calls.specs.WorkedOut.{buffer_there};
+ghost use Rattle.machine_answers.specs.Copies.{words_at};
+ghost use Rattle.machine_answers.specs.BufferChanges.{numbers_at};
+ghost use Rattle.machine_answers.specs.WorkedOut.{buffer_there};
 ghost use Rattle.std.specs.Prelude.{map};
 ghost use Rattle.std.specs.Int.{w32, cast_unsigned};
 ghost use Rattle.heap.specs.Heap.{IsAddress};
@@ -14,9 +14,9 @@ use crate::variable::buffer_there;
 use code::instr::ElementType;
 use code::plain::element_word;
 use heap::{Addr, Heap, Value};
-use machine_calls::activation::Activation;
-use machine_calls::buffer::Buffer;
-use machine_calls::store::Store;
+use machine_scenes::activation::Activation;
+use machine_scenes::buffer::Buffer;
+use machine_scenes::store::Store;
 use semantics::{Event, Trap};
 use tables::{Copied, Elements};
 

@@ -11,12 +11,12 @@ ghost use Rattle.semantics.specs.Thread.{Shared, Thread as SourceThread, sight_o
 ghost use Rattle.semantics.specs.ThreadStep.{after_effect};
 ghost use Rattle.semantics_safety.specs.Owners.{Owners};
 ghost use Rattle.code_meaning.specs.Lowered.{IsLowered};
-ghost use Rattle.machine_calls.specs.Asked.{references_of};
-ghost use Rattle.machine_calls.specs.Buffers.{Acquired};
+ghost use Rattle.machine_answers.specs.Asked.{references_of};
+ghost use Rattle.machine_scenes.specs.Buffers.{Acquired};
 ghost use Rattle.machine_steps.specs.Executes.{IsExecuting, IsHindered, Executes, cells_made, in_use_with};
 ghost use Rattle.machine_steps.specs.Invoked.{executed_as};
 ghost use Rattle.machine_steps.specs.Moved.{HasMoved, IsReachable, MovesPlainly};
-ghost use Rattle.machine_steps.specs.SlotsHold.{values_in};
+ghost use Rattle.machine_threads.specs.SlotsHold.{values_in};
 ghost use Rattle.machine_steps.specs.Variables.{is_null, HasSlot, nulled_slots, nulled_statics};
 
 use crate::buffer_elements::{load_element, store_element};
@@ -27,11 +27,11 @@ use code::instr::{Instr, NullableVariable, Plain};
 use code::plain::plain;
 use code_meaning::Program;
 use heap::Addr;
-use machine_calls::activation::Activation;
-use machine_calls::references::References;
-use machine_calls::statics::StaticReference;
-use machine_calls::store::Store;
 use machine_calls::trap::trap_of;
+use machine_scenes::activation::Activation;
+use machine_scenes::references::References;
+use machine_scenes::statics::StaticReference;
+use machine_scenes::store::Store;
 use semantics::Event;
 use world_values::World;
 

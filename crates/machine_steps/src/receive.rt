@@ -9,10 +9,10 @@ use classes::class::FieldHandle;
 use code::instr::Target;
 use code::stack::Stack;
 use jni::ResultKind;
-use machine_calls::activation::Activation;
-use machine_calls::answer::Given;
-use machine_calls::buffer::Buffer;
-use machine_calls::statics::StaticReference;
+use machine_answers::answer::Given;
+use machine_scenes::activation::Activation;
+use machine_scenes::buffer::Buffer;
+use machine_scenes::statics::StaticReference;
 use tables::{Local, Locals};
 
 /// Puts what a function of this kind of result gives into its target, a new local reference also into the current frame, and

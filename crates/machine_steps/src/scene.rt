@@ -2,14 +2,14 @@
 
 ghost use Rattle.std.specs.Prelude.{◌≡◌};
 ghost use Rattle.world_values.specs.SoundWorlds.{IsSound};
-ghost use Rattle.machine_calls.specs.Asked.{scene_of};
-ghost use Rattle.machine_calls.specs.Scenes.{scene_view};
+ghost use Rattle.machine_answers.specs.Asked.{scene_of};
+ghost use Rattle.machine_scenes.specs.Scenes.{scene_view};
 
 use heap::Addr;
-use machine_calls::activation::Activation;
-use machine_calls::references::References;
-use machine_calls::scene::Scene;
-use machine_calls::store::Store;
+use machine_scenes::activation::Activation;
+use machine_scenes::references::References;
+use machine_scenes::scene::Scene;
+use machine_scenes::store::Store;
 use world_values::World;
 
 /// What a call of the thread of this number sees.

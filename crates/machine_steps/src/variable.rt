@@ -1,14 +1,14 @@
 //! Variables that can be NULL.
 
 ghost use Rattle.std.specs.Prelude.{◌≡◌, length};
-ghost use Rattle.machine_calls.specs.WorkedOut.{buffer_there};
+ghost use Rattle.machine_answers.specs.WorkedOut.{buffer_there};
 ghost use Rattle.machine_steps.specs.Variables.{is_null, HasSlot, nulled_references, nulled_fields, nulled_buffers, nulled_statics};
 
 use classes::class::FieldHandle;
 use code::instr::NullableVariable;
-use machine_calls::buffer::Buffer;
-use machine_calls::references::{Held, References};
-use machine_calls::statics::StaticReference;
+use machine_scenes::buffer::Buffer;
+use machine_scenes::references::{Held, References};
+use machine_scenes::statics::StaticReference;
 use tables::Local;
 
 /// Whether a variable is NULL.

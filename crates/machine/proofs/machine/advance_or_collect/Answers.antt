@@ -2,8 +2,8 @@ use Rattle.std.proofs.Common.{◌≡◌, ℕ, suc, ◌+◌, true, false, Ok, inl
 use Rattle.std.specs.Prelude.{slice_index_or}
 use Rattle.semantics.specs.ThreadStep.{waits}
 use Rattle.semantics.specs.World.{loaded_objects}
-use Rattle.machine_calls.specs.declared.store.Store.{Store}
-use Rattle.machine_steps.specs.ThreadAgrees.{ThreadAgrees}
+use Rattle.machine_scenes.specs.declared.store.Store.{Store}
+use Rattle.machine_threads.specs.ThreadAgrees.{ThreadAgrees}
 use Rattle.machine.specs.Run.{AdvancesAlways}
 use Rattle.machine.proofs.Advancing.{can_there, found, from_there, is_ready, is_steady, lives_there, makes_something, makes_there, numbered, own, rest, shared_there, there}
 use Rattle.std.proofs.Common.{length}

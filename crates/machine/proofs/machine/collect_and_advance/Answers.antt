@@ -4,7 +4,7 @@ use Rattle.std.proofs.lemmas.List.{length-map}
 use Rattle.std.proofs.lemmas.Option.{slice_get_within}
 use Rattle.semantics.specs.ThreadStep.{waits}
 use Rattle.semantics.specs.World.{loaded_objects}
-use Rattle.machine_steps.specs.ThreadAgrees.{ThreadAgrees}
+use Rattle.machine_threads.specs.ThreadAgrees.{ThreadAgrees}
 use Rattle.machine.specs.Moving.{moved_thread}
 use Rattle.machine.specs.Run.{AdvancesAlways}
 use Rattle.machine.proofs.Collected.{are_referred}

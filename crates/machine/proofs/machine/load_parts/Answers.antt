@@ -10,19 +10,19 @@ use Rattle.world_values.proofs.LoadedWorlds.{few_loaded}
 use Rattle.std.proofs.lemmas.List.{length-map}
 use Rattle.machine.proofs.TextBytes.{texts_are_bytes}
 use Rattle.semantics_typing.specs.Texts.{HasTexts}
-use Rattle.machine_steps.proofs.ThreadLoads.{agree_length}
+use Rattle.machine_threads.proofs.ThreadLoads.{agree_length}
 use Rattle.syntax.specs.Parts.{statics_of}
 use Rattle.syntax.specs.declared.unit.Item.{Item}
-use Rattle.machine_calls.specs.StoreAgrees.{StaticsAgree}
-use Rattle.machine_calls.specs.HeapAgrees.{SlotsAgree, times}
+use Rattle.machine_scenes.specs.StoreAgrees.{StaticsAgree}
+use Rattle.machine_scenes.specs.HeapAgrees.{SlotsAgree, times}
 use Rattle.tables.specs.Elements.{lengths}
 use Rattle.machine.proofs.TakenBuffers.{none_taken}
 use Rattle.semantics_safety.specs.Owners.{AllOwners, owners_after}
-use Rattle.machine_calls.specs.Statics.{HaveKeys, all_held}
+use Rattle.machine_scenes.specs.Statics.{HaveKeys, all_held}
 use Rattle.machine_monitors.specs.Fit.{AreThere, MonitorsAgree}
 use Rattle.monitors.specs.declared.monitors.Monitor.{Monitor}
-use Rattle.machine_calls.specs.declared.statics.StaticReference.{StaticReference}
-use Rattle.machine_calls.specs.declared.statics.StaticReference.TheVariants.{Empty}
+use Rattle.machine_scenes.specs.declared.statics.StaticReference.{StaticReference}
+use Rattle.machine_scenes.specs.declared.statics.StaticReference.TheVariants.{Empty}
 use Rattle.machine_calls.proofs.HeldStatics.{names_begin, no_keys, statics_begin}
 use Rattle.machine.proofs.machine.load_parts.Goals as goal
 

@@ -3,7 +3,7 @@ use Rattle.std.specs.Prelude.{flat_map}
 use Rattle.std.proofs.lemmas.List.Concat.{flat_map-cons}
 use Rattle.std.proofs.lemmas.Option.{slice_get_read}
 use Rattle.machine.specs.Roots.{slots_of, thread_places}
-use Rattle.machine_steps.proofs.Lists.{drop_next}
+use Rattle.machine_threads.proofs.Lists.{drop_next}
 use Rattle.machine.proofs.MovedRoots.{drop_past}
 use Rattle.machine.proofs.RootNames.{stacked_more, there_within}
 use Rattle.machine.proofs.roots.push_threads.Goals as goal

@@ -1,6 +1,6 @@
 use Rattle.std.proofs.Common.{◌≡◌, ℕ, ◌<◌, ◌++◌, Some, drop}
 use Rattle.std.specs.Prelude.{flat_map, slice_get}
-use Rattle.machine_steps.specs.declared.thread.Thread.{Thread}
+use Rattle.machine_threads.specs.declared.thread.Thread.{Thread}
 use Rattle.machine.specs.Roots.{thread_places, CallIsStacked}
 use Rattle.machine.proofs.roots.push_threads.Given as goal
 

@@ -1,7 +1,7 @@
 use Rattle.std.proofs.Common.{Option, Some, sym, ap, ◌∙◌, subst}
 use Rattle.std.specs.Option.{option_map}
 use Rattle.tables.specs.Locals.{LocalTable}
-use Rattle.machine_calls.specs.declared.activation.Activation.{Activation}
+use Rattle.machine_scenes.specs.declared.activation.Activation.{Activation}
 use Rattle.machine.specs.Moving.{AreMovedAt, moved_call}
 use Rattle.machine.specs.Roots.{slots_of}
 use Rattle.machine.proofs.roots.put_call.Goals as goal

@@ -1,7 +1,7 @@
 use Rattle.std.proofs.Common.{ℕ, ◌+◌, ◌<◌, [], ◌∷◌, Option, length, ap, ◌∙◌, arith}
 use Rattle.std.specs.Option.{option_map}
-use Rattle.machine_calls.specs.declared.activation.Activation.{Activation}
-use Rattle.machine_steps.specs.declared.thread.Thread.{Thread}
+use Rattle.machine_scenes.specs.declared.activation.Activation.{Activation}
+use Rattle.machine_threads.specs.declared.thread.Thread.{Thread}
 use Rattle.machine.specs.Moving.{moved_call}
 use Rattle.machine.specs.Roots.{slots_of}
 use Rattle.machine.proofs.MovedRoots.{last_moved, moved_back, moved_below, moved_front}

@@ -3,7 +3,7 @@ use Rattle.std.specs.Prelude.{flat_map, slice_get}
 use Rattle.std.proofs.lemmas.List.{take_all}
 use Rattle.std.proofs.lemmas.Option.{slice_get-get_or}
 use Rattle.compact.proofs.Fronts.{front_all, front_get, front_step}
-use Rattle.machine_steps.specs.declared.thread.Thread.{Thread}
+use Rattle.machine_threads.specs.declared.thread.Thread.{Thread}
 use Rattle.machine.specs.Moving.{AreMovedAt, moved_thread}
 use Rattle.machine.specs.Roots.{thread_places}
 use Rattle.machine.proofs.MovedRoots.{places_more, thread_still, threads_at}

@@ -2,7 +2,7 @@ use Rattle.std.proofs.Common.{◌≡◌, ℕ, zero, suc, List, Option, Some, Non
 use Rattle.std.specs.Prelude.{slice_get}
 use Rattle.std.proofs.lemmas.List.{length-set}
 use Rattle.machine.proofs.BlockObjects.{placed_none, placed_next, table_filled, table_seen, table_there, address_there}
-use Rattle.machine_calls.proofs.BlocksOfNames.{name_within}
+use Rattle.machine_scenes.proofs.BlocksOfNames.{name_within}
 use Rattle.machine.proofs.rows.named_blocks.Goals as goal
 
 -- what is as none is none

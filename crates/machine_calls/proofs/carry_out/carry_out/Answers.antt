@@ -10,26 +10,26 @@ use Rattle.semantics.specs.World.{World}
 use Rattle.world_values.proofs.LoadedWorlds.{few_loaded}
 use Rattle.world_values.specs.SoundWorlds.{IsSound}
 use Rattle.code_meaning.specs.Lowered.{Lowered}
-use Rattle.machine_calls.specs.declared.answer.Answer.{Answer}
-use Rattle.machine_calls.specs.declared.answer.Given.{Given}
-use Rattle.machine_calls.specs.declared.answer.Given.TheVariants as given
+use Rattle.machine_answers.specs.declared.answer.Answer.{Answer}
+use Rattle.machine_answers.specs.declared.answer.Given.{Given}
+use Rattle.machine_answers.specs.declared.answer.Given.TheVariants as given
 use Rattle.machine_calls.specs.declared.carry_out.Carried.{Carried}
-use Rattle.machine_calls.specs.declared.store.Store.{Store}
+use Rattle.machine_scenes.specs.declared.store.Store.{Store}
 use Rattle.base.specs.Bytes.{Identifier}
 use Rattle.code.specs.declared.instr.LocalArray.{LocalArray}
-use Rattle.machine_calls.specs.declared.buffer.Buffer.{Buffer}
-use Rattle.machine_calls.specs.Answers.{Brought, IsAnswer, bringing}
-use Rattle.machine_calls.specs.Buffers.{Acquired, acquired_by, beside, holding, in_use_of}
+use Rattle.machine_scenes.specs.declared.buffer.Buffer.{Buffer}
+use Rattle.machine_answers.specs.Answers.{Brought, IsAnswer, bringing}
+use Rattle.machine_scenes.specs.Buffers.{Acquired, acquired_by, beside, holding, in_use_of}
 use Rattle.machine_calls.specs.CarriedOut.{CarriesOut, failed}
 use Rattle.tables.specs.Locals.{LocalTable}
-use Rattle.machine_calls.specs.declared.answer.Answer.TheVariants as answer
+use Rattle.machine_answers.specs.declared.answer.Answer.TheVariants as answer
 use Rattle.machine_calls.specs.Made.{HasMade, Makes, Raises}
-use Rattle.machine_calls.specs.declared.new_object.New.{New}
-use Rattle.machine_calls.specs.declared.new_object.New.TheVariants.{Fresh}
-use Rattle.machine_calls.specs.NewObjects.{cells_of_new, class_of_new, texts_in}
+use Rattle.machine_scenes.specs.declared.new_object.New.{New}
+use Rattle.machine_scenes.specs.declared.new_object.New.TheVariants.{Fresh}
+use Rattle.machine_scenes.specs.NewObjects.{cells_of_new, class_of_new, texts_in}
 use Rattle.machine_calls.proofs.AnswerCases.{makes_it, throws_it}
 use Rattle.machine_calls.proofs.CarryOuts as carries
-use Rattle.machine_calls.proofs.LongTables.{classes_loaded}
+use Rattle.machine_answers.proofs.LongTables.{classes_loaded}
 use Rattle.machine_calls.proofs.carry_out.carry_out.Goals as goal
 
 -- what a call of thread k brings

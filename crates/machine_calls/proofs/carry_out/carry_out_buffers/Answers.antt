@@ -1,12 +1,12 @@
 use Rattle.std.proofs.Common.{◌<◌, length, ap, subst}
 use Rattle.std.proofs.lemmas.Result.{IfOk-weaker}
-use Rattle.machine_calls.specs.declared.answer.Answer.{Answer}
-use Rattle.machine_calls.specs.declared.answer.Answer.TheVariants as answer
-use Rattle.machine_calls.specs.Answers.{IsAnswer}
-use Rattle.machine_calls.specs.Buffers.{HeldBuffers, acquired_by, beside}
+use Rattle.machine_answers.specs.declared.answer.Answer.{Answer}
+use Rattle.machine_answers.specs.declared.answer.Answer.TheVariants as answer
+use Rattle.machine_answers.specs.Answers.{IsAnswer}
+use Rattle.machine_scenes.specs.Buffers.{HeldBuffers, acquired_by, beside}
 use Rattle.machine_calls.proofs.BufferCarries as buffers
 use Rattle.machine_calls.proofs.CarryOuts as carries
-use Rattle.machine_calls.proofs.Taken.{few_pins}
+use Rattle.machine_scenes.proofs.Taken.{few_pins}
 use Rattle.machine_calls.proofs.carry_out.carry_out_buffers.Goals as goal
 
 pub acquire_view-buffer-requires-clause-pins : goal.acquire_view-buffer-requires-clause-pins

@@ -1,5 +1,5 @@
 use Rattle.std.proofs.lemmas.Result.{IfOk-weaker}
-use Rattle.machine_calls.specs.declared.answer.Answer.TheVariants as answer
+use Rattle.machine_answers.specs.declared.answer.Answer.TheVariants as answer
 use Rattle.machine_calls.proofs.CarryOuts as carries
 use Rattle.machine_calls.proofs.MonitorCarries as monitors
 use Rattle.machine_calls.proofs.carry_out.carry_out_monitors.Goals as goal

@@ -1,16 +1,16 @@
 use Rattle.std.proofs.Common.{rules, ◌≡◌, ℕ, List, Option, Some, false, refl, sym, ap, ◌∙◌, subst}
 use Rattle.std.specs.Prelude.{slice_get, slice_set, IsSome}
-use Rattle.machine_calls.specs.declared.answer.Answer.{Answer}
-use Rattle.machine_calls.specs.declared.answer.Given.TheVariants as given
-use Rattle.machine_calls.specs.Answers.{IsAnswer}
-use Rattle.machine_calls.specs.Buffers.{acquired_by, beside}
+use Rattle.machine_answers.specs.declared.answer.Answer.{Answer}
+use Rattle.machine_answers.specs.declared.answer.Given.TheVariants as given
+use Rattle.machine_answers.specs.Answers.{IsAnswer}
+use Rattle.machine_scenes.specs.Buffers.{acquired_by, beside}
 use Rattle.machine_calls.specs.CarriedOut.{CarriesOut}
 use Rattle.tables.specs.Locals.{LocalTable, without}
-use Rattle.machine_calls.specs.declared.answer.Answer.TheVariants as answer
+use Rattle.machine_answers.specs.declared.answer.Answer.TheVariants as answer
 use Rattle.machine_calls.proofs.CarryOuts as carries
 use Rattle.machine_calls.proofs.StaticStores.{live_there}
-use Rattle.machine_calls.specs.declared.statics.StaticReference.{StaticReference}
-use Rattle.machine_calls.specs.declared.statics.StaticReference.TheVariants as static
+use Rattle.machine_scenes.specs.declared.statics.StaticReference.{StaticReference}
+use Rattle.machine_scenes.specs.declared.statics.StaticReference.TheVariants as static
 use Rattle.std.specs.Vec.{with_items}
 use Rattle.std.proofs.lemmas.List.{with_items_is, places}
 use Rattle.machine_calls.proofs.carry_out.carry_out_references.Goals as goal

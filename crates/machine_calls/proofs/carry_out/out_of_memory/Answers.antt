@@ -1,7 +1,7 @@
 use Rattle.std.proofs.Common.{ℕ, List, length, ap, ap₂, ◌∙◌}
 use Rattle.std.specs.Prelude.{slice_get}
 use Rattle.class_rules.specs.Class.{Classes}
-use Rattle.machine_calls.proofs.LookUps.{copied_found}
+use Rattle.machine_scenes.proofs.LookUps.{copied_found}
 use Rattle.machine_calls.proofs.carry_out.out_of_memory.Goals as goal
 
 pub returns : goal.returns

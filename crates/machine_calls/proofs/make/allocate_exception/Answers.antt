@@ -4,9 +4,9 @@ use Rattle.std.proofs.lemmas.List.{length-set}
 use Rattle.heap.specs.declared.value.Value.{Value}
 use Rattle.heap.specs.Heap.{Block, Space, IsAddress, IsLaidOut, with_block, with_value, values_at}
 use Rattle.machine_calls.specs.Made.{Allocates, next_block}
-use Rattle.machine_calls.specs.NewObjects.{initial_values}
-use Rattle.machine_calls.proofs.HeapLaws.{block_new}
-use Rattle.machine_calls.proofs.Loaded.{changed_new, values_new}
+use Rattle.machine_scenes.specs.NewObjects.{initial_values}
+use Rattle.machine_scenes.proofs.HeapLaws.{block_new}
+use Rattle.machine_scenes.proofs.Loaded.{changed_new, values_new}
 use Rattle.machine_calls.proofs.make.allocate_exception.Goals as goal
 use Rattle.machine_calls.proofs.make.allocate_exception.Goals.{then-len_of-gt0, else-len_of-gt0}
 

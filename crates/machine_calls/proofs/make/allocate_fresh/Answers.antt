@@ -11,8 +11,8 @@ use Rattle.heap.specs.declared.value.Value.{Value}
 use Rattle.heap.specs.declared.value.Value.TheVariants.{Null}
 use Rattle.heap.specs.Heap.{Space, end_of, fresh_block, with_block, with_value, values_at}
 use Rattle.machine_calls.specs.Made.{next_block}
-use Rattle.machine_calls.specs.NewObjects.{initial_value, initial_values}
-use Rattle.machine_calls.proofs.FilledBlocks.{cells_all, filled_block, filled_fresh, filled_within, filled_more}
+use Rattle.machine_scenes.specs.NewObjects.{initial_value, initial_values}
+use Rattle.machine_scenes.proofs.FilledBlocks.{cells_all, filled_block, filled_fresh, filled_within, filled_more}
 use Rattle.machine_calls.proofs.make.allocate_fresh.Goals as goal
 
 -- the value of a place

@@ -1,8 +1,8 @@
 use Rattle.std.proofs.Common.{◌≡◌, drop}
 use Rattle.class_rules.specs.Fields.{layout}
 use Rattle.heap.specs.Heap.{with_block}
-use Rattle.machine_calls.specs.NewObjects.{initial_values}
-use Rattle.machine_calls.proofs.FilledBlocks.{filled_block}
+use Rattle.machine_scenes.specs.NewObjects.{initial_values}
+use Rattle.machine_scenes.proofs.FilledBlocks.{filled_block}
 use Rattle.machine_calls.proofs.make.allocate_fresh.Given as goal
 
 abbrev pub invariant-loop-place : goal.invariant-loop-place

@@ -10,8 +10,8 @@ use Rattle.heap.specs.declared.value.Value.TheVariants as value
 use Rattle.heap.specs.declared.value.Value.TheVariants.{Null}
 use Rattle.heap.specs.Heap.{Space, end_of, fresh_block, with_block, with_value, values_at}
 use Rattle.machine_calls.specs.Made.{next_block}
-use Rattle.machine_calls.specs.NewObjects.{units}
-use Rattle.machine_calls.proofs.FilledBlocks.{cells_all, filled_block, filled_fresh, filled_within, filled_more}
+use Rattle.machine_scenes.specs.NewObjects.{units}
+use Rattle.machine_scenes.proofs.FilledBlocks.{cells_all, filled_block, filled_fresh, filled_within, filled_more}
 use Rattle.machine_calls.proofs.make.allocate_text.Goals as goal
 
 many : (bytes : List ℕ) → length (units bytes) ≡ length bytes

@@ -2,8 +2,8 @@ use Rattle.std.proofs.Common.{◌≡◌, ℕ, ◌<◌, Some}
 use Rattle.std.specs.Prelude.{slice_get}
 use Rattle.heap.specs.Heap.{with_block}
 use Rattle.class_rules.specs.BuiltIns.{string_class}
-use Rattle.machine_calls.specs.NewObjects.{units}
-use Rattle.machine_calls.proofs.FilledBlocks.{filled_block}
+use Rattle.machine_scenes.specs.NewObjects.{units}
+use Rattle.machine_scenes.proofs.FilledBlocks.{filled_block}
 use Rattle.machine_calls.proofs.make.allocate_text.Given as goal
 
 abbrev pub invariant-loop-place : goal.invariant-loop-place

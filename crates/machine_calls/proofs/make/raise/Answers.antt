@@ -2,10 +2,10 @@ use Rattle.std.proofs.Common.{ℕ, ◌+◌, ◌≤◌, List, Option, Some, None,
 use Rattle.std.proofs.lemmas.Bool.{leb-true}
 use Rattle.class_rules.specs.Class.{Classes}
 use Rattle.heap.specs.Heap.{left_of}
-use Rattle.machine_calls.specs.declared.new_object.New.TheVariants.{Exception, Fresh, Text}
-use Rattle.machine_calls.specs.declared.store.Store.{Store}
+use Rattle.machine_scenes.specs.declared.new_object.New.TheVariants.{Exception, Fresh, Text}
+use Rattle.machine_scenes.specs.declared.store.Store.{Store}
 use Rattle.machine_calls.specs.Made.{HasMade, Makes, Raises}
-use Rattle.machine_calls.specs.NewObjects.{cells_of_new, texts_in}
+use Rattle.machine_scenes.specs.NewObjects.{cells_of_new, texts_in}
 use Rattle.machine_calls.proofs.Makes.{left_after}
 use Rattle.machine_calls.proofs.NewValues.{same_cells}
 use Rattle.machine_calls.proofs.make.raise.Goals as goal

@@ -12,8 +12,8 @@ use Rattle.semantics.specs.World.{loaded_objects}
 use Rattle.semantics.specs.declared.event.Event.TheVariants.{Quiet}
 use Rattle.machine_steps.specs.Executes.{IsHindered, Executes, cells_made, in_use_with}
 use Rattle.machine_steps.specs.declared.execute.Executed.{Executed}
-use Rattle.machine_calls.specs.HeapAgrees.{ReferenceAgrees}
-use Rattle.machine_steps.specs.Entry.{IsReady, Begins}
+use Rattle.machine_scenes.specs.HeapAgrees.{ReferenceAgrees}
+use Rattle.machine_threads.specs.Entry.{IsReady, Begins}
 use Rattle.machine_steps.proofs.Entries.{enters, coming, ready_to_begin}
 use Rattle.machine_steps.proofs.Threads.{did, returned}
 use Rattle.machine_steps.proofs.Waits.{executes, work}

@@ -5,7 +5,7 @@ use Rattle.std.specs.Option.{MatchOption, option_copied}
 use Rattle.world_values.specs.Views.{object_value_view}
 use Rattle.code.specs.Depth.{Listing}
 use Rattle.code_meaning.specs.Slots.{HasRoom}
-use Rattle.machine_steps.specs.declared.thread.PendingCall.{PendingCall}
+use Rattle.machine_threads.specs.declared.thread.PendingCall.{PendingCall}
 use Rattle.machine_steps.proofs.Calls.{is_there}
 use Rattle.machine_steps.proofs.advance.enter.Goals as goal
 

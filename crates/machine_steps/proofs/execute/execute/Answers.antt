@@ -12,13 +12,13 @@ use Rattle.semantics.specs.Effect.{effect_of}
 use Rattle.semantics.specs.Thread.{sight_of}
 use Rattle.code_meaning.specs.Slots.{visible_to}
 use Rattle.code_meaning.specs.Does.{IsReturn}
-use Rattle.machine_calls.specs.declared.activation.Activation.{Activation}
+use Rattle.machine_scenes.specs.declared.activation.Activation.{Activation}
 use Rattle.semantics.specs.declared.event.Event.TheVariants.{Printed}
 use Rattle.machine_steps.specs.declared.execute.Executed.{Executed}
 use Rattle.machine_steps.specs.declared.execute.Executed.TheVariants.{Did}
 use Rattle.machine_steps.specs.Executes.{Executes}
-use Rattle.machine_calls.specs.Statics.{all_held, held}
-use Rattle.machine_calls.specs.declared.statics.StaticReference.{StaticReference}
+use Rattle.machine_scenes.specs.Statics.{all_held, held}
+use Rattle.machine_scenes.specs.declared.statics.StaticReference.{StaticReference}
 use Rattle.machine_calls.proofs.HeldStatics.{statics_count}
 use Rattle.machine_steps.specs.Variables.{HasSlot, nulled_statics}
 use Rattle.machine_steps.proofs.Calls.{ready, here, room, leads, one_word, positive, two_words}

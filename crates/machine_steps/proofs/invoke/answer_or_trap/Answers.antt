@@ -5,19 +5,19 @@ use Rattle.jni.specs.Table.{function_value}
 use Rattle.semantics.specs.World.{World}
 use Rattle.code.specs.Call.{call_view}
 use Rattle.code.specs.declared.instr.Call.{Call}
-use Rattle.machine_calls.specs.declared.answer.Answer.{Answer}
-use Rattle.machine_calls.specs.declared.answer.Answer.TheVariants as answer
+use Rattle.machine_answers.specs.declared.answer.Answer.{Answer}
+use Rattle.machine_answers.specs.declared.answer.Answer.TheVariants as answer
 use Rattle.semantics.specs.declared.trap.Trap.{Trap}
-use Rattle.machine_calls.specs.declared.store.Store.{Store}
-use Rattle.machine_calls.specs.declared.activation.Activation.{Activation}
-use Rattle.machine_calls.specs.Asked.{scene_of}
-use Rattle.machine_calls.specs.Scenes.{Scene, scene_view}
-use Rattle.machine_calls.specs.Checked.{element_wanted, trap_found}
-use Rattle.machine_calls.specs.Locals.{locals_after}
+use Rattle.machine_scenes.specs.declared.store.Store.{Store}
+use Rattle.machine_scenes.specs.declared.activation.Activation.{Activation}
+use Rattle.machine_answers.specs.Asked.{scene_of}
+use Rattle.machine_scenes.specs.Scenes.{Scene, scene_view}
+use Rattle.machine_answers.specs.Checked.{element_wanted, trap_found}
+use Rattle.machine_scenes.specs.Locals.{locals_after}
 use Rattle.tables.specs.Locals.{has_room}
 use Rattle.machine_steps.specs.Invoked.{trap_at}
 use Rattle.semantics.specs.EventViews.{trap_view}
-use Rattle.machine_calls.specs.WorkedOut.{IsWorkedOut}
+use Rattle.machine_answers.specs.WorkedOut.{IsWorkedOut}
 use Rattle.machine_steps.proofs.SeenCalls.{addresses_seen, handles_seen, loaded_seen, passed_seen, trap_seen}
 use Rattle.machine_steps.proofs.invoke.answer_or_trap.Goals as goal
 

@@ -24,21 +24,21 @@ use Rattle.semantics.specs.Thread.{Shared, Thread, sight_of}
 use Rattle.semantics.specs.World.{World}
 use Rattle.semantics_safety.specs.Owners.{Owners}
 use Rattle.tables.specs.Locals.{LocalTable}
-use Rattle.machine_calls.specs.Answers.{IsAnswer, array_given, bringing}
-use Rattle.machine_calls.specs.Buffers.{Acquired, acquired_by, beside, gives_up, holding, in_use_of}
+use Rattle.machine_answers.specs.Answers.{IsAnswer, array_given, bringing}
+use Rattle.machine_scenes.specs.Buffers.{Acquired, acquired_by, beside, gives_up, holding, in_use_of}
 use Rattle.machine_calls.specs.CarriedOut.{CarriesOut, GoesByRoom, buffers_after, made_by, shared_after, slots_after}
-use Rattle.machine_calls.specs.Copies.{words_of}
-use Rattle.machine_calls.specs.NewObjects.{texts_in}
-use Rattle.machine_calls.specs.declared.activation.Activation.{Activation}
-use Rattle.machine_calls.specs.declared.answer.Answer.{Answer}
-use Rattle.machine_calls.specs.declared.answer.Answer.TheVariants as answers
-use Rattle.machine_calls.specs.declared.answer.Given.{Given}
-use Rattle.machine_calls.specs.declared.buffer.Buffer.{Buffer}
-use Rattle.machine_calls.specs.declared.buffer.Buffer.TheVariants as buffer
-use Rattle.machine_calls.specs.declared.statics.StaticReference.{StaticReference}
-use Rattle.machine_calls.specs.declared.store.Store.{Store}
+use Rattle.machine_answers.specs.Copies.{words_of}
+use Rattle.machine_scenes.specs.NewObjects.{texts_in}
+use Rattle.machine_scenes.specs.declared.activation.Activation.{Activation}
+use Rattle.machine_answers.specs.declared.answer.Answer.{Answer}
+use Rattle.machine_answers.specs.declared.answer.Answer.TheVariants as answers
+use Rattle.machine_answers.specs.declared.answer.Given.{Given}
+use Rattle.machine_scenes.specs.declared.buffer.Buffer.{Buffer}
+use Rattle.machine_scenes.specs.declared.buffer.Buffer.TheVariants as buffer
+use Rattle.machine_scenes.specs.declared.statics.StaticReference.{StaticReference}
+use Rattle.machine_scenes.specs.declared.store.Store.{Store}
 use Rattle.machine_calls.proofs.CellsMade.{cells_made}
-use Rattle.machine_calls.proofs.Overlays.{length_overlaid}
+use Rattle.machine_answers.proofs.Overlays.{length_overlaid}
 use Rattle.machine_calls.proofs.StaticStores.{shared_long, statics_long}
 use Rattle.semantics.specs.declared.event.Event.TheVariants.{Quiet}
 use Rattle.machine_steps.specs.declared.execute.Executed.{Executed}

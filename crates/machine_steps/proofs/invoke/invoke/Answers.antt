@@ -5,12 +5,12 @@ use Rattle.std.proofs.lemmas.Bool.{leb-false}
 use Rattle.class_rules.specs.Class.{Classes}
 use Rattle.heap.specs.Heap.{left_of}
 use Rattle.jni.specs.Table.{result_value}
-use Rattle.machine_calls.specs.declared.answer.Answer.{Answer}
-use Rattle.machine_calls.specs.declared.answer.Answer.TheVariants as answer
+use Rattle.machine_answers.specs.declared.answer.Answer.{Answer}
+use Rattle.machine_answers.specs.declared.answer.Answer.TheVariants as answer
 use Rattle.semantics.specs.EventViews.{trap_view}
 use Rattle.machine_steps.specs.Invoked.{IsAnswered, trap_at}
 use Rattle.machine_calls.specs.Made.{cells_of}
-use Rattle.machine_calls.specs.NewObjects.{texts_in}
+use Rattle.machine_scenes.specs.NewObjects.{texts_in}
 use Rattle.machine_calls.proofs.CellsMade.{memory_free}
 use Rattle.machine_steps.proofs.AnsweredCalls.{cells_asked, halts}
 use Rattle.machine_steps.proofs.AskedCalls.{found_trap, traps, trap_is}

@@ -1,8 +1,8 @@
 use Rattle.std.proofs.Common.{sym, ap, ◌∙◌, subst}
 use Rattle.std.specs.Option.{option_map}
 use Rattle.heap.specs.Heap.{Space, IsAddress}
-use Rattle.machine_calls.specs.Scenes.{Scene, scene_view}
-use Rattle.machine_calls.specs.Given.{operand_at, operand_of}
+use Rattle.machine_scenes.specs.Scenes.{Scene, scene_view}
+use Rattle.machine_scenes.specs.Given.{operand_at, operand_of}
 use Rattle.semantics.specs.EventViews.{trap_view}
 use Rattle.machine_steps.specs.Waiting.{store_unowned, unowned}
 use Rattle.machine_steps.proofs.SeenCalls.{addresses_seen, handles_seen, trap_seen}

@@ -1,7 +1,7 @@
 use Rattle.std.proofs.Common.{◌≡◌, ℕ, suc, ◌+◌, ◌≤◌, Bool, true, false, List, length, refl, sym, ap, ◌∙◌, subst, arith}
 use Rattle.std.specs.Prelude.{slice_get, not, ◌||◌}
 use Rattle.std.proofs.lemmas.Option.{slice_get_read}
-use Rattle.machine_steps.specs.declared.thread.Thread.{Thread}
+use Rattle.machine_threads.specs.declared.thread.Thread.{Thread}
 use Rattle.machine.proofs.Standings.{all_resting, ended_more, goes_on, none_rest, rest_more}
 use Rattle.machine.proofs.machine.Machine.all_rest.Goals as goal
 use Rattle.machine.proofs.machine.Machine.all_rest.Goals.{else-is_unfinished-via-then-is_unfinished+else-not-waits, else-is_unfinished-via-else-is_unfinished}

@@ -7,7 +7,7 @@ use Rattle.std.specs.Option.{option_map}
 use Rattle.report.specs.declared.thread_status.ThreadStatus.{ThreadStatus}
 use Rattle.report.specs.ThreadStatus.{standing_view}
 use Rattle.semantics.specs.Report.{ThreadStanding}
-use Rattle.machine_steps.specs.declared.thread.Thread.{Thread}
+use Rattle.machine_threads.specs.declared.thread.Thread.{Thread}
 use Rattle.machine.specs.Run.{InState, standings_in}
 use Rattle.semantics.specs.EventViews.{ending_view, stop_view}
 use Rattle.semantics.specs.ReportOf.{standing_at}

@@ -2,7 +2,7 @@ use Rattle.std.proofs.Common.{◌≡◌, ◌<◌, Some, length, sym, subst, arit
 use Rattle.semantics.specs.declared.schedule.ScheduleWord.{ScheduleWord}
 use Rattle.machine.specs.Run.{Run, GivesNoStep, replay_of}
 use Rattle.machine.proofs.Runs.{missing_waits}
-use Rattle.machine_steps.proofs.ThreadLoads.{agree_length}
+use Rattle.machine_threads.proofs.ThreadLoads.{agree_length}
 use Rattle.machine.proofs.machine.Machine.turn_of.Goals as goal
 
 pub returns-in_default-clause-none : goal.returns-in_default-clause-none

@@ -1,0 +1,344 @@
+-- What is known of a call's operands, by the kinds of its parameters.
+use Rattle.std.proofs.Common.{inl, inr, ◌≡◌, ℕ, zero, suc, ◌+◌, ◌-◌, ◌<◌, ◌≤◌, ◌^◌, Bool, true, false, not, List, [], ◌∷◌, ◌++◌, length, Option, Some, None, is_none, slice_get, refl, sym, ap, ◌∙◌, subst, arith, eqb, ⊎_elim, ℤ}
+use Rattle.std.specs.Prelude.{◌||◌, ◌==◌, unwrap_or, FitsSigned, ◌&&◌}
+use Rattle.std.specs.Int.{w32}
+use Rattle.std.specs.List.{AllByRecursion, AllZip, list_any}
+use Rattle.std.specs.Option.{option_map_or}
+use Rattle.std.proofs.lemmas.Bool.Decides.{eqb_tells}
+use Rattle.base.specs.Element.{ElementType}
+use Rattle.class_rules.specs.BuiltIns.{class_class, has_own_making, number_array, string_class}
+use Rattle.class_rules.specs.Class.{Class, Classes, class_at, class_kind, is_plain, superclass}
+use Rattle.class_rules.proofs.GrownTables.{IsOrdered}
+use Rattle.classes.specs.declared.class.FieldHandle.{FieldHandle}
+use Rattle.code.specs.declared.instr.Operand.{Operand}
+use Rattle.code.specs.declared.instr.Operand.TheVariants as operand
+use Rattle.heap.specs.Heap.{Space, IsLaidOut, name_at}
+use Rattle.jni.specs.Prototype.{ParameterKind, StaticVariable, ClassObject, FieldID, IntNumber, NumberArray, TextBytes}
+use Rattle.semantics.specs.Arguments.{Actual, ReferenceActual, FieldActual, TextActual, VariableActual, ModeActual, NothingActual, reference_given, name_or_zero, text_given, text_in_actual, NumberActual, number_given, number_in_actual}
+use Rattle.semantics.specs.Heap.{Heap, values_of}
+use Rattle.semantics.specs.Object.{Reference}
+use Rattle.code_meaning.specs.Does.{ActualFits, OperandFits, texts_given, words_given}
+use Rattle.code_meaning.specs.Does as does
+use Rattle.code_meaning.specs.Fits.{IsReferenceKind}
+use Rattle.semantics.specs.Value.{Int}
+use Rattle.code_meaning.specs.Slots.{word_of}
+use Rattle.machine_scenes.specs.Statics.{References, held_address, holds_deleted, holds_null, static_at}
+use Rattle.machine_scenes.specs.declared.references.Held.{Held}
+use Rattle.machine_scenes.specs.declared.references.Held.TheVariants as held
+use Rattle.class_queries.specs.Kinds.{class_misfits}
+use Rattle.machine_answers.specs.Checked.{gives_deleted, gives_null, misfits, some_misfit, some_missing, may_be_null}
+use Rattle.machine_scenes.specs.Given.{operand_at, operand_of, class_there, IsGiven, field_at}
+use Rattle.machine_scenes.specs.HeapAgrees.{ReferenceAgrees, BlocksAgree, IsTable}
+use Rattle.machine_answers.specs.WorkedOut.{count_there, class_object}
+use Rattle.machine_answers.proofs.CallChecks.{reference_at_place}
+use Rattle.machine_answers.proofs.FewValues.{few_values}
+use Rattle.machine_scenes.proofs.ObjectsAtAddresses.{is_object}
+
+-- ---- what is there
+
+module _ (classes : Classes) (space : Space) (references : References) (fields : List (Option FieldHandle)) (heap : Heap) (blocks : BlocksAgree space heap space.blocks) where
+  pub count_is : (o : Option ℕ) (q : Reference) → ReferenceAgrees space o q → count_there space o ≡ length (values_of heap (name_or_zero q))
+  count_is None None h = refl
+  count_is None (Some n) h = absurd h
+  count_is (Some a) None h = absurd h
+  count_is (Some a) (Some n) h = (is_object space heap a n blocks h).count
+
+  pub few_there : (o : Option ℕ) → IsLaidOut space → space.cells ≤ 1048576 → count_there space o < 2 ^ 31
+  few_there None laid_out limit = omega arith
+  few_there (Some a) laid_out limit = few_values space a laid_out limit
+
+-- ---- class objects
+
+-- the class object of a class of the table
+pub class_object_is : (space : Space) (loaded : List ℕ) (count c : ℕ) → IsTable space loaded count → 0 < c → c ≤ count → ReferenceAgrees space (class_object loaded (Some c)) (Some c)
+class_object_is space loaded count c table low high = by_address (slice_get loaded (c - 1)) refl
+  where
+    there : (xs : List ℕ) (i : ℕ) → i < length xs → slice_get xs i ≡ None → ⊥
+    there [] i h e = absurd (omega (arith, h))
+    there (x ∷ xs) zero h e = absurd (cc)
+    there (x ∷ xs) (suc i) h e = there xs i (omega (arith, h)) e
+
+    by_address : (o : Option ℕ) → slice_get loaded (c - 1) ≡ o → ReferenceAgrees space o (Some c)
+    by_address None e = absurd (there loaded (c - 1) (omega (arith, low, high, table.counted)) e)
+    by_address (Some a) e = let same : (c - 1) + 1 ≡ c = omega (arith, low) in table.named (c - 1) a e ∙ ap (λ (n : ℕ). Some n) same
+
+pub super_known : (classes : Classes) → IsOrdered classes → (c s : ℕ) → superclass classes c ≡ Some s → (0 < s) × (s ≤ length classes)
+super_known classes o c s h = by_class (class_at classes c) refl h
+  where
+    known : (T : Classes) (n : ℕ) (d : Class) → class_at T n ≡ Some d → (0 < n) × (n ≤ length T)
+    known T zero d e = absurd (cc)
+    known [] (suc i) d e = absurd (cc)
+    known (x ∷ T) (suc zero) d e = (omega arith, omega arith)
+    known (x ∷ T) (suc (suc i)) d e = (omega arith, omega (arith, (known T (suc i) d e).1))
+
+    by_class : (k : Option Class) → class_at classes c ≡ k → option_map_or (λ (d : Class). d.superclass) k None ≡ Some s → (0 < s) × (s ≤ length classes)
+    by_class None e q = absurd (cc)
+    by_class (Some d) e q = let b = o.superclasses c s d e q in known classes s b.class b.is
+
+-- ---- texts
+
+pub same_number : (n m : ℕ) → not (n == m) ≡ false → n ≡ m
+same_number n m same =
+    ⊎_elim (λ (t : (eqb n m ≡ true) × (n ≡ m)). t.1)
+    (λ (t : (eqb n m ≡ false) × (n ≡ m → ⊥)). absurd (let clash : not false ≡ false = ap not (sym t.0) ∙ same in cc))
+    (eqb_tells n m)
+
+module _ (classes : Classes) (space : Space) (references : References) (fields : List (Option FieldHandle)) where
+  no_text : (o : Operand) (a : Actual) → OperandFits ClassObject o → IsGiven classes space references fields o a → does.text_given a ≡ []
+  no_text operand.Number a fits h = absurd (cc)
+  no_text (operand.FieldId i) a fits h = absurd (cc)
+  no_text operand.Text a fits h = absurd (cc)
+  no_text (operand.Array array) a fits h = ap does.text_given h.1
+  no_text (operand.Buffer i) a fits h = ap does.text_given h.1
+  no_text (operand.Mode mode) a fits h = ap does.text_given h.1
+  no_text (operand.IsCopy i) a fits h = ap does.text_given h.1
+  no_text operand.Null a fits (inl h) = ap does.text_given h.is
+  no_text operand.Null a fits (inr (inl h)) = ap does.text_given h.is
+  no_text operand.Null a fits (inr (inr h)) = ap does.text_given h
+  no_text (operand.Local i) a fits h = ap does.text_given h.is
+  no_text (operand.Static i) a fits h = ap does.text_given h.is
+
+  one_text : (o : Operand) (a : Actual) → OperandFits TextBytes o → IsGiven classes space references fields o a → does.text_given a ≡ text_in_actual (Some a) ∷ []
+  one_text operand.Number a fits h = absurd (cc)
+  one_text (operand.FieldId i) a fits h = absurd (cc)
+  one_text operand.Text a fits h = ap does.text_given h.1 ∙ ap (λ (b : Actual). text_in_actual (Some b) ∷ []) (sym h.1)
+  one_text operand.Null a fits h = absurd fits
+  one_text (operand.Array array) a fits h = absurd (let e = fits.1 in cc)
+  one_text (operand.Buffer i) a fits h = absurd (let e = fits.1 in cc)
+  one_text (operand.Mode mode) a fits h = absurd (cc)
+  one_text (operand.IsCopy i) a fits h = absurd (cc)
+  one_text (operand.Local i) a fits h = absurd fits
+  one_text (operand.Static i) a fits h = absurd fits
+
+  -- the text of a call that takes one
+  pub only_text : (operands : List Operand) (args : List Actual) → AllZip OperandFits (TextBytes ∷ []) operands → AllZip (IsGiven classes space references fields) operands args
+      → unwrap_or (slice_get (texts_given args) 0) [] ≡ text_given args 0
+  only_text [] args fits given = absurd fits
+  only_text (x ∷ y ∷ more) args fits given = absurd fits.1
+  only_text (x ∷ []) [] fits given = absurd given
+  only_text (x ∷ []) (a ∷ b ∷ more) fits given = absurd given.1
+  only_text (x ∷ []) (a ∷ []) fits given = ap (λ (l : List (List ℕ)). unwrap_or (slice_get (l ++ []) 0) []) (one_text x a fits.0 given.0)
+
+  -- the text of a call that takes a class and a text
+  pub second_text : (operands : List Operand) (args : List Actual) → AllZip OperandFits (ClassObject ∷ TextBytes ∷ []) operands → AllZip (IsGiven classes space references fields) operands args
+      → unwrap_or (slice_get (texts_given args) 0) [] ≡ text_given args 1
+  second_text [] args fits given = absurd fits
+  second_text (c ∷ []) args fits given = absurd fits.1
+  second_text (c ∷ x ∷ y ∷ more) args fits given = absurd fits.1.1
+  second_text (c ∷ x ∷ []) [] fits given = absurd given
+  second_text (c ∷ x ∷ []) (a ∷ []) fits given = absurd given.1
+  second_text (c ∷ x ∷ []) (a ∷ b ∷ d ∷ more) fits given = absurd given.1.1
+  second_text (c ∷ x ∷ []) (a ∷ b ∷ []) fits given =
+      let none = no_text c a fits.0 given.0 in
+      let one = one_text x b fits.1.0 given.1.0 in
+      let all : texts_given (a ∷ b ∷ []) ≡ text_in_actual (Some b) ∷ [] = λ i. none i ++ (one i ++ []) in
+      ap (λ (l : List (List ℕ)). unwrap_or (slice_get l 0) []) all
+
+  -- the texts of a call that takes a class and two texts
+  pub two_texts : (operands : List Operand) (args : List Actual) → AllZip OperandFits (ClassObject ∷ TextBytes ∷ TextBytes ∷ []) operands → AllZip (IsGiven classes space references fields) operands args
+      → (unwrap_or (slice_get (texts_given args) 0) [] ≡ text_given args 1) × (unwrap_or (slice_get (texts_given args) 1) [] ≡ text_given args 2)
+  two_texts [] args fits given = absurd fits
+  two_texts (c ∷ []) args fits given = absurd fits.1
+  two_texts (c ∷ x ∷ []) args fits given = absurd fits.1.1
+  two_texts (c ∷ x ∷ y ∷ z ∷ more) args fits given = absurd fits.1.1.1
+  two_texts (c ∷ x ∷ y ∷ []) [] fits given = absurd given
+  two_texts (c ∷ x ∷ y ∷ []) (a ∷ []) fits given = absurd given.1
+  two_texts (c ∷ x ∷ y ∷ []) (a ∷ b ∷ []) fits given = absurd given.1.1
+  two_texts (c ∷ x ∷ y ∷ []) (a ∷ b ∷ d ∷ e ∷ more) fits given = absurd given.1.1.1
+  two_texts (c ∷ x ∷ y ∷ []) (a ∷ b ∷ d ∷ []) fits given =
+      let none = no_text c a fits.0 given.0 in
+      let one = one_text x b fits.1.0 given.1.0 in
+      let two = one_text y d fits.1.1.0 given.1.1.0 in
+      let all : texts_given (a ∷ b ∷ d ∷ []) ≡ text_in_actual (Some b) ∷ text_in_actual (Some d) ∷ [] = λ i. none i ++ (one i ++ (two i ++ [])) in
+      (ap (λ (l : List (List ℕ)). unwrap_or (slice_get l 0) []) all, ap (λ (l : List (List ℕ)). unwrap_or (slice_get l 1) []) all)
+
+  -- ---- the object of an argument
+
+  -- operand i gives an object
+  pub record GivenObject (operands : List Operand) (args : List Actual) (i : ℕ) : Type 0 where
+    pub address : ℕ
+    pub name : ℕ
+    pub at : operand_at references (operand_of operands i) ≡ Some address
+    pub is : reference_given args i ≡ Some name
+    pub named : name_at space address ≡ Some name
+
+  first_of : (a b : Bool) → (a || b) ≡ false → a ≡ false
+  first_of true b h = absurd (cc)
+  first_of false b h = refl
+
+  second_of : (a b : Bool) → (a || b) ≡ false → b ≡ false
+  second_of true b h = absurd (cc)
+  second_of false b h = h
+
+  some_address : (o : Option ℕ) → is_none o ≡ false → (a : ℕ) × (o ≡ Some a)
+  some_address None h = absurd (cc)
+  some_address (Some a) h = (a, refl)
+
+  some_held : (x : Held) → holds_deleted x ≡ false → holds_null x ≡ false → (a : ℕ) × (held_address x ≡ Some a)
+  some_held held.Empty whole h = absurd (cc)
+  some_held (held.At a) whole h = (a, refl)
+  some_held held.Deleted whole h = absurd (cc)
+
+  object_in : (p : ParameterKind) → IsReferenceKind p → (o : Operand) → OperandFits p o → gives_deleted references o ≡ false → gives_null references fields o ≡ false → (a : ℕ) × (operand_at references o ≡ Some a)
+  object_in p kind operand.Number fits whole h = absurd (subst IsReferenceKind fits kind)
+  object_in p kind (operand.FieldId i) fits whole h = absurd (subst IsReferenceKind fits kind)
+  object_in p kind operand.Text fits whole h = absurd (subst IsReferenceKind fits kind)
+  object_in p kind (operand.Array array) fits whole h = absurd (subst IsReferenceKind fits.1 kind)
+  object_in p kind (operand.Buffer i) fits whole h = absurd (subst IsReferenceKind fits.1 kind)
+  object_in p kind (operand.Mode mode) fits whole h = absurd (subst IsReferenceKind fits kind)
+  object_in p kind (operand.IsCopy i) fits whole h = absurd (subst IsReferenceKind fits kind)
+  object_in p kind operand.Null fits whole h = absurd (cc)
+  object_in p kind (operand.Static i) fits whole h = some_held (static_at references i) whole h
+  object_in p kind (operand.Local i) fits whole h = some_address (operand_at references (operand.Local i)) h
+
+  by_reference : (operands : List Operand) (args : List Actual) (i a : ℕ) (q : Reference) → operand_at references (operand_of operands i) ≡ Some a → reference_given args i ≡ q → ReferenceAgrees space (Some a) q → GivenObject operands args i
+  by_reference operands args i a None at is h = absurd h
+  by_reference operands args i a (Some n) at is h = record { address = a; name = n; at = at; is = is; named = h }
+
+  -- an argument that may not be NULL
+  pub object_at_place : (before : List ParameterKind) (p : ParameterKind) (after : List ParameterKind) → IsReferenceKind p → may_be_null p ≡ false → (operands : List Operand) (args : List Actual) → AllZip OperandFits (before ++ p ∷ after) operands
+      → AllZip (IsGiven classes space references fields) operands args → list_any (gives_deleted references) operands ≡ false → some_missing references fields (before ++ p ∷ after) operands ≡ false → GivenObject operands args (length before)
+  object_at_place [] p after kind never [] args fits given whole missing = absurd fits
+  object_at_place [] p after kind never (o ∷ operands) [] fits given whole missing = absurd given
+  object_at_place [] p after kind never (o ∷ operands) (a ∷ args) fits given whole missing =
+      let no_null : (not (may_be_null p) && gives_null references fields o) ≡ false = first_of (not (may_be_null p) && gives_null references fields o) (some_missing references fields after operands) missing in
+      let found = object_in p kind o fits.0 (first_of (gives_deleted references o) (list_any (gives_deleted references) operands) whole) (subst (λ (b : Bool). (not b && gives_null references fields o) ≡ false) never no_null) in
+      by_reference (o ∷ operands) (a ∷ args) 0 found.0 (reference_given (a ∷ args) 0) found.1 refl
+      (subst (λ (x : Option ℕ). ReferenceAgrees space x (reference_given (a ∷ args) 0)) found.1 (reference_at_place classes space references fields (o ∷ operands) (a ∷ args) 0 given))
+  object_at_place (q ∷ before) p after kind never [] args fits given whole missing = absurd fits
+  object_at_place (q ∷ before) p after kind never (o ∷ operands) [] fits given whole missing = absurd given
+  object_at_place (q ∷ before) p after kind never (o ∷ operands) (a ∷ args) fits given whole missing =
+      let further = object_at_place before p after kind never operands args fits.1 given.1 (second_of (gives_deleted references o) (list_any (gives_deleted references) operands) whole)
+      (second_of (not (may_be_null q) && gives_null references fields o) (some_missing references fields (before ++ p ∷ after) operands) missing) in
+      record { address = further.address; name = further.name; at = further.at; is = further.is; named = further.named }
+
+  -- a field ID that may not be NULL
+  some_handle : (o : Option FieldHandle) → is_none o ≡ false → (h : FieldHandle) × (o ≡ Some h)
+  some_handle None h = absurd (cc)
+  some_handle (Some x) h = (x, refl)
+
+  handle_in : (o : Operand) → OperandFits FieldID o → gives_null references fields o ≡ false → (h : FieldHandle) × (field_at fields o ≡ Some h)
+  handle_in operand.Number fits h = absurd (cc)
+  handle_in operand.Text fits h = absurd (cc)
+  handle_in operand.Null fits h = absurd (cc)
+  handle_in (operand.Array array) fits h = absurd (let e = fits.1 in cc)
+  handle_in (operand.Buffer i) fits h = absurd (let e = fits.1 in cc)
+  handle_in (operand.Mode mode) fits h = absurd (cc)
+  handle_in (operand.IsCopy i) fits h = absurd (cc)
+  handle_in (operand.Local i) fits h = absurd fits
+  handle_in (operand.Static i) fits h = absurd fits
+  handle_in (operand.FieldId i) fits h = some_handle (field_at fields (operand.FieldId i)) h
+
+  pub second_field : (p : ParameterKind) (parameters : List ParameterKind) (operands : List Operand) → may_be_null p ≡ false → AllZip OperandFits (p ∷ FieldID ∷ parameters) operands → some_missing references fields (p ∷ FieldID ∷ parameters) operands ≡ false
+      → (h : FieldHandle) × (field_at fields (operand_of operands 1) ≡ Some h)
+  second_field p parameters [] never fits missing = absurd fits
+  second_field p parameters (o ∷ []) never fits missing = absurd fits.1
+  second_field p parameters (o ∷ x ∷ operands) never fits missing =
+      let later = second_of (not (may_be_null p) && gives_null references fields o) (some_missing references fields (FieldID ∷ parameters) (x ∷ operands)) missing in
+      handle_in x fits.1.0 (first_of (gives_null references fields x) (some_missing references fields parameters operands) later)
+
+  pub is_number : (o : Operand) (a : Actual) → OperandFits IntNumber o → IsGiven classes space references fields o a → (z : ℤ) × (a ≡ NumberActual z) × FitsSigned w32 z
+  is_number operand.Number a fits h = h
+  is_number operand.Text a fits h = absurd (cc)
+  is_number operand.Null a fits h = absurd fits
+  is_number (operand.Array array) a fits h = absurd (let e = fits.1 in cc)
+  is_number (operand.Buffer i) a fits h = absurd (let e = fits.1 in cc)
+  is_number (operand.Mode mode) a fits h = absurd (cc)
+  is_number (operand.IsCopy i) a fits h = absurd (cc)
+  is_number (operand.Local i) a fits h = absurd fits
+  is_number (operand.Static i) a fits h = absurd fits
+  is_number (operand.FieldId i) a fits h = absurd (cc)
+
+  -- ---- the number on top of the stack
+
+  -- a parameter of no number
+  abbrev pub IsWordless : ParameterKind → Type 0
+  IsWordless p = p ≡ IntNumber → ⊥
+
+  pub wordless : (p : ParameterKind) (a : Actual) → IsWordless p → ActualFits p a → does.word_given a ≡ []
+  wordless p (NumberActual z) none fits = absurd (none fits)
+  wordless p (ReferenceActual x r) none fits = refl
+  wordless p (FieldActual f) none fits = refl
+  wordless p (TextActual bytes) none fits = refl
+  wordless p (VariableActual x) none fits = refl
+  wordless p (ModeActual m) none fits = refl
+  wordless p NothingActual none fits = refl
+
+  no_words : (parameters : List ParameterKind) (args : List Actual) → AllByRecursion IsWordless parameters → AllZip ActualFits parameters args → words_given args ≡ []
+  no_words [] [] none fits = refl
+  no_words [] (a ∷ args) none fits = absurd fits
+  no_words (p ∷ parameters) [] none fits = absurd fits
+  no_words (p ∷ parameters) (a ∷ args) none fits =
+      let one = wordless p a none.0 fits.0 in
+      let further = no_words parameters args none.1 fits.1 in
+      λ i. further i ++ one i
+
+  -- the number of argument i is the only one
+  pub record OnTop (args : List Actual) (i : ℕ) : Type 0 where
+    pub number : ℤ
+    pub is : number_given args i ≡ number
+    pub fits : FitsSigned w32 number
+    pub words : words_given args ≡ word_of (Int number) ∷ []
+
+  pub on_top : (before after : List ParameterKind) (operands : List Operand) (args : List Actual) → AllByRecursion IsWordless before → AllByRecursion IsWordless after
+      → AllZip OperandFits (before ++ IntNumber ∷ after) operands → AllZip ActualFits (before ++ IntNumber ∷ after) args → AllZip (IsGiven classes space references fields) operands args → OnTop args (length before)
+  on_top [] after [] args none later kinds fit given = absurd kinds
+  on_top [] after (o ∷ operands) [] none later kinds fit given = absurd given
+  on_top [] after (o ∷ operands) (a ∷ args) none later kinds fit given =
+      let number = is_number o a kinds.0 given.0 in
+      let word : does.word_given a ≡ word_of (Int number.0) ∷ [] = ap does.word_given number.1 in
+      let further = no_words after args later fit.1 in
+      record { number = number.0; is = ap (λ (q : Actual). number_in_actual (Some q)) number.1; fits = number.2; words = λ i. further i ++ word i }
+  on_top (p ∷ before) after [] args none later kinds fit given = absurd kinds
+  on_top (p ∷ before) after (o ∷ operands) [] none later kinds fit given = absurd given
+  on_top (p ∷ before) after (o ∷ operands) (a ∷ args) none later kinds fit given =
+      let further = on_top before after operands args none.1 later kinds.1 fit.1 given.1 in
+      let one = wordless p a none.0 fit.0 in
+      record { number = further.number; is = further.is; fits = further.fits; words = λ i. further.words i ++ one i }
+
+  -- ---- its class
+
+  -- an object is of the kind that its parameter asks for
+  of_kind : (before : List ParameterKind) (p : ParameterKind) (after : List ParameterKind) (operands : List Operand) (a : ℕ) → operand_at references (operand_of operands (length before)) ≡ Some a → AllZip OperandFits (before ++ p ∷ after) operands
+      → some_misfit classes space references (before ++ p ∷ after) operands ≡ false → class_misfits classes p (class_there space a) ≡ false
+  of_kind [] p after [] a at fits misfit = absurd fits
+  of_kind [] p after (o ∷ operands) a at fits misfit = sym (ap (misfits classes space p) at) ∙ first_of (misfits classes space p (operand_at references o)) (some_misfit classes space references after operands) misfit
+  of_kind (q ∷ before) p after [] a at fits misfit = absurd fits
+  of_kind (q ∷ before) p after (o ∷ operands) a at fits misfit =
+      of_kind before p after operands a at fits.1 (second_of (misfits classes space q (operand_at references o)) (some_misfit classes space references (before ++ p ∷ after) operands) misfit)
+
+  -- it is an object of the class Class
+  pub is_class : (before after : List ParameterKind) (operands : List Operand) (a : ℕ) → operand_at references (operand_of operands (length before)) ≡ Some a → AllZip OperandFits (before ++ ClassObject ∷ after) operands
+      → some_misfit classes space references (before ++ ClassObject ∷ after) operands ≡ false → class_there space a ≡ class_class
+  is_class before after operands a at fits misfit =
+      same_number (class_there space a) class_class (of_kind before ClassObject after operands a at fits misfit)
+
+  -- or of a class of arrays of numbers
+  pub is_number_array : (t : ElementType) (before after : List ParameterKind) (operands : List Operand) (a : ℕ) → operand_at references (operand_of operands (length before)) ≡ Some a → AllZip OperandFits (before ++ NumberArray t ∷ after) operands
+      → some_misfit classes space references (before ++ NumberArray t ∷ after) operands ≡ false → class_there space a ≡ number_array t
+  is_number_array t before after operands a at fits misfit = same_number (class_there space a) (number_array t) (of_kind before (NumberArray t) after operands a at fits misfit)
+
+-- an argument for a static is one
+static_operand : (o : Operand) → OperandFits StaticVariable o → (i : ℕ) × (o ≡ operand.Static i)
+static_operand (operand.Static i) fits = (i, refl)
+static_operand operand.Number fits = absurd (cc)
+static_operand operand.Text fits = absurd (cc)
+static_operand operand.Null fits = absurd fits
+static_operand (operand.Local i) fits = absurd fits
+static_operand (operand.FieldId i) fits = absurd (cc)
+static_operand (operand.Array array) fits = absurd (let e = fits.1 in cc)
+static_operand (operand.Buffer i) fits = absurd (let e = fits.1 in cc)
+static_operand (operand.Mode mode) fits = absurd (cc)
+static_operand (operand.IsCopy i) fits = absurd (cc)
+
+pub only_static : (operands : List Operand) → AllZip OperandFits (StaticVariable ∷ []) operands → (i : ℕ) × (operand_of operands 0 ≡ operand.Static i)
+only_static [] fits = absurd fits
+only_static (o ∷ operands) fits = static_operand o fits.0
+
+pub own_making : (classes : Classes) (c : ℕ) → not (has_own_making classes c) ≡ true → c ≡ class_class → ⊥
+own_making classes c h is = clash (not (is_plain (class_kind classes class_class))) (class_class == string_class) (ap (λ (n : ℕ). not (has_own_making classes n)) (sym is) ∙ h)
+  where
+    clash : (a b : Bool) → not (a || b || (class_class == class_class)) ≡ true → ⊥
+    clash true b h = cc
+    clash false true h = cc
+    clash false false h = cc

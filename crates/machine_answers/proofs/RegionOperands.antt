@@ -1,0 +1,206 @@
+-- What the operands of a function of regions give: two numbers, a local array, and an object that holds nothing but numbers.
+use Rattle.std.proofs.Common.{◌≡◌, ℕ, ℤ, zero, suc, ◌+◌, ◌<◌, ◌≤◌, List, [], ◌∷◌, ◌++◌, length, map, take, drop, Option, Some, refl, sym, ap, ◌∙◌, subst, arith}
+use Rattle.std.specs.Prelude.{slice_get, FitsSigned}
+use Rattle.std.specs.Int.{w32, cast_unsigned}
+use Rattle.std.specs.List.{AllZip}
+use Rattle.std.proofs.lemmas.List.{take-map}
+use Rattle.std.proofs.lemmas.Option.{slice_get-get_or, slice_get_within}
+use Rattle.base.specs.Bytes.{Identifier, lookup}
+use Rattle.base.specs.Element.{ElementType}
+use Rattle.class_rules.specs.BuiltIns.{number_array}
+use Rattle.class_rules.specs.Class.{Classes, NumberField}
+use Rattle.class_rules.specs.Grown.{IsGrown}
+use Rattle.classes.specs.declared.class.FieldHandle.{FieldHandle}
+use Rattle.code.specs.declared.instr.LocalArray.{LocalArray as ArraySlots}
+use Rattle.code.specs.declared.instr.Operand.{Operand}
+use Rattle.code.specs.declared.instr.Operand.TheVariants as operand
+use Rattle.code_meaning.specs.Does.{ActualFits, OperandFits, words_given}
+use Rattle.code_meaning.specs.Does as does
+use Rattle.code_meaning.specs.Slots.{word_of}
+use Rattle.heap.specs.Heap.{Space}
+use Rattle.heap.specs.declared.value.Value.{Value}
+use Rattle.heap.specs.declared.value.Value.TheVariants.{Number as Word, Null, Block as Address}
+use Rattle.jni.specs.Prototype.{ParameterKind, IntNumber, ArrayVariable}
+use Rattle.semantics.specs.Arguments.{Actual, number_given, number_in_actual, variable_given, variable_in_actual}
+use Rattle.semantics.specs.Heap.{Heap, number_in, numbers_of, values_of}
+use Rattle.semantics.specs.Object.{ObjectValue, Number, Refers}
+use Rattle.semantics.specs.Value.{Int}
+use Rattle.semantics.specs.Variable.{Variables}
+use Rattle.semantics_typing.specs.Objects.{AreTypedObjects, HasNumbers, PlaceFits, ValueFits, elements_by_kind, element_type_of, type_at}
+use Rattle.semantics_typing.proofs.TableKinds.{kind_numbers}
+use Rattle.semantics_typing.proofs.Heaps.{values_there}
+use Rattle.machine_answers.specs.Answers.{AreWordsOf, array_given}
+use Rattle.machine_answers.specs.Copies.{word_of as word_in_cell}
+use Rattle.machine_scenes.specs.Given.{HasArray, HasElements, IsGiven, operand_of}
+use Rattle.machine_scenes.specs.HeapAgrees.{ValueAgrees, ValuesAgree}
+use Rattle.machine_scenes.specs.Statics.{References}
+use Rattle.machine_answers.proofs.CallOperands.{IsWordless, is_number, wordless}
+use Rattle.machine_answers.proofs.Overlays.{get_drop}
+
+-- ---- numbers
+
+-- the second and the third argument, which are on the stack
+pub record TwoNumbers (args : List Actual) : Type 0 where
+  pub start : ℤ
+  pub count : ℤ
+  pub start_is : number_given args 1 ≡ start
+  pub count_is : number_given args 2 ≡ count
+  pub start_fits : FitsSigned w32 start
+  pub count_fits : FitsSigned w32 count
+  pub words : words_given args ≡ word_of (Int count) ∷ word_of (Int start) ∷ []
+
+module _ (classes : Classes) (space : Space) (references : References) (fields : List (Option FieldHandle)) (p q : ParameterKind) (first : IsWordless classes space references fields p) (last : IsWordless classes space references fields q) where
+  pub two_numbers : (operands : List Operand) (args : List Actual) → AllZip OperandFits (p ∷ IntNumber ∷ IntNumber ∷ q ∷ []) operands → AllZip ActualFits (p ∷ IntNumber ∷ IntNumber ∷ q ∷ []) args
+      → AllZip (IsGiven classes space references fields) operands args → TwoNumbers args
+  two_numbers [] args kinds fit given = absurd kinds
+  two_numbers (o ∷ []) args kinds fit given = absurd kinds.1
+  two_numbers (o ∷ m ∷ []) args kinds fit given = absurd kinds.1.1
+  two_numbers (o ∷ m ∷ n ∷ []) args kinds fit given = absurd kinds.1.1.1
+  two_numbers (o ∷ m ∷ n ∷ x ∷ y ∷ more) args kinds fit given = absurd kinds.1.1.1.1
+  two_numbers (o ∷ m ∷ n ∷ x ∷ []) [] kinds fit given = absurd fit
+  two_numbers (o ∷ m ∷ n ∷ x ∷ []) (a ∷ []) kinds fit given = absurd fit.1
+  two_numbers (o ∷ m ∷ n ∷ x ∷ []) (a ∷ b ∷ []) kinds fit given = absurd fit.1.1
+  two_numbers (o ∷ m ∷ n ∷ x ∷ []) (a ∷ b ∷ c ∷ []) kinds fit given = absurd fit.1.1.1
+  two_numbers (o ∷ m ∷ n ∷ x ∷ []) (a ∷ b ∷ c ∷ d ∷ e ∷ more) kinds fit given = absurd fit.1.1.1.1
+  two_numbers (o ∷ m ∷ n ∷ x ∷ []) (a ∷ b ∷ c ∷ d ∷ []) kinds fit given =
+      let start = is_number classes space references fields m b kinds.1.0 given.1.0 in
+      let count = is_number classes space references fields n c kinds.1.1.0 given.1.1.0 in
+      let none = wordless classes space references fields p a first fit.0 in
+      let no_more = wordless classes space references fields q d last fit.1.1.1.0 in
+      let one : does.word_given b ≡ word_of (Int start.0) ∷ [] = ap does.word_given start.1 in
+      let two : does.word_given c ≡ word_of (Int count.0) ∷ [] = ap does.word_given count.1 in
+      record {
+        start = start.0;
+        count = count.0;
+        start_is = ap (λ (q : Actual). number_in_actual (Some q)) start.1;
+        count_is = ap (λ (q : Actual). number_in_actual (Some q)) count.1;
+        start_fits = start.2;
+        count_fits = count.2;
+        words = λ i. ((([] ++ no_more i) ++ two i) ++ one i) ++ none i;
+      }
+
+-- ---- a local array
+
+-- the fourth argument is a local array, which has these elements
+pub record GivenArray (numbers : List ℕ) (vs : Variables) (operands : List Operand) (args : List Actual) : Type 0 where
+  pub array : ArraySlots
+  pub at : operand_of operands 3 ≡ operand.Array array
+  pub given : array_given operands args ≡ Some (variable_given args 3, array)
+  pub has : HasElements numbers array (lookup (variable_given args 3) vs)
+
+array_operand : (t : ElementType) (o : Operand) → OperandFits (ArrayVariable t) o → (array : ArraySlots) × (o ≡ operand.Array array)
+array_operand t (operand.Array array) fits = (array, refl)
+array_operand t operand.Number fits = absurd (cc)
+array_operand t (operand.FieldId i) fits = absurd (cc)
+array_operand t operand.Text fits = absurd (cc)
+array_operand t operand.Null fits = absurd fits
+array_operand t (operand.Local i) fits = absurd fits
+array_operand t (operand.Static i) fits = absurd fits
+array_operand t (operand.Buffer i) fits = absurd (let e = fits.1 in cc)
+array_operand t (operand.Mode mode) fits = absurd (cc)
+array_operand t (operand.IsCopy i) fits = absurd (cc)
+
+module _ (numbers : List ℕ) (vs : Variables) (p q r : ParameterKind) (t : ElementType) where
+  pub local_array : (operands : List Operand) (args : List Actual) → AllZip OperandFits (p ∷ q ∷ r ∷ ArrayVariable t ∷ []) operands → AllZip (HasArray numbers vs) operands args → GivenArray numbers vs operands args
+  local_array [] args kinds has = absurd kinds
+  local_array (o ∷ []) args kinds has = absurd kinds.1
+  local_array (o ∷ m ∷ []) args kinds has = absurd kinds.1.1
+  local_array (o ∷ m ∷ n ∷ []) args kinds has = absurd kinds.1.1.1
+  local_array (o ∷ m ∷ n ∷ x ∷ more) [] kinds has = absurd has
+  local_array (o ∷ m ∷ n ∷ x ∷ more) (a ∷ []) kinds has = absurd has.1
+  local_array (o ∷ m ∷ n ∷ x ∷ more) (a ∷ b ∷ []) kinds has = absurd has.1.1
+  local_array (o ∷ m ∷ n ∷ x ∷ more) (a ∷ b ∷ c ∷ []) kinds has = absurd has.1.1.1
+  local_array (o ∷ m ∷ n ∷ x ∷ more) (a ∷ b ∷ c ∷ d ∷ args) kinds has =
+      let slots = array_operand t x kinds.1.1.1.0 in
+      let held = subst (λ (y : Operand). HasArray numbers vs y d) slots.1 has.1.1.1.0 in
+      let is : variable_in_actual (Some d) ≡ held.0 = ap (λ (y : Actual). variable_in_actual (Some y)) held.1 in
+      record {
+        array = slots.0;
+        at = slots.1;
+        given = (λ i. array_given (o ∷ m ∷ n ∷ slots.1 i ∷ more) (a ∷ b ∷ c ∷ held.1 i ∷ args)) ∙ ap (λ (y : Identifier). Some (y, slots.0)) (sym is);
+        has = subst (λ (y : Identifier). HasElements numbers slots.0 (lookup y vs)) (sym is) held.2;
+      }
+
+-- the first words of its slots are those of its first elements
+words_taken : (numbers : List ℕ) (elements : List ℤ) (n : ℕ) → n ≤ length elements → ((i : ℕ) (z : ℤ) → slice_get elements i ≡ Some z → FitsSigned w32 z × (slice_get numbers i ≡ Some (cast_unsigned w32 z))) → AreWordsOf (take n numbers) (take n elements)
+words_taken numbers elements zero few words = record { fit = tt; same = refl }
+words_taken numbers [] (suc n) few words = absurd (omega (arith, few))
+words_taken [] (z ∷ elements) (suc n) few words = absurd (let e = (words 0 z refl).1 in cc)
+words_taken (w ∷ numbers) (z ∷ elements) (suc n) few words =
+    let later = words_taken numbers elements n (omega (arith, few)) (λ i y at. words (suc i) y at) in
+    let here = words 0 z refl in
+    let word : w ≡ cast_unsigned w32 z = let e = here.1 in cc in
+    record { fit = (here.0, later.fit); same = λ i. word i ∷ later.same i }
+
+module _ (numbers : List ℕ) (array : ArraySlots) (elements : List ℤ) (words : (i : ℕ) (z : ℤ) → slice_get elements i ≡ Some z → FitsSigned w32 z × (slice_get numbers (array.start + i) ≡ Some (cast_unsigned w32 z))) where
+  pub words_brought : (n : ℕ) → n ≤ length elements → AreWordsOf (take n (drop array.start numbers)) (take n elements)
+  words_brought n few = words_taken (drop array.start numbers) elements n few (λ i z at. ((words i z at).0, get_drop numbers array.start i (array.start + i) refl ∙ (words i z at).1))
+
+  -- which are there
+  pub slots_there : (i : ℕ) → i < length elements → array.start + i < length numbers
+  slots_there i below =
+      let at = slice_get-get_or elements i (ℤ.pos 0) below in
+      slice_get_within numbers (array.start + i) _ (words i _ at).1
+
+-- ---- an object of numbers
+
+drop_map : {A B : Type 0} (f : A → B) (n : ℕ) (xs : List A) → drop n (map f xs) ≡ map f (drop n xs)
+drop_map f zero xs = refl
+drop_map f (suc n) [] = refl
+drop_map f (suc n) (x ∷ xs) = drop_map f n xs
+
+module _ (space : Space) where
+  drop_agree : (n : ℕ) (ws : List Value) (us : List ObjectValue) → ValuesAgree space ws us → ValuesAgree space (drop n ws) (drop n us)
+  drop_agree zero ws us h = h
+  drop_agree (suc n) [] [] h = tt
+  drop_agree (suc n) [] (u ∷ us) h = absurd h
+  drop_agree (suc n) (w ∷ ws) [] h = absurd h
+  drop_agree (suc n) (w ∷ ws) (u ∷ us) h = drop_agree n ws us h.1
+
+  one_word : (w : Value) (u : ObjectValue) → ValueAgrees space w u → FitsSigned w32 (number_in u) × (word_in_cell w ≡ cast_unsigned w32 (number_in u))
+  one_word (Word n) (Number z) h = h
+  one_word (Word n) (Refers r) h = absurd h
+  one_word Null (Number z) h = absurd h
+  one_word Null (Refers r) h = (record { sfits = omega arith }, refl)
+  one_word (Address a) (Number z) h = absurd h
+  one_word (Address a) (Refers r) h = (record { sfits = omega arith }, refl)
+
+  words_read : (n : ℕ) (ws : List Value) (us : List ObjectValue) → ValuesAgree space ws us → AreWordsOf (map word_in_cell (take n ws)) (map number_in (take n us))
+  words_read zero ws us h = record { fit = tt; same = refl }
+  words_read (suc n) [] [] h = record { fit = tt; same = refl }
+  words_read (suc n) [] (u ∷ us) h = absurd h
+  words_read (suc n) (w ∷ ws) [] h = absurd h
+  words_read (suc n) (w ∷ ws) (u ∷ us) h =
+      let later = words_read n ws us h.1 in
+      let here = one_word w u h.0 in
+      record { fit = (here.0, later.fit); same = λ i. here.1 i ∷ later.same i }
+
+  -- the words of an object
+  pub all_words : (ws : List Value) (us : List ObjectValue) → ValuesAgree space ws us → AreWordsOf (map word_in_cell ws) (map number_in us)
+  all_words [] [] h = record { fit = tt; same = refl }
+  all_words [] (u ∷ us) h = absurd h
+  all_words (w ∷ ws) [] h = absurd h
+  all_words (w ∷ ws) (u ∷ us) h =
+      let later = all_words ws us h.1 in
+      let here = one_word w u h.0 in
+      record { fit = (here.0, later.fit); same = λ i. here.1 i ∷ later.same i }
+
+  -- the words of a part of an object
+  pub words_there : (start n : ℕ) (ws : List Value) (us : List ObjectValue) → ValuesAgree space ws us → AreWordsOf (map word_in_cell (take n (drop start ws))) (take n (drop start (map number_in us)))
+  words_there start n ws us h =
+      subst (λ (zs : List ℤ). AreWordsOf (map word_in_cell (take n (drop start ws))) zs) (sym (ap (take n) (drop_map number_in start us) ∙ take-map number_in n (drop start us)))
+      (words_read n (drop start ws) (drop start us) (drop_agree start ws us h))
+
+-- values that fit places of numbers are numbers
+all_numbers : (classes : Classes) (heap : Heap) (t : ElementType) (us : List ObjectValue) → ((i : ℕ) (v : ObjectValue) → slice_get us i ≡ Some v → ValueFits classes heap (NumberField t) v) → us ≡ map Number (map number_in us)
+all_numbers classes heap t [] fit = refl
+all_numbers classes heap t (Number z ∷ us) fit = ap (λ (l : List ObjectValue). Number z ∷ l) (all_numbers classes heap t us (λ i v at. fit (suc i) v at))
+all_numbers classes heap t (Refers r ∷ us) fit = absurd (fit 0 (Refers r) refl)
+
+pub numbers_alone : (classes : Classes) (heap : Heap) → AreTypedObjects classes heap → (n : ℕ) (t : ElementType) → HasNumbers classes heap t n → values_of heap n ≡ map Number (numbers_of heap n)
+numbers_alone classes heap typed n t (o, at, is) =
+    subst (λ (us : List ObjectValue). us ≡ map Number (map number_in us)) (sym (values_there heap n o at))
+    (all_numbers classes heap t o.values (λ i v e. let h : PlaceFits classes heap (type_at classes n o.class i) v = (typed.objects n o at).values i v e in rw is at h))
+
+pub array_numbers : (classes : Classes) → IsGrown classes → (t : ElementType) → element_type_of classes (number_array t) ≡ Some (NumberField t)
+array_numbers classes grown t = ap (elements_by_kind (number_array t)) (kind_numbers classes grown t)

@@ -1,0 +1,201 @@
+-- A call of the machine and the source's call that it stands for: what is known of its arguments once it has passed its checks.
+use Rattle.std.proofs.Common.{◌≡◌, ℕ, pos, zero, suc, ◌<◌, ◌≤◌, false, List, ◌∷◌, length, Option, Some, None, refl, sym, ap, ◌∙◌, subst, arith, ◌++◌}
+use Rattle.std.specs.Prelude.{FitsSigned}
+use Rattle.std.specs.Int.{w32}
+use Rattle.std.specs.List.{AllByRecursion, AllZip}
+use Rattle.std.specs.Option.{option_map_or}
+use Rattle.std.proofs.Math.Facts.{to_z-of_z}
+use Rattle.class_rules.specs.BuiltIns.{class_class}
+use Rattle.classes.specs.declared.class.FieldHandle.{FieldHandle}
+use Rattle.code.specs.Call.{Call}
+use Rattle.heap.specs.Heap.{name_at}
+use Rattle.jni.specs.JniFunction.{JniFunction, prototype}
+use Rattle.jni.specs.Prototype.{ParameterKind, ClassObject, IntNumber, GivesNothing}
+use Rattle.semantics.specs.Arguments.{Actual, reference_given, object_given, name_or_zero, number_given}
+use Rattle.semantics.specs.CallEffects.{heap_effect, CallEffect}
+use Rattle.semantics.specs.CallStep.{trap_of_call}
+use Rattle.semantics.specs.CallTable.{call_effect}
+use Rattle.semantics.specs.Heap.{class_of, values_of, object_at, number_in, value_at, reference_in, with_value_at}
+use Rattle.semantics.specs.Object.{Object, Reference, ObjectValue, Refers}
+use Rattle.semantics.specs.Task.{Target}
+use Rattle.semantics.specs.Thread.{Shared, Thread, BuffersInUse}
+use Rattle.semantics.specs.World.{World, loaded_objects}
+use Rattle.world_values.specs.SoundWorlds.{IsSound}
+use Rattle.code_meaning.specs.Does.{ActualFits, OperandFits}
+use Rattle.code_meaning.specs.Fits.{IsReferenceKind}
+use Rattle.code_meaning.specs.Lowered.{Lowered}
+use Rattle.semantics.specs.Value.{Int}
+use Rattle.code_meaning.specs.Slots.{word_of}
+use Rattle.machine_answers.proofs.FieldValues.{word_there, reference_there, writes}
+use Rattle.heap.specs.declared.value.Value.{Value}
+use Rattle.machine_scenes.specs.Buffers.{Acquired, acquired_by, beside, in_use_of}
+use Rattle.machine_scenes.specs.StoreAgrees.{StoreAgrees}
+use Rattle.machine_answers.specs.declared.answer.Answer.{Answer}
+use Rattle.machine_scenes.specs.declared.store.Store.{Store}
+use Rattle.machine_scenes.specs.declared.activation.Activation.{Activation}
+use Rattle.machine_answers.specs.Answers.{Brought, IsAnswer}
+use Rattle.machine_scenes.specs.NewObjects.{IsMakeable}
+use Rattle.machine_answers.specs.Asked.{IsAsked, brought_by, references_of, scene_of}
+use Rattle.machine_scenes.specs.Statics.{References}
+use Rattle.machine_answers.specs.Checked.{some_misfit, some_missing, may_be_null}
+use Rattle.machine_scenes.specs.Given.{operand_at, operand_of, class_there, name_there}
+use Rattle.machine_scenes.specs.HeapAgrees.{ReferenceAgrees, ValueAgrees}
+use Rattle.machine_answers.specs.WorkedOut.{class_object, IsWorkedOut, value_there, word_in, address_in, held_reference, writes_there, count_there, stack_number}
+use Rattle.machine_answers.proofs.CallChecks.{class_is, name_is, reference_at_place}
+use Rattle.machine_scenes.proofs.BlocksOfNames.{Named, named}
+use Rattle.machine_answers.proofs.CallTraps.{none_deleted, none_lacking, none_unfit}
+use Rattle.machine_answers.proofs.LongTables.{classes_loaded, grown_long}
+use Rattle.machine_answers.proofs.CallOperands.{GivenObject, IsWordless, OnTop, count_is, few_there, class_object_is, object_at_place, on_top, is_class}
+
+-- a call that the machine makes in thread k, and the source's
+pub record TwoCalls : Type 0 where
+  pub p : Lowered
+  pub w : World
+  pub sound : IsSound w
+  pub store : Store
+  pub pending : Option ℕ
+  pub call : Activation
+  pub function : Call
+  pub others : Acquired
+  pub k : ℕ
+  pub shared : Shared
+  pub s : Thread
+  pub target : Target
+  pub args : List Actual
+
+module _ (both : TwoCalls) where
+  open both use {p, w, store, pending, call, function, others, k, shared, s, target, sound, args}
+
+  abbrev pub references : References
+  references = references_of store call
+
+  abbrev pub fields : List (Option FieldHandle)
+  fields = call.slots.fields.items
+
+  -- what the buffers of all threads take
+  abbrev pub all : Acquired
+  all = beside others (acquired_by s)
+
+  abbrev pub in_use : BuffersInUse
+  in_use = in_use_of all
+
+  abbrev pub brought : Brought
+  brought = brought_by store call k in_use function args
+
+  -- what is asked of function f
+  abbrev pub Asked : JniFunction → Type 0
+  Asked f = IsAsked p w store pending call function others k shared s target f args
+
+  -- what is worked out for it
+  abbrev pub Works : JniFunction → Answer → Type 0
+  Works f answer = IsWorkedOut (scene_of w.classes store call k pending) function f answer
+
+  -- the answer is what it does
+  abbrev pub Does : JniFunction → Answer → Type 0
+  Does f answer = IsAnswer w.classes brought store.heap call.locals (prototype f).result shared s answer (call_effect w.classes in_use k shared s args f)
+
+  abbrev pub at : (i : ℕ) → Option ℕ
+  at i = operand_at references (operand_of function.operands i)
+
+  pub agrees : (f : JniFunction) → Asked f → (i : ℕ) → ReferenceAgrees store.heap (at i) (reference_given args i)
+  agrees f h i = reference_at_place w.classes store.heap references fields function.operands args i h.given
+
+  pub name_of : (f : JniFunction) → Asked f → (i : ℕ) → name_there store.heap (at i) ≡ object_given args i
+  name_of f h i = name_is w.classes store.heap references fields shared.heap h.store_agrees.heap.blocks (at i) (reference_given args i) (agrees f h i)
+
+  pub table_of : (f : JniFunction) → Asked f → (c : ℕ) → 0 < c → c ≤ length w.classes → ReferenceAgrees store.heap (class_object store.loaded.items (Some c)) (Some c)
+  table_of f h c low high = class_object_is store.heap store.loaded.items (length (loaded_objects w)) c h.store_agrees.table low (omega (arith, high, classes_loaded w))
+
+  -- the object of a name that a block has
+  pub object_of : (f : JniFunction) → Asked f → (a n : ℕ) → name_at store.heap a ≡ Some n → (o : Object) × (object_at shared.heap n ≡ Some o)
+  object_of f h a n there =
+      let object : Named store.heap shared.heap a n = named store.heap shared.heap a n h.store_agrees.heap there in
+      (object.agrees.object, ap (object_at shared.heap) (sym object.birth) ∙ object.agrees.is)
+
+  low_name : (n : ℕ) (o : Object) → object_at shared.heap n ≡ Some o → 0 < n
+  low_name zero o h = absurd (cc)
+  low_name (suc n) o h = omega arith
+
+  -- a built-in class after Class
+  pub built_in_class : (c : ℕ) → 2 < c → c ≤ 42 → IsMakeable w.classes c
+  built_in_class c low high = record { low = omega (arith, low); high = omega (arith, high, grown_long w.classes sound.grown); no_class = λ e. let is : c ≡ 2 = e in omega (arith, low, is) }
+
+  -- the object of argument i
+  pub object_given_at : (f : JniFunction) (before : List ParameterKind) (q : ParameterKind) (after : List ParameterKind) → IsReferenceKind q → may_be_null q ≡ false → (prototype f).parameters ≡ before ++ q ∷ after → Asked f
+      → trap_of_call w.classes shared s target f args ≡ None → GivenObject w.classes store.heap references fields function.operands args (length before)
+  object_given_at f before q after kind never are h free =
+      object_at_place w.classes store.heap references fields before q after kind never function.operands args (subst (λ (l : List ParameterKind). AllZip OperandFits l function.operands) are h.kinds) h.given
+      (none_deleted p w store pending call function others k shared s target f args h free)
+      (subst (λ (l : List ParameterKind). some_missing references fields l function.operands ≡ false) are (none_lacking p w store pending call function others k shared s target f args h free))
+
+  pub object_there : (g : GivenObject w.classes store.heap references fields function.operands args 0) → name_at store.heap g.address ≡ Some (object_given args 0)
+  object_there g = g.named ∙ ap (λ (q : Reference). Some (name_or_zero q)) (sym g.is)
+
+  -- the number of an argument, which is the only one
+  pub top_of : (f : JniFunction) (before after : List ParameterKind) → AllByRecursion (IsWordless w.classes store.heap references fields) before → AllByRecursion (IsWordless w.classes store.heap references fields) after
+      → (prototype f).parameters ≡ before ++ IntNumber ∷ after → Asked f → OnTop w.classes store.heap references fields args (length before)
+  top_of f before after none later are h =
+      on_top w.classes store.heap references fields before after function.operands args none later (subst (λ (l : List ParameterKind). AllZip OperandFits l function.operands) are h.kinds)
+      (subst (λ (l : List ParameterKind). AllZip ActualFits l args) are h.fit) h.given
+
+  -- it is on the stack
+  pub number_of : (f : JniFunction) (before after : List ParameterKind) → AllByRecursion (IsWordless w.classes store.heap references fields) before → AllByRecursion (IsWordless w.classes store.heap references fields) after
+      → (prototype f).parameters ≡ before ++ IntNumber ∷ after → Asked f → stack_number call.stack ≡ number_given args (length before)
+  number_of f before after none later are h =
+      let top = top_of f before after none later are h in
+      ap stack_number (h.words ∙ top.words) ∙ to_z-of_z {w = w32} top.fits ∙ sym top.is
+
+  -- the class that argument i is
+  pub record GivenClass (i : ℕ) : Type 0 where
+    pub low : 0 < object_given args i
+    pub high : object_given args i ≤ length w.classes
+
+  pub class_given : (f : JniFunction) (before after : List ParameterKind) → (prototype f).parameters ≡ before ++ ClassObject ∷ after → Asked f → trap_of_call w.classes shared s target f args ≡ None → GivenClass (length before)
+  class_given f before after are h free =
+      let given = object_given_at f before ClassObject after tt refl are h free in
+      let object = object_of f h given.address given.name given.named in
+      let class : class_of shared.heap given.name ≡ object.0.class = ap (λ (o : Option Object). option_map_or (λ (x : Object). x.class) o 0) object.1 in
+      let of_class : class_there store.heap given.address ≡ class_class = is_class w.classes store.heap references fields before after function.operands given.address given.at
+      (subst (λ (l : List ParameterKind). AllZip OperandFits l function.operands) are h.kinds)
+      (subst (λ (l : List ParameterKind). some_misfit w.classes store.heap references l function.operands ≡ false) are (none_unfit p w store pending call function others k shared s target f args h free)) in
+      let same : object.0.class ≡ class_class = sym class ∙ sym (class_is w.classes store.heap references fields shared.heap h.store_agrees.heap.blocks given.address given.name given.named) ∙ of_class in
+      let name : object_given args (length before) ≡ given.name = ap name_or_zero given.is in
+      let low = low_name given.name object.0 object.1 in
+      let high : given.name ≤ length w.classes = (h.typed.objects given.name object.0 object.1).of_class same in
+      record { low = omega (arith, low, name); high = omega (arith, high, name) }
+
+  -- the number of values of argument 0
+  pub counted : (f : JniFunction) → Asked f → (count_there store.heap (at 0) ≡ length (values_of shared.heap (object_given args 0))) × FitsSigned w32 (pos (length (values_of shared.heap (object_given args 0))))
+  counted f h =
+      let size = count_is w.classes store.heap references fields shared.heap h.store_agrees.heap.blocks (at 0) (reference_given args 0) (agrees f h 0) in
+      let few = few_there w.classes store.heap references fields shared.heap h.store_agrees.heap.blocks (at 0) h.store_agrees.laid_out (omega (arith, sound.cells, h.store_agrees.cells)) in
+      (size, subst (λ (l : ℕ). FitsSigned w32 (pos l)) size (record { sfits = few }))
+
+  -- a number of an object is read
+  pub number_read : (o : Option ℕ) (a n m i j : ℕ) → o ≡ Some a → name_at store.heap a ≡ Some n → m ≡ n → i ≡ j → StoreAgrees p w store shared all → (word_in (value_there store.heap o i) ≡ word_of (Int (number_in (value_at shared.heap m j)))) × FitsSigned w32 (number_in (value_at shared.heap m j))
+  number_read o a n m i j held there same place agree =
+      let word = word_there p w store shared all agree a n j there in (
+        (λ k. word_in (value_there store.heap (held k) (place k))) ∙ word.word_is ∙ ap (λ (x : ℕ). word_of (Int (number_in (value_at shared.heap x j)))) (sym same),
+        subst (λ (x : ℕ). FitsSigned w32 (number_in (value_at shared.heap x j))) (sym same) word.fits,
+      )
+
+  -- a reference of an object is read
+  pub reference_read : (o : Option ℕ) (a n m i j : ℕ) → o ≡ Some a → name_at store.heap a ≡ Some n → m ≡ n → i ≡ j → StoreAgrees p w store shared all → ReferenceAgrees store.heap (address_in (value_there store.heap o i)) (reference_in (value_at shared.heap m j))
+  reference_read o a n m i j held there same place agree =
+      subst (λ (x : Option ℕ). ReferenceAgrees store.heap x (reference_in (value_at shared.heap m j))) (sym (λ k. address_in (value_there store.heap (held k) (place k))))
+      (subst (λ (x : ℕ). ReferenceAgrees store.heap (address_in (value_there store.heap (Some a) j)) (reference_in (value_at shared.heap x j))) (sym same) (reference_there p w store shared all agree a n j there))
+
+  -- a value of an object is written
+  pub value_written : (o : Option ℕ) (a n m i j : ℕ) (v v' : Value) (u u' : ObjectValue) → o ≡ Some a → name_at store.heap a ≡ Some n → m ≡ n → i ≡ j → v ≡ v' → u ≡ u' → ValueAgrees store.heap v' u' → StoreAgrees p w store shared all
+      → IsAnswer w.classes brought store.heap call.locals GivesNothing shared s (writes_there store.heap o i v) (heap_effect shared s (with_value_at shared.heap m j u))
+  value_written o a n m i j v v' u u' held there same place value is fits agree =
+      subst (λ (x : Answer). IsAnswer w.classes brought store.heap call.locals GivesNothing shared s x (heap_effect shared s (with_value_at shared.heap m j u))) (sym (λ k. writes_there store.heap (held k) (place k) (value k)))
+      (subst (λ (x : CallEffect). IsAnswer w.classes brought store.heap call.locals GivesNothing shared s (writes_there store.heap (Some a) j v') x) (sym (λ k. heap_effect shared s (with_value_at shared.heap (same k) j (is k))))
+      (writes p w store shared all agree brought call.locals s a n j v' u' there fits))
+
+  -- how a cell holds a reference
+  pub held_agrees : (o : Option ℕ) (q : Reference) → ReferenceAgrees store.heap o q → ValueAgrees store.heap (held_reference o) (Refers q)
+  held_agrees None None h = h
+  held_agrees None (Some n) h = absurd h
+  held_agrees (Some a) None h = absurd h
+  held_agrees (Some a) (Some n) h = h

@@ -1,0 +1,5 @@
+use Rattle.std.proofs.Common.{length}
+use Rattle.machine_answers.proofs.check.+some_misfit.Given as goal
+
+abbrev pub decreases-some_misfit : goal.decreases-some_misfit
+decreases-some_misfit l = length l.parameters.now

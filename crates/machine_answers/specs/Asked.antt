@@ -1,0 +1,70 @@
+-- A call of a function with the arguments that the source's call has.
+use Rattle.std.specs.Prelude.{◌≡◌, ◌≢◌, ℕ, false, true, List, [], length, Option, Some}
+use Rattle.std.specs.List.{AllZip}
+use Rattle.base.specs.Bytes.{lookup}
+use Rattle.class_rules.specs.Class.{Classes}
+use Rattle.code.specs.Call.{Call}
+use Rattle.jni.specs.Access.{Access}
+use Rattle.jni.specs.JniFunction.{JniFunction, ReleaseBuffer, prototype}
+use Rattle.region_rules.specs.RegionRules.{is_critical_call}
+use Rattle.semantics.specs.Arguments.{Actual, object_given, variable_given}
+use Rattle.semantics.specs.CallStep.{target_element, waits_with}
+use Rattle.semantics.specs.Effect.{Calls}
+use Rattle.semantics.specs.Task.{Target}
+use Rattle.semantics.specs.Thread.{BuffersInUse, Shared, Thread, viewed_by}
+use Rattle.semantics.specs.World.{World}
+use Rattle.semantics_safety.specs.StepSafe.{came_from}
+use Rattle.semantics_typing.specs.Objects.{AreTypedObjects, AreTypedVariables}
+use Rattle.code_meaning.specs.Does.{OperandFits, ActualFits, words_given, texts_given}
+use Rattle.code_meaning.specs.Lowered.{Lowered}
+use Rattle.machine_scenes.specs.declared.store.Store.{Store}
+use Rattle.machine_scenes.specs.declared.activation.Activation.{Activation}
+use Rattle.machine_scenes.specs.Buffers.{Acquired, HeldBuffers, acquired_by, beside, holding}
+use Rattle.machine_answers.specs.Checked.{element_wanted}
+use Rattle.machine_scenes.specs.StoreAgrees.{StoreAgrees}
+use Rattle.machine_scenes.specs.Locals.{FramesAgree}
+use Rattle.machine_scenes.specs.Given.{HasArray, HasBuffer, IsGiven}
+use Rattle.machine_scenes.specs.HeapAgrees.{ReferenceAgrees}
+use Rattle.machine_answers.specs.Answers.{Brought, array_given, bringing}
+use Rattle.machine_scenes.specs.Scenes.{Scene}
+use Rattle.machine_scenes.specs.Statics.{References, all_held}
+
+-- the references that the operands of a call name
+abbrev pub references_of : Store → Activation → References
+references_of store call = record { keys = call.slots.references.items; locals = call.locals; statics = all_held store.globals store.statics.items }
+
+-- what a call of thread k sees
+abbrev pub scene_of : Classes → Store → Activation → (k : ℕ) → (pending : Option ℕ) → Scene
+scene_of classes store call k pending =
+    record { classes = classes; space = store.heap; loaded = store.loaded.items; references = references_of store call; fields = call.slots.fields.items; buffers = call.slots.buffers.items; stack = call.stack; pending = pending; monitors = store.monitors; thread = k }
+
+-- the buffers of a call of thread k
+abbrev pub buffers_of : Store → Activation → (k : ℕ) → HeldBuffers
+buffers_of store call k = holding call.slots.buffers.items store.elements k
+
+-- what a call of a function with these arguments brings, where all buffers take this
+abbrev pub brought_by : Store → Activation → (k : ℕ) → BuffersInUse → Call → List Actual → Brought
+brought_by store call k in_use function args = bringing function.texts call.slots.numbers.items (buffers_of store call k) in_use (array_given function.operands args)
+
+-- Store, frames and pending exception of thread k agree with the source's, and each operand gives what the argument at its place is, and
+-- the target wants what the source's does. Objects and variables are typed. While the thread has a view, the function is critical, and a
+-- release names the object that its buffer came from. The thread doesn't wait for a monitor.
+pub record IsAsked (p : Lowered) (w : World) (store : Store) (pending : Option ℕ) (call : Activation) (function : Call) (others : Acquired) (k : ℕ) (shared : Shared) (s : Thread) (target : Target) (f : JniFunction) (args : List Actual) : Type 0 where
+  pub store_agrees : StoreAgrees p w store shared (beside others (acquired_by s))
+  pub pending_agrees : ReferenceAgrees store.heap pending s.pending
+  pub frames_agree : FramesAgree store.heap call.locals s.frames
+  pub same_function : function.function ≡ f
+  pub count : length args ≡ length (prototype f).parameters
+  pub kinds : AllZip OperandFits (prototype f).parameters function.operands
+  pub fit : AllZip ActualFits (prototype f).parameters args
+  pub given : AllZip (IsGiven w.classes store.heap (references_of store call) call.slots.fields.items) function.operands args
+  pub arrays : AllZip (HasArray call.slots.numbers.items s.variables) function.operands args
+  pub buffers : AllZip (HasBuffer store.heap (buffers_of store call k) s.variables) function.operands args
+  pub wanted : element_wanted function.target ≡ target_element s.variables target
+  pub typed : AreTypedObjects w.classes shared.heap
+  pub typed_variables : AreTypedVariables w.classes shared.heap s.variables
+  pub critical : viewed_by s ≢ [] → is_critical_call f ≡ true
+  pub release : (access : Access) → f ≡ ReleaseBuffer access → came_from (lookup (variable_given args 1) s.variables) ≡ Some (object_given args 0)
+  pub ready : waits_with w.classes k shared s (Calls function.line target f args) ≡ false
+  pub words : call.stack ≡ words_given args
+  pub texts : function.texts ≡ texts_given args

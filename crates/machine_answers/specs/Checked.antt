@@ -1,0 +1,135 @@
+-- What is checked of a call before it does anything, by what is in memory.
+use Rattle.std.specs.Prelude.{ℕ, Bool, true, false, not, ◌&&◌, ◌||◌, ◌==◌, List, [], ◌∷◌, ◌++◌, is_none, is_some, Option, Some, None}
+use Rattle.std.specs.List.{list_any}
+use Rattle.base.specs.Element.{ElementType, JInt, element_value}
+use Rattle.class_queries.specs.Kinds.{class_misfits}
+use Rattle.class_rules.specs.BuiltIns.{has_own_making, throwable_class, number_array}
+use Rattle.class_rules.specs.Class.{Classes, FieldType, NumberField, ReferenceField, class_kind, is_plain, assignable}
+use Rattle.class_rules.specs.Fields.{FieldId}
+use Rattle.classes.specs.declared.class.FieldHandle.{FieldHandle}
+use Rattle.code.specs.declared.instr.Operand.{Operand}
+use Rattle.code.specs.declared.instr.Operand.TheVariants as operand
+use Rattle.code.specs.declared.instr.Target.{Target}
+use Rattle.code.specs.declared.instr.Target.TheVariants.{Buffer}
+use Rattle.heap.specs.Heap.{Space}
+use Rattle.jni.specs.Access.{ArrayView}
+use Rattle.jni.specs.JniFunction.{is_allowed_pending, JniFunction, GetBuffer, AllocObject, GetField, SetField, GetStaticField, SetStaticField, GetObjectField, SetObjectField, GetStaticObjectField, SetStaticObjectField, NewObjectArray, Throw, ThrowNew, prototype}
+use Rattle.jni.specs.Prototype.{ParameterKind, Nullable, LocalVariable, StaticVariable, IsCopy, ResultKind, NewLocal}
+use Rattle.semantics.specs.Checks.{first_trap}
+use Rattle.semantics.specs.Heap.{holds_number, holds_reference}
+use Rattle.semantics.specs.Value.{Trap, NullReference, ExceptionPending, WrongObject, DeletedReference, NoCapacity}
+use Rattle.machine_scenes.specs.Given.{operand_at, field_at, operand_of, class_there, class_of_given, name_there, fits_there, field_there}
+use Rattle.machine_scenes.specs.Scenes.{Scene}
+use Rattle.machine_scenes.specs.Statics.{References, holds_deleted, holds_null, static_at}
+
+-- an operand gives NULL
+abbrev pub gives_null : References → List (Option FieldHandle) → Operand → Bool
+gives_null references fields operand.Null = true
+gives_null references fields (operand.Static i) = holds_null (static_at references i)
+gives_null references fields (operand.Local i) = is_none (operand_at references (operand.Local i))
+gives_null references fields (operand.FieldId i) = is_none (field_at fields (operand.FieldId i))
+gives_null references fields operand.Number = false
+gives_null references fields operand.Text = false
+gives_null references fields (operand.Array array) = false
+gives_null references fields (operand.Buffer i) = false
+gives_null references fields (operand.Mode mode) = false
+gives_null references fields (operand.IsCopy i) = false
+
+-- an operand gives a static that is marked as deleted
+abbrev pub gives_deleted : References → Operand → Bool
+gives_deleted references (operand.Static i) = holds_deleted (static_at references i)
+gives_deleted references o = false
+
+-- a parameter may be NULL
+abbrev pub may_be_null : ParameterKind → Bool
+may_be_null Nullable = true
+may_be_null LocalVariable = true
+may_be_null StaticVariable = true
+may_be_null IsCopy = true
+may_be_null p = false
+
+-- some operand gives NULL where that isn't allowed
+abbrev pub some_missing : References → List (Option FieldHandle) → List ParameterKind → List Operand → Bool
+some_missing references fields (p ∷ parameters) (o ∷ operands) = (not (may_be_null p) && gives_null references fields o) || some_missing references fields parameters operands
+some_missing references fields parameters operands = false
+
+-- the object at an address is of another kind than the parameter
+abbrev pub misfits : Classes → Space → ParameterKind → Option ℕ → Bool
+misfits classes space p None = false
+misfits classes space p (Some a) = class_misfits classes p (class_there space a)
+
+-- some operand gives an object of another kind than its parameter
+abbrev pub some_misfit : Classes → Space → References → List ParameterKind → List Operand → Bool
+some_misfit classes space references (p ∷ parameters) (o ∷ operands) = misfits classes space p (operand_at references o) || some_misfit classes space references parameters operands
+some_misfit classes space references parameters operands = false
+
+-- the reference may be stored in a field of this type
+abbrev pub fits_type_there : Classes → Space → Option ℕ → FieldType → Bool
+fits_type_there classes space r (NumberField T) = false
+fits_type_there classes space r (ReferenceField c) = fits_there classes space r c
+
+-- the element type of the buffer that a call is to fill
+abbrev pub element_wanted : Target → ElementType
+element_wanted (Buffer element i) = element_value element
+element_wanted target = JInt
+
+-- a call with these operands
+module _ (classes : Classes) (space : Space) (references : References) (fields : List (Option FieldHandle)) (operands : List Operand) where
+  -- the reference of an operand
+  abbrev pub reference : ℕ → Option ℕ
+  reference i = operand_at references (operand_of operands i)
+
+  -- the field or static of operand 1
+  abbrev pub field : FieldId
+  field = field_there classes (field_at fields (operand_of operands 1))
+
+  -- operand 0 is an object that has the field
+  abbrev pub has_field : Bool
+  has_field = not field.is_static && assignable classes (class_of_given space (reference 0)) field.class
+
+  -- operand 0 is a class that has the static
+  abbrev pub has_static : Bool
+  has_static = field.is_static && assignable classes (name_there space (reference 0)) field.class
+
+  -- the arguments of a function, each of its kind, go together; a critical buffer has the element type of its variable
+  abbrev pub fit_together : (wanted : ElementType) → JniFunction → Bool
+  fit_together wanted AllocObject = not (has_own_making classes (name_there space (reference 0)))
+  fit_together wanted (GetField T) = has_field && holds_number T field.field.type
+  fit_together wanted (SetField T) = has_field && holds_number T field.field.type
+  fit_together wanted GetObjectField = has_field && holds_reference field.field.type
+  fit_together wanted SetObjectField = has_field && fits_type_there classes space (reference 2) field.field.type
+  fit_together wanted (GetStaticField T) = has_static && holds_number T field.field.type
+  fit_together wanted (SetStaticField T) = has_static && holds_number T field.field.type
+  fit_together wanted GetStaticObjectField = has_static && holds_reference field.field.type
+  fit_together wanted SetStaticObjectField = has_static && fits_type_there classes space (reference 2) field.field.type
+  fit_together wanted NewObjectArray = is_plain (class_kind classes (name_there space (reference 1))) && fits_there classes space (reference 2) (name_there space (reference 1))
+  fit_together wanted (GetBuffer ArrayView) = class_of_given space (reference 0) == number_array wanted
+  fit_together wanted Throw = assignable classes (class_of_given space (reference 0)) throwable_class
+  fit_together wanted ThrowNew = assignable classes (name_there space (reference 0)) throwable_class
+  fit_together wanted f = true
+
+-- the arguments of a call that sees this go together
+abbrev pub arguments_fit : Scene → List Operand → (wanted : ElementType) → JniFunction → Bool
+arguments_fit scene operands wanted f = fit_together scene.classes scene.space scene.references scene.fields operands wanted f
+
+-- a call of this kind of result puts a local reference into the frame
+abbrev pub puts_local : ResultKind → Bool
+puts_local NewLocal = true
+puts_local kind = false
+
+-- what is asked of a call's arguments, in this order, each with the trap where it isn't so
+abbrev pub arguments_asked : Classes → Space → References → List (Option FieldHandle) → (wanted : ElementType) → JniFunction → List Operand → List (Bool × Trap)
+arguments_asked classes space references fields wanted f operands =
+    (list_any (gives_deleted references) operands, DeletedReference)
+    ∷ (some_missing references fields (prototype f).parameters operands, NullReference)
+    ∷ (some_misfit classes space references (prototype f).parameters operands || not (fit_together classes space references fields operands wanted f), WrongObject)
+    ∷ []
+
+-- the trap of a call that sees this, before it does anything; a buffer that it fills has elements of this type
+abbrev pub trap_found : Scene → (has_room : Bool) → (wanted : ElementType) → JniFunction → List Operand → Option Trap
+trap_found scene has_room wanted f operands =
+    first_trap (
+    (is_some scene.pending && not (is_allowed_pending f), ExceptionPending)
+    ∷ arguments_asked scene.classes scene.space scene.references scene.fields wanted f operands
+    ++ (puts_local (prototype f).result && not has_room, NoCapacity)
+    ∷ [])

@@ -1,0 +1,323 @@
+-- What the machine works out of a call, by what is in memory.
+use Rattle.std.specs.Prelude.{◌==◌, ◌≡◌, ℕ, ◌+◌, ◌-◌, ◌^◌, ℤ, pos, negsuc, nat_lt, nat_le, Bool, true, false, List, [], ◌∷◌, length, slice_get, unwrap_or, is_some, if◌then◌else◌, Option, Some, None}
+use Rattle.std.specs.Int.{w32, cast_signed}
+use Rattle.base.specs.Element.{ElementType}
+use Rattle.class_rules.specs.BuiltIns.{array_index_out_of_bounds, array_store_exception, illegal_monitor_state, negative_array_size, string_index_out_of_bounds, no_class_def_found_error, no_such_field_error, number_array}
+use Rattle.class_rules.specs.Class.{Classes, array_class_of, assignable, class_kind, class_named, element_class, superclass}
+use Rattle.class_rules.specs.Fields.{FieldId, find_field, find_static, layout, own_statics}
+use Rattle.classes.specs.FieldViews.{field_of, place_among}
+use Rattle.classes.specs.declared.class.FieldHandle.{FieldHandle}
+use Rattle.code.specs.Call.{Call}
+use Rattle.code.specs.Effect.{element_word, truth_word}
+use Rattle.code.specs.declared.instr.LocalArray.{LocalArray}
+use Rattle.code.specs.declared.instr.Operand.{Operand}
+use Rattle.code.specs.declared.instr.Operand.TheVariants as operand
+use Rattle.jni.specs.declared.mode.ReleaseMode.{ReleaseMode}
+use Rattle.jni.specs.declared.mode.ReleaseMode.TheVariants.{CopyBackAndFree, FreeUncopied}
+use Rattle.code_meaning.specs.Coding.{element_of}
+use Rattle.heap.specs.Heap.{Space, values_at}
+use Rattle.heap.specs.declared.value.Value.{Value}
+use Rattle.heap.specs.declared.value.Value.TheVariants as value
+use Rattle.jni.specs.Access.{Access, ElementsCopy, is_critical}
+use Rattle.jni.specs.JniFunction.{GetBuffer, ReleaseBuffer, JniFunction, FindClass, GetSuperclass, GetObjectClass, IsInstanceOf, IsAssignableFrom, AllocObject, NewLocalRef, NewGlobalRef, DeleteLocalRef, DeleteGlobalRef, IsSameObject, EnsureLocalCapacity, PushLocalFrame, PopLocalFrame, GetFieldID, GetStaticFieldID, GetField, SetField, GetStaticField, SetStaticField, GetObjectField, SetObjectField, GetStaticObjectField, SetStaticObjectField, GetArrayLength, GetStringLength, NewArray, NewObjectArray, GetObjectArrayElement, SetObjectArrayElement, NewStringUTF, Throw, ThrowNew, ExceptionOccurred, ExceptionCheck, ExceptionClear, FatalError, MonitorEnter, MonitorExit, GetArrayRegion, SetArrayRegion, GetStringRegion}
+use Rattle.monitors.specs.declared.monitors.Enter.{Enter}
+use Rattle.monitors.specs.declared.monitors.Enter.TheVariants as enter
+use Rattle.monitors.specs.declared.monitors.Exit.{Exit}
+use Rattle.monitors.specs.declared.monitors.Exit.TheVariants as exit
+use Rattle.monitors.specs.declared.monitors.Monitor.{Monitor}
+use Rattle.monitors.specs.declared.monitors.Object.{Object}
+use Rattle.monitors.specs.Monitors.{entering, leaving, monitor_of}
+use Rattle.machine_answers.specs.declared.answer.Given.TheVariants.{Nothing, Number, Reference}
+use Rattle.machine_answers.specs.declared.answer.Given.TheVariants as given
+use Rattle.machine_answers.specs.declared.answer.Answer.{Answer}
+use Rattle.machine_answers.specs.declared.answer.Answer.TheVariants.{Gives, Writes, Makes, Throws, Raises, Pends, Halts, Ensures, Pushes, RefusesFrames, Pops, Deletes, MakesGlobal, DeletesGlobal, CopiesOut, CopiesIn, AcquiresCopy, AcquiresView, Releases, Enters, Exits}
+use Rattle.machine_scenes.specs.declared.array_region.ArrayRegion.{ArrayRegion}
+use Rattle.machine_scenes.specs.declared.buffer.Buffer.{Buffer}
+use Rattle.machine_scenes.specs.declared.buffer.Buffer.TheVariants as buffer
+use Rattle.machine_scenes.specs.declared.new_object.New.TheVariants.{Fresh, Array, Text}
+use Rattle.machine_scenes.specs.Scenes.{Scene}
+use Rattle.semantics.specs.declared.trap.Trap.TheVariants.{Fatal, OutOfRange}
+use Rattle.machine_scenes.specs.Given.{operand_at, key_at, operand_of, field_at, class_of_given, name_there, fits_there, field_there}
+
+-- the number of values of the object at an address, and 0 for NULL
+abbrev pub count_there : Space → Option ℕ → ℕ
+count_there space None = 0
+count_there space (Some a) = length (values_at space a)
+
+-- the address of a class object, where class objects are the first of the table
+abbrev pub class_object : (loaded : List ℕ) → (class : Option ℕ) → Option ℕ
+class_object loaded None = None
+class_object loaded (Some c) = slice_get loaded (c - 1)
+
+-- a class that was found, or else an exception
+abbrev pub found_class : (loaded : List ℕ) → (class : Option ℕ) → Answer
+found_class loaded None = Throws no_class_def_found_error
+found_class loaded (Some c) = Gives (Reference (class_object loaded (Some c)))
+
+-- a handle of the field that was found, or else an exception
+abbrev pub IsFoundField : Classes → Option FieldId → Answer → Type 0
+IsFoundField classes None answer = answer ≡ Throws no_such_field_error
+IsFoundField classes (Some f) answer = (h : FieldHandle) × (answer ≡ Gives (given.FieldId (Some h))) × (field_of classes h ≡ Some f)
+
+-- room for this number of references more, which is refused for a negative number
+abbrev pub room_for : ℤ → Answer
+room_for (pos more) = Ensures more
+room_for (negsuc n) = RefusesFrames
+
+-- a frame with room for this number of references, which is refused for a negative number
+abbrev pub frame_for : ℤ → Answer
+frame_for (pos capacity) = Pushes capacity
+frame_for (negsuc n) = RefusesFrames
+
+-- the local reference of this key ends; nothing does for NULL
+abbrev pub deletes : (key : Option ℕ) → Answer
+deletes None = Gives Nothing
+deletes (Some key) = Deletes key
+
+-- the global reference of a static ends, for one that isn't NULL
+abbrev pub deletes_global : Option ℕ → Operand → Answer
+deletes_global None o = Gives Nothing
+deletes_global (Some a) (operand.Static i) = DeletesGlobal i
+deletes_global (Some a) o = Gives Nothing
+
+-- ---- cells
+
+-- a value of an object, where the object has it
+abbrev pub value_there : Space → Option ℕ → (place : ℕ) → Option Value
+value_there space None place = None
+value_there space (Some a) place = slice_get (values_at space a) place
+
+-- the word in a cell, and 0 where there is none
+abbrev pub word_in : Option Value → ℕ
+word_in (Some (value.Number word)) = word
+word_in v = 0
+
+-- the address in a cell, and NULL where there is none
+abbrev pub address_in : Option Value → Option ℕ
+address_in (Some (value.Block a)) = Some a
+address_in v = None
+
+-- how a cell holds a reference
+abbrev pub held_reference : Option ℕ → Value
+held_reference None = value.Null
+held_reference (Some a) = value.Block a
+
+-- a cell of an object changes, where the object has it
+abbrev pub writes_there : Space → Option ℕ → (place : ℕ) → Value → Answer
+writes_there space None place v = Gives Nothing
+writes_there space (Some a) place v = if nat_lt place (length (values_at space a)) then Writes a place v else Gives Nothing
+
+-- the word on top of the stack, and 0 where there is none
+abbrev pub top_word : List ℕ → ℕ
+top_word [] = 0
+top_word (word ∷ stack) = word
+
+-- the place of the field of a handle among these, and 0 for NULL
+abbrev pub place_there : Classes → Option FieldHandle → List FieldId → ℕ
+place_there classes None fields = 0
+place_there classes (Some h) fields = place_among (field_there classes (Some h)) fields
+
+-- ---- arrays
+
+-- a new array of equal values is made, or an exception for a negative number of them
+abbrev pub new_array : (class : ℕ) → ℤ → Value → Answer
+new_array class (pos n) v = Makes (Array (record { class = class; count = n; value = v }))
+new_array class (negsuc n) v = Throws negative_array_size
+
+-- an index of an array, where it has such an element
+abbrev pub index_there : Space → Option ℕ → ℤ → Option ℕ
+index_there space None z = None
+index_there space (Some a) (pos i) = if nat_lt i (length (values_at space a)) then Some i else None
+index_there space (Some a) (negsuc n) = None
+
+-- an element of an array is given, or an exception where there is none of an index
+abbrev pub element_there : Space → Option ℕ → (index : Option ℕ) → Answer
+element_there space r None = Throws array_index_out_of_bounds
+element_there space r (Some i) = Gives (Reference (address_in (value_there space r i)))
+
+-- an element of an array changes, or an exception where there is none of an index, or where the value doesn't fit
+abbrev pub stores_there : Space → Option ℕ → (fits : Bool) → (index : Option ℕ) → Value → Answer
+stores_there space r fits None v = Throws array_index_out_of_bounds
+stores_there space r false (Some i) v = Throws array_store_exception
+stores_there space r true (Some i) v = writes_there space r i v
+
+-- the number on top of the stack, and 0 where there is none
+abbrev pub stack_number : List ℕ → ℤ
+stack_number stack = cast_signed w32 (top_word stack)
+
+-- ---- regions
+
+-- the number below it, and 0 where there is none
+abbrev pub next_number : List ℕ → ℤ
+next_number stack = cast_signed w32 (unwrap_or (slice_get stack 1) 0)
+
+-- an operand's local array, and one of no elements where it is none
+abbrev pub array_in : Operand → LocalArray
+array_in (operand.Array array) = array
+array_in o = record { start = 0; len = 0 }
+
+-- elements of an object, from a start on, and as many first slots of a local array; none where the object hasn't so many
+abbrev pub region_in : Space → Option ℕ → (start count : ℤ) → LocalArray → Option ArrayRegion
+region_in space (Some a) (pos start) (pos n) array =
+    if nat_le (start + n) (length (values_at space a)) then Some (record { object = a; start = start; slot = array.start; count = n }) else None
+region_in space r start n array = None
+
+-- a local array takes part in a region with its first elements: an exception where there is no region, and a trap where the array hasn't so many
+abbrev pub copies_out : (exception : ℕ) → LocalArray → Option ArrayRegion → Answer
+copies_out exception array None = Throws exception
+copies_out exception array (Some r) = if nat_le r.count array.len then CopiesOut r else Halts OutOfRange
+
+-- the same into the object
+abbrev pub copies_in : (exception : ℕ) → LocalArray → Option ArrayRegion → Answer
+copies_in exception array None = Throws exception
+copies_in exception array (Some r) = if nat_le r.count array.len then CopiesIn r else Halts OutOfRange
+
+-- ---- buffers
+
+-- a copy or a view of an object is acquired, and NULL given where there is none
+abbrev pub acquires : Access → Option ℕ → Answer
+acquires access None = Gives (given.Buffer buffer.Null)
+acquires access (Some a) = if is_critical access then AcquiresView a else AcquiresCopy a
+
+-- the slot of an operand that is a buffer
+abbrev pub slot_of : Operand → ℕ
+slot_of (operand.Buffer i) = i
+slot_of o = 0
+
+-- what it holds, and NULL where there is none
+abbrev pub buffer_there : List Buffer → (slot : ℕ) → Buffer
+buffer_there buffers slot = unwrap_or (slice_get buffers slot) buffer.Null
+
+-- the mode of a release: that of this operand for elements of an array; nothing else is copied back
+abbrev pub mode_of : Access → Operand → ReleaseMode
+mode_of (ElementsCopy T) (operand.Mode mode) = mode
+mode_of (ElementsCopy T) o = CopyBackAndFree
+mode_of access o = FreeUncopied
+
+-- the buffer of an operand is released
+abbrev pub releases : List Buffer → (object : Option ℕ) → Operand → ReleaseMode → Answer
+releases buffers None o mode = Gives Nothing
+releases buffers (Some a) o mode = Releases (record { object = a; slot = slot_of o; held = buffer_there buffers (slot_of o); mode = mode })
+
+-- ---- monitors
+
+-- the monitor of an object is entered, where it can be; else -1 is given
+abbrev pub entered_by : Object → Enter → Answer
+entered_by o enter.Entered = Enters o
+entered_by o e = Gives (Number (2 ^ 32 - 1))
+
+-- the monitor of an object is left, where the thread owns it; else it is an exception
+abbrev pub left_by : (name : ℕ) → Exit → Answer
+left_by name exit.Left = Exits name
+left_by name exit.NotOwner = Throws illegal_monitor_state
+
+-- a thread enters the monitor of the object at an address
+abbrev pub enters : Space → List Monitor → (thread : ℕ) → Option ℕ → Answer
+enters space monitors thread None = Gives Nothing
+enters space monitors thread (Some a) =
+    entered_by (record { name = name_there space (Some a); address = a }) (entering thread (monitor_of monitors (name_there space (Some a))))
+
+-- a thread leaves it
+abbrev pub leaves : Space → List Monitor → (thread : ℕ) → Option ℕ → Answer
+leaves space monitors thread None = Gives Nothing
+leaves space monitors thread (Some a) = left_by (name_there space (Some a)) (leaving thread (monitor_of monitors (name_there space (Some a))))
+
+-- ---- what a function does
+
+-- A call that sees this.
+module _ (scene : Scene) (call : Call) where
+  -- the reference of an operand
+  abbrev pub reference : ℕ → Option ℕ
+  reference i = operand_at scene.references (operand_of call.operands i)
+
+  -- a text of the call
+  abbrev pub text : ℕ → List ℕ
+  text i = unwrap_or (slice_get call.texts i) []
+
+  -- the field ID of operand 1
+  abbrev pub handle : Option FieldHandle
+  handle = field_at scene.fields (operand_of call.operands 1)
+
+  -- its place among the fields of operand 0
+  abbrev pub place : ℕ
+  place = place_there scene.classes handle (layout scene.classes (class_of_given scene.space (reference 0)))
+
+  -- the class that declares it
+  abbrev pub class : ℕ
+  class = (field_there scene.classes handle).class
+
+  -- the class object that holds the static
+  abbrev pub declaring : Option ℕ
+  declaring = class_object scene.loaded (Some class)
+
+  -- its place there
+  abbrev pub place_of_static : ℕ
+  place_of_static = place_there scene.classes handle (own_statics scene.classes class)
+
+  -- how a cell of this type holds the word on the stack
+  abbrev pub stored : ElementType → Value
+  stored T = value.Number (element_word (element_of T) (top_word scene.stack))
+
+  -- operand 2 fits the elements of operand 0
+  abbrev pub fits_element : Bool
+  fits_element = fits_there scene.classes scene.space (reference 2) (element_class (class_kind scene.classes (class_of_given scene.space (reference 0))))
+
+  -- the local array of operand 3
+  abbrev pub local_array : LocalArray
+  local_array = array_in (operand_of call.operands 3)
+
+  -- the region of operand 0 that the two numbers tell
+  abbrev pub region : Option ArrayRegion
+  region = region_in scene.space (reference 0) (next_number scene.stack) (stack_number scene.stack) local_array
+
+  -- the answer of a function that finds no field
+  abbrev pub worked_out : JniFunction → Answer
+  worked_out FindClass = found_class scene.loaded (class_named scene.classes (text 0))
+  worked_out GetSuperclass = Gives (Reference (class_object scene.loaded (superclass scene.classes (name_there scene.space (reference 0)))))
+  worked_out GetObjectClass = Gives (Reference (class_object scene.loaded (Some (class_of_given scene.space (reference 0)))))
+  worked_out IsInstanceOf = Gives (Number (truth_word (fits_there scene.classes scene.space (reference 0) (name_there scene.space (reference 1)))))
+  worked_out IsAssignableFrom = Gives (Number (truth_word (assignable scene.classes (name_there scene.space (reference 0)) (name_there scene.space (reference 1)))))
+  worked_out AllocObject = Makes (Fresh (name_there scene.space (reference 0)))
+  worked_out NewLocalRef = Gives (Reference (reference 0))
+  worked_out NewGlobalRef = MakesGlobal (reference 0)
+  worked_out DeleteGlobalRef = deletes_global (reference 0) (operand_of call.operands 0)
+  worked_out DeleteLocalRef = deletes (key_at scene.references (operand_of call.operands 0))
+  worked_out IsSameObject = Gives (Number (truth_word (name_there scene.space (reference 0) == name_there scene.space (reference 1))))
+  worked_out EnsureLocalCapacity = room_for (stack_number scene.stack)
+  worked_out PushLocalFrame = frame_for (stack_number scene.stack)
+  worked_out PopLocalFrame = Pops (reference 0)
+  worked_out (GetField T) = Gives (Number (word_in (value_there scene.space (reference 0) place)))
+  worked_out (SetField T) = writes_there scene.space (reference 0) place (stored T)
+  worked_out GetObjectField = Gives (Reference (address_in (value_there scene.space (reference 0) place)))
+  worked_out SetObjectField = writes_there scene.space (reference 0) place (held_reference (reference 2))
+  worked_out (GetStaticField T) = Gives (Number (word_in (value_there scene.space declaring place_of_static)))
+  worked_out (SetStaticField T) = writes_there scene.space declaring place_of_static (stored T)
+  worked_out GetStaticObjectField = Gives (Reference (address_in (value_there scene.space declaring place_of_static)))
+  worked_out SetStaticObjectField = writes_there scene.space declaring place_of_static (held_reference (reference 2))
+  worked_out GetArrayLength = Gives (Number (count_there scene.space (reference 0)))
+  worked_out (NewArray T) = new_array (number_array T) (stack_number scene.stack) (value.Number 0)
+  worked_out NewObjectArray = new_array (unwrap_or (array_class_of scene.classes (name_there scene.space (reference 1))) 0) (stack_number scene.stack) (held_reference (reference 2))
+  worked_out GetObjectArrayElement = element_there scene.space (reference 0) (index_there scene.space (reference 0) (stack_number scene.stack))
+  worked_out SetObjectArrayElement = stores_there scene.space (reference 0) fits_element (index_there scene.space (reference 0) (stack_number scene.stack)) (held_reference (reference 2))
+  worked_out NewStringUTF = Makes (Text 0)
+  worked_out GetStringLength = Gives (Number (count_there scene.space (reference 0)))
+  worked_out (GetArrayRegion T) = copies_out array_index_out_of_bounds local_array region
+  worked_out (SetArrayRegion T) = copies_in array_index_out_of_bounds local_array region
+  worked_out GetStringRegion = copies_out string_index_out_of_bounds local_array region
+  worked_out (GetBuffer access) = acquires access (reference 0)
+  worked_out (ReleaseBuffer access) = releases scene.buffers (reference 0) (operand_of call.operands 1) (mode_of access (operand_of call.operands 2))
+  worked_out Throw = Pends (reference 0) (Number 0)
+  worked_out ThrowNew = Raises (name_there scene.space (reference 0)) 0
+  worked_out ExceptionOccurred = Gives (Reference scene.pending)
+  worked_out ExceptionCheck = Gives (Number (truth_word (is_some scene.pending)))
+  worked_out ExceptionClear = Pends None Nothing
+  worked_out FatalError = Halts Fatal
+  worked_out MonitorEnter = enters scene.space scene.monitors scene.thread (reference 0)
+  worked_out MonitorExit = leaves scene.space scene.monitors scene.thread (reference 0)
+  worked_out f = Gives Nothing
+
+  -- what is worked out of a call of a function
+  abbrev pub IsWorkedOut : JniFunction → Answer → Type 0
+  IsWorkedOut GetFieldID answer = IsFoundField scene.classes (find_field scene.classes (name_there scene.space (reference 0)) (text 0) (text 1)) answer
+  IsWorkedOut GetStaticFieldID answer = IsFoundField scene.classes (find_static scene.classes (name_there scene.space (reference 0)) (text 0) (text 1)) answer
+  IsWorkedOut f answer = answer ≡ worked_out f

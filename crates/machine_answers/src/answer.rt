@@ -1,0 +1,683 @@
+//! What a function of the JNI does, as data.
+
+ghost use Rattle.std.specs.Prelude.{◌≡◌, ◌<◌, ℕ, [], Some, None, IsSome, true, false, unwrap_or, slice_get, map};
+ghost use Rattle.classes.specs.FieldViews.{field_of, find_as};
+ghost use Rattle.class_rules.specs.Fields.{layout, own_statics};
+ghost use Rattle.class_rules.specs.Grown.{IsGrown};
+ghost use Rattle.code.specs.Call.{call_view};
+ghost use Rattle.code.specs.Effect.{element_word, truth_word};
+ghost use Rattle.code_meaning.specs.Coding.{element_of};
+ghost use Rattle.heap.specs.Heap.{IsAddress};
+ghost use Rattle.jni.specs.Table.{function_value};
+ghost use Rattle.machine_answers.specs.CallGroups.{is_further, is_of_objects};
+ghost use Rattle.machine_answers.specs.Checked.{arguments_fit, element_wanted};
+ghost use Rattle.machine_scenes.specs.Given.{class_of_given, field_at, field_there, name_there, operand_at, operand_of, AreAddresses, AreHandles};
+ghost use Rattle.machine_scenes.specs.Scenes.{scene_view};
+ghost use Rattle.machine_answers.specs.WorkedOut.{address_in, class_object, count_there, deletes, deletes_global, found_class, frame_for, held_reference, place_there, room_for, top_word, value_there, word_in, writes_there, IsFoundField, IsWorkedOut};
+ghost use Rattle.base.specs.Element.{element_value};
+
+use crate::arrays::{stack_number, work_out_array};
+use crate::exceptions::work_out_exception;
+use crate::monitor::work_out_monitor;
+use classes::built_ins::{NO_CLASS_DEF_FOUND_ERROR, NO_SUCH_FIELD_ERROR};
+use classes::class::FieldHandle;
+use classes::table::ClassTable;
+use code::instr::{Call, ElementType, Operand};
+use code::plain::element_word;
+use code::stack::Stack;
+use heap::{Addr, Heap, Value};
+use jni::JniFunction;
+use machine_scenes::array_region::ArrayRegion;
+use machine_scenes::buffer::{Buffer, Release};
+use machine_scenes::new_object::{New, text_at};
+use machine_scenes::operands::{
+    class_of_given, declaring, fits_there, handle_at, key_in, name_there, operand_of, reference_at,
+};
+use machine_scenes::references::References;
+use machine_scenes::scene::Scene;
+use machine_scenes::statics::StaticReference;
+use monitors::Object;
+use semantics::Trap;
+use tables::Local;
+
+/// What a call gives.
+#[derive(Clone, Copy)]
+pub enum Given {
+    Nothing,
+    /// A `jint` or a `jboolean`, as a word.
+    Number(u32),
+    Reference(Option<Addr>),
+    FieldId(Option<FieldHandle>),
+    /// What a static comes to hold.
+    Global(StaticReference),
+    /// What the slot of a buffer comes to hold.
+    Buffer(Buffer),
+}
+
+/// What a call does. A new object and an exception can be refused where the heap has no room.
+#[derive(Clone, Copy)]
+pub enum Answer {
+    /// Nothing changes, and this is given.
+    Gives(Given),
+    /// A value of the object at this address changes, by its place, counted from 0.
+    Writes {
+        object: Addr,
+        place: usize,
+        value: Value,
+    },
+    /// Numbers of an object go into number slots.
+    CopiesOut(ArrayRegion),
+    /// What number slots hold goes into an object.
+    CopiesIn(ArrayRegion),
+    /// A copy of the numbers of the object at this address is given, or NULL where all copies together would be too long.
+    AcquiresCopy(Addr),
+    /// A view of the object at this address is given, or NULL where there are as many views as may be.
+    AcquiresView(Addr),
+    /// A buffer is released.
+    Releases(Release),
+    /// An object is made, and given.
+    Makes(New),
+    /// An exception of the class of this number is made and is pending.
+    Throws(usize),
+    /// A string of the call's text at this place is made, and an exception of the class of this number with it as message, which is
+    /// pending; 0 is given.
+    Raises {
+        class: usize,
+        text: usize,
+    },
+    /// This exception is pending, or none, and this is given.
+    Pends {
+        exception: Option<Addr>,
+        given: Given,
+    },
+    /// The machine stops, all checks being passed.
+    Halts(Trap),
+    /// The current frame gets room for this number of references more, and 0 is given, where the frames can have them; else as
+    /// `RefusesFrames`.
+    Ensures(u32),
+    /// A frame with room for this number of references is made, and 0 is given, where the frames can have it; else as
+    /// `RefusesFrames`.
+    Pushes(u32),
+    /// -4 is given, and the OutOfMemoryError object is pending, but nothing is made.
+    RefusesFrames,
+    /// The current frame ends, and this reference is given.
+    Pops(Option<Addr>),
+    /// The local reference of this key ends.
+    Deletes(Local),
+    /// A global reference to the object at this address is made and given, and none for NULL.
+    MakesGlobal(Option<Addr>),
+    /// The global reference of the static of this number ends, and the static is marked.
+    DeletesGlobal(u32),
+    /// The thread owns the monitor of this object, or once more, and 0 is given.
+    Enters(Object),
+    /// The thread owns the monitor of the object of this birth number once less, and 0 is given.
+    Exits(u32),
+}
+
+/// What a function does, all checks being passed. It takes no host memory.
+pub fn work_out(scene: &Scene<'_>, function: &Call) -> Answer
+    requires grown { IsGrown scene.now.classes.now }
+    requires loaded { (i a : ℕ) → slice_get scene.now.loaded.now i ≡ Some a → IsAddress scene.now.heap.now a }
+    requires objects { AreAddresses scene.now.heap.now scene.now.references function.now.operands.items }
+    requires handles { AreHandles scene.now.classes.now scene.now.fields.now function.now.operands.items }
+    requires passed { arguments_fit (scene_view scene.now) function.now.operands.items (element_wanted function.now.target) (function_value function.now.function) ≡ true }
+    ensures { IsWorkedOut (scene_view scene.now) (call_view function.now) (function_value function.now.function) result }
+{
+    match function.function {
+        JniFunction::FindClass => found_class(
+            scene.loaded,
+            scene.classes.find(text_at(&function.texts, 0)),
+        ),
+        JniFunction::GetSuperclass => {
+            gives_class(
+                scene.loaded,
+                scene
+                    .classes
+                    .superclass(name_of(scene.heap, &scene.references, function, 0)),
+            )
+        }
+        JniFunction::GetObjectClass => {
+            let first = argument(scene.heap, &scene.references, function, 0);
+            gives_class(scene.loaded, Some(class_of_given(scene.heap, first)))
+        }
+        JniFunction::IsInstanceOf => {
+            let first = argument(scene.heap, &scene.references, function, 0);
+            let class = name_of(scene.heap, &scene.references, function, 1);
+            gives_truth(fits_there(scene.classes, scene.heap, first, class))
+        }
+        JniFunction::IsAssignableFrom => {
+            let below = name_of(scene.heap, &scene.references, function, 0);
+            let above = name_of(scene.heap, &scene.references, function, 1);
+            gives_truth(scene.classes.assignable(below, above))
+        }
+        JniFunction::AllocObject => {
+            Answer::Makes(New::Fresh(name_of(scene.heap, &scene.references, function, 0)))
+        }
+        JniFunction::Throw | JniFunction::ThrowNew | JniFunction::FatalError => {
+            work_out_exception(scene, function)
+        }
+        JniFunction::ExceptionOccurred | JniFunction::ExceptionCheck => {
+            work_out_exception(scene, function)
+        }
+        JniFunction::ExceptionClear => work_out_exception(scene, function),
+        JniFunction::MonitorEnter | JniFunction::MonitorExit => work_out_monitor(scene, function),
+        _ => work_out_further(scene, function),
+    }
+}
+
+/// What a function of references, of frames or of what objects hold does.
+#[inline(always)]
+fn work_out_further(scene: &Scene<'_>, function: &Call) -> Answer
+    requires grown { IsGrown scene.now.classes.now }
+    requires loaded { (i a : ℕ) → slice_get scene.now.loaded.now i ≡ Some a → IsAddress scene.now.heap.now a }
+    requires objects { AreAddresses scene.now.heap.now scene.now.references function.now.operands.items }
+    requires handles { AreHandles scene.now.classes.now scene.now.fields.now function.now.operands.items }
+    requires further { is_further (function_value function.now.function) ≡ true }
+    requires passed { arguments_fit (scene_view scene.now) function.now.operands.items (element_wanted function.now.target) (function_value function.now.function) ≡ true }
+    ensures { IsWorkedOut (scene_view scene.now) (call_view function.now) (function_value function.now.function) result }
+{
+    match function.function {
+        JniFunction::NewLocalRef => {
+            Answer::Gives(Given::Reference(argument(scene.heap, &scene.references, function, 0)))
+        }
+        JniFunction::NewGlobalRef => Answer::MakesGlobal(argument(
+            scene.heap,
+            &scene.references,
+            function,
+            0,
+        )),
+        JniFunction::DeleteGlobalRef => {
+            let first = argument(scene.heap, &scene.references, function, 0);
+            deletes_global(first, operand_of(&function.operands, 0))
+        }
+        JniFunction::IsSameObject => {
+            let first = name_of(scene.heap, &scene.references, function, 0);
+            let second = name_of(scene.heap, &scene.references, function, 1);
+            gives_truth(first == second)
+        }
+        JniFunction::DeleteLocalRef => {
+            deletes(key_in(&scene.references, operand_of(&function.operands, 0)))
+        }
+        JniFunction::EnsureLocalCapacity => room_for(stack_number(scene.stack)),
+        JniFunction::PushLocalFrame => frame_for(stack_number(scene.stack)),
+        JniFunction::PopLocalFrame => Answer::Pops(argument(
+            scene.heap,
+            &scene.references,
+            function,
+            0,
+        )),
+        _ => { work_out_field(scene, function) }
+    }
+}
+
+/// What a function of fields, statics, arrays or strings does.
+#[inline(always)]
+fn work_out_field(scene: &Scene<'_>, function: &Call) -> Answer
+    requires grown { IsGrown scene.now.classes.now }
+    requires loaded { (i a : ℕ) → slice_get scene.now.loaded.now i ≡ Some a → IsAddress scene.now.heap.now a }
+    requires objects { AreAddresses scene.now.heap.now scene.now.references function.now.operands.items }
+    requires handles { AreHandles scene.now.classes.now scene.now.fields.now function.now.operands.items }
+    requires of_objects { is_of_objects (function_value function.now.function) ≡ true }
+    requires passed { arguments_fit (scene_view scene.now) function.now.operands.items (element_wanted function.now.target) (function_value function.now.function) ≡ true }
+    ensures { IsWorkedOut (scene_view scene.now) (call_view function.now) (function_value function.now.function) result }
+{
+    match function.function {
+        JniFunction::GetFieldID => {
+            let class = name_of(scene.heap, &scene.references, function, 0);
+            find_field(scene.classes, class, &function.texts, false)
+        }
+        JniFunction::GetStaticFieldID => {
+            let class = name_of(scene.heap, &scene.references, function, 0);
+            find_field(scene.classes, class, &function.texts, true)
+        }
+        JniFunction::GetField(_) => {
+            let value = value_of_field(
+                scene.classes,
+                scene.heap,
+                &scene.references,
+                scene.fields,
+                function,
+            );
+            Answer::Gives(Given::Number(word_in(value)))
+        }
+        JniFunction::SetField(element) => {
+            let value = stored(element, scene.stack);
+            writes_field(
+                scene.classes,
+                scene.heap,
+                &scene.references,
+                scene.fields,
+                function,
+                value,
+            )
+        }
+        JniFunction::GetObjectField => {
+            let value = value_of_field(
+                scene.classes,
+                scene.heap,
+                &scene.references,
+                scene.fields,
+                function,
+            );
+            Answer::Gives(Given::Reference(address_in(value)))
+        }
+        JniFunction::SetObjectField => {
+            let value = held_reference(argument(scene.heap, &scene.references, function, 2));
+            writes_field(
+                scene.classes,
+                scene.heap,
+                &scene.references,
+                scene.fields,
+                function,
+                value,
+            )
+        }
+        JniFunction::GetStaticField(_) => {
+            let value = value_of_static(
+                scene.classes,
+                scene.heap,
+                scene.loaded,
+                scene.fields,
+                function,
+            );
+            Answer::Gives(Given::Number(word_in(value)))
+        }
+        JniFunction::SetStaticField(element) => {
+            let value = stored(element, scene.stack);
+            writes_static(
+                scene.classes,
+                scene.heap,
+                scene.loaded,
+                scene.fields,
+                function,
+                value,
+            )
+        }
+        JniFunction::GetStaticObjectField => {
+            let value = value_of_static(
+                scene.classes,
+                scene.heap,
+                scene.loaded,
+                scene.fields,
+                function,
+            );
+            Answer::Gives(Given::Reference(address_in(value)))
+        }
+        JniFunction::SetStaticObjectField => {
+            let value = held_reference(argument(scene.heap, &scene.references, function, 2));
+            writes_static(
+                scene.classes,
+                scene.heap,
+                scene.loaded,
+                scene.fields,
+                function,
+                value,
+            )
+        }
+        _ => work_out_array(scene, function),
+    }
+}
+
+/// The reference of the operand at a place.
+#[inline(always)]
+pub fn argument(
+    heap: &Heap,
+    references: &References<'_>,
+    function: &Call,
+    place: usize,
+) -> Option<Addr>
+    requires { AreAddresses heap.now references.now function.now.operands.items }
+    ensures reference { result ≡ operand_at references.now (operand_of function.now.operands.items place) }
+    ensures there { (a : ℕ) → result ≡ Some a → IsAddress heap.now a }
+{
+    reference_at(heap, references, &function.operands, place)
+}
+
+/// The name of its object, and 0 for NULL.
+#[inline(always)]
+pub(crate) fn name_of(
+    heap: &Heap,
+    references: &References<'_>,
+    function: &Call,
+    place: usize,
+) -> usize
+    requires { AreAddresses heap.now references.now function.now.operands.items }
+    ensures { result ≡ name_there heap.now (operand_at references.now (operand_of function.now.operands.items place)) }
+{
+    name_there(heap, argument(heap, references, function, place))
+}
+
+/// A class object is given, or NULL.
+#[inline(always)]
+fn gives_class(loaded: &[Addr], class: Option<usize>) -> Answer
+    ensures { result ≡ Answer.Gives (Given.Reference (class_object loaded.now class)) }
+{
+    Answer::Gives(Given::Reference(class_object(loaded, class)))
+}
+
+/// A truth is given.
+#[inline(always)]
+pub(crate) fn gives_truth(truth: bool) -> Answer
+    ensures { result ≡ Answer.Gives (Given.Number (truth_word truth)) }
+{
+    Answer::Gives(Given::Number(u32::from(truth)))
+}
+
+/// A class that was found, or else an exception.
+fn found_class(loaded: &[Addr], class: Option<usize>) -> Answer
+    ensures { result ≡ found_class loaded.now class }
+{
+    match class {
+        Some(class) => Answer::Gives(Given::Reference(class_object(loaded, Some(class)))),
+        None => Answer::Throws(NO_CLASS_DEF_FOUND_ERROR),
+    }
+}
+
+/// Room for this number of references more in the current frame; it is refused where the number is negative.
+fn room_for(more: i32) -> Answer
+    ensures { result ≡ room_for more }
+{
+    if more < 0 {
+        Answer::RefusesFrames
+    } else {
+        Answer::Ensures(more as u32)
+    }
+}
+
+/// A frame with room for this number of references; it is refused where the number is negative.
+fn frame_for(capacity: i32) -> Answer
+    ensures { result ≡ frame_for capacity }
+{
+    if capacity < 0 {
+        Answer::RefusesFrames
+    } else {
+        Answer::Pushes(capacity as u32)
+    }
+}
+
+/// The local reference of this key ends; nothing does for NULL.
+fn deletes(key: Option<Local>) -> Answer
+    ensures { result ≡ deletes key }
+{
+    match key {
+        Some(key) => Answer::Deletes(key),
+        None => Answer::Gives(Given::Nothing),
+    }
+}
+
+/// The global reference of a static ends, for one that isn't NULL.
+fn deletes_global(reference: Option<Addr>, operand: Operand) -> Answer
+    ensures { result ≡ deletes_global reference operand }
+{
+    match (reference, operand) {
+        (Some(_), Operand::Static(slot)) => Answer::DeletesGlobal(slot),
+        _ => Answer::Gives(Given::Nothing),
+    }
+}
+
+/// A handle of the field, or the static, with the name and the signature of a call's texts, or else an exception.
+fn find_field(classes: &ClassTable, class: usize, texts: &[Vec<u8>], is_static: bool) -> Answer
+    ensures { IsFoundField classes.now (find_as classes.now class (unwrap_or (slice_get (map (λ text. text.items) texts.now) 0) []) (unwrap_or (slice_get (map (λ text. text.items) texts.now) 1) []) is_static) result }
+{
+    match classes.find_handle(class, text_at(texts, 0), text_at(texts, 1), is_static) {
+        Some(handle) => Answer::Gives(Given::FieldId(Some(handle))),
+        None => Answer::Throws(NO_SUCH_FIELD_ERROR),
+    }
+}
+
+/// The number of values of an object, and 0 for NULL.
+pub(crate) fn count_there(heap: &Heap, reference: Option<Addr>) -> u32
+    requires { (a : ℕ) → reference ≡ Some a → IsAddress heap.now a }
+    ensures { result ≡ count_there heap.now reference }
+{
+    // The proof reads off these calls that no object has more values than there are cells.
+    let _ = heap.count();
+    let _ = heap.cells();
+    match reference {
+        Some(addr) => heap.len_of(addr) as u32,
+        None => 0,
+    }
+}
+
+// ---- fields
+
+/// The place of the field of operand 1 among the values of operand 0.
+fn place_of_field(
+    classes: &ClassTable,
+    heap: &Heap,
+    references: &References<'_>,
+    fields: &[Option<FieldHandle>],
+    operands: &[Operand],
+) -> usize
+    requires grown { IsGrown classes.now }
+    requires objects { AreAddresses heap.now references.now operands.now }
+    requires handles { AreHandles classes.now fields.now operands.now }
+    ensures { (field_there classes.now (field_at fields.now (operand_of operands.now 1))).is_static ≡ false
+        → result ≡ place_there classes.now (field_at fields.now (operand_of operands.now 1)) (layout classes.now (class_of_given heap.now (operand_at references.now (operand_of operands.now 0)))) }
+{
+    let class = class_of_given(heap, reference_at(heap, references, operands, 0));
+    field_place(classes, class, handle_at(classes, fields, operands, 1))
+}
+
+/// The class object that holds the static of operand 1.
+fn holder_of_static(
+    classes: &ClassTable,
+    loaded: &[Addr],
+    fields: &[Option<FieldHandle>],
+    operands: &[Operand],
+) -> Option<Addr>
+    requires { AreHandles classes.now fields.now operands.now }
+    ensures { result ≡ class_object loaded.now (Some (field_there classes.now (field_at fields.now (operand_of operands.now 1))).class) }
+{
+    let class = declaring(classes, handle_at(classes, fields, operands, 1));
+    class_object(loaded, Some(class))
+}
+
+/// The place of the static of operand 1 among the values of its class object.
+fn place_of_static(
+    classes: &ClassTable,
+    fields: &[Option<FieldHandle>],
+    operands: &[Operand],
+) -> usize
+    requires { AreHandles classes.now fields.now operands.now }
+    ensures { (field_there classes.now (field_at fields.now (operand_of operands.now 1))).is_static ≡ true
+        → result ≡ place_there classes.now (field_at fields.now (operand_of operands.now 1)) (own_statics classes.now (field_there classes.now (field_at fields.now (operand_of operands.now 1))).class) }
+{
+    static_place(classes, handle_at(classes, fields, operands, 1))
+}
+
+/// The value of the field of operand 1 in operand 0.
+#[inline(always)]
+fn value_of_field(
+    classes: &ClassTable,
+    heap: &Heap,
+    references: &References<'_>,
+    fields: &[Option<FieldHandle>],
+    function: &Call,
+) -> Option<Value>
+    requires grown { IsGrown classes.now }
+    requires objects { AreAddresses heap.now references.now function.now.operands.items }
+    requires handles { AreHandles classes.now fields.now function.now.operands.items }
+    ensures { (field_there classes.now (field_at fields.now (operand_of function.now.operands.items 1))).is_static ≡ false → result ≡ value_there heap.now (operand_at references.now (operand_of function.now.operands.items 0)) (place_there classes.now (field_at fields.now (operand_of function.now.operands.items 1)) (layout classes.now (class_of_given heap.now (operand_at references.now (operand_of function.now.operands.items 0))))) }
+{
+    let first = argument(heap, references, function, 0);
+    let place = place_of_field(classes, heap, references, fields, &function.operands);
+    value_there(heap, first, place)
+}
+
+/// The field of operand 1 in operand 0 changes to this value.
+#[inline(always)]
+fn writes_field(
+    classes: &ClassTable,
+    heap: &Heap,
+    references: &References<'_>,
+    fields: &[Option<FieldHandle>],
+    function: &Call,
+    value: Value,
+) -> Answer
+    requires grown { IsGrown classes.now }
+    requires objects { AreAddresses heap.now references.now function.now.operands.items }
+    requires handles { AreHandles classes.now fields.now function.now.operands.items }
+    ensures { (field_there classes.now (field_at fields.now (operand_of function.now.operands.items 1))).is_static ≡ false → result ≡ writes_there heap.now (operand_at references.now (operand_of function.now.operands.items 0)) (place_there classes.now (field_at fields.now (operand_of function.now.operands.items 1)) (layout classes.now (class_of_given heap.now (operand_at references.now (operand_of function.now.operands.items 0))))) value }
+{
+    let first = argument(heap, references, function, 0);
+    let place = place_of_field(classes, heap, references, fields, &function.operands);
+    writes_there(heap, first, place, value)
+}
+
+/// The value of the static of operand 1.
+#[inline(always)]
+fn value_of_static(
+    classes: &ClassTable,
+    heap: &Heap,
+    loaded: &[Addr],
+    fields: &[Option<FieldHandle>],
+    function: &Call,
+) -> Option<Value>
+    requires loaded { (i a : ℕ) → slice_get loaded.now i ≡ Some a → IsAddress heap.now a }
+    requires handles { AreHandles classes.now fields.now function.now.operands.items }
+    ensures { (field_there classes.now (field_at fields.now (operand_of function.now.operands.items 1))).is_static ≡ true → result ≡ value_there heap.now (class_object loaded.now (Some (field_there classes.now (field_at fields.now (operand_of function.now.operands.items 1))).class)) (place_there classes.now (field_at fields.now (operand_of function.now.operands.items 1)) (own_statics classes.now (field_there classes.now (field_at fields.now (operand_of function.now.operands.items 1))).class)) }
+{
+    let holder = holder_of_static(classes, loaded, fields, &function.operands);
+    let place = place_of_static(classes, fields, &function.operands);
+    value_there(heap, holder, place)
+}
+
+/// The static of operand 1 changes to this value.
+#[inline(always)]
+fn writes_static(
+    classes: &ClassTable,
+    heap: &Heap,
+    loaded: &[Addr],
+    fields: &[Option<FieldHandle>],
+    function: &Call,
+    value: Value,
+) -> Answer
+    requires loaded { (i a : ℕ) → slice_get loaded.now i ≡ Some a → IsAddress heap.now a }
+    requires handles { AreHandles classes.now fields.now function.now.operands.items }
+    ensures { (field_there classes.now (field_at fields.now (operand_of function.now.operands.items 1))).is_static ≡ true → result ≡ writes_there heap.now (class_object loaded.now (Some (field_there classes.now (field_at fields.now (operand_of function.now.operands.items 1))).class)) (place_there classes.now (field_at fields.now (operand_of function.now.operands.items 1)) (own_statics classes.now (field_there classes.now (field_at fields.now (operand_of function.now.operands.items 1))).class)) value }
+{
+    let holder = holder_of_static(classes, loaded, fields, &function.operands);
+    let place = place_of_static(classes, fields, &function.operands);
+    writes_there(heap, holder, place, value)
+}
+
+/// The place of the field of a handle among those of a class, and 0 for NULL.
+fn field_place(classes: &ClassTable, class: usize, field: Option<FieldHandle>) -> usize
+    requires grown { IsGrown classes.now }
+    requires there { (h : FieldHandle) → field ≡ Some h → IsSome (field_of classes.now h) }
+    ensures { (field_there classes.now field).is_static ≡ false → result ≡ place_there classes.now field (layout classes.now class) }
+{
+    match field {
+        Some(handle) => {
+            if handle.is_static {
+                0
+            } else {
+                classes.field_place(class, handle)
+            }
+        }
+        None => 0,
+    }
+}
+
+/// The place of the static of a handle among those of the class that declares it, and 0 for NULL.
+fn static_place(classes: &ClassTable, field: Option<FieldHandle>) -> usize
+    requires { (h : FieldHandle) → field ≡ Some h → IsSome (field_of classes.now h) }
+    ensures { (field_there classes.now field).is_static ≡ true → result ≡ place_there classes.now field (own_statics classes.now (field_there classes.now field).class) }
+{
+    match field {
+        Some(handle) => classes.static_place(handle),
+        None => 0,
+    }
+}
+
+/// A value of an object, where the object has it.
+pub(crate) fn value_there(heap: &Heap, reference: Option<Addr>, place: usize) -> Option<Value>
+    requires { (a : ℕ) → reference ≡ Some a → IsAddress heap.now a }
+    ensures { result ≡ value_there heap.now reference place }
+{
+    match reference {
+        Some(addr) if place < heap.len_of(addr) => Some(heap.get(addr, place)),
+        _ => None,
+    }
+}
+
+/// The word in a cell, and 0 where there is none.
+fn word_in(value: Option<Value>) -> u32
+    ensures { result ≡ word_in value }
+{
+    match value {
+        Some(Value::Number(word)) => word,
+        _ => 0,
+    }
+}
+
+/// The address in a cell, and NULL where there is none.
+pub(crate) fn address_in(value: Option<Value>) -> Option<Addr>
+    ensures { result ≡ address_in value }
+{
+    match value {
+        Some(held) => match held {
+            Value::Block(addr) => Some(addr),
+            Value::Number(_) | Value::Null => None,
+        },
+        None => None,
+    }
+}
+
+/// How a cell holds a reference.
+pub(crate) fn held_reference(reference: Option<Addr>) -> Value
+    ensures { result ≡ held_reference reference }
+{
+    match reference {
+        Some(addr) => Value::Block(addr),
+        None => Value::Null,
+    }
+}
+
+/// A value of an object changes, where the object has it.
+pub(crate) fn writes_there(
+    heap: &Heap,
+    reference: Option<Addr>,
+    place: usize,
+    value: Value,
+) -> Answer
+    requires { (a : ℕ) → reference ≡ Some a → IsAddress heap.now a }
+    ensures { result ≡ writes_there heap.now reference place value }
+{
+    match reference {
+        Some(addr) if place < heap.len_of(addr) => Answer::Writes {
+            object: addr,
+            place,
+            value,
+        },
+        _ => Answer::Gives(Given::Nothing),
+    }
+}
+
+/// The word on top of the stack, and 0 where there is none.
+pub(crate) fn top_word(stack: &Stack) -> u32
+    ensures { result ≡ top_word stack.now }
+{
+    if stack.is_empty() { 0 } else { stack.top() }
+}
+
+/// How a cell of this type holds the word on the stack.
+#[tactic(auto, using(code_meaning::proofs::ElementWords::element_same))]
+fn stored(element: syntax::ElementType, stack: &Stack) -> Value
+    ensures { result ≡ Value.Number (element_word (element_of (element_value element)) (top_word stack.now)) }
+{
+    Value::Number(element_word(element, top_word(stack)))
+}
+
+// ---- classes
+
+/// The address of a class object.
+fn class_object(loaded: &[Addr], class: Option<usize>) -> Option<Addr>
+    ensures { result ≡ class_object loaded.now class }
+{
+    match class {
+        Some(class) => loaded.get(class.saturating_sub(1)).copied(),
+        None => None,
+    }
+}

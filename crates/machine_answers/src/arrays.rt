@@ -1,0 +1,158 @@
+//! What functions of arrays and strings do.
+
+ghost use Rattle.std.specs.Prelude.{◌≡◌, ℕ, true, Some};
+ghost use Rattle.code.specs.Call.{call_view};
+ghost use Rattle.heap.specs.Heap.{IsAddress};
+ghost use Rattle.jni.specs.Table.{function_value};
+ghost use Rattle.machine_answers.specs.CallGroups.{is_of_arrays};
+ghost use Rattle.machine_scenes.specs.Given.{AreAddresses};
+ghost use Rattle.machine_scenes.specs.Scenes.{scene_view};
+ghost use Rattle.machine_answers.specs.WorkedOut.{element_there, fits_element, index_there, new_array, stack_number, stores_there, IsWorkedOut};
+
+use crate::answer::{
+    Answer, Given, address_in, argument, count_there, held_reference, name_of, top_word,
+    value_there, writes_there,
+};
+use crate::buffers::work_out_buffer;
+use crate::copies::work_out_region;
+use class_queries::{array_class_of, element_class};
+use classes::built_ins::{
+    ARRAY_INDEX_OUT_OF_BOUNDS_EXCEPTION, ARRAY_STORE_EXCEPTION, NEGATIVE_ARRAY_SIZE_EXCEPTION,
+    number_array,
+};
+use code::instr::Call;
+use code::stack::Stack;
+use heap::{Addr, Heap, Value};
+use jni::JniFunction;
+use machine_scenes::new_object::{New, NewArray};
+use machine_scenes::operands::{class_of_given, fits_there};
+use machine_scenes::scene::Scene;
+
+/// What a function of arrays or strings does.
+#[inline(always)]
+pub(crate) fn work_out_array(scene: &Scene<'_>, function: &Call) -> Answer
+    requires objects { AreAddresses scene.now.heap.now scene.now.references function.now.operands.items }
+    requires of_arrays { is_of_arrays (function_value function.now.function) ≡ true }
+    ensures { IsWorkedOut (scene_view scene.now) (call_view function.now) (function_value function.now.function) result }
+{
+    match function.function {
+        JniFunction::GetArrayLength | JniFunction::GetStringLength => {
+            let first = argument(scene.heap, &scene.references, function, 0);
+            Answer::Gives(Given::Number(count_there(scene.heap, first)))
+        }
+        JniFunction::NewArray(element) => {
+            let class = number_array(element);
+            new_array(class, stack_number(scene.stack), Value::Number(0))
+        }
+        JniFunction::NewObjectArray => {
+            let class = array_class_of(
+                scene.classes,
+                name_of(scene.heap, &scene.references, function, 1),
+            );
+            let element = held_reference(argument(scene.heap, &scene.references, function, 2));
+            new_array(class.unwrap_or(0), stack_number(scene.stack), element)
+        }
+        JniFunction::GetObjectArrayElement => {
+            let array = argument(scene.heap, &scene.references, function, 0);
+            element_there(scene.heap, array, stack_number(scene.stack))
+        }
+        JniFunction::SetObjectArrayElement => {
+            let fits = fits_element(scene, function);
+            let element = held_reference(argument(scene.heap, &scene.references, function, 2));
+            let array = argument(scene.heap, &scene.references, function, 0);
+            stores_there(scene.heap, array, fits, stack_number(scene.stack), element)
+        }
+        JniFunction::NewStringUTF => Answer::Makes(New::Text(0)),
+        JniFunction::GetBuffer(_) | JniFunction::ReleaseBuffer(_) => {
+            work_out_buffer(scene, function)
+        }
+        _ => work_out_region(scene, function),
+    }
+}
+
+/// The number on top of the stack, and 0 where there is none.
+pub(crate) fn stack_number(stack: &Stack) -> i32
+    ensures { result ≡ stack_number stack.now }
+{
+    top_word(stack).cast_signed()
+}
+
+/// A new array of equal values is made; a negative number of them is an exception.
+fn new_array(class: usize, count: i32, value: Value) -> Answer
+    ensures { result ≡ new_array class count value }
+{
+    if count < 0 {
+        Answer::Throws(NEGATIVE_ARRAY_SIZE_EXCEPTION)
+    } else {
+        Answer::Makes(New::Array(NewArray {
+            class,
+            count: count as u32,
+            value,
+        }))
+    }
+}
+
+/// Whether operand 2 fits the elements of operand 0.
+fn fits_element(scene: &Scene<'_>, function: &Call) -> bool
+    requires { AreAddresses scene.now.heap.now scene.now.references function.now.operands.items }
+    ensures { result ≡ fits_element (scene_view scene.now) (call_view function.now) }
+{
+    let array = argument(scene.heap, &scene.references, function, 0);
+    let class = element_class(scene.classes, class_of_given(scene.heap, array));
+    let element = argument(scene.heap, &scene.references, function, 2);
+    fits_there(scene.classes, scene.heap, element, class)
+}
+
+/// An index of an array, where it has such an element.
+fn index_in(heap: &Heap, array: Addr, index: i32) -> Option<usize>
+    requires { IsAddress heap.now array }
+    ensures { result ≡ index_there heap.now (Some array) index }
+{
+    if index < 0 {
+        return None;
+    }
+    let index = index as usize;
+    if index < heap.len_of(array) {
+        Some(index)
+    } else {
+        None
+    }
+}
+
+/// An element of an array is given; an index of none is an exception.
+fn element_there(heap: &Heap, reference: Option<Addr>, index: i32) -> Answer
+    requires { (a : ℕ) → reference ≡ Some a → IsAddress heap.now a }
+    ensures { result ≡ element_there heap.now reference (index_there heap.now reference index) }
+{
+    match reference {
+        Some(array) => match index_in(heap, array, index) {
+            Some(index) => {
+                let element = address_in(value_there(heap, Some(array), index));
+                Answer::Gives(Given::Reference(element))
+            }
+            None => Answer::Throws(ARRAY_INDEX_OUT_OF_BOUNDS_EXCEPTION),
+        },
+        None => Answer::Throws(ARRAY_INDEX_OUT_OF_BOUNDS_EXCEPTION),
+    }
+}
+
+/// An element of an array changes to this value; an index of none is an exception, and so is a value that doesn't fit.
+fn stores_there(
+    heap: &Heap,
+    reference: Option<Addr>,
+    fits: bool,
+    index: i32,
+    value: Value,
+) -> Answer
+    requires { (a : ℕ) → reference ≡ Some a → IsAddress heap.now a }
+    ensures { result ≡ stores_there heap.now reference fits (index_there heap.now reference index) value }
+{
+    match reference {
+        Some(array) => match index_in(heap, array, index) {
+            Some(index) if fits => writes_there(heap, Some(array), index, value),
+            Some(_) => Answer::Throws(ARRAY_STORE_EXCEPTION),
+            None => Answer::Throws(ARRAY_INDEX_OUT_OF_BOUNDS_EXCEPTION),
+        },
+        None => Answer::Throws(ARRAY_INDEX_OUT_OF_BOUNDS_EXCEPTION),
+    }
+}

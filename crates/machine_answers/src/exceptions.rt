@@ -1,0 +1,47 @@
+//! What functions of exceptions do.
+
+ghost use Rattle.std.specs.Prelude.{◌≡◌, true};
+ghost use Rattle.code.specs.Call.{call_view};
+ghost use Rattle.jni.specs.Table.{function_value};
+ghost use Rattle.machine_answers.specs.CallGroups.{is_of_exceptions};
+ghost use Rattle.machine_scenes.specs.Given.{AreAddresses};
+ghost use Rattle.machine_scenes.specs.Scenes.{scene_view};
+ghost use Rattle.machine_answers.specs.WorkedOut.{IsWorkedOut};
+
+use crate::answer::{Answer, Given, argument, gives_truth, name_of};
+use code::instr::Call;
+use jni::JniFunction;
+use machine_scenes::scene::Scene;
+use semantics::Trap;
+
+/// What a function of exceptions does.
+#[inline(always)]
+pub(crate) fn work_out_exception(scene: &Scene<'_>, function: &Call) -> Answer
+    requires objects { AreAddresses scene.now.heap.now scene.now.references function.now.operands.items }
+    requires of_exceptions { is_of_exceptions (function_value function.now.function) ≡ true }
+    ensures { IsWorkedOut (scene_view scene.now) (call_view function.now) (function_value function.now.function) result }
+{
+    match function.function {
+        JniFunction::Throw => {
+            let exception = argument(scene.heap, &scene.references, function, 0);
+            Answer::Pends {
+                exception,
+                given: Given::Number(0),
+            }
+        }
+        JniFunction::ThrowNew => {
+            Answer::Raises {
+                class: name_of(scene.heap, &scene.references, function, 0),
+                text: 0,
+            }
+        }
+        JniFunction::ExceptionOccurred => Answer::Gives(Given::Reference(scene.pending)),
+        JniFunction::ExceptionCheck => gives_truth(scene.pending.is_some()),
+        JniFunction::ExceptionClear => Answer::Pends {
+            exception: None,
+            given: Given::Nothing,
+        },
+        JniFunction::FatalError => Answer::Halts(Trap::Fatal),
+        _ => unreachable!(),
+    }
+}

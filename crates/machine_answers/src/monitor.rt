@@ -1,0 +1,57 @@
+//! What functions of monitors do.
+
+ghost use Rattle.std.specs.Prelude.{◌≡◌, true};
+ghost use Rattle.code.specs.Call.{call_view};
+ghost use Rattle.jni.specs.Table.{function_value};
+ghost use Rattle.machine_answers.specs.CallGroups.{is_of_monitors};
+ghost use Rattle.machine_scenes.specs.Given.{AreAddresses};
+ghost use Rattle.machine_scenes.specs.Scenes.{scene_view};
+ghost use Rattle.machine_answers.specs.WorkedOut.{IsWorkedOut, entered_by, left_by};
+
+use crate::answer::{Answer, Given, argument};
+use classes::built_ins::ILLEGAL_MONITOR_STATE_EXCEPTION;
+use code::instr::Call;
+use jni::JniFunction;
+use machine_scenes::scene::Scene;
+use monitors::{Enter, Exit, Object};
+
+/// What a function of monitors does.
+#[inline(always)]
+pub(crate) fn work_out_monitor(scene: &Scene<'_>, function: &Call) -> Answer
+    requires objects { AreAddresses scene.now.heap.now scene.now.references function.now.operands.items }
+    requires of_monitors { is_of_monitors (function_value function.now.function) ≡ true }
+    ensures { IsWorkedOut (scene_view scene.now) (call_view function.now) (function_value function.now.function) result }
+{
+    let Some(address) = argument(scene.heap, &scene.references, function, 0) else {
+        return Answer::Gives(Given::Nothing);
+    };
+    let name = scene.heap.birth_of(address);
+    match function.function {
+        JniFunction::MonitorEnter => {
+            let came = scene.monitors.entering(name, scene.thread);
+            entered_by(Object { name, address }, came)
+        }
+        JniFunction::MonitorExit => left_by(name, scene.monitors.leaving(name, scene.thread)),
+        _ => unreachable!(),
+    }
+}
+
+/// The monitor of an object is entered, where it can be; else -1 is given, which is `JNI_ERR`.
+fn entered_by(object: Object, came: Enter) -> Answer
+    ensures { result ≡ entered_by object came }
+{
+    match came {
+        Enter::Entered => Answer::Enters(object),
+        Enter::Limit | Enter::Busy => Answer::Gives(Given::Number(u32::MAX)),
+    }
+}
+
+/// The monitor of an object is left, where the thread owns it; else it is an exception.
+fn left_by(name: u32, came: Exit) -> Answer
+    ensures { result ≡ left_by name came }
+{
+    match came {
+        Exit::Left => Answer::Exits(name),
+        Exit::NotOwner => Answer::Throws(ILLEGAL_MONITOR_STATE_EXCEPTION),
+    }
+}

@@ -1,8 +1,0 @@
-use Rattle.std.proofs.Common.{sym, ◌∙◌, ap}
-use Rattle.machine_calls.specs.Given.{field_at}
-use Rattle.machine_calls.proofs.CallChecks.{handle_of}
-use Rattle.machine_calls.proofs.operands.handle_at.Goals as goal
-
-pub returns-clause-there : goal.returns-clause-there
-returns-clause-there c = λ h e.
-    handle_of c.args.classes.now c.args.fields.now c.args.operands.now c.args.place c.requires h (sym (c.field_in.ensures ∙ ap (field_at c.args.fields.now) c.operand_of.ensures) ∙ e)

@@ -1,8 +1,0 @@
-use Rattle.std.proofs.Common.{sym, ◌∙◌, ap}
-use Rattle.machine_calls.specs.Given.{operand_at}
-use Rattle.machine_calls.proofs.CallChecks.{address_of}
-use Rattle.machine_calls.proofs.operands.reference_at.Goals as goal
-
-pub returns-clause-there : goal.returns-clause-there
-returns-clause-there c = λ a e.
-    address_of c.args.heap.now c.args.references.now c.args.operands.now c.args.place c.requires a (sym (c.reference_in.ensures ∙ ap (operand_at c.args.references.now) c.operand_of.ensures) ∙ e)

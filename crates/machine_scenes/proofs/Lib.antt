@@ -1,0 +1,14 @@
+pub mod BlocksOfNames
+pub mod FilledBlocks
+pub mod GlobalLaws
+pub mod Handles
+pub mod HeapLaws
+pub mod HeldSums
+pub mod Keeping
+pub mod KeyLaws
+pub mod Loaded
+pub mod LocalFrames
+pub mod LookUps
+pub mod ObjectsAtAddresses
+pub mod OperandsThere
+pub mod Taken

@@ -1,0 +1,146 @@
+-- What the operands of a call give.
+use Rattle.std.specs.Prelude.{◌≡◌, ℕ, ◌+◌, ℤ, Bool, true, false, List, [], ◌∷◌, length, slice_get, unwrap_or, Option, Some, None, IsSome, FitsSigned, ◌⊎◌}
+use Rattle.std.specs.Int.{w32, cast_unsigned}
+use Rattle.base.specs.Bytes.{Identifier, lookup}
+use Rattle.base.specs.Element.{ElementType, JInt}
+use Rattle.class_rules.specs.Class.{Classes, NumberField, assignable}
+use Rattle.class_rules.specs.Fields.{FieldId}
+use Rattle.classes.specs.FieldViews.{field_of}
+use Rattle.classes.specs.declared.class.FieldHandle.{FieldHandle}
+use Rattle.code.specs.declared.instr.LocalArray.{LocalArray as ArraySlots}
+use Rattle.code.specs.declared.instr.Operand.{Operand}
+use Rattle.code.specs.declared.instr.Operand.TheVariants as operand
+use Rattle.code_meaning.specs.Coding.{mode_code}
+use Rattle.heap.specs.Heap.{Space, IsAddress, class_at, name_at}
+use Rattle.semantics.specs.Arguments.{Actual, ReferenceActual, FieldActual, NumberActual, TextActual, VariableActual, ModeActual, NothingActual, ReleaseMode}
+use Rattle.semantics.specs.Object.{Reference}
+use Rattle.semantics.specs.Variable.{Variable, LocalArray, Variables, StaticReference, as_static}
+use Rattle.machine_scenes.specs.Buffers.{HeldBuffers, HoldsBuffer}
+use Rattle.machine_scenes.specs.FieldIds.{FieldAgrees}
+use Rattle.machine_scenes.specs.StoreAgrees.{HeldAgrees}
+use Rattle.machine_scenes.specs.HeapAgrees.{ReferenceAgrees}
+use Rattle.machine_scenes.specs.Locals.{address_of}
+use Rattle.machine_scenes.specs.Statics.{References, held_address, static_at}
+
+-- what a slot holds; NULL where there is none
+abbrev pub held_in : {A : Type 0} → Option (Option A) → Option A
+held_in None = None
+held_in (Some a) = a
+
+-- the address that an operand gives
+abbrev pub operand_at : References → Operand → Option ℕ
+operand_at references (operand.Local i) = address_of references.locals (held_in (slice_get references.keys i))
+operand_at references (operand.Static i) = held_address (static_at references i)
+operand_at references o = None
+
+-- the key of the local reference that an operand gives; none of NULL, and of what is no local reference
+abbrev pub key_at : References → Operand → Option ℕ
+key_at references (operand.Local i) = held_in (slice_get references.keys i)
+key_at references o = None
+
+-- the field ID that an operand gives
+abbrev pub field_at : List (Option FieldHandle) → Operand → Option FieldHandle
+field_at fields (operand.FieldId i) = held_in (slice_get fields i)
+field_at fields o = None
+
+-- an operand gives the reference that the source's argument is
+pub record ReferenceIsGiven (space : Space) (references : References) (operand : Operand) (actual : Actual) : Type 0 where
+  pub name : Identifier
+  pub reference : Reference
+  pub is : actual ≡ ReferenceActual name (as_static reference)
+  pub agrees : ReferenceAgrees space (operand_at references operand) reference
+
+-- a static holds what the source's argument does
+pub record StaticIsGiven (space : Space) (references : References) (i : ℕ) (actual : Actual) : Type 0 where
+  pub name : Identifier
+  pub reference : StaticReference
+  pub is : actual ≡ ReferenceActual name reference
+  pub agrees : HeldAgrees space (static_at references i) reference
+
+-- an operand gives the field ID that the source's argument is
+pub record FieldIsGiven (classes : Classes) (fields : List (Option FieldHandle)) (operand : Operand) (actual : Actual) : Type 0 where
+  pub field : Option FieldId
+  pub is : actual ≡ FieldActual field
+  pub agrees : FieldAgrees classes (field_at fields operand) field
+
+-- an operand gives what the source's argument is; a number is on the stack, a text among the call's, and a variable itself
+-- in its slots
+abbrev pub IsGiven : Classes → Space → (references : References) → (fields : List (Option FieldHandle)) → Operand → Actual → Type 0
+IsGiven classes space references fields operand.Number actual = (z : ℤ) × (actual ≡ NumberActual z) × FitsSigned w32 z
+IsGiven classes space references fields operand.Text actual = (bytes : List ℕ) × (actual ≡ TextActual bytes)
+IsGiven classes space references fields (operand.FieldId i) actual = FieldIsGiven classes fields (operand.FieldId i) actual
+IsGiven classes space references fields operand.Null actual = ReferenceIsGiven space references operand.Null actual ⊎ FieldIsGiven classes fields operand.Null actual ⊎ (actual ≡ NothingActual)
+IsGiven classes space references fields (operand.Local i) actual = ReferenceIsGiven space references (operand.Local i) actual
+IsGiven classes space references fields (operand.Static i) actual = StaticIsGiven space references i actual
+IsGiven classes space references fields (operand.Array array) actual = (x : Identifier) × (actual ≡ VariableActual x)
+IsGiven classes space references fields (operand.Buffer i) actual = (x : Identifier) × (actual ≡ VariableActual x)
+IsGiven classes space references fields (operand.Mode mode) actual = (m : ReleaseMode) × (actual ≡ ModeActual m) × (mode ≡ mode_code m)
+IsGiven classes space references fields (operand.IsCopy i) actual = (x : Identifier) × (actual ≡ VariableActual x)
+
+-- a local array has these elements, each in its slot as a word
+pub record HasElements (numbers : List ℕ) (array : ArraySlots) (v : Option Variable) : Type 0 where
+  pub type : ElementType
+  pub elements : List ℤ
+  pub is : v ≡ Some (LocalArray type elements)
+  pub count : length elements ≡ array.len
+  pub words : (i : ℕ) (z : ℤ) → slice_get elements i ≡ Some z
+      → FitsSigned w32 z × (slice_get numbers (array.start + i) ≡ Some (cast_unsigned w32 z))
+
+-- an operand that is a local array has the elements of the variable that is named
+abbrev pub HasArray : (numbers : List ℕ) → Variables → Operand → Actual → Type 0
+HasArray numbers vs (operand.Array array) actual = (x : Identifier) × (actual ≡ VariableActual x) × HasElements numbers array (lookup x vs)
+HasArray numbers vs o actual = Unit {0}
+
+-- an operand that is a buffer stands for the variable that is named
+abbrev pub HasBuffer : Space → HeldBuffers → Variables → Operand → Actual → Type 0
+HasBuffer space buffers vs (operand.Buffer i) actual = (x : Identifier) × (actual ≡ VariableActual x) × HoldsBuffer space buffers i (lookup x vs)
+HasBuffer space buffers vs o actual = Unit {0}
+
+-- each operand is NULL or the address of a block
+abbrev pub AreAddresses : Space → References → List Operand → Type 0
+AreAddresses space references [] = Unit {0}
+AreAddresses space references (o ∷ operands) = ((a : ℕ) → operand_at references o ≡ Some a → IsAddress space a) × AreAddresses space references operands
+
+-- an operand, and NULL where there is none
+abbrev pub operand_or_null : Option Operand → Operand
+operand_or_null None = operand.Null
+operand_or_null (Some o) = o
+
+-- the operand at a place
+abbrev pub operand_of : List Operand → ℕ → Operand
+operand_of operands i = operand_or_null (slice_get operands i)
+
+-- ---- what is there
+
+-- the class of the object at an address, and 0 where there is none
+abbrev pub class_there : Space → ℕ → ℕ
+class_there space a = unwrap_or (class_at space a) 0
+
+-- the same, and 0 for NULL
+abbrev pub class_of_given : Space → Option ℕ → ℕ
+class_of_given space None = 0
+class_of_given space (Some a) = class_there space a
+
+-- the name of the object at an address, and 0 for NULL
+abbrev pub name_there : Space → Option ℕ → ℕ
+name_there space None = 0
+name_there space (Some a) = unwrap_or (name_at space a) 0
+
+-- NULL fits every class
+abbrev pub fits_there : Classes → Space → Option ℕ → (class : ℕ) → Bool
+fits_there classes space None class = true
+fits_there classes space (Some a) class = assignable classes (class_there space a) class
+
+-- the field of no handle
+abbrev pub no_field : FieldId
+no_field = record { class = 0; is_static = false; field = record { name = []; type = NumberField JInt } }
+
+-- the field of a handle
+abbrev pub field_there : Classes → Option FieldHandle → FieldId
+field_there classes None = no_field
+field_there classes (Some h) = unwrap_or (field_of classes h) no_field
+
+-- each operand that is a field ID is NULL or a handle of a field
+abbrev pub AreHandles : Classes → List (Option FieldHandle) → List Operand → Type 0
+AreHandles classes fields [] = Unit {0}
+AreHandles classes fields (o ∷ operands) = ((h : FieldHandle) → field_at fields o ≡ Some h → IsSome (field_of classes h)) × AreHandles classes fields operands

@@ -1,0 +1,9 @@
+pub mod HeapAgrees
+pub mod Locals
+pub mod Statics
+pub mod Buffers
+pub mod StoreAgrees
+pub mod FieldIds
+pub mod Scenes
+pub mod Given
+pub mod NewObjects

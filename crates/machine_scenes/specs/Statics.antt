@@ -1,0 +1,64 @@
+-- Statics, which hold global references, and what operands can name.
+use Rattle.std.specs.Prelude.{◌≡◌, ℕ, Bool, true, false, List, map, slice_get, Option, Some, None, IsSome}
+use Rattle.tables.specs.Keys.{Gains}
+use Rattle.tables.specs.Locals.{LocalTable}
+use Rattle.tables.specs.References.{address_at}
+use Rattle.machine_scenes.specs.declared.statics.StaticReference.{StaticReference}
+use Rattle.machine_scenes.specs.declared.statics.StaticReference.TheVariants as static
+use Rattle.machine_scenes.specs.declared.references.Held.{Held}
+use Rattle.machine_scenes.specs.declared.references.Held.TheVariants.{Empty, At, Deleted}
+
+-- the references that operands can name: the keys in the slots of local references, with their table, and what the statics hold
+pub record References : Type 0 where
+  pub keys : List (Option ℕ)
+  pub locals : LocalTable
+  pub statics : List Held
+
+-- the address of a global reference; each that a static holds has one
+abbrev pub held_at : Option ℕ → Held
+held_at None = Empty
+held_at (Some a) = At a
+
+-- what a static holds, by the table of global references
+abbrev pub held : (globals : List (Option ℕ)) → StaticReference → Held
+held globals static.Empty = Empty
+held globals (static.Live key) = held_at (address_at globals key)
+held globals static.Deleted = Deleted
+
+-- what the statics hold
+abbrev pub all_held : (globals : List (Option ℕ)) → List StaticReference → List Held
+all_held globals statics = map (held globals) statics
+
+-- NULL where there is no static
+abbrev pub held_or_null : Option Held → Held
+held_or_null None = Empty
+held_or_null (Some h) = h
+
+-- what the static of a slot holds
+abbrev pub static_at : References → ℕ → Held
+static_at references i = held_or_null (slice_get references.statics i)
+
+-- the address that is held
+abbrev pub held_address : Held → Option ℕ
+held_address (At a) = Some a
+held_address h = None
+
+-- it is NULL, which a deleted reference isn't
+abbrev pub holds_null : Held → Bool
+holds_null Empty = true
+holds_null h = false
+
+-- it is marked as deleted
+abbrev pub holds_deleted : Held → Bool
+holds_deleted Deleted = true
+holds_deleted h = false
+
+-- the statics that are live have global references of their own
+pub record HaveKeys (globals : List (Option ℕ)) (statics : List StaticReference) : Type 0 where
+  pub live : (i key : ℕ) → slice_get statics i ≡ Some (static.Live key) → IsSome (address_at globals key)
+  pub own : (i j key : ℕ) → slice_get statics i ≡ Some (static.Live key) → slice_get statics j ≡ Some (static.Live key) → i ≡ j
+
+-- a global reference to the object at an address is made, and none for NULL
+abbrev pub MakesGlobal : (old : List (Option ℕ)) → Option ℕ → (new : List (Option ℕ)) → StaticReference → Type 0
+MakesGlobal old None new held = (new ≡ old) × (held ≡ static.Empty)
+MakesGlobal old (Some a) new held = (key : ℕ) × (held ≡ static.Live key) × Gains old key a new

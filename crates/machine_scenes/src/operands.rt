@@ -1,0 +1,154 @@
+//! What the operands of a call give, and what is there.
+
+ghost use Rattle.std.specs.Prelude.{◌≡◌, ℕ, Some, IsSome};
+ghost use Rattle.classes.specs.FieldViews.{field_of};
+ghost use Rattle.base.specs.Element.{element_value};
+ghost use Rattle.classes.specs.Views.{field_type_view};
+ghost use Rattle.heap.specs.Heap.{IsAddress};
+ghost use Rattle.machine_scenes.specs.Given.{operand_at, key_at, field_at, operand_of, class_of_given, name_there, fits_there, field_there, AreAddresses, AreHandles};
+
+use crate::references::{Held, References};
+use classes::class::{ElementType, FieldHandle, FieldType};
+use classes::table::ClassTable;
+use code::instr::Operand;
+use heap::{Addr, Heap};
+use tables::Local;
+
+/// The operand at a place, and NULL where there is none.
+pub fn operand_of(operands: &[Operand], place: usize) -> Operand
+    ensures { result ≡ operand_of operands.now place }
+{
+    operands.get(place).copied().unwrap_or(Operand::Null)
+}
+
+/// The reference that an operand gives.
+pub fn reference_in(references: &References<'_>, operand: Operand) -> Option<Addr>
+    ensures { result ≡ operand_at references.now operand }
+{
+    match operand {
+        Operand::Local(slot) => references.local(slot),
+        Operand::Static(slot) => match references.held(slot) {
+            Held::At(addr) => Some(addr),
+            Held::Empty | Held::Deleted => None,
+        },
+        _ => None,
+    }
+}
+
+/// The key of the local reference that an operand gives; none for NULL, and for what is no local reference.
+pub fn key_in(references: &References<'_>, operand: Operand) -> Option<Local>
+    ensures { result ≡ key_at references.now operand }
+{
+    match operand {
+        Operand::Local(slot) => references.key(slot),
+        _ => None,
+    }
+}
+
+/// The field ID that an operand gives.
+pub fn field_in(fields: &[Option<FieldHandle>], operand: Operand) -> Option<FieldHandle>
+    ensures { result ≡ field_at fields.now operand }
+{
+    match operand {
+        Operand::FieldId(slot) => fields.get(slot as usize).copied().unwrap_or(None),
+        _ => None,
+    }
+}
+
+/// The reference of the operand at a place, which is NULL or the address of an object.
+pub fn reference_at(
+    heap: &Heap,
+    references: &References<'_>,
+    operands: &[Operand],
+    place: usize,
+) -> Option<Addr>
+    requires { AreAddresses heap.now references.now operands.now }
+    ensures reference { result ≡ operand_at references.now (operand_of operands.now place) }
+    ensures there { (a : ℕ) → result ≡ Some a → IsAddress heap.now a }
+{
+    let _ = heap;
+    reference_in(references, operand_of(operands, place))
+}
+
+/// The field ID of the operand at a place, which is NULL or that of a field.
+pub fn handle_at(
+    classes: &ClassTable,
+    fields: &[Option<FieldHandle>],
+    operands: &[Operand],
+    place: usize,
+) -> Option<FieldHandle>
+    requires { AreHandles classes.now fields.now operands.now }
+    ensures field { result ≡ field_at fields.now (operand_of operands.now place) }
+    ensures there { (h : FieldHandle) → result ≡ Some h → IsSome (field_of classes.now h) }
+{
+    let _ = classes;
+    field_in(fields, operand_of(operands, place))
+}
+
+/// The class of an object, and 0 for NULL.
+pub fn class_of_given(heap: &Heap, reference: Option<Addr>) -> usize
+    requires { (a : ℕ) → reference ≡ Some a → IsAddress heap.now a }
+    ensures { result ≡ class_of_given heap.now reference }
+{
+    match reference {
+        Some(addr) => heap.class_of(addr) as usize,
+        None => 0,
+    }
+}
+
+/// The name of an object, and 0 for NULL.
+pub fn name_there(heap: &Heap, reference: Option<Addr>) -> usize
+    requires { (a : ℕ) → reference ≡ Some a → IsAddress heap.now a }
+    ensures { result ≡ name_there heap.now reference }
+{
+    match reference {
+        Some(addr) => heap.birth_of(addr) as usize,
+        None => 0,
+    }
+}
+
+/// Whether a reference fits a class, as NULL does always.
+pub fn fits_there(classes: &ClassTable, heap: &Heap, reference: Option<Addr>, class: usize) -> bool
+    requires { (a : ℕ) → reference ≡ Some a → IsAddress heap.now a }
+    ensures { result ≡ fits_there classes.now heap.now reference class }
+{
+    match reference {
+        Some(addr) => classes.assignable(heap.class_of(addr) as usize, class),
+        None => true,
+    }
+}
+
+/// Whether the field of a handle is a static; NULL is none.
+pub fn is_static(classes: &ClassTable, field: Option<FieldHandle>) -> bool
+    requires { (h : FieldHandle) → field ≡ Some h → IsSome (field_of classes.now h) }
+    ensures { result ≡ (field_there classes.now field).is_static }
+{
+    let _ = classes;
+    match field {
+        Some(handle) => handle.is_static,
+        None => false,
+    }
+}
+
+/// The class that declares the field of a handle, and 0 for NULL.
+pub fn declaring(classes: &ClassTable, field: Option<FieldHandle>) -> usize
+    requires { (h : FieldHandle) → field ≡ Some h → IsSome (field_of classes.now h) }
+    ensures { result ≡ (field_there classes.now field).class }
+{
+    let _ = classes;
+    match field {
+        Some(handle) => handle.class,
+        None => 0,
+    }
+}
+
+/// What the field of a handle holds, and numbers for NULL.
+pub fn type_of(classes: &ClassTable, field: Option<FieldHandle>) -> FieldType
+    requires { (h : FieldHandle) → field ≡ Some h → IsSome (field_of classes.now h) }
+    ensures { field_type_view result ≡ (field_there classes.now field).field.type }
+{
+    match field {
+        Some(handle) => classes.handle_type(handle).unwrap(),
+        None => FieldType::Number(ElementType::Int),
+    }
+}

@@ -1,0 +1,86 @@
+//! The references that operands can name.
+
+ghost use Rattle.std.specs.Prelude.{◌≡◌, slice_get};
+ghost use Rattle.machine_scenes.specs.Given.{held_in};
+ghost use Rattle.machine_scenes.specs.Locals.{address_of};
+ghost use Rattle.machine_scenes.specs.Statics.{all_held, static_at};
+
+use crate::statics::StaticReference;
+use heap::Addr;
+use std::marker::Model;
+use tables::{Globals, Local, Locals};
+
+/// What a static holds, with the address of its object.
+#[derive(Clone, Copy)]
+pub enum Held {
+    Empty,
+    At(Addr),
+    Deleted,
+}
+
+/// The references that operands can name: the local ones of a call, by their keys, and the statics.
+#[derive(Drop)]
+pub struct References<'a> {
+    keys: &'a [Option<Local>],
+    locals: &'a Locals,
+    statics: &'a [StaticReference],
+    globals: &'a Globals,
+}
+
+impl<'a> Model for References<'a> {
+    ghost use Rattle.machine_scenes.specs.Statics.{References, all_held};
+
+    ghost Value = { References };
+
+    ghost view = { λ r. record { keys = r.keys.now; locals = r.locals.now; statics = all_held r.globals.now r.statics.now } };
+}
+
+impl<'a> References<'a> {
+    /// These references.
+    pub fn new(
+        keys: &'a [Option<Local>],
+        locals: &'a Locals,
+        statics: &'a [StaticReference],
+        globals: &'a Globals,
+    ) -> References<'a>
+        ensures { result ≡ record { keys = keys.now; locals = locals.now; statics = all_held globals.now statics.now } }
+    {
+        References {
+            keys,
+            locals,
+            statics,
+            globals,
+        }
+    }
+
+    /// The key in the slot of a local reference; none for NULL, and where there is no slot.
+    pub fn key(&self, slot: u32) -> Option<Local>
+        ensures { result ≡ held_in (slice_get self.now.keys slot) }
+    {
+        self.keys.get(slot as usize).copied().unwrap_or(None)
+    }
+
+    /// The address that the slot of a local reference gives; none for NULL, and for a reference that is dead.
+    pub fn local(&self, slot: u32) -> Option<Addr>
+        ensures { result ≡ address_of self.now.locals (held_in (slice_get self.now.keys slot)) }
+    {
+        match self.key(slot) {
+            Some(key) => self.locals.get(key).ok(),
+            None => None,
+        }
+    }
+
+    /// What the static of a slot holds; NULL where there is none.
+    pub fn held(&self, slot: u32) -> Held
+        ensures { result ≡ static_at self.now slot }
+    {
+        match self.statics.get(slot as usize) {
+            None | Some(StaticReference::Empty) => Held::Empty,
+            Some(StaticReference::Live(key)) => match self.globals.get(*key) {
+                Ok(addr) => Held::At(addr),
+                Err(_) => Held::Empty,
+            },
+            Some(StaticReference::Deleted) => Held::Deleted,
+        }
+    }
+}

@@ -1,0 +1,55 @@
+//! Statics, which hold global references.
+
+ghost use Rattle.std.specs.Prelude.{◌≡◌, ℕ, Some, IsSome, slice_get, slice_set, IfOk, OnErr};
+ghost use Rattle.machine_scenes.specs.Statics.{MakesGlobal};
+ghost use Rattle.machine_scenes.specs.declared.statics.StaticReference.TheVariants.{Live, Deleted};
+ghost use Rattle.tables.specs.Globals.{without};
+ghost use Rattle.tables.specs.References.{address_at};
+
+use heap::Addr;
+use std::alloc::AllocError;
+use tables::{Global, Globals};
+
+/// What a static holds.
+#[derive(Clone, Copy)]
+pub enum StaticReference {
+    /// NULL.
+    Empty,
+    Live(Global),
+    /// A global reference that was deleted, which isn't NULL.
+    Deleted,
+}
+
+/// Makes a global reference to the object at this address, and none for NULL.
+///
+/// An error says that host memory for it was refused; then all is as before.
+pub fn make_global(
+    globals: &mut Globals,
+    reference: Option<Addr>,
+) -> Result<StaticReference, AllocError>
+    ensures made { IfOk result (λ held. MakesGlobal globals.old reference globals.new held) }
+    ensures err { OnErr result (globals.new ≡ globals.old) }
+{
+    match reference {
+        None => Ok(StaticReference::Empty),
+        Some(addr) => match globals.make(addr) {
+            Ok(key) => Ok(StaticReference::Live(key)),
+            Err(_) => Err(AllocError),
+        },
+    }
+}
+
+/// Ends the global reference of a static that has one, and marks the static.
+pub fn delete_global(statics: &mut [StaticReference], globals: &mut Globals, slot: u32)
+    requires { (key : ℕ) × (slice_get statics.old slot ≡ Some (Live key)) × IsSome (address_at globals.old key) }
+    ensures statics { statics.new ≡ slice_set statics.old slot Deleted }
+    ensures globals { (key : ℕ) → slice_get statics.old slot ≡ Some (Live key) → globals.new ≡ without globals.old key }
+{
+    let place = slot as usize;
+    let held = statics[place];
+    match held {
+        StaticReference::Live(key) => globals.delete(key).unwrap(),
+        _ => unreachable!(),
+    }
+    statics[place] = StaticReference::Deleted;
+}

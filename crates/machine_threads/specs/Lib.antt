@@ -1,0 +1,6 @@
+pub mod SlotsHold
+pub mod InProgress
+pub mod Entry
+pub mod ThreadAgrees
+pub mod Held
+pub mod Loading

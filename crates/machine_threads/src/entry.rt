@@ -1,0 +1,175 @@
+//! The slots of a call at its entry.
+
+ghost use Rattle.std.specs.Prelude.{◌≡◌, ℕ, ◌-◌, ◌<◌, ◌≤◌, [], length, map, filter_map, slice_get, IfOk, OnOk, IsTrue, ◌+◌};
+ghost use Rattle.std.specs.List.{list_all};
+ghost use Rattle.base.specs.Limits.{most_names, most_references};
+ghost use Rattle.world_values.specs.Views.{object_value_view};
+ghost use Rattle.world_values.specs.CallArguments.{is_argument};
+ghost use Rattle.code_meaning.specs.Slots.{argument_word, HasRoom};
+ghost use Rattle.tables.specs.Locals.{pushed};
+ghost use Rattle.tables.specs.References.{references_in};
+ghost use Rattle.machine_threads.specs.Entry.{argument_address, entry_locals, keys_from, IsNumbersOf, IsReferencesOf, BeginsIn};
+
+use crate::thread::PendingCall;
+use code::code::Code;
+use code::stack::Stack;
+use heap::Addr;
+use machine_scenes::activation::{Activation, Slots};
+use machine_scenes::buffer::Buffer;
+use std::alloc::{AllocError, Global};
+use std::vec::VecCloneMethods;
+use tables::{Local, Locals, TableFault};
+use world_values::ObjectValue;
+
+/// How many local references more a native method may have than it is given (JNI Specification, chapter 2, "Local
+/// References").
+const MORE_LOCALS: u32 = 16;
+
+/// A call before its first instruction.
+pub fn begin(
+    alloc: Global,
+    code: &Code,
+    loaded: &[Addr],
+    next: &PendingCall,
+) -> Result<Activation, AllocError>
+    requires class { (0 < next.now.class) × (next.now.class ≤ length loaded.now) }
+    requires given { IsTrue (list_all (is_argument (length loaded.now)) (map object_value_view next.now.arguments.items)) }
+    requires room { HasRoom code.now (map object_value_view next.now.arguments.items) }
+    requires few { length next.now.arguments.items ≤ most_names }
+    ensures { IfOk result (λ call. BeginsIn code.now loaded.now next.now call) }
+{
+    let slots = code.slots();
+    let mut fields = Vec::new(alloc);
+    fields.resize(slots.field_ids as usize, None)?;
+    let mut buffers = Vec::new(alloc);
+    buffers.resize(slots.buffers as usize, Buffer::Null)?;
+    let addresses = addresses_given(
+        alloc,
+        loaded,
+        next.class,
+        &next.arguments,
+        slots.references as usize,
+    )?;
+    let mut locals = Locals::new(alloc)?;
+    let references = make_locals(alloc, &mut locals, &addresses)?;
+    Ok(Activation {
+        function: next.function,
+        place: 0,
+        stack: Stack::new(),
+        slots: Slots {
+            numbers: number_slots(alloc, &next.arguments, slots.numbers as usize)?,
+            references,
+            fields,
+            buffers,
+        },
+        locals,
+    })
+}
+
+/// `count` number slots, of which the first hold the numbers that the call is given.
+fn number_slots(
+    alloc: Global,
+    arguments: &[ObjectValue],
+    count: usize,
+) -> Result<Vec<u32>, AllocError>
+    requires given { (made : ℕ) × IsTrue (list_all (is_argument made) (map object_value_view arguments.now)) }
+    requires room { length (filter_map argument_word (map object_value_view arguments.now)) ≤ count }
+    ensures { IfOk result (λ v. IsNumbersOf count (map object_value_view arguments.now) v.items) }
+{
+    let mut slots = Vec::new(alloc);
+    for argument in arguments {
+        match argument {
+            ObjectValue::Number(number) => slots.push(number.cast_unsigned())?,
+            ObjectValue::Reference(_) => {}
+        }
+    }
+    slots.resize(count, 0)?;
+    Ok(slots)
+}
+
+/// `count` addresses, of which the first are those of the class and of the references that the call is given.
+fn addresses_given(
+    alloc: Global,
+    loaded: &[Addr],
+    class: usize,
+    arguments: &[ObjectValue],
+    count: usize,
+) -> Result<Vec<Option<Addr>>, AllocError>
+    requires class { 0 < class }
+    requires given { IsTrue (list_all (is_argument (length loaded.now)) (map object_value_view arguments.now)) }
+    requires room { length (filter_map (argument_address loaded.now) (map object_value_view arguments.now)) < count }
+    ensures { IfOk result (λ v. IsReferencesOf count loaded.now class (map object_value_view arguments.now) v.items) }
+{
+    let mut slots = Vec::new(alloc);
+    slots.push(object_of(loaded, class))?;
+    for argument in arguments {
+        match argument {
+            ObjectValue::Number(_) => {}
+            ObjectValue::Reference(None) => slots.push(None)?,
+            ObjectValue::Reference(Some(name)) => slots.push(object_of(loaded, *name))?,
+        }
+    }
+    slots.resize(count, None)?;
+    Ok(slots)
+}
+
+/// Makes the first frame of a call, with references to the objects at these addresses but NULL, and room for 16 more. The keys
+/// are in the order of the addresses.
+fn make_locals(
+    alloc: Global,
+    locals: &mut Locals,
+    addresses: &[Option<Addr>],
+) -> Result<Vec<Option<Local>>, AllocError>
+    requires none { locals.old ≡ record { frames = []; slots = [] } }
+    requires few { length (references_in addresses.now) ≤ most_names + 1 }
+    ensures locals { OnOk result (locals.new ≡ entry_locals addresses.now) }
+    ensures keys { IfOk result (λ keys. keys.items ≡ keys_from 0 addresses.now) }
+{
+    push_first(locals, count_given(addresses) + MORE_LOCALS)?;
+    let mut keys = Vec::new(alloc);
+    for address in addresses {
+        match address {
+            None => keys.push(None)?,
+            Some(addr) => {
+                let key = locals.make(*addr).unwrap();
+                keys.push(Some(key))?;
+            }
+        }
+    }
+    Ok(keys)
+}
+
+/// The number of addresses but NULL.
+fn count_given(addresses: &[Option<Addr>]) -> u32
+    requires { length (references_in addresses.now) ≤ most_names + 1 }
+    ensures { result ≡ length (references_in addresses.now) }
+{
+    let mut count = 0;
+    for address in addresses {
+        if address.is_some() {
+            count += 1;
+        }
+    }
+    count
+}
+
+/// Makes the first frame, of this capacity.
+fn push_first(locals: &mut Locals, capacity: u32) -> Result<(), AllocError>
+    requires none { locals.old ≡ record { frames = []; slots = [] } }
+    requires few { capacity ≤ most_references }
+    ensures { OnOk result (locals.new ≡ pushed locals.old capacity) }
+{
+    match locals.push(capacity) {
+        Ok(()) => Ok(()),
+        Err(TableFault::Full) => unreachable!(),
+        Err(_) => Err(AllocError),
+    }
+}
+
+/// The address of the object of a name.
+fn object_of(loaded: &[Addr], name: usize) -> Option<Addr>
+    requires { 0 < name }
+    ensures { result ≡ slice_get loaded.now (name - 1) }
+{
+    loaded.get(name - 1).copied()
+}
