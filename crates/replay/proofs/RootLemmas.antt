@@ -14,7 +14,7 @@ use Rattle.semantics.specs.World.{World}
 use Rattle.replay_steps.specs.declared.activation.Activation.{Activation}
 use Rattle.replay_threads.specs.declared.state.State.{State as StateInMemory}
 use Rattle.replay_threads.specs.declared.thread.Thread.{Thread as ThreadInMemory}
-use Rattle.replay_calls.specs.Shares.{shared_view}
+use Rattle.replay_arguments.specs.Shares.{shared_view}
 use Rattle.replay_objects.specs.Monitors.{owned_objects}
 use Rattle.replay_threads.specs.Rows.{thread_names, activation_names, root_names}
 use Rattle.replay_threads.specs.States.{Stands, ThreadsStand, viewed_in}

@@ -6,14 +6,14 @@ ghost use Rattle.type_rules.specs.SortRules.{IsSorted};
 ghost use Rattle.world_values.specs.Views.{object_value_view};
 ghost use Rattle.semantics.specs.Load.{call_loads, is_callable, first_load_fault, refused_calls};
 ghost use Rattle.semantics.specs.Start.{start};
-ghost use Rattle.replay_calls.specs.Shares.{shared_view};
+ghost use Rattle.replay_arguments.specs.Shares.{shared_view};
 ghost use Rattle.replay_threads.specs.States.{AreInRange, Stands};
 ghost use Rattle.replay.specs.Loading.{first_line, AddsWaiting, AreWaiting, IsWaiting};
 ghost use Rattle.replay.specs.Replays.{IsLoadFault};
 
 use crate::fault::ReplayFault;
 use functions::Functions;
-use replay_calls::Shared;
+use replay_arguments::Shared;
 use replay_objects::{Monitors, Names, loaded_store};
 use replay_terms::null_statics;
 use replay_threads::{State, Thread, class_of};

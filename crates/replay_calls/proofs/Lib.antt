@@ -1,2 +1,1 @@
-mod FieldLemmas
 pub mod FittingFrames

@@ -14,9 +14,9 @@ ghost use Rattle.semantics.specs.Arguments.{field_given, number_given, object_gi
 ghost use Rattle.semantics.specs.Object.{Reference};
 ghost use Rattle.semantics.specs.Thread.{BuffersInUse as InUse, Frame, Monitor as MonitorOfThread};
 ghost use Rattle.semantics.specs.Variable.{Variables as VariablesOfCall};
-ghost use Rattle.replay_calls.specs.Actuals.{actual_view};
+ghost use Rattle.replay_arguments.specs.Actuals.{actual_view};
 ghost use Rattle.replay_calls.specs.Answers.{answer_or_trap, answer_view, lent_in, trap_in};
-ghost use Rattle.replay_calls.specs.Checked.{trap_found};
+ghost use Rattle.replay_arguments.specs.Checked.{trap_found};
 ghost use Rattle.replay_calls.specs.WorkedOut.{element_given, element_set, ensured, fits_element, found_class, found_field, global_deleted, index_given, local_deleted, made_global, new_array, new_object_array, pushed, subject_of, worked_out};
 ghost use Rattle.replay_calls.specs.declared.answer.Subject.TheVariants as subject;
 ghost use Rattle.semantics.specs.EventViews.{trap_view};
@@ -24,17 +24,10 @@ ghost use Rattle.replay_terms.specs.Views.{in_use_view, variables_view};
 ghost use Rattle.base.specs.Element.{element_value};
 ghost use Rattle.world_values.specs.Views.{object_value_view};
 
-use crate::actual::{
-    Actual, field_given, level_of, number_given, object_given, reference_given, text_given,
-    variable_given,
-};
 use crate::buffers::buffer_answer;
-use crate::check::{check, fits_class};
 use crate::exceptions::exception_answer;
-use crate::field;
 use crate::monitors::monitor_answer;
 use crate::regions::region_answer;
-use crate::shared::Shared;
 use class_queries::element_class;
 use classes::built_ins::{
     ARRAY_INDEX_OUT_OF_BOUNDS_EXCEPTION, ARRAY_STORE_EXCEPTION, NEGATIVE_ARRAY_SIZE_EXCEPTION,
@@ -43,6 +36,12 @@ use classes::built_ins::{
 use classes::fields::FieldId;
 use classes::table::ClassTable;
 use jni::JniFunction;
+use replay_arguments::actual::{
+    Actual, field_given, level_of, number_given, object_given, reference_given, text_given,
+    variable_given,
+};
+use replay_arguments::check::{check, fits_class};
+use replay_arguments::{Shared, field};
 use replay_objects::{Frames, New, Store};
 use replay_terms::{BuffersInUse, Given, Lent, Variables, convert};
 use semantics::Trap;

@@ -11,16 +11,16 @@ ghost use Rattle.semantics.specs.Object.{Reference};
 ghost use Rattle.semantics.specs.Thread.{Frame, Monitor};
 ghost use Rattle.semantics.specs.Variable.{Variables as VariablesOfCall};
 ghost use Rattle.semantics.specs.Views.{mode_view};
-ghost use Rattle.replay_calls.specs.Actuals.{actual_view};
+ghost use Rattle.replay_arguments.specs.Actuals.{actual_view};
 ghost use Rattle.replay_calls.specs.Answers.{answer_view, heap_copied, variables_freed};
 ghost use Rattle.replay_calls.specs.WorkedOut.{copy_lent, lent_by, released, subject_of, view_lent, worked_out};
 ghost use Rattle.replay_calls.specs.declared.answer.Subject.TheVariants as subject;
 ghost use Rattle.replay_terms.specs.Views.{in_use_view, lent_view, variables_view};
 
-use crate::actual::{Actual, ReleaseMode, mode_given, object_given, variable_given};
 use crate::answer::Answer;
 use base::limits::{MOST_COPIED, MOST_VIEWS};
 use jni::{Access, JniFunction};
+use replay_arguments::actual::{Actual, ReleaseMode, mode_given, object_given, variable_given};
 use replay_objects::Store;
 use replay_terms::{BuffersInUse, Content, Lent, Value, Variables};
 use std::alloc::AllocError;

@@ -12,14 +12,14 @@ ghost use Rattle.semantics.specs.Thread.{Frame};
 ghost use Rattle.semantics.specs.Variable.{Variables as VariablesOfCall};
 ghost use Rattle.replay_calls.specs.Answers.{FitsArrays, FitsFrames, answer_view, frames_after, frames_with, given_after, is_of_frames, is_of_numbers, is_of_references, lent_in, makes_object, pending_after, shared_after, trap_in, variables_after};
 ghost use Rattle.replay_terms.specs.Views.{given_view, variables_view};
-ghost use Rattle.replay_calls.specs.Shares.{shared_view};
+ghost use Rattle.replay_arguments.specs.Shares.{shared_view};
 
-use crate::Shared;
 use crate::answer::Answer;
 use crate::buffers::copy_back;
 use crate::regions::{get_region, set_region};
 use classes::table::ClassTable;
 use jni::ResultKind;
+use replay_arguments::Shared;
 use replay_objects::{Frames, New, make, make_thrown};
 use replay_terms::{Given, StaticReference, Variables};
 use std::alloc::{AllocError, Global};

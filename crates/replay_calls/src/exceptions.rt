@@ -6,14 +6,14 @@ ghost use Rattle.jni.specs.Table.{function_value};
 ghost use Rattle.semantics.specs.Heap.{Heap};
 ghost use Rattle.semantics.specs.Thread.{BuffersInUse, Frame, Monitor};
 ghost use Rattle.semantics.specs.Variable.{Variables};
-ghost use Rattle.replay_calls.specs.Actuals.{actual_view};
+ghost use Rattle.replay_arguments.specs.Actuals.{actual_view};
 ghost use Rattle.replay_calls.specs.Answers.{answer_view};
 ghost use Rattle.replay_calls.specs.WorkedOut.{subject_of, worked_out};
 ghost use Rattle.replay_calls.specs.declared.answer.Subject.TheVariants as subject;
 
-use crate::actual::{Actual, object_given, reference_given, text_given};
 use crate::answer::Answer;
 use jni::JniFunction;
+use replay_arguments::actual::{Actual, object_given, reference_given, text_given};
 use replay_terms::Given;
 use semantics::Trap;
 

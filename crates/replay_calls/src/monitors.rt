@@ -8,17 +8,17 @@ ghost use Rattle.semantics.specs.Heap.{Heap};
 ghost use Rattle.semantics.specs.Object.{Reference};
 ghost use Rattle.semantics.specs.Thread.{BuffersInUse, Frame};
 ghost use Rattle.semantics.specs.Variable.{Variables};
-ghost use Rattle.replay_calls.specs.Actuals.{actual_view};
+ghost use Rattle.replay_arguments.specs.Actuals.{actual_view};
 ghost use Rattle.replay_calls.specs.Answers.{answer_view};
 ghost use Rattle.replay_calls.specs.WorkedOut.{monitor_entered, monitor_left, subject_of, worked_out};
 ghost use Rattle.replay_calls.specs.declared.answer.Subject.TheVariants as subject;
 ghost use Rattle.replay_objects.specs.Monitors.{monitor_view};
 
-use crate::actual::{Actual, object_given};
 use crate::answer::Answer;
 use base::limits::MOST_MONITOR_ENTRIES;
 use classes::built_ins::ILLEGAL_MONITOR_STATE_EXCEPTION;
 use jni::JniFunction;
+use replay_arguments::actual::{Actual, object_given};
 use replay_objects::{Monitor, Monitors};
 use replay_terms::Given;
 

@@ -6,19 +6,19 @@ ghost use Rattle.class_rules.specs.Class.{Classes};
 ghost use Rattle.jni.specs.Table.{function_value};
 ghost use Rattle.semantics.specs.Object.{Reference};
 ghost use Rattle.semantics.specs.Thread.{BuffersInUse, Frame, Monitor};
-ghost use Rattle.replay_calls.specs.Actuals.{actual_view};
+ghost use Rattle.replay_arguments.specs.Actuals.{actual_view};
 ghost use Rattle.replay_calls.specs.Answers.{FitsArrays, answer_view, heap_with, region_view, variables_with};
 ghost use Rattle.replay_calls.specs.WorkedOut.{region_given, region_got, region_set, subject_of, worked_out};
 ghost use Rattle.replay_calls.specs.declared.answer.Answer.TheVariants as answer;
 ghost use Rattle.replay_calls.specs.declared.answer.Subject.TheVariants as subject;
 ghost use Rattle.replay_terms.specs.Views.{variables_view};
 
-use crate::actual::{Actual, number_given, object_given, variable_given};
 use crate::answer::{Answer, Region};
 use classes::built_ins::{
     ARRAY_INDEX_OUT_OF_BOUNDS_EXCEPTION, STRING_INDEX_OUT_OF_BOUNDS_EXCEPTION,
 };
 use jni::JniFunction;
+use replay_arguments::actual::{Actual, number_given, object_given, variable_given};
 use replay_objects::Store;
 use replay_terms::Variables;
 use semantics::Trap;

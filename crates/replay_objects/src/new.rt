@@ -10,7 +10,7 @@ ghost use Rattle.replay_objects.specs.Stores.{IsMarked, object_view};
 ghost use Rattle.world_values.specs.Views.{object_value_view};
 
 use crate::store::{Object, Store, put_value};
-use class_queries::fresh_values;
+use class_queries::{array_class_of, fresh_values};
 use classes::built_ins::STRING;
 use classes::table::ClassTable;
 use std::alloc::{AllocError, Global};
@@ -37,24 +37,24 @@ pub enum New<'a> {
     Text(&'a [u8]),
 }
 
-/// The number of its class. That of an array of references is found by its name, which takes memory.
-fn class_of(classes: &ClassTable, new: New<'_>) -> Result<usize, AllocError>
-    ensures { IfOk result (λ class. class ≡ (object_of classes.now (new_view new.entry)).class) }
+/// The number of its class.
+fn class_of(classes: &ClassTable, new: New<'_>) -> usize
+    ensures { result ≡ (object_of classes.now (new_view new.entry)).class }
 {
     match new {
-        New::Fresh(class) | New::Array { class, .. } => Ok(class),
+        New::Fresh(class) | New::Array { class, .. } => class,
         New::ObjectArray { element, .. } => array_of(classes, element),
-        New::Text(_) => Ok(STRING),
+        New::Text(_) => STRING,
     }
 }
 
 /// The number of the class of arrays of objects of a class; 0 where there is none.
-fn array_of(classes: &ClassTable, element: usize) -> Result<usize, AllocError>
-    ensures { IfOk result (λ class. class ≡ array_class classes.now element) }
+fn array_of(classes: &ClassTable, element: usize) -> usize
+    ensures { result ≡ array_class classes.now element }
 {
-    match classes.find_array_of(classes.name(element))? {
-        Some(class) => Ok(class),
-        None => Ok(0),
+    match array_class_of(classes, element) {
+        Some(class) => class,
+        None => 0,
     }
 }
 
@@ -126,8 +126,7 @@ pub fn make(
     ensures err { OnErr result (store.new ≡ store.old) }
 {
     let values = values_of(alloc, classes, new)?;
-    let class = class_of(classes, new)?;
-    store.add(class, values)?;
+    store.add(class_of(classes, new), values)?;
     Ok(store.len())
 }
 

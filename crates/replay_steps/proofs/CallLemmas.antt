@@ -40,7 +40,7 @@ use Rattle.replay_calls.specs.Answers.{Answer, Gives, Writes, Makes, Raises, Thr
 use Rattle.semantics.specs.EventViews.{trap_view}
 use Rattle.replay_terms.specs.Views.{given_view, lent_view, Contents, variables_view}
 use Rattle.replay_steps.specs.Calls.{MakesCall, lent_outcome, wanted_element}
-use Rattle.replay_calls.specs.Checked.{fit_together, trap_found}
+use Rattle.replay_arguments.specs.Checked.{fit_together, trap_found}
 use Rattle.replay_objects.specs.Frames.{new_frame}
 use Rattle.replay_objects.specs.New.{array_class, object_of, thrown}
 use Rattle.replay_tasks.specs.Outcomes.{outcome_for, purpose_view}

@@ -25,7 +25,7 @@ use Rattle.replay_terms.specs.declared.term.Term.TheVariants as term
 use Rattle.replay_terms.specs.declared.value.Value.{Value}
 use Rattle.replay_steps.specs.Calls.{MakesCall, MakesInvocation, ReducesFirst, ReducesOne}
 use Rattle.replay_tasks.specs.Outcomes.{purpose_view}
-use Rattle.replay_calls.specs.Shares.{sight_in}
+use Rattle.replay_arguments.specs.Shares.{sight_in}
 use Rattle.replay_tasks.specs.Effects.{HasEffect, reduced}
 use Rattle.replay_steps.specs.Steps.{Scene, Sees, Does}
 use Rattle.replay_terms.specs.Views.{operand_view, Contents, term_view, Reduces}

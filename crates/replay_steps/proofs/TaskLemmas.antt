@@ -14,7 +14,7 @@ use Rattle.replay_tasks.specs.declared.task.Task.{Task as TaskInMemory}
 use Rattle.replay_tasks.specs.Effects.{effect_by, HasEffect}
 use Rattle.replay_steps.specs.Steps.{Scene, Sees, in_scene, left_by, Does}
 use Rattle.replay_tasks.specs.Tasks.{task_view}
-use Rattle.replay_calls.specs.Shares.{sight_in}
+use Rattle.replay_arguments.specs.Shares.{sight_in}
 use Rattle.semantics.specs.EventViews.{trap_view}
 use Rattle.replay_terms.specs.Views.{variables_view}
 

@@ -17,7 +17,7 @@ use Rattle.semantics.specs.Term.{Term, Done, Number, Named, Read, Element, IsNul
 use Rattle.semantics.specs.Thread.{BuffersInUse, Frame, Thread, Shared, monitor_of}
 use Rattle.semantics.specs.ThreadStep.{next_effect, waits}
 use Rattle.semantics.specs.Value.{Value, Word, Int, Flag, Truth, Outcome, Gives, Traps, Stuck, Trap}
-use Rattle.replay_calls.specs.Shares.{sight_in}
+use Rattle.replay_arguments.specs.Shares.{sight_in}
 use Rattle.replay_steps.specs.Activations.{tasks_from, tasks_around, tasks_after}
 use Rattle.replay_steps.specs.Steps.{scene_with}
 use Rattle.replay_steps.specs.Waits.{WaitsIn, call_waits, is_kept_out, task_waits}

@@ -22,12 +22,12 @@ use Rattle.replay_terms.specs.declared.reduction.Reduction.{Reduction as Reducti
 use Rattle.replay_terms.specs.declared.reduction.Reduction.TheVariants as reduction
 use Rattle.replay_tasks.specs.Outcomes.{purpose_view}
 use Rattle.replay_calls.specs.Answers.{Answer, answer_or_trap}
-use Rattle.replay_calls.specs.Checked.{trap_found}
+use Rattle.replay_arguments.specs.Checked.{trap_found}
 use Rattle.replay_calls.specs.WorkedOut.{worked_out}
 use Rattle.replay_steps.specs.Steps.{Scene, Sees, in_scene, left_by}
 use Rattle.semantics.specs.EventViews.{trap_view}
 use Rattle.replay_terms.specs.Views.{Contents, operand_view, variables_view}
-use Rattle.replay_calls.specs.Shares.{sight_in}
+use Rattle.replay_arguments.specs.Shares.{sight_in}
 use Rattle.replay_tasks.specs.Tasks.{task_view}
 
 -- Where this can be seen, each number is worked out already, or what was done is the step of the first that isn't.

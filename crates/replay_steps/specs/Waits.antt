@@ -11,8 +11,8 @@ use Rattle.semantics.specs.Object.{Reference}
 use Rattle.semantics.specs.Task.{Operand}
 use Rattle.semantics.specs.Thread.{Frame, Shared, Thread, monitor_of}
 use Rattle.semantics.specs.ThreadStep.{waits}
-use Rattle.replay_calls.specs.Checked.{trap_found}
-use Rattle.replay_calls.specs.Shares.{sight_in}
+use Rattle.replay_arguments.specs.Checked.{trap_found}
+use Rattle.replay_arguments.specs.Shares.{sight_in}
 use Rattle.replay_steps.specs.Activations.{IsAtStatement, tasks_left}
 use Rattle.replay_steps.specs.Steps.{Scene, Sees}
 use Rattle.replay_steps.specs.declared.activation.Work.{Work}

@@ -5,7 +5,7 @@ ghost use Rattle.class_rules.specs.Grown.{IsGrown};
 ghost use Rattle.semantics.specs.Task.{tasks_of};
 ghost use Rattle.replay_steps.specs.Activations.{tasks_left, IsAtStatement, IsInRange, AreSet, IsApplied, HasBegun, HasTurned, StepsTask, Advances};
 ghost use Rattle.replay_steps.specs.Steps.{Scene, scene_of};
-ghost use Rattle.replay_calls.specs.Shares.{shared_view};
+ghost use Rattle.replay_arguments.specs.Shares.{shared_view};
 ghost use Rattle.syntax.specs.Views.{expr_tree, block_tree};
 ghost use Rattle.replay_tasks.specs.declared.outcome.Outcome.TheVariants as outcome;
 ghost use Rattle.replay_tasks.specs.Tasks.{branch_task, statements_in, BlockInRange, ExprInRange, StatementInRange, StatementsInRange, OutcomeInRange};
@@ -14,7 +14,7 @@ ghost use Rattle.replay_terms.specs.declared.value.Value.TheVariants as value;
 
 use crate::step::step;
 use crate::turn::Turn;
-use replay_calls::Shared;
+use replay_arguments::Shared;
 use replay_objects::{Frames, Store};
 use replay_tasks::{Choice, End, Outcome, Statements, Task, loop_task, set_variables, task_of};
 use replay_terms::{Statics, Term, Value, Variables};

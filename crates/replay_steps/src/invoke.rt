@@ -7,13 +7,13 @@ ghost use Rattle.replay_tasks.specs.declared.outcome.Outcome.TheVariants as outc
 ghost use Rattle.replay_tasks.specs.declared.task.Task.TheVariants as task;
 ghost use Rattle.semantics.specs.Arguments.{Actual as ActualOfCall, address_given};
 ghost use Rattle.semantics.specs.Thread.{Shared as SharedOfThreads};
-ghost use Rattle.replay_calls.specs.Actuals.{actual_view};
+ghost use Rattle.replay_arguments.specs.Actuals.{actual_view};
 ghost use Rattle.replay_calls.specs.Answers.{FitsArrays, FitsFrames, answer_view, trap_in};
 ghost use Rattle.replay_steps.specs.Calls.{HasAnswer, MakesCall, MakesInvocation, ReducesFirst, ReducesOne, lent_outcome, wanted_element};
 ghost use Rattle.replay_tasks.specs.Outcomes.{outcome_for};
 ghost use Rattle.replay_steps.specs.declared.activation.Locals.{Locals as LocalsInMemory};
 ghost use Rattle.replay_steps.specs.Steps.{Does, scene_of};
-ghost use Rattle.replay_calls.specs.Shares.{shared_view, sight_in};
+ghost use Rattle.replay_arguments.specs.Shares.{shared_view, sight_in};
 ghost use Rattle.replay_tasks.specs.Tasks.{OperandInRange, OperandsInRange, OutcomeInRange, PurposeInRange};
 ghost use Rattle.replay_terms.specs.Views.{lent_view, variables_view};
 ghost use Rattle.semantics.specs.CallEffects.{BufferResult};
@@ -23,9 +23,10 @@ ghost use Rattle.base.specs.Element.{element_value};
 
 use crate::activation::Locals;
 use crate::turn::Turn;
-use replay_calls::actual::{Actual, actuals, address_given};
+use replay_arguments::Shared;
+use replay_arguments::actual::{Actual, actuals, address_given};
 use replay_calls::carry_out::{carry_out, makes_object, put_local, refuse};
-use replay_calls::{Answer, Caller, Shared, answer_or_trap, lent_in, tell_copy, trap_in};
+use replay_calls::{Answer, Caller, answer_or_trap, lent_in, tell_copy, trap_in};
 use replay_tasks::{Invocation, Outcome, Purpose, Target, VariableKind, reduced};
 use replay_terms::{Given, Lent, Operand, Reduction, Term, Variables, is_zero, reduce};
 use std::alloc::AllocError;

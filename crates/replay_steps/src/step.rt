@@ -3,13 +3,13 @@
 ghost use Rattle.std.specs.Prelude.{IfOk};
 ghost use Rattle.class_rules.specs.Grown.{IsGrown};
 ghost use Rattle.replay_steps.specs.Steps.{Does, scene_of};
-ghost use Rattle.replay_calls.specs.Shares.{shared_view};
+ghost use Rattle.replay_arguments.specs.Shares.{shared_view};
 ghost use Rattle.replay_tasks.specs.Tasks.{TaskInRange, OutcomeInRange};
 
 use crate::activation::Locals;
 use crate::invoke::{invoke, unless_refused};
 use crate::turn::Turn;
-use replay_calls::Shared;
+use replay_arguments::Shared;
 use replay_tasks::{Outcome, Task, plain_step};
 use std::alloc::AllocError;
 

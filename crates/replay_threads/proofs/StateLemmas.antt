@@ -23,7 +23,7 @@ use Rattle.report.specs.ThreadStatus.{standing_view}
 use Rattle.semantics.specs.World.{World}
 use Rattle.report.specs.declared.thread_status.ThreadStatus.{ThreadStatus}
 use Rattle.semantics.specs.ReportOf.{report, standing_at, standing_of}
-use Rattle.replay_calls.specs.Shares.{shared_view}
+use Rattle.replay_arguments.specs.Shares.{shared_view}
 use Rattle.semantics.specs.State.{State, thread_at, set_thread, copied, in_use, with_event, advanced}
 use Rattle.semantics.specs.Step.{world_step, can_step, step_of, is_blocked, is_live, is_unfinished, is_waiting}
 use Rattle.semantics.specs.Thread.{BuffersInUse, copied_by, viewed_by, Ending, Thread, Shared, Unfinished, Ended, Uncaught, Quiet, PrintedNumber, Trapped}

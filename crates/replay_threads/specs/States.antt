@@ -22,7 +22,7 @@ use Rattle.replay_threads.specs.declared.state.State.{State as StateInMemory}
 use Rattle.semantics.specs.EventViews.{ending_view, printed_after, stop_after, stop_view}
 use Rattle.replay_terms.specs.Views.{variables_view}
 use Rattle.replay_threads.specs.Threads.{ThreadStands, WorkInRange}
-use Rattle.replay_calls.specs.Shares.{shared_view}
+use Rattle.replay_arguments.specs.Shares.{shared_view}
 
 -- each thread in memory stands for the one of the same number
 abbrev pub ThreadsStand : SourceUnit → Classes → List ThreadInMemory → List Thread → Type 0

@@ -3,10 +3,10 @@
 ghost use Rattle.std.specs.Prelude.{◌≡◌, ◌++◌, IfOk, flat_map};
 ghost use Rattle.replay_threads.specs.Rows.{activation_names, pending_names, root_names, thread_names};
 ghost use Rattle.replay_threads.specs.States.{viewed_in};
-ghost use Rattle.replay_calls.specs.Shares.{shared_view};
+ghost use Rattle.replay_arguments.specs.Shares.{shared_view};
 
 use crate::thread::Thread;
-use replay_calls::Shared;
+use replay_arguments::Shared;
 use replay_steps::Activation;
 use std::alloc::{AllocError, Global};
 

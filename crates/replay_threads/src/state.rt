@@ -12,7 +12,7 @@ ghost use Rattle.report.specs.ThreadStatus.{standing_view};
 
 use crate::thread::{Thread, is_waiting, take_step};
 use functions::Functions;
-use replay_calls::Shared;
+use replay_arguments::Shared;
 use replay_steps::Turn;
 use replay_terms::BuffersInUse;
 use report::ThreadStatus;

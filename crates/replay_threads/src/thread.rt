@@ -13,13 +13,13 @@ ghost use Rattle.class_rules.specs.Grown.{IsGrown};
 ghost use Rattle.replay_threads.specs.Threads.{argument_content, BeginsNext, IsBegun, EndsStep, HasLeft, TakesTurn, ThreadWaits, WorkInRange, event_of};
 ghost use Rattle.replay_tasks.specs.Tasks.{StatementsInRange};
 ghost use Rattle.syntax.specs.declared.stmt.Block.{out-Block};
-ghost use Rattle.replay_calls.specs.Shares.{shared_view};
+ghost use Rattle.replay_arguments.specs.Shares.{shared_view};
 ghost use Rattle.replay_terms.specs.Views.{assign_all, content_view, variables_view};
 
 use class_queries::native_class;
 use classes::table::ClassTable;
 use functions::Functions;
-use replay_calls::Shared;
+use replay_arguments::Shared;
 use replay_objects::{Frames, Names, Store};
 use replay_steps::{Activation, Locals, Turn, advance, waits, work_of};
 use replay_tasks::Outcome;

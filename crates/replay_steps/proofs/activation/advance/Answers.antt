@@ -1,4 +1,4 @@
-use Rattle.replay_calls.specs.Shares.{shared_view}
+use Rattle.replay_arguments.specs.Shares.{shared_view}
 use Rattle.replay_steps.specs.Steps.{scene_of}
 use Rattle.replay_steps.proofs.ActivationLemmas.{begun_after}
 use Rattle.replay_steps.proofs.activation.advance.Goals as goal

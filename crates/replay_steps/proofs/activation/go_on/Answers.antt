@@ -1,5 +1,5 @@
 use Rattle.std.proofs.Common.{Bool, List, sym, subst}
-use Rattle.replay_calls.specs.Shares.{shared_view}
+use Rattle.replay_arguments.specs.Shares.{shared_view}
 use Rattle.semantics.specs.Thread.{Frame}
 use Rattle.replay_steps.specs.declared.activation.Work.{Work}
 use Rattle.replay_steps.specs.Activations.{Advances, AreSet, IsApplied, IsInRange}

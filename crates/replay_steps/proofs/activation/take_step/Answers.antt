@@ -1,5 +1,5 @@
 use Rattle.std.proofs.lemmas.Result.{IfOk-weaker}
-use Rattle.replay_calls.specs.Shares.{shared_view}
+use Rattle.replay_arguments.specs.Shares.{shared_view}
 use Rattle.replay_steps.specs.Steps.{scene_of}
 use Rattle.replay_steps.proofs.activation.take_step.Goals as goal
 

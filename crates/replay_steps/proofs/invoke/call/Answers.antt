@@ -1,7 +1,7 @@
 use Rattle.std.proofs.Common.{◌≡◌, ℕ, List, IfOk, is_some, sym, ap, ◌∙◌, subst, map}
 use Rattle.std.specs.Option.{option_map}
 use Rattle.jni.specs.Table.{function_value}
-use Rattle.replay_calls.specs.Actuals.{actual_view}
+use Rattle.replay_arguments.specs.Actuals.{actual_view}
 use Rattle.base.specs.Element.{ElementType, element_value}
 use Rattle.class_rules.specs.Class.{Classes}
 use Rattle.jni.specs.JniFunction.{JniFunction}
@@ -11,9 +11,9 @@ use Rattle.semantics.specs.Object.{Reference}
 use Rattle.semantics.specs.Thread.{BuffersInUse, Frame, Monitor}
 use Rattle.semantics.specs.Variable.{Variables}
 use Rattle.replay_calls.specs.Answers.{Answer, FitsArrays, FitsFrames, answer_or_trap, answer_view}
-use Rattle.replay_calls.specs.Checked.{trap_found}
+use Rattle.replay_arguments.specs.Checked.{trap_found}
 use Rattle.replay_calls.specs.WorkedOut.{worked_out}
-use Rattle.replay_calls.specs.Shares.{shared_view}
+use Rattle.replay_arguments.specs.Shares.{shared_view}
 use Rattle.semantics.specs.EventViews.{trap_view}
 use Rattle.replay_terms.specs.Views.{in_use_view, variables_view}
 use Rattle.replay_steps.specs.Calls.{MakesCall, wanted_element}

@@ -1,8 +1,8 @@
 use Rattle.std.proofs.Common.{Result, Ok, Err, IfOk, false, refl, sym, ap, ◌∙◌, map}
 use Rattle.jni.specs.Table.{Facts, function_value, result_value}
-use Rattle.replay_calls.specs.Actuals.{actual_view}
+use Rattle.replay_arguments.specs.Actuals.{actual_view}
 use Rattle.replay_calls.specs.Answers.{answer_view}
-use Rattle.replay_calls.specs.Shares.{shared_view}
+use Rattle.replay_arguments.specs.Shares.{shared_view}
 use Rattle.replay_terms.specs.Views.{in_use_view}
 use Rattle.replay_steps.proofs.CallLemmas.{buffer_lent, call_made_so}
 use Rattle.replay_steps.proofs.invoke.complete.Goals as goal

@@ -1,5 +1,5 @@
 use Rattle.std.proofs.Common.{sym, subst}
-use Rattle.replay_calls.specs.Shares.{shared_view, sight_in}
+use Rattle.replay_arguments.specs.Shares.{shared_view, sight_in}
 use Rattle.replay_steps.specs.Steps.{Does, Scene, scene_of}
 use Rattle.replay_tasks.specs.Effects.{HasEffect}
 use Rattle.replay_tasks.specs.declared.outcome.Outcome.{Outcome}

@@ -2,9 +2,9 @@ use Rattle.std.proofs.Common.{List, IfOk, map, ap, ◌∙◌, subst}
 use Rattle.jni.specs.Table.{function_value}
 use Rattle.semantics.specs.Arguments.{Actual, actuals}
 use Rattle.replay_terms.specs.declared.operand.Operand.{Operand}
-use Rattle.replay_calls.specs.Actuals.{actual_view}
+use Rattle.replay_arguments.specs.Actuals.{actual_view}
 use Rattle.replay_terms.specs.Views.{operand_view}
-use Rattle.replay_calls.specs.Shares.{shared_view, sight_in}
+use Rattle.replay_arguments.specs.Shares.{shared_view, sight_in}
 use Rattle.replay_steps.specs.Calls.{MakesCall}
 use Rattle.replay_steps.specs.Steps.{Scene, scene_of}
 use Rattle.replay_steps.proofs.invoke.make_call.Goals as goal

@@ -5,7 +5,7 @@ use Rattle.replay_terms.specs.declared.operand.Operand.{Operand}
 use Rattle.replay_steps.specs.Calls.{ReducesFirst, ReducesOne}
 use Rattle.semantics.specs.Effect.{is_ready}
 use Rattle.replay_terms.specs.Views.{operand_view}
-use Rattle.replay_calls.specs.Shares.{shared_view, sight_in}
+use Rattle.replay_arguments.specs.Shares.{shared_view, sight_in}
 use Rattle.replay_tasks.specs.Tasks.{OperandInRange}
 use Rattle.replay_steps.proofs.Invocations.{first_step, none_step, none_first, AreGiven}
 use Rattle.replay_tasks.proofs.RangeLemmas.{operand_at, operand_set}

@@ -1,4 +1,4 @@
-use Rattle.replay_calls.specs.Shares.{shared_view}
+use Rattle.replay_arguments.specs.Shares.{shared_view}
 use Rattle.replay_steps.proofs.WaitLemmas.{waits_so}
 use Rattle.replay_steps.proofs.wait.waits.Goals as goal
 

@@ -2,8 +2,8 @@ use Rattle.std.proofs.Common.{◌≡◌, Bool, length, ap, refl, sym, ◌∙◌,
 use Rattle.std.specs.Prelude.{Option, Result, Ok, Err, IfOk, is_some}
 use Rattle.std.specs.Global.{Vec}
 use Rattle.class_rules.specs.Class.{Classes}
-use Rattle.replay_calls.specs.declared.shared.Shared.{Shared}
-use Rattle.replay_calls.specs.Shares.{shared_view}
+use Rattle.replay_arguments.specs.declared.shared.Shared.{Shared}
+use Rattle.replay_arguments.specs.Shares.{shared_view}
 use Rattle.semantics.specs.Thread.{BuffersInUse}
 use Rattle.semantics.specs.World.{World}
 use Rattle.replay_terms.specs.Views.{in_use_view}

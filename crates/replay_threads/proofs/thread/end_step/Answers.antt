@@ -1,5 +1,5 @@
 use Rattle.std.proofs.Common.{refl}
-use Rattle.replay_calls.specs.Shares.{shared_view}
+use Rattle.replay_arguments.specs.Shares.{shared_view}
 use Rattle.replay_threads.proofs.ThreadLemmas.{goes_on}
 use Rattle.replay_threads.proofs.thread.end_step.Goals as goal
 

@@ -1,4 +1,4 @@
-use Rattle.replay_calls.specs.Shares.{shared_view}
+use Rattle.replay_arguments.specs.Shares.{shared_view}
 use Rattle.replay_threads.proofs.ThreadLemmas.{idle_free, waits_as}
 use Rattle.replay_threads.proofs.thread.is_waiting.Goals as goal
 

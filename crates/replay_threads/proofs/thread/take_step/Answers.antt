@@ -1,6 +1,6 @@
 use Rattle.std.proofs.Common.{refl}
 use Rattle.syntax.specs.Views.{unit_tree}
-use Rattle.replay_calls.specs.Shares.{shared_view}
+use Rattle.replay_arguments.specs.Shares.{shared_view}
 use Rattle.replay_terms.specs.Views.{in_use_view}
 use Rattle.replay_threads.proofs.ThreadLemmas.{ended_range, ended_step}
 use Rattle.replay_threads.proofs.thread.take_step.Goals as goal

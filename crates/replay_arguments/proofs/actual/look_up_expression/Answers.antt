@@ -8,8 +8,8 @@ use Rattle.jni.specs.declared.kinds.ParameterKind.TheVariants as parameter
 use Rattle.jni.specs.Table.{parameter_value}
 use Rattle.semantics.specs.Arguments.{look_up_expression, reference_argument}
 use Rattle.semantics.specs.Sight.{Sight}
-use Rattle.replay_calls.specs.Shares.{shared_view, sight_in}
-use Rattle.replay_calls.proofs.actual.look_up_expression.Goals as goal
+use Rattle.replay_arguments.specs.Shares.{shared_view, sight_in}
+use Rattle.replay_arguments.proofs.actual.look_up_expression.Goals as goal
 
 -- a parameter that is none of those before
 by_default : (sight : Sight) (e : Expr) (p : ParameterKind) → (p ≡ parameter.FieldID → ⊥) → ((t : ElementType) → p ≡ parameter.ArrayVariable t → ⊥) → ((a : Access) → p ≡ parameter.BufferVariable a → ⊥) → (p ≡ parameter.Mode → ⊥)

@@ -1,7 +1,7 @@
 -- What all threads share, in memory, and what one of them can see.
 use Rattle.semantics.specs.Sight.{Sight, seen}
 use Rattle.semantics.specs.Thread.{Shared}
-use Rattle.replay_calls.specs.declared.shared.Shared.{Shared as SharedInMemory}
+use Rattle.replay_arguments.specs.declared.shared.Shared.{Shared as SharedInMemory}
 use Rattle.replay_terms.specs.Views.{Contents, variables_view}
 
 abbrev pub shared_view : SharedInMemory → Shared

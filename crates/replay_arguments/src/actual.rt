@@ -13,9 +13,9 @@ ghost use Rattle.semantics.specs.Sight.{Sight, held_field, held_reference};
 ghost use Rattle.semantics.specs.Task.{Given, NumberOperand};
 ghost use Rattle.semantics.specs.Thread.{Shared as SharedOfThreads};
 ghost use Rattle.semantics.specs.Views.{mode_view};
-ghost use Rattle.replay_calls.specs.Actuals.{actual_view, name_view, given_field};
+ghost use Rattle.replay_arguments.specs.Actuals.{actual_view, name_view, given_field};
 ghost use Rattle.replay_terms.specs.Views.{operand_view, held_view, term_view, variables_view};
-ghost use Rattle.replay_calls.specs.Shares.{shared_view, sight_in};
+ghost use Rattle.replay_arguments.specs.Shares.{shared_view, sight_in};
 
 use crate::shared::Shared;
 use classes::fields::FieldId;

@@ -10,8 +10,8 @@ use Rattle.class_rules.specs.Class.{NumberField}
 use Rattle.class_rules.specs.Fields.{FieldId}
 use Rattle.semantics.specs.Arguments.{Actual, ReferenceActual, FieldActual, NumberActual, TextActual, VariableActual, ModeActual, NothingActual}
 use Rattle.semantics.specs.Views.{mode_view}
-use Rattle.replay_calls.specs.declared.actual.Actual.{Actual as InMemory}
-use Rattle.replay_calls.specs.declared.actual.Actual.TheVariants as actual
+use Rattle.replay_arguments.specs.declared.actual.Actual.{Actual as InMemory}
+use Rattle.replay_arguments.specs.declared.actual.Actual.TheVariants as actual
 use Rattle.replay_terms.specs.Views.{held_view}
 
 -- a name, which is empty where there is none

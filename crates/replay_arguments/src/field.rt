@@ -6,7 +6,7 @@ ghost use Rattle.classes.specs.Views.{field_type_view};
 ghost use Rattle.class_rules.specs.Fields.{layout, own_statics, same_field};
 ghost use Rattle.class_rules.specs.Grown.{IsGrown};
 ghost use Rattle.semantics.specs.Heap.{place_in};
-ghost use Rattle.replay_calls.specs.Actuals.{given_field};
+ghost use Rattle.replay_arguments.specs.Actuals.{given_field};
 
 use class_layouts::LayoutFields;
 use classes::class::{ElementType, FieldHandle, FieldType};

@@ -9,8 +9,8 @@ ghost use Rattle.classes.specs.Views.{field_type_view};
 ghost use Rattle.jni.specs.Table.{function_value, parameter_value, result_value};
 ghost use Rattle.semantics.specs.Checks.{frames_after, is_deleted, is_full, is_misfit, is_missing, lacks_room};
 ghost use Rattle.semantics.specs.Heap.{fits_class, fits_type, is_instance};
-ghost use Rattle.replay_calls.specs.Actuals.{actual_view};
-ghost use Rattle.replay_calls.specs.Checked.{fit_together, fits_new_array, has_field, has_static, trap_found};
+ghost use Rattle.replay_arguments.specs.Actuals.{actual_view};
+ghost use Rattle.replay_arguments.specs.Checked.{fit_together, fits_new_array, has_field, has_static, trap_found};
 ghost use Rattle.semantics.specs.EventViews.{trap_view};
 
 use crate::actual::{Actual, field_given, object_given, reference_given};

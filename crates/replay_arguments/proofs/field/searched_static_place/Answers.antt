@@ -6,9 +6,9 @@ use Rattle.classes.specs.FieldViews.{field_id_view}
 use Rattle.classes.specs.declared.fields.FieldId.{FieldId as IdInMemory}
 use Rattle.class_rules.specs.Class.{Field, Classes}
 use Rattle.class_rules.specs.Fields.{FieldId, own_statics, same_field}
-use Rattle.replay_calls.specs.Actuals.{given_field}
-use Rattle.replay_calls.proofs.FieldLemmas.{none_more, place_found, place_missing}
-use Rattle.replay_calls.proofs.field.searched_static_place.Goals as goal
+use Rattle.replay_arguments.specs.Actuals.{given_field}
+use Rattle.replay_arguments.proofs.FieldLemmas.{none_more, place_found, place_missing}
+use Rattle.replay_arguments.proofs.field.searched_static_place.Goals as goal
 
 -- a static of the class of this number
 abbrev as_static : ℕ → Field → FieldId

@@ -1,0 +1,3 @@
+pub mod Shares
+pub mod Actuals
+pub mod Checked
