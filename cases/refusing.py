@@ -1,4 +1,5 @@
 """A program that is run again and again by refusing.c, which refuses it what it asks of the system: memory, threads, the bytes of its files, and room for what it writes."""
+import itertools
 import os
 import re
 import shutil
@@ -50,30 +51,37 @@ class Answer:
 
 
 class Trials:
-    """A program with these words, in this folder."""
+    """A program with these words, in this folder, which so many processes run in turn."""
 
-    def __init__(self, library, program, words, room):
+    def __init__(self, library, program, words, room, processes=1):
         how = {"LD_PRELOAD": library, "TRIALS": "1"}
-        self.server = subprocess.Popen([program, *words], cwd=room, env={**os.environ, **how}, stdin=subprocess.PIPE, stdout=subprocess.PIPE)
+        self.servers = [
+            subprocess.Popen([program, *words], cwd=room, env={**os.environ, **how}, stdin=subprocess.PIPE, stdout=subprocess.PIPE) for _ in range(processes)
+        ]
+        self.asking, self.answering = itertools.cycle(self.servers), itertools.cycle(self.servers)
 
     def __enter__(self):
         return self
 
     def __exit__(self, *_):
-        self.server.stdin.close()
-        self.server.wait()
-        self.server.stdout.close()
+        for server in self.servers:
+            server.stdin.close()
+        for server in self.servers:
+            server.wait()
+            server.stdout.close()
 
     def ask(self, requests=NONE, starts=NONE, readable=-1, room=-1, at_once=0, error=0):
         """Asks for a run in which the requests for memory, and for threads, with these numbers are refused, from the first to the last; and in which files give so
         many bytes, and standard output takes so many, by so many at once, before they fail with this error."""
-        self.server.stdin.write(TRIAL.pack(*requests, *starts, readable, room, at_once, error))
-        self.server.stdin.flush()
+        server = next(self.asking)
+        server.stdin.write(TRIAL.pack(*requests, *starts, readable, room, at_once, error))
+        server.stdin.flush()
 
     def answer(self):
         """The answer to the first run that was asked for and not answered."""
-        status, asked, started, refused, out, err = RECORD.unpack(self.server.stdout.read(RECORD.size))
-        return Answer(status, self.server.stdout.read(out), self.server.stdout.read(err), asked, started, refused)
+        told = next(self.answering).stdout
+        status, asked, started, refused, out, err = RECORD.unpack(told.read(RECORD.size))
+        return Answer(status, told.read(out), told.read(err), asked, started, refused)
 
     def run(self, **how):
         """The answer to a run."""

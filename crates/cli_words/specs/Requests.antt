@@ -1,5 +1,5 @@
 -- What words ask for, by the rules of `clap`.
-use Rattle.std.specs.Prelude.{◌≡◌, ◌≢◌, ◌⊎◌, ℕ, List, [], Option, Some, None, Result, Ok, Err, IfSome, codes}
+use Rattle.std.specs.Prelude.{◌≡◌, ◌≢◌, ◌⊎◌, ℕ, List, [], Option, Some, None, Result, Ok, Err, codes}
 use Rattle.std.specs.Str.Parse.{IsNumeral, digits_value, without_leading_plus}
 use Rattle.clap.specs.Faults.{fault_of}
 use Rattle.clap.specs.Kinds.{Kinds, IsAmong, HasKind}
@@ -64,10 +64,15 @@ AsksTrap rows number = (text : List ℕ) × HasValue rows (codes "N") (codes "tr
 abbrev pub IsAskedFor : List Row → Explanation → Type 0
 IsAskedFor rows e = (AsksFault rows e.number × (fault_title e.number ≡ Some e.title.now)) ⊎ (AsksTrap rows e.number × (trap_title e.number ≡ Some e.title.now))
 
+-- what is said of what is asked for: this explanation, or nothing where it is no fault and no trap that has one
+abbrev pub IsSaid : List Row → Option Explanation → Type 0
+IsSaid rows (Some e) = IsAskedFor rows e
+IsSaid rows None = (number : ℕ) → (AsksFault rows number → fault_title number ≡ None) × (AsksTrap rows number → trap_title number ≡ None)
+
 -- what is asked for: something with the files that are named, an explanation, or something of which a file isn't named, or that goes by no order or by two
 abbrev pub AsksFor : Found → Request → Type 0
 AsksFor (Some (name, rows)) (Serve command) = Names name rows command
-AsksFor (Some (name, rows)) (Explain explanation) = (name ≡ codes "explain") × IfSome explanation (IsAskedFor rows)
+AsksFor (Some (name, rows)) (Explain explanation) = (name ≡ codes "explain") × IsSaid rows explanation
 AsksFor (Some (name, rows)) LacksOrder = (name ≢ codes "explain") × AreNamed name rows None
 AsksFor None LacksOrder = Unit {0}
 AsksFor found request = ⊥

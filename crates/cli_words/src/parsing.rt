@@ -1,13 +1,13 @@
 //! From words to what they ask for.
 
-ghost use Rattle.std.specs.Prelude.{◌≡◌, IfOk, IfSome, List, codes, map, option_map};
+ghost use Rattle.std.specs.Prelude.{◌≡◌, IfOk, List, codes, map, option_map};
 ghost use Rattle.clap.specs.Faults.{fault_of};
 ghost use Rattle.clap.specs.Kinds.{FailsBy};
 ghost use Rattle.clap.specs.Matches.{found_of};
 ghost use Rattle.clap.specs.Simple.{subcommand_of, subcommand_rows_of};
 ghost use Rattle.clap.specs.Walk.{Row, first_of, rows_of};
 ghost use Rattle.cli_words.specs.CommandLine.{command_line};
-ghost use Rattle.cli_words.specs.Requests.{HasValue, IsAskedFor, AreNamed, AsksFor, IsTold, AreParsed, AreRead};
+ghost use Rattle.cli_words.specs.Requests.{HasValue, IsSaid, AreNamed, AsksFor, IsTold, AreParsed, AreRead};
 
 use crate::command_line::command_line;
 use crate::request::Request;
@@ -83,7 +83,7 @@ fn served<'a>(name: &str, given: &ArgMatches<'a>) -> Option<Command<'a>>
 /// What the words after `explain` ask for: a fault by its number, or a trap by `trap` and its number.
 fn explanation_of(first: &str, second: Option<&str>) -> Option<Explanation>
     ensures { (rows : List Row) → HasValue rows (codes "N") first.now → option_map (λ w. w.now) second.entry ≡ first_of (codes "NUMBER") rows
-        → IfSome result (IsAskedFor rows) }
+        → IsSaid rows result }
 {
     match second {
         None => cli_explanations::fault(first.parse::<u32>().ok()?),
@@ -94,7 +94,7 @@ fn explanation_of(first: &str, second: Option<&str>) -> Option<Explanation>
 
 /// What is to be explained.
 fn explained(given: &ArgMatches<'_>) -> Option<Explanation>
-    ensures { IfSome result (IsAskedFor (rows_of (found_of given.now))) }
+    ensures { IsSaid (rows_of (found_of given.now)) result }
 {
     explanation_of(given.get_str("N")?, given.get_str("NUMBER"))
 }

@@ -123,7 +123,7 @@ fn refuse<O: Sink, E: Sink>(
         Ok(()) => {
             let text = place.text();
             let name = command.name_of(text).as_bytes();
-            let detail = detail_at(alloc, texts, place);
+            let detail = detail_at(alloc, texts, number, place);
             let _ = tell(
                 err,
                 b"error",

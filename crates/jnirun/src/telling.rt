@@ -1,16 +1,22 @@
 //! What is told of a fault beside its title: the texts are read once more.
 
 use crate::run::thread_count;
+use crate::working::FULL;
 use cli_commands::{Place, Text, Texts};
 use details::Detail;
 use program_check::{detail_of, read_program};
 use region_rules::Checked;
+use semantics::ObjectValue;
 use std::alloc::Global;
-use syntax::Item;
-use world::{called_on, entry_detail, journal_detail, read_world, schedule_detail, world_detail};
+use syntax::{Function, Item, Parameter, ParameterType};
+use world::{entry_detail, journal_detail, read_world, schedule_detail, world_detail};
+use world_values::{Call, World};
 
-/// What was found where a text is refused, in words that no contract fixes. There are none where memory is refused.
-pub(crate) fn detail_at(alloc: Global, texts: &Texts, place: Place) -> Detail {
+/// What was found where a text is refused, by the fault's number and its place, in words that no contract fixes. There are none where memory is refused.
+pub(crate) fn detail_at(alloc: Global, texts: &Texts, number: u32, place: Place) -> Detail {
+    if number == FULL {
+        return Detail::of(b"at most 1000000 entries");
+    }
     match place {
         Place::Line(Text::Program, _) => detail_of(alloc, &texts.program),
         Place::Line(Text::World, line) => detail_of_world(alloc, texts, line),
@@ -40,37 +46,94 @@ fn threads_of(alloc: Global, text: &[u8]) -> u8 {
 
 /// What was found where a world is refused: its own fault, or a call on this line that doesn't go with the program.
 fn detail_of_world(alloc: Global, texts: &Texts, line: usize) -> Detail {
-    let detail = world_detail(alloc, &texts.world);
-    if !detail.is_empty() {
-        return detail;
-    }
-    let Some(function) = called_on(&texts.world, line) else {
+    let Ok(world) = read_world(alloc, &texts.world) else {
+        return world_detail(alloc, &texts.world);
+    };
+    let Some(call) = call_on(&world, line) else {
         return Detail::none();
     };
     match read_program(alloc, &texts.program) {
-        Ok(checked) => detail_of_call(&checked, function),
+        Ok(checked) => detail_of_call(&checked, call),
         Err(_) => Detail::none(),
     }
 }
 
-/// A call of this function that doesn't go with the program.
-fn detail_of_call(checked: &Checked, function: &[u8]) -> Detail {
-    if has_function(checked, function) {
-        return Detail::of(b"the class or the arguments of ")
-            .words(function)
-            .words(b" don't fit");
-    }
-    Detail::of(b"the program has no function ").words(function)
-}
-
-/// Whether a program has a function of this name.
-fn has_function(checked: &Checked, name: &[u8]) -> bool {
-    for item in checked.items() {
-        if let Item::Function(function) = item {
-            if function.name.as_bytes() == name {
-                return true;
+/// The call on this line of a world.
+fn call_on(world: &World, line: usize) -> Option<&Call> {
+    for calls in world.threads() {
+        for call in calls {
+            if call.line() == line {
+                return Some(call);
             }
         }
     }
-    false
+    None
+}
+
+/// A call that doesn't go with the program or the classes: its function isn't there, its arguments don't fit, or else its class isn't there.
+fn detail_of_call(checked: &Checked, call: &Call) -> Detail {
+    let Some(function) = function_of(checked, call.function()) else {
+        return Detail::of(b"the program has no function ").words(call.function());
+    };
+    let found = call.arguments().len();
+    let wanted = function.parameters.len();
+    if found != wanted {
+        return Detail::of(b"found arguments: ")
+            .number(found)
+            .words(b", wanted ")
+            .number(wanted);
+    }
+    match misfit(&function.parameters, call.arguments()) {
+        Some(detail) => detail,
+        None => Detail::of(b"the class of ")
+            .words(call.function())
+            .words(b" isn't there"),
+    }
+}
+
+/// The function of this name.
+fn function_of<'a>(checked: &'a Checked, name: &[u8]) -> Option<&'a Function> {
+    for item in checked.items() {
+        if let Item::Function(function) = item {
+            if function.name.as_bytes() == name {
+                return Some(function);
+            }
+        }
+    }
+    None
+}
+
+/// The first argument that isn't of its parameter's kind.
+fn misfit(parameters: &[Parameter], arguments: &[ObjectValue]) -> Option<Detail> {
+    for (parameter, argument) in parameters.iter().zip(arguments) {
+        let wanted = wanted_for(parameter.kind, *argument);
+        if !wanted.is_empty() {
+            return Some(
+                with_argument(Detail::of(b"found "), *argument)
+                    .words(b" for ")
+                    .words(parameter.name.as_bytes())
+                    .words(b", wanted ")
+                    .words(wanted),
+            );
+        }
+    }
+    None
+}
+
+/// What a parameter wants that an argument isn't, or no words where the argument is that.
+fn wanted_for(kind: ParameterType, argument: ObjectValue) -> &'static [u8] {
+    match (kind, argument) {
+        (ParameterType::Jint, ObjectValue::Reference(_)) => b"jint",
+        (ParameterType::Reference(_), ObjectValue::Number(_)) => b"a reference",
+        _ => b"",
+    }
+}
+
+/// Puts an argument.
+fn with_argument(detail: Detail, argument: ObjectValue) -> Detail {
+    match argument {
+        ObjectValue::Number(number) => detail.integer(i64::from(number)),
+        ObjectValue::Reference(Some(_)) => detail.words(b"an object"),
+        ObjectValue::Reference(None) => detail.words(b"null"),
+    }
 }

@@ -27,7 +27,7 @@ use world::read_world;
 use world_values::World;
 
 /// The number of the fault that a journal has no room for another entry. It has no line.
-const FULL: u32 = 92;
+pub(crate) const FULL: u32 = 92;
 
 /// How many workers lower a program.
 const LOWERING: usize = 4;

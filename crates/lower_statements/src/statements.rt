@@ -464,7 +464,7 @@ fn push_operands(
     }
 }
 
-/// The same as a list.
+/// The operands of a call, in order.
 fn operands_of(
     alloc: Global,
     names: &Names<'_>,

@@ -339,7 +339,7 @@ fn check_arguments(
     None
 }
 
-/// The same, without a look at arguments of which nothing is asked.
+/// The trap of a call for its arguments, without a look at arguments of which nothing is asked.
 #[tactic(auto, using(crate::proofs::Unasked::nothing_asked))]
 fn argument_trap(
     classes: &ClassTable,

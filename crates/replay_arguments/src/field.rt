@@ -72,7 +72,7 @@ pub fn field_place(classes: &ClassTable, class: usize, field: Option<FieldId<'_>
     }
 }
 
-/// The same, where the field was found in these classes.
+/// The place of a field that was found in these classes, among those of the objects of a class.
 fn known_field_place(
     classes: &ClassTable,
     class: usize,
@@ -87,7 +87,7 @@ fn known_field_place(
     }
 }
 
-/// The same, by comparing it with all fields: for NULL, and for a field of other classes, as in no accepted program.
+/// The place of a field, by comparing it with all fields: for NULL, and for a field of other classes, as in no accepted program.
 fn searched_field_place(classes: &ClassTable, class: usize, field: Option<FieldId<'_>>) -> usize
     ensures { result ≡ place_in (given_field field.entry) (layout classes.now class) }
 {
@@ -113,7 +113,7 @@ pub fn static_place(classes: &ClassTable, field: Option<FieldId<'_>>) -> usize
     }
 }
 
-/// The same, where the static was found in these classes.
+/// The place of a static that was found in these classes, among those of the class that declares it.
 fn known_static_place(classes: &ClassTable, field: Option<FieldId<'_>>) -> Option<usize>
     ensures { IfSome result (λ place. place ≡ place_in (given_field field.entry) (own_statics classes.now (given_field field.entry).class)) }
 {
@@ -123,7 +123,7 @@ fn known_static_place(classes: &ClassTable, field: Option<FieldId<'_>>) -> Optio
     }
 }
 
-/// The same, by comparing it with all statics: for NULL, and for a static of other classes, as in no accepted program.
+/// The place of a static, by comparing it with all statics: for NULL, and for a static of other classes, as in no accepted program.
 fn searched_static_place(classes: &ClassTable, field: Option<FieldId<'_>>) -> usize
     ensures { result ≡ place_in (given_field field.entry) (own_statics classes.now (given_field field.entry).class) }
 {

@@ -104,7 +104,7 @@ impl<'a> Variables<'a> {
         self.content_named(name.as_bytes())
     }
 
-    /// The same, by a name that may be none of the unit's.
+    /// What the variable of this name holds, which may be none of the unit's names.
     pub fn content_named(&self, name: &[u8]) -> Option<&Content<'a>>
         ensures { option_map (λ c. content_view c.now) result ≡ lookup name.now (variables_view self.now) }
     {
@@ -119,7 +119,7 @@ impl<'a> Variables<'a> {
         self.set_named(name.as_bytes(), content)
     }
 
-    /// The same, by a name that may be none of the unit's.
+    /// Sets the variable of this name, which may be none of the unit's names. It is as with `set`.
     pub fn set_named(&mut self, name: &'a [u8], content: Content<'a>) -> Result<(), AllocError>
         ensures { IfOk result (λ _. variables_view self.new ≡ assign name.now (content_view content.entry) (variables_view self.old)) }
     {

@@ -27,7 +27,7 @@ pub(crate) fn by_seats<R: Wait>(
     by_named_seats::<Brand, R>(rt, alloc, cell, keeper, machine, schedule)
 }
 
-/// The same, with a name for what is shared.
+/// The report after the words of the schedule, with a name for what is shared.
 fn by_named_seats<J: Naming, R: Wait>(
     rt: &R,
     alloc: Global,

@@ -13,5 +13,5 @@ mod text;
 
 pub use laws::{texts_mean_one_world, worlds_are_read};
 pub use telling::world_detail;
-pub use telling_orders::{called_on, entry_detail, journal_detail, schedule_detail};
+pub use telling_orders::{entry_detail, journal_detail, schedule_detail};
 pub use text::read_world;

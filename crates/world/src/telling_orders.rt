@@ -111,18 +111,3 @@ pub fn entry_detail(text: &[u8], entry: usize) -> Detail {
     }
     Detail::none()
 }
-
-/// The second word of a line.
-fn second_word(line: &[u8]) -> Option<&[u8]> {
-    let mut words = Split::new(line, b' ');
-    let _ = words.next();
-    words.next()
-}
-
-/// The name of the function that is called on a line of a world's text, counted from 1.
-pub fn called_on(text: &[u8], line: usize) -> Option<&[u8]> {
-    match line_at(text, line) {
-        Some(bytes) => second_word(bytes),
-        None => None,
-    }
-}
