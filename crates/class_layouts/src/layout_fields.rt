@@ -9,6 +9,7 @@ ghost use Rattle.classes.specs.FieldViews.{field_id_view};
 
 use crate::path::Path;
 use base::limits::MOST_CLASSES;
+use class_rules::ClassId;
 use classes::class::FieldHandle;
 use classes::fields::FieldId;
 use classes::table::ClassTable;
@@ -17,7 +18,7 @@ use std::marker::Model;
 /// A place in a layout: the class whose own fields come next, how many of these have come, and the classes below it, the next one last.
 #[derive(Drop)]
 pub(crate) struct Position {
-    class: usize,
+    class: ClassId,
     place: usize,
     below: Path,
 }
@@ -47,7 +48,7 @@ impl<'t> Model for LayoutFields<'t> {
 }
 
 /// The way down to a class: the class, its superclass, and so on. A number past those of all classes has no fields.
-fn path_to(classes: &ClassTable, class: usize) -> Path
+fn path_to(classes: &ClassTable, class: ClassId) -> Path
     ensures { flat_map (own_fields classes.now) (reverse result) ≡ layout classes.now class }
 {
     let mut ancestors = Path::new();
@@ -66,7 +67,7 @@ fn path_to(classes: &ClassTable, class: usize) -> Path
 }
 
 /// The field of this place among those that the class declares itself.
-fn own_field<'t>(classes: &'t ClassTable, class: usize, place: usize) -> Option<FieldId<'t>>
+fn own_field<'t>(classes: &'t ClassTable, class: ClassId, place: usize) -> Option<FieldId<'t>>
     ensures { option_map field_id_view result ≡ slice_get (own_fields classes.now class) place }
 {
     classes.field_at(FieldHandle {
@@ -94,7 +95,7 @@ fn first_field<'t>(classes: &'t ClassTable, position: &mut Position) -> Option<F
 
 impl<'t> LayoutFields<'t> {
     /// All fields of the objects of a class.
-    pub fn of(classes: &'t ClassTable, class: usize) -> LayoutFields<'t>
+    pub fn of(classes: &'t ClassTable, class: ClassId) -> LayoutFields<'t>
         ensures { result ≡ layout classes.now class }
     {
         LayoutFields {

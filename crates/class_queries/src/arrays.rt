@@ -4,11 +4,12 @@ ghost use Rattle.std.specs.Prelude.{◌≡◌, ◌++◌, ◌∷◌, []};
 ghost use Rattle.std.specs.Str.{bytes_eq};
 ghost use Rattle.class_rules.specs.Class.{array_class_of, array_name, class_kind, element_class};
 
+use class_rules::ClassId;
 use classes::class::ClassKind;
 use classes::table::ClassTable;
 
 /// The class of the elements of a class of arrays of objects, and 0 for another class.
-pub fn element_class(classes: &ClassTable, class: usize) -> usize
+pub fn element_class(classes: &ClassTable, class: ClassId) -> ClassId
     ensures { result ≡ element_class (class_kind classes.now class) }
 {
     match classes.kind(class) {
@@ -18,7 +19,7 @@ pub fn element_class(classes: &ClassTable, class: usize) -> usize
 }
 
 /// The class of arrays whose elements are of a class. It takes no host memory. The cost goes by the number of classes.
-pub fn array_class_of(classes: &ClassTable, class: usize) -> Option<usize>
+pub fn array_class_of(classes: &ClassTable, class: ClassId) -> Option<ClassId>
     ensures { result ≡ array_class_of classes.now class }
 {
     let element = classes.name(class);

@@ -8,6 +8,7 @@ ghost use Rattle.semantics.specs.World.{initial};
 ghost use Rattle.world_values.specs.Views.{object_value_view};
 
 use class_layouts::LayoutFields;
+use class_rules::ClassId;
 use classes::class::FieldType;
 use classes::own_fields::OwnFields;
 use classes::table::ClassTable;
@@ -30,7 +31,7 @@ pub fn initial_values(alloc: Global, fields: &OwnFields) -> Result<Vec<ObjectVal
 pub fn fresh_values(
     alloc: Global,
     classes: &ClassTable,
-    class: usize,
+    class: ClassId,
 ) -> Result<Vec<ObjectValue>, AllocError>
     ensures values { IfOk result (λ values. map object_value_view values.items ≡ map (λ f. initial f.field.type) (layout classes.now class)) }
     ensures short { IfOk result (λ values. length values.items ≤ most_classes * most_fields) }

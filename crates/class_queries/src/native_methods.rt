@@ -5,6 +5,7 @@ ghost use Rattle.std.specs.Option.{option_and_then};
 ghost use Rattle.class_rules.specs.Class.{class_named};
 ghost use Rattle.class_rules.specs.Mangling.{native_class};
 
+use class_rules::ClassId;
 use class_rules::mangling::unmangle;
 use classes::table::ClassTable;
 use std::alloc::{AllocError, Global};
@@ -14,7 +15,7 @@ pub fn native_class(
     alloc: Global,
     classes: &ClassTable,
     name: &[u8],
-) -> Result<Option<usize>, AllocError>
+) -> Result<Option<ClassId>, AllocError>
     ensures { IfOk result (λ class. class ≡ option_and_then (class_named classes.now) (native_class name.now)) }
 {
     match unmangle(alloc, name)? {

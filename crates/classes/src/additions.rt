@@ -20,18 +20,19 @@ use crate::class::FieldType;
 use crate::fault::{ClassError, ClassRule, FieldError};
 use crate::table::ClassTable;
 use base::limits::{MOST_CLASSES, MOST_FIELDS};
+use class_rules::ClassId;
 use std::alloc::AllocError;
 
 impl ClassTable {
     /// Whether its objects are made by a function of their own: it has no subclasses then.
-    pub fn has_own_making(&self, class: usize) -> bool
+    pub fn has_own_making(&self, class: ClassId) -> bool
         ensures { result ≡ has_own_making self.now class }
     {
         self.is_array(class) || class == STRING || class == CLASS
     }
 
     /// The superclass of this name for a new class, or the rule of the least number that the class breaks.
-    fn superclass_for(&self, name: &[u8], superclass: &[u8]) -> Result<usize, ClassRule>
+    fn superclass_for(&self, name: &[u8], superclass: &[u8]) -> Result<ClassId, ClassRule>
         ensures { MatchResult result
             (λ above. (first_broken (λ rule. class_breaks rule self.now name.now superclass.now) ≡ None) × (class_named self.now superclass.now ≡ Some above))
             (λ rule. first_broken (λ rule. class_breaks rule self.now name.now superclass.now) ≡ Some (rule_view rule)) }
@@ -63,7 +64,7 @@ impl ClassTable {
 
     /// Adds a class with its superclass, and after it the class of its arrays. Its number is answered.
     /// After a refusal the table is what it was.
-    pub fn add_class(&mut self, name: &[u8], superclass: &[u8]) -> Result<usize, ClassError>
+    pub fn add_class(&mut self, name: &[u8], superclass: &[u8]) -> Result<ClassId, ClassError>
         requires { IsTrue (is_class_name name.now) }
         ensures answer { Answers (first_broken (λ rule. class_breaks rule self.old name.now superclass.now)) (λ class. class ≡ length self.old + 1) result }
         ensures grown { IsGrown self.old → IsGrown self.new }
@@ -78,7 +79,7 @@ impl ClassTable {
     }
 
     /// Whether the class declares a field or static of this name.
-    fn declares(&self, class: Option<usize>, name: &[u8]) -> bool
+    fn declares(&self, class: Option<ClassId>, name: &[u8]) -> bool
         ensures { result ≡ list_any (λ f. bytes_eq f.name name.now) (declared_fields self.now class) }
     {
         let class = class.unwrap_or(0);
@@ -86,7 +87,7 @@ impl ClassTable {
     }
 
     /// Whether the class declares as many fields and statics as it may.
-    fn is_full(&self, class: Option<usize>) -> bool
+    fn is_full(&self, class: Option<ClassId>) -> bool
         ensures { result ≡ nat_lt most_fields (length (declared_fields self.now class) + 1) }
     {
         let class = class.unwrap_or(0);
@@ -98,7 +99,7 @@ impl ClassTable {
     /// The type of a new field or static of a class, or the rule of the least number that it breaks.
     fn type_for(
         &self,
-        class: Option<usize>,
+        class: Option<ClassId>,
         name: &[u8],
         signature: &[u8],
     ) -> Result<FieldType, ClassRule>

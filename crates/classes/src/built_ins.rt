@@ -12,12 +12,13 @@ ghost use Rattle.classes.specs.Views.{kind_view};
 use crate::class::{ClassKind, ElementType, Entry, FieldType};
 use crate::entries::{Entries, array_name};
 use crate::own_fields::OwnFields;
+use class_rules::ClassId;
 use std::alloc::{AllocError, Global};
 
 /// A built-in class, with the number of its superclass and without statics.
 pub struct BuiltIn {
     pub name: &'static [u8],
-    pub superclass: Option<usize>,
+    pub superclass: Option<ClassId>,
     pub fields: &'static [BuiltInField],
 }
 
@@ -28,61 +29,61 @@ pub struct BuiltInField {
 }
 
 /// The number of `java/lang/Object`.
-pub const OBJECT: usize = 1;
+pub const OBJECT: ClassId = 1;
 
 /// The number of `java/lang/Class`.
-pub const CLASS: usize = 2;
+pub const CLASS: ClassId = 2;
 
 /// The number of `java/lang/String`.
-pub const STRING: usize = 3;
+pub const STRING: ClassId = 3;
 
 /// The number of `java/lang/Throwable`.
-pub const THROWABLE: usize = 4;
+pub const THROWABLE: ClassId = 4;
 
 /// The number of `java/lang/Error`.
-pub const ERROR: usize = 5;
+pub const ERROR: ClassId = 5;
 
 /// The number of `java/lang/LinkageError`.
-pub const LINKAGE_ERROR: usize = 6;
+pub const LINKAGE_ERROR: ClassId = 6;
 
 /// The number of `java/lang/IncompatibleClassChangeError`.
-pub const INCOMPATIBLE_CLASS_CHANGE_ERROR: usize = 7;
+pub const INCOMPATIBLE_CLASS_CHANGE_ERROR: ClassId = 7;
 
 /// The number of `java/lang/NoSuchFieldError`.
-pub const NO_SUCH_FIELD_ERROR: usize = 8;
+pub const NO_SUCH_FIELD_ERROR: ClassId = 8;
 
 /// The number of `java/lang/NoClassDefFoundError`.
-pub const NO_CLASS_DEF_FOUND_ERROR: usize = 9;
+pub const NO_CLASS_DEF_FOUND_ERROR: ClassId = 9;
 
 /// The number of `java/lang/VirtualMachineError`.
-pub const VIRTUAL_MACHINE_ERROR: usize = 10;
+pub const VIRTUAL_MACHINE_ERROR: ClassId = 10;
 
 /// The number of `java/lang/OutOfMemoryError`.
-pub const OUT_OF_MEMORY_ERROR: usize = 11;
+pub const OUT_OF_MEMORY_ERROR: ClassId = 11;
 
 /// The number of `java/lang/Exception`.
-pub const EXCEPTION: usize = 12;
+pub const EXCEPTION: ClassId = 12;
 
 /// The number of `java/lang/RuntimeException`.
-pub const RUNTIME_EXCEPTION: usize = 13;
+pub const RUNTIME_EXCEPTION: ClassId = 13;
 
 /// The number of `java/lang/IndexOutOfBoundsException`.
-pub const INDEX_OUT_OF_BOUNDS_EXCEPTION: usize = 14;
+pub const INDEX_OUT_OF_BOUNDS_EXCEPTION: ClassId = 14;
 
 /// The number of `java/lang/ArrayIndexOutOfBoundsException`.
-pub const ARRAY_INDEX_OUT_OF_BOUNDS_EXCEPTION: usize = 15;
+pub const ARRAY_INDEX_OUT_OF_BOUNDS_EXCEPTION: ClassId = 15;
 
 /// The number of `java/lang/StringIndexOutOfBoundsException`.
-pub const STRING_INDEX_OUT_OF_BOUNDS_EXCEPTION: usize = 16;
+pub const STRING_INDEX_OUT_OF_BOUNDS_EXCEPTION: ClassId = 16;
 
 /// The number of `java/lang/ArrayStoreException`.
-pub const ARRAY_STORE_EXCEPTION: usize = 17;
+pub const ARRAY_STORE_EXCEPTION: ClassId = 17;
 
 /// The number of `java/lang/NegativeArraySizeException`.
-pub const NEGATIVE_ARRAY_SIZE_EXCEPTION: usize = 18;
+pub const NEGATIVE_ARRAY_SIZE_EXCEPTION: ClassId = 18;
 
 /// The number of `java/lang/IllegalMonitorStateException`.
-pub const ILLEGAL_MONITOR_STATE_EXCEPTION: usize = 19;
+pub const ILLEGAL_MONITOR_STATE_EXCEPTION: ClassId = 19;
 
 /// What is told of a throwable.
 const MESSAGE: BuiltInField = BuiltInField {
@@ -198,14 +199,14 @@ const NUMBER_ARRAYS: [(&[u8], ElementType); 4] = [
 ];
 
 /// Whether a class of this number comes after the built-in ones.
-pub fn is_after_built_ins(class: usize) -> bool
+pub fn is_after_built_ins(class: ClassId) -> bool
     ensures { result ≡ nat_lt (length built_ins) class }
 {
     class > 42
 }
 
 /// The number of the class of arrays of such numbers.
-pub fn number_array(element: ElementType) -> usize
+pub fn number_array(element: ElementType) -> ClassId
     ensures { result ≡ number_array (element_value element) }
 {
     match element {

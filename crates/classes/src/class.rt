@@ -2,6 +2,7 @@
 
 use crate::own_fields::OwnFields;
 pub use base::ElementType;
+use class_rules::ClassId;
 
 /// What the objects of a class are made of.
 #[derive(Clone, Copy, PartialEq, Eq)]
@@ -10,7 +11,7 @@ pub enum ClassKind {
     Plain,
     ArrayOfNumbers(ElementType),
     /// An array of references to objects of the class of this number.
-    ArrayOfObjects(usize),
+    ArrayOfObjects(ClassId),
 }
 
 /// What a field holds.
@@ -18,7 +19,7 @@ pub enum ClassKind {
 pub enum FieldType {
     Number(ElementType),
     /// A reference to objects of the class of this number.
-    Reference(usize),
+    Reference(ClassId),
 }
 
 /// A field or static of a class.
@@ -32,7 +33,7 @@ pub struct Field<'t> {
 /// the class declares.
 #[derive(Clone, Copy)]
 pub struct FieldHandle {
-    pub class: usize,
+    pub class: ClassId,
     pub place: usize,
     pub is_static: bool,
 }
@@ -40,7 +41,7 @@ pub struct FieldHandle {
 /// A class as a table holds it, by its name.
 #[derive(Drop)]
 pub(crate) struct Entry {
-    pub(crate) superclass: Option<usize>,
+    pub(crate) superclass: Option<ClassId>,
     pub(crate) kind: ClassKind,
     pub(crate) fields: OwnFields,
     pub(crate) statics: OwnFields,

@@ -14,6 +14,7 @@ ghost use Rattle.classes.specs.Views.{class_view, classes_view, field_type_view,
 use crate::built_ins::OBJECT;
 use crate::class::{ClassKind, Entry, FieldType};
 use crate::own_fields::OwnFields;
+use class_rules::ClassId;
 use indexmap::IndexMap;
 use std::alloc::{AllocError, Global};
 use std::marker::Model;
@@ -50,7 +51,7 @@ impl Model for Entries {
 
 impl Entry {
     /// A plain class without fields.
-    fn plain(alloc: Global, superclass: usize) -> Entry
+    fn plain(alloc: Global, superclass: ClassId) -> Entry
         ensures { (name : _) → class_view (name, result) ≡ new_class name.items (Some superclass) }
     {
         Entry {
@@ -119,7 +120,7 @@ impl Entries {
     }
 
     /// The number of the class of this name.
-    pub(crate) fn find(&self, name: &[u8]) -> Option<usize>
+    pub(crate) fn find(&self, name: &[u8]) -> Option<ClassId>
         ensures { result ≡ class_named self.now name.now }
     {
         // That there are fewer than 2^63 is told here, for the sum.
@@ -149,7 +150,7 @@ impl Entries {
     }
 
     /// Puts a plain class and the class of its arrays after the others. After a refusal there are the classes that there were.
-    pub(crate) fn put_class(&mut self, name: &[u8], superclass: usize) -> Result<(), AllocError>
+    pub(crate) fn put_class(&mut self, name: &[u8], superclass: ClassId) -> Result<(), AllocError>
         requires new { class_named self.old name.now ≡ None }
         requires new_arrays { class_named self.old (array_name name.now) ≡ None }
         ensures { self.new ≡ (if is_ok result then with_class self.old (new_class name.now (Some superclass)) else self.old) }

@@ -14,12 +14,13 @@ ghost use Rattle.classes.specs.Views.{field_type_view};
 use crate::class::{ElementType, Field, FieldType};
 use crate::own_fields::OwnFields;
 use crate::table::ClassTable;
+use class_rules::ClassId;
 
 /// A field or static, with the number of the class that declares it, and its place, counted from 0, among the fields, or the
 /// statics, that the class declares.
 #[derive(Clone, Copy)]
 pub struct FieldId<'t> {
-    pub class: usize,
+    pub class: ClassId,
     pub place: usize,
     pub is_static: bool,
     pub field: Field<'t>,
@@ -66,7 +67,7 @@ fn referred_name(text: &[u8]) -> Option<&[u8]>
 }
 
 /// The type of references to objects of the class.
-fn reference_to(class: Option<usize>) -> Option<FieldType>
+fn reference_to(class: Option<ClassId>) -> Option<FieldType>
     ensures { option_map field_type_view result ≡ option_map ReferenceField class }
 {
     match class {
@@ -106,7 +107,7 @@ impl ClassTable {
     }
 
     /// The fields, or the statics, that a class declares itself.
-    pub(crate) fn declared(&self, class: usize, is_static: bool) -> &OwnFields
+    pub(crate) fn declared(&self, class: ClassId, is_static: bool) -> &OwnFields
         ensures { result.now ≡ declared_as self.now class is_static }
     {
         match self.entry(class) {
@@ -117,7 +118,7 @@ impl ClassTable {
     }
 
     /// The statics that a class declares itself.
-    pub fn own_statics(&self, class: usize) -> &OwnFields
+    pub fn own_statics(&self, class: ClassId) -> &OwnFields
         ensures { map (λ f. record { class = class; is_static = true; field = f }) result.now ≡ own_statics self.now class }
     {
         self.declared(class, true)
@@ -127,7 +128,7 @@ impl ClassTable {
     /// The cost goes by the depth of the class.
     pub fn field(
         &self,
-        class: usize,
+        class: ClassId,
         name: &[u8],
         text: &[u8],
         is_static: bool,
@@ -150,7 +151,7 @@ impl ClassTable {
     }
 
     /// The class of this name, where it is no class of arrays.
-    fn plain_class(&self, name: &[u8]) -> Option<usize>
+    fn plain_class(&self, name: &[u8]) -> Option<ClassId>
         ensures { result ≡ option_filter (λ c. is_plain (class_kind self.now c)) (class_named self.now name.now) }
     {
         match self.find(name) {
@@ -160,7 +161,7 @@ impl ClassTable {
     }
 
     /// The class of arrays of this name.
-    fn array_class(&self, name: &[u8]) -> Option<usize>
+    fn array_class(&self, name: &[u8]) -> Option<ClassId>
         ensures { result ≡ option_filter (λ c. not (is_plain (class_kind self.now c))) (class_named self.now name.now) }
     {
         match self.find(name) {

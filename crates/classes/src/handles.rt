@@ -12,6 +12,7 @@ use crate::class::{FieldHandle, FieldType};
 use crate::fields::FieldId as Found;
 use crate::own_fields::OwnFields;
 use crate::table::ClassTable;
+use class_rules::ClassId;
 
 impl ClassTable {
     /// Whether the field at this place has this signature.
@@ -27,7 +28,7 @@ impl ClassTable {
     /// The place of the field, or the static, that has this name and signature, among those that the class declares itself.
     fn place_fitting(
         &self,
-        class: usize,
+        class: ClassId,
         name: &[u8],
         text: &[u8],
         is_static: bool,
@@ -54,7 +55,7 @@ impl ClassTable {
     /// that has one. The cost goes by the depth of the class.
     pub fn find_handle(
         &self,
-        class: usize,
+        class: ClassId,
         name: &[u8],
         text: &[u8],
         is_static: bool,
@@ -107,7 +108,7 @@ impl ClassTable {
 
     /// The place of the field of a handle among the values of the objects of a class, and 0 where these have no such field. The
     /// cost goes by the depth of the classes.
-    pub fn field_place(&self, class: usize, handle: FieldHandle) -> usize
+    pub fn field_place(&self, class: ClassId, handle: FieldHandle) -> usize
         requires grown { IsGrown self.now }
         requires there { IsSome (field_of self.now handle) }
         requires field { handle.is_static ≡ false }
@@ -143,7 +144,7 @@ impl ClassTable {
 
     /// The place of a field that this table found, among the values of the objects of a class, and 0 where these have no such
     /// field. None where it is no field of this table. The cost goes by the depth of the classes.
-    pub fn place_of_field(&self, class: usize, field: Found<'_>) -> Option<usize>
+    pub fn place_of_field(&self, class: ClassId, field: Found<'_>) -> Option<usize>
         requires { IsGrown self.now }
         ensures { IfSome result (λ place. place ≡ place_among (field_id_view field.entry) (layout self.now class)) }
     {

@@ -8,10 +8,11 @@ ghost use Rattle.class_rules.specs.Fields.{layout};
 
 use crate::fields::FieldId;
 use crate::table::ClassTable;
+use class_rules::ClassId;
 
 impl ClassTable {
     /// The number of fields that objects of the class have. The cost goes by the depth of the class.
-    pub fn layout_len(&self, class: usize) -> usize
+    pub fn layout_len(&self, class: ClassId) -> usize
         ensures len { result ≡ length (layout self.now class) }
         ensures small { result ≤ most_classes * most_fields }
     {
@@ -29,7 +30,7 @@ impl ClassTable {
     }
 
     /// The field at a place of the objects of the class. The cost goes by the depth of the class.
-    pub fn layout_field(&self, class: usize, place: usize) -> Option<FieldId<'_>>
+    pub fn layout_field(&self, class: ClassId, place: usize) -> Option<FieldId<'_>>
         ensures { option_map field_id_view result ≡ slice_get (layout self.now class) place }
     {
         let mut count = self.layout_len(class);

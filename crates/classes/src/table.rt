@@ -11,6 +11,7 @@ ghost use Rattle.classes.specs.Views.{class_view, kind_view};
 use crate::built_ins::{BUILT_INS, BuiltIn, listed};
 use crate::class::{ClassKind, Entry};
 use crate::entries::{Entries, array_name};
+use class_rules::ClassId;
 use std::alloc::{AllocError, Global};
 use std::marker::Model;
 
@@ -67,14 +68,14 @@ impl ClassTable {
     }
 
     /// The number of the class of this name.
-    pub fn find(&self, name: &[u8]) -> Option<usize>
+    pub fn find(&self, name: &[u8]) -> Option<ClassId>
         ensures { result ≡ class_named self.now name.now }
     {
         self.classes.find(name)
     }
 
     /// The number of the class of arrays whose elements are of the class of this name.
-    pub fn find_array_of(&self, name: &[u8]) -> Result<Option<usize>, AllocError>
+    pub fn find_array_of(&self, name: &[u8]) -> Result<Option<ClassId>, AllocError>
         ensures { IfOk result (λ class. class ≡ class_named self.now (array_name name.now)) }
     {
         let name = array_name(self.classes.allocator(), name)?;
@@ -82,7 +83,7 @@ impl ClassTable {
     }
 
     /// The class of a number: its name, and what else is kept of it.
-    pub(crate) fn entry(&self, class: usize) -> Option<(&Vec<u8>, &Entry)>
+    pub(crate) fn entry(&self, class: ClassId) -> Option<(&Vec<u8>, &Entry)>
         ensures { option_map (λ p. class_view (p.0.now, p.1.now)) result ≡ class_at self.now class }
     {
         if class == 0 {
@@ -92,7 +93,7 @@ impl ClassTable {
     }
 
     /// Its name, which is empty where there is no class of this number.
-    pub fn name(&self, class: usize) -> &[u8]
+    pub fn name(&self, class: ClassId) -> &[u8]
         ensures { result.now ≡ class_name self.now class }
     {
         match self.entry(class) {
@@ -102,7 +103,7 @@ impl ClassTable {
     }
 
     /// Its superclass, where there is one.
-    pub fn superclass(&self, class: usize) -> Option<usize>
+    pub fn superclass(&self, class: ClassId) -> Option<ClassId>
         ensures { result ≡ superclass self.now class }
     {
         let (_, entry) = self.entry(class)?;
@@ -110,7 +111,7 @@ impl ClassTable {
     }
 
     /// Its kind: `Plain` also where there is no class of this number.
-    pub fn kind(&self, class: usize) -> ClassKind
+    pub fn kind(&self, class: ClassId) -> ClassKind
         ensures { kind_view result ≡ class_kind self.now class }
     {
         match self.entry(class) {
@@ -120,14 +121,14 @@ impl ClassTable {
     }
 
     /// Whether it is a class of arrays.
-    pub fn is_array(&self, class: usize) -> bool
+    pub fn is_array(&self, class: ClassId) -> bool
         ensures { result ≡ not (is_plain (class_kind self.now class)) }
     {
         !matches!(self.kind(class), ClassKind::Plain)
     }
 
     /// Whether the first is the second or below it. The cost goes by the depth of the first.
-    pub(crate) fn is_subclass(&self, class: usize, other: usize) -> bool
+    pub(crate) fn is_subclass(&self, class: ClassId, other: ClassId) -> bool
         ensures { result ≡ is_subclass self.now class other }
     {
         let mut ancestor = class;
@@ -144,7 +145,7 @@ impl ClassTable {
     }
 
     /// Whether both are classes of arrays of objects, and the elements of the first go into arrays of the second.
-    fn elements_fit(&self, class: usize, other: usize) -> bool
+    fn elements_fit(&self, class: ClassId, other: ClassId) -> bool
         ensures { result ≡ elements_fit self.now (class_kind self.now class) (class_kind self.now other) }
     {
         match (self.kind(class), self.kind(other)) {
@@ -156,7 +157,7 @@ impl ClassTable {
     }
 
     /// Whether an object of the first can be used where one of the second is wanted. The cost goes by the depth of the hierarchy.
-    pub fn assignable(&self, class: usize, other: usize) -> bool
+    pub fn assignable(&self, class: ClassId, other: ClassId) -> bool
         ensures { result ≡ assignable self.now class other }
     {
         self.is_subclass(class, other) || self.elements_fit(class, other)

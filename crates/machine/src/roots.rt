@@ -18,6 +18,7 @@ use machine_scenes::activation::Activation;
 use machine_scenes::store::Store;
 use machine_threads::thread::Thread;
 use monitors::Monitors;
+use semantics::ObjectId;
 use std::alloc::{AllocError, Global};
 use tables::{Globals, Locals};
 
@@ -69,7 +70,11 @@ pub fn put_back(roots: &RootPlaces, store: &mut Store, threads: &mut [Thread])
 }
 
 /// The names of the objects that roots name, by their places.
-pub fn root_names(alloc: Global, heap: &Heap, roots: &RootPlaces) -> Result<Vec<usize>, AllocError>
+pub fn root_names(
+    alloc: Global,
+    heap: &Heap,
+    roots: &RootPlaces,
+) -> Result<Vec<ObjectId>, AllocError>
     requires { AreAddresses heap.now (references_in roots.now.places.items) }
     ensures { IfOk result (λ names. names.items ≡ map (name_of heap.now) (references_in roots.now.places.items)) }
 {
@@ -81,7 +86,7 @@ pub fn root_names(alloc: Global, heap: &Heap, roots: &RootPlaces) -> Result<Vec<
 }
 
 /// Adds the names of the objects that are viewed, whose blocks are pinned.
-pub fn push_viewed(names: &mut Vec<usize>, heap: &Heap) -> Result<(), AllocError>
+pub fn push_viewed(names: &mut Vec<ObjectId>, heap: &Heap) -> Result<(), AllocError>
     ensures { OnOk result (names.new.items ≡ names.old.items ++ pinned_names heap.now.blocks) }
 {
     for place in 0..heap.count() {
@@ -94,7 +99,11 @@ pub fn push_viewed(names: &mut Vec<usize>, heap: &Heap) -> Result<(), AllocError
 }
 
 /// Adds the name of a root's object, if there is one.
-fn push_name(names: &mut Vec<usize>, heap: &Heap, reference: Option<Addr>) -> Result<(), AllocError>
+fn push_name(
+    names: &mut Vec<ObjectId>,
+    heap: &Heap,
+    reference: Option<Addr>,
+) -> Result<(), AllocError>
     requires { ReferenceIsThere heap.now reference }
     ensures { OnOk result (names.new.items ≡ names.old.items ++ reference_names heap.now reference) }
 {

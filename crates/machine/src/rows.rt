@@ -6,8 +6,10 @@ ghost use Rattle.semantics.specs.Heap.{Heap as SourceHeap};
 ghost use Rattle.machine_scenes.specs.HeapAgrees.{HeapAgrees};
 ghost use Rattle.machine.specs.Rows.{AreSeen};
 
+use class_rules::ClassId;
 use heap::{Addr, Heap, Value};
 use report_objects::Objects;
+use semantics::ObjectId;
 use std::alloc::{AllocError, Global};
 use std::marker::Model;
 use world_values::ObjectValue;
@@ -39,21 +41,21 @@ impl<'a> Objects for NamedBlocks<'a> {
         self.addresses.len()
     }
 
-    fn class_of(&self, name: usize) -> usize {
+    fn class_of(&self, name: ObjectId) -> ClassId {
         match self.addresses[name - 1] {
             None => 0,
             Some(addr) => self.heap.class_of(addr) as usize,
         }
     }
 
-    fn count(&self, name: usize) -> usize {
+    fn count(&self, name: ObjectId) -> usize {
         match self.addresses[name - 1] {
             None => 0,
             Some(addr) => self.heap.len_of(addr),
         }
     }
 
-    fn value(&self, name: usize, index: usize) -> ObjectValue {
+    fn value(&self, name: ObjectId, index: usize) -> ObjectValue {
         match self.addresses[name - 1] {
             None => unreachable!(),
             Some(addr) => match self.heap.get(addr, index) {

@@ -19,6 +19,7 @@ ghost use Rattle.base.specs.Element.{element_value};
 use crate::arrays::{stack_number, work_out_array};
 use crate::exceptions::work_out_exception;
 use crate::monitor::work_out_monitor;
+use class_rules::ClassId;
 use classes::built_ins::{NO_CLASS_DEF_FOUND_ERROR, NO_SUCH_FIELD_ERROR};
 use classes::class::FieldHandle;
 use classes::table::ClassTable;
@@ -78,11 +79,11 @@ pub enum Answer {
     /// An object is made, and given.
     Makes(New),
     /// An exception of the class of this number is made and is pending.
-    Throws(usize),
+    Throws(ClassId),
     /// A string of the call's text at this place is made, and an exception of the class of this number with it as message, which is
     /// pending; 0 is given.
     Raises {
-        class: usize,
+        class: ClassId,
         text: usize,
     },
     /// This exception is pending, or none, and this is given.
@@ -349,7 +350,7 @@ pub(crate) fn name_of(
 
 /// A class object is given, or NULL.
 #[inline(always)]
-fn gives_class(loaded: &[Addr], class: Option<usize>) -> Answer
+fn gives_class(loaded: &[Addr], class: Option<ClassId>) -> Answer
     ensures { result ≡ Answer.Gives (Given.Reference (class_object loaded.now class)) }
 {
     Answer::Gives(Given::Reference(class_object(loaded, class)))
@@ -364,7 +365,7 @@ pub(crate) fn gives_truth(truth: bool) -> Answer
 }
 
 /// A class that was found, or else an exception.
-fn found_class(loaded: &[Addr], class: Option<usize>) -> Answer
+fn found_class(loaded: &[Addr], class: Option<ClassId>) -> Answer
     ensures { result ≡ found_class loaded.now class }
 {
     match class {
@@ -416,7 +417,7 @@ fn deletes_global(reference: Option<Addr>, operand: Operand) -> Answer
 }
 
 /// A handle of the field, or the static, with the name and the signature of a call's texts, or else an exception.
-fn find_field(classes: &ClassTable, class: usize, texts: &[Vec<u8>], is_static: bool) -> Answer
+fn find_field(classes: &ClassTable, class: ClassId, texts: &[Vec<u8>], is_static: bool) -> Answer
     ensures { IsFoundField classes.now (find_as classes.now class (unwrap_or (slice_get (map (λ text. text.items) texts.now) 0) []) (unwrap_or (slice_get (map (λ text. text.items) texts.now) 1) []) is_static) result }
 {
     match classes.find_handle(class, text_at(texts, 0), text_at(texts, 1), is_static) {
@@ -563,7 +564,7 @@ fn writes_static(
 }
 
 /// The place of the field of a handle among those of a class, and 0 for NULL.
-fn field_place(classes: &ClassTable, class: usize, field: Option<FieldHandle>) -> usize
+fn field_place(classes: &ClassTable, class: ClassId, field: Option<FieldHandle>) -> usize
     requires grown { IsGrown classes.now }
     requires there { (h : FieldHandle) → field ≡ Some h → IsSome (field_of classes.now h) }
     ensures { (field_there classes.now field).is_static ≡ false → result ≡ place_there classes.now field (layout classes.now class) }
@@ -673,7 +674,7 @@ fn stored(element: syntax::ElementType, stack: &Stack) -> Value
 // ---- classes
 
 /// The address of a class object.
-fn class_object(loaded: &[Addr], class: Option<usize>) -> Option<Addr>
+fn class_object(loaded: &[Addr], class: Option<ClassId>) -> Option<Addr>
     ensures { result ≡ class_object loaded.now class }
 {
     match class {

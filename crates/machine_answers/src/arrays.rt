@@ -16,6 +16,7 @@ use crate::answer::{
 use crate::buffers::work_out_buffer;
 use crate::copies::work_out_region;
 use class_queries::{array_class_of, element_class};
+use class_rules::ClassId;
 use classes::built_ins::{
     ARRAY_INDEX_OUT_OF_BOUNDS_EXCEPTION, ARRAY_STORE_EXCEPTION, NEGATIVE_ARRAY_SIZE_EXCEPTION,
     number_array,
@@ -78,7 +79,7 @@ pub(crate) fn stack_number(stack: &Stack) -> i32
 }
 
 /// A new array of equal values is made; a negative number of them is an exception.
-fn new_array(class: usize, count: i32, value: Value) -> Answer
+fn new_array(class: ClassId, count: i32, value: Value) -> Answer
     ensures { result ≡ new_array class count value }
 {
     if count < 0 {

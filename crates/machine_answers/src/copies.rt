@@ -12,6 +12,7 @@ ghost use Rattle.machine_answers.specs.WorkedOut.{array_in, copies_in, copies_ou
 
 use crate::answer::{Answer, argument};
 use crate::arrays::stack_number;
+use class_rules::ClassId;
 use classes::built_ins::{
     ARRAY_INDEX_OUT_OF_BOUNDS_EXCEPTION, STRING_INDEX_OUT_OF_BOUNDS_EXCEPTION,
 };
@@ -123,7 +124,7 @@ fn region_within(
 
 /// A region's numbers go into its slots; an exception of this class where there is no region, and a trap where the local array
 /// hasn't so many elements.
-fn copies_out(exception: usize, array: LocalArray, region: Option<ArrayRegion>) -> Answer
+fn copies_out(exception: ClassId, array: LocalArray, region: Option<ArrayRegion>) -> Answer
     ensures { result ≡ copies_out exception array region }
 {
     match region {
@@ -134,7 +135,7 @@ fn copies_out(exception: usize, array: LocalArray, region: Option<ArrayRegion>) 
 }
 
 /// What the slots of a region hold goes into its object; else the same.
-fn copies_in(exception: usize, array: LocalArray, region: Option<ArrayRegion>) -> Answer
+fn copies_in(exception: ClassId, array: LocalArray, region: Option<ArrayRegion>) -> Answer
     ensures { result ≡ copies_in exception array region }
 {
     match region {

@@ -9,6 +9,7 @@ ghost use Rattle.machine_calls.specs.Made.{cells_of, Allocates, Makes, Raises};
 ghost use Rattle.machine_scenes.specs.NewObjects.{class_of_new, initial_value, initial_values, texts_in, units, values_of_exception, values_of_new, AreBytes, IsOfBytes};
 
 use class_layouts::LayoutFields;
+use class_rules::ClassId;
 use classes::built_ins::STRING;
 use classes::class::FieldType;
 use classes::table::ClassTable;
@@ -39,7 +40,7 @@ pub fn raise(
     classes: &ClassTable,
     texts: &[Vec<u8>],
     store: &mut Store,
-    class: usize,
+    class: ClassId,
     place: usize,
 ) -> Option<Addr>
     requires class { class < 2 ^ 32 }
@@ -58,7 +59,7 @@ pub fn can_raise(
     classes: &ClassTable,
     texts: &[Vec<u8>],
     heap: &Heap,
-    class: usize,
+    class: ClassId,
     place: usize,
 ) -> bool
     ensures { result ≡ nat_le (cells_of classes.now (texts_in texts.now) (answer.Raises class place)) (left_of heap.now) }
@@ -91,7 +92,7 @@ fn allocate(
 }
 
 /// Makes the block of an object with zero and null fields.
-fn allocate_fresh(classes: &ClassTable, heap: &mut Heap, class: usize, birth: u32) -> Option<Addr>
+fn allocate_fresh(classes: &ClassTable, heap: &mut Heap, class: ClassId, birth: u32) -> Option<Addr>
     requires { class < 2 ^ 32 }
     ensures { Allocates heap.old class birth (initial_values classes.now class) heap.new result }
 {
@@ -115,7 +116,7 @@ fn allocate_fresh(classes: &ClassTable, heap: &mut Heap, class: usize, birth: u3
 fn allocate_exception(
     classes: &ClassTable,
     heap: &mut Heap,
-    class: usize,
+    class: ClassId,
     message: Addr,
     birth: u32,
 ) -> Option<Addr>

@@ -3,13 +3,14 @@
 ghost use Rattle.std.specs.Prelude.{◌≡◌, ◌+◌, ◌≤◌, ◌^◌};
 ghost use Rattle.machine_scenes.specs.NewObjects.{cells_of_new, text_in, texts_in};
 
+use class_rules::ClassId;
 use classes::table::ClassTable;
 use heap::{Addr, HEADER, Value};
 
 /// An array to be made: its class by number, how many elements it has, and what each of them is.
 #[derive(Clone, Copy)]
 pub struct NewArray {
-    pub class: usize,
+    pub class: ClassId,
     pub count: u32,
     pub value: Value,
 }
@@ -18,12 +19,12 @@ pub struct NewArray {
 #[derive(Clone, Copy)]
 pub enum New {
     /// One of the class of this number, with zero and null fields.
-    Fresh(usize),
+    Fresh(ClassId),
     Array(NewArray),
     /// A string of the call's text at this place, one UTF-16 unit a byte.
     Text(usize),
     /// An exception of the class of this number, with the string at this address as message.
-    Exception { class: usize, message: Addr },
+    Exception { class: ClassId, message: Addr },
 }
 
 impl New {

@@ -8,6 +8,7 @@ ghost use Rattle.heap.specs.Heap.{IsAddress};
 ghost use Rattle.machine_scenes.specs.Given.{operand_at, key_at, field_at, operand_of, class_of_given, name_there, fits_there, field_there, AreAddresses, AreHandles};
 
 use crate::references::{Held, References};
+use class_rules::ClassId;
 use classes::class::{ElementType, FieldHandle, FieldType};
 use classes::table::ClassTable;
 use code::instr::Operand;
@@ -86,7 +87,7 @@ pub fn handle_at(
 }
 
 /// The class of an object, and 0 for NULL.
-pub fn class_of_given(heap: &Heap, reference: Option<Addr>) -> usize
+pub fn class_of_given(heap: &Heap, reference: Option<Addr>) -> ClassId
     requires { (a : ℕ) → reference ≡ Some a → IsAddress heap.now a }
     ensures { result ≡ class_of_given heap.now reference }
 {
@@ -108,7 +109,12 @@ pub fn name_there(heap: &Heap, reference: Option<Addr>) -> usize
 }
 
 /// Whether a reference fits a class, as NULL does always.
-pub fn fits_there(classes: &ClassTable, heap: &Heap, reference: Option<Addr>, class: usize) -> bool
+pub fn fits_there(
+    classes: &ClassTable,
+    heap: &Heap,
+    reference: Option<Addr>,
+    class: ClassId,
+) -> bool
     requires { (a : ℕ) → reference ≡ Some a → IsAddress heap.now a }
     ensures { result ≡ fits_there classes.now heap.now reference class }
 {
@@ -131,7 +137,7 @@ pub fn is_static(classes: &ClassTable, field: Option<FieldHandle>) -> bool
 }
 
 /// The class that declares the field of a handle, and 0 for NULL.
-pub fn declaring(classes: &ClassTable, field: Option<FieldHandle>) -> usize
+pub fn declaring(classes: &ClassTable, field: Option<FieldHandle>) -> ClassId
     requires { (h : FieldHandle) → field ≡ Some h → IsSome (field_of classes.now h) }
     ensures { result ≡ (field_there classes.now field).class }
 {

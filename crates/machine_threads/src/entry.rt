@@ -11,11 +11,13 @@ ghost use Rattle.tables.specs.References.{references_in};
 ghost use Rattle.machine_threads.specs.Entry.{argument_address, entry_locals, keys_from, IsNumbersOf, IsReferencesOf, BeginsIn};
 
 use crate::thread::PendingCall;
+use class_rules::ClassId;
 use code::code::Code;
 use code::stack::Stack;
 use heap::Addr;
 use machine_scenes::activation::{Activation, Slots};
 use machine_scenes::buffer::Buffer;
+use semantics::ObjectId;
 use std::alloc::{AllocError, Global};
 use std::vec::VecCloneMethods;
 use tables::{Local, Locals, TableFault};
@@ -91,7 +93,7 @@ fn number_slots(
 fn addresses_given(
     alloc: Global,
     loaded: &[Addr],
-    class: usize,
+    class: ClassId,
     arguments: &[ObjectValue],
     count: usize,
 ) -> Result<Vec<Option<Addr>>, AllocError>
@@ -167,7 +169,7 @@ fn push_first(locals: &mut Locals, capacity: u32) -> Result<(), AllocError>
 }
 
 /// The address of the object of a name.
-fn object_of(loaded: &[Addr], name: usize) -> Option<Addr>
+fn object_of(loaded: &[Addr], name: ObjectId) -> Option<Addr>
     requires { 0 < name }
     ensures { result ≡ slice_get loaded.now (name - 1) }
 {

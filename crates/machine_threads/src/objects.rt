@@ -15,6 +15,7 @@ ghost use Rattle.world_values.specs.Views.{object_value_view};
 
 use base::limits::MOST_CELLS;
 use class_queries::{fresh_values, initial_values};
+use class_rules::ClassId;
 use classes::built_ins::{CLASS, OUT_OF_MEMORY_ERROR};
 use heap::{Addr, Heap, Value};
 use machine_scenes::statics::StaticReference;
@@ -137,7 +138,7 @@ fn make_objects(heap: &mut Heap, loaded: &mut Vec<Addr>, world: &World) -> Resul
 fn make(
     heap: &mut Heap,
     loaded: &mut Vec<Addr>,
-    class: usize,
+    class: ClassId,
     values: &[ObjectValue],
 ) -> Result<(), AllocError>
     requires class { class < 2 ^ 32 }

@@ -1,5 +1,6 @@
 //! Threads, which call functions one after another.
 
+use class_rules::ClassId;
 use heap::Addr;
 use machine_scenes::activation::Activation;
 use semantics::Ending;
@@ -34,6 +35,6 @@ impl Drop for Thread {
 #[derive(Drop)]
 pub struct PendingCall {
     pub function: usize,
-    pub class: usize,
+    pub class: ClassId,
     pub arguments: Vec<ObjectValue>,
 }

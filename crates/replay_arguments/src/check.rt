@@ -16,13 +16,14 @@ ghost use Rattle.semantics.specs.EventViews.{trap_view};
 use crate::actual::{Actual, field_given, object_given, reference_given};
 use crate::field::{declaring, is_static, type_of};
 use class_queries::{class_misfits, holds_number, holds_reference};
+use class_rules::ClassId;
 use classes::built_ins::{THROWABLE, number_array};
 use classes::class::FieldType;
 use classes::table::ClassTable;
 use jni::{Access, JniFunction, ParameterKind, ResultKind};
 use replay_objects::{Frames, Store};
 use replay_terms::StaticReference;
-use semantics::Trap;
+use semantics::{ObjectId, Trap};
 
 /// The trap of a call before it does anything, which may give a buffer of this element type.
 pub fn check(
@@ -217,7 +218,7 @@ fn fits_new_array(classes: &ClassTable, store: &Store, actuals: &[Actual<'_>]) -
 }
 
 /// Whether an object can be thrown.
-fn is_throwable(classes: &ClassTable, store: &Store, name: usize) -> bool
+fn is_throwable(classes: &ClassTable, store: &Store, name: ObjectId) -> bool
     ensures { result ≡ is_instance classes.now store.now name throwable_class }
 {
     classes.assignable(store.class_of(name), THROWABLE)
@@ -227,8 +228,8 @@ fn is_throwable(classes: &ClassTable, store: &Store, name: usize) -> bool
 pub fn fits_class(
     classes: &ClassTable,
     store: &Store,
-    reference: Option<usize>,
-    class: usize,
+    reference: Option<ObjectId>,
+    class: ClassId,
 ) -> bool
     ensures { result ≡ fits_class classes.now store.now reference class }
 {
@@ -242,7 +243,7 @@ pub fn fits_class(
 fn fits_type(
     classes: &ClassTable,
     store: &Store,
-    reference: Option<usize>,
+    reference: Option<ObjectId>,
     field_type: FieldType,
 ) -> bool
     ensures { result ≡ fits_type classes.now store.now reference (field_type_view field_type) }

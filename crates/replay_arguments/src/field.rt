@@ -9,6 +9,7 @@ ghost use Rattle.semantics.specs.Heap.{place_in};
 ghost use Rattle.replay_arguments.specs.Actuals.{given_field};
 
 use class_layouts::LayoutFields;
+use class_rules::ClassId;
 use classes::class::{ElementType, FieldHandle, FieldType};
 use classes::fields::FieldId;
 use classes::table::ClassTable;
@@ -24,7 +25,7 @@ pub fn is_static(field: Option<FieldId<'_>>) -> bool
 }
 
 /// The class that declares the field, and 0 for NULL.
-pub fn declaring(field: Option<FieldId<'_>>) -> usize
+pub fn declaring(field: Option<FieldId<'_>>) -> ClassId
     ensures { result ≡ (given_field field.entry).class }
 {
     match field {
@@ -62,7 +63,7 @@ fn is_field(field: Option<FieldId<'_>>, other: FieldId<'_>) -> bool
 
 /// The place of the field among those of the objects of a class, and 0 where it isn't among them. A field that was found in these
 /// classes is known by its place in its own: the cost goes by the depth of the class.
-pub fn field_place(classes: &ClassTable, class: usize, field: Option<FieldId<'_>>) -> usize
+pub fn field_place(classes: &ClassTable, class: ClassId, field: Option<FieldId<'_>>) -> usize
     requires { IsGrown classes.now }
     ensures { result ≡ place_in (given_field field.entry) (layout classes.now class) }
 {
@@ -75,7 +76,7 @@ pub fn field_place(classes: &ClassTable, class: usize, field: Option<FieldId<'_>
 /// The place of a field that was found in these classes, among those of the objects of a class.
 fn known_field_place(
     classes: &ClassTable,
-    class: usize,
+    class: ClassId,
     field: Option<FieldId<'_>>,
 ) -> Option<usize>
     requires { IsGrown classes.now }
@@ -88,7 +89,7 @@ fn known_field_place(
 }
 
 /// The place of a field, by comparing it with all fields: for NULL, and for a field of other classes, as in no accepted program.
-fn searched_field_place(classes: &ClassTable, class: usize, field: Option<FieldId<'_>>) -> usize
+fn searched_field_place(classes: &ClassTable, class: ClassId, field: Option<FieldId<'_>>) -> usize
     ensures { result ≡ place_in (given_field field.entry) (layout classes.now class) }
 {
     let mut fields = LayoutFields::of(classes, class);

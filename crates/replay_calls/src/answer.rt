@@ -29,6 +29,7 @@ use crate::exceptions::exception_answer;
 use crate::monitors::monitor_answer;
 use crate::regions::region_answer;
 use class_queries::element_class;
+use class_rules::ClassId;
 use classes::built_ins::{
     ARRAY_INDEX_OUT_OF_BOUNDS_EXCEPTION, ARRAY_STORE_EXCEPTION, NEGATIVE_ARRAY_SIZE_EXCEPTION,
     NO_CLASS_DEF_FOUND_ERROR, NO_SUCH_FIELD_ERROR, number_array,
@@ -44,7 +45,7 @@ use replay_arguments::check::{check, fits_class};
 use replay_arguments::{Shared, field};
 use replay_objects::{Frames, New, Store};
 use replay_terms::{BuffersInUse, Given, Lent, Variables, convert};
-use semantics::Trap;
+use semantics::{ObjectId, Trap};
 use syntax::ElementType;
 use world_values::ObjectValue;
 
@@ -55,18 +56,18 @@ pub enum Answer<'a> {
     Gives(Given<'a>),
     /// A value of the object of this name changes, by its place, counted from 0.
     Writes {
-        object: usize,
+        object: ObjectId,
         place: usize,
         value: ObjectValue,
     },
     /// This object is made, and given.
     Makes(New<'a>),
     /// An exception of the class of this number is made, with zero and null fields, and is pending.
-    Raises(usize),
+    Raises(ClassId),
     /// A string of this text is made, and an exception of the class of this number with it as message; the exception is pending,
     /// and 0 is given.
     ThrowsNew {
-        class: usize,
+        class: ClassId,
         text: &'a [u8],
     },
     /// The current frame gets room for this number of references more, and 0 is given.
@@ -76,22 +77,22 @@ pub enum Answer<'a> {
     /// -4 is given, and the OutOfMemoryError object is pending: the frames can't have so large capacities.
     RefusesFrames,
     /// The current frame is dropped, and this is given.
-    Pops(Option<usize>),
+    Pops(Option<ObjectId>),
     /// A local reference to the object of this name is deleted, in the frame of a level.
     DeletesLocal {
         level: usize,
-        object: usize,
+        object: ObjectId,
     },
     /// A global reference to the object of this name is made, and given.
-    MakesGlobal(usize),
+    MakesGlobal(ObjectId),
     /// A global reference to the object of this name is deleted, and the static is marked.
     DeletesGlobal {
         variable: &'a [u8],
-        object: usize,
+        object: ObjectId,
     },
     /// The exception of this name is pending, or none is, whatever was pending before, and this is given.
     Pends {
-        exception: Option<usize>,
+        exception: Option<ObjectId>,
         given: Given<'a>,
     },
     /// The local array of a region begins with the region's numbers.
@@ -102,7 +103,7 @@ pub enum Answer<'a> {
     Lends(Lent),
     /// The object of this name gets the numbers of the copy that a variable holds, which is given up or not.
     CopiesBack {
-        object: usize,
+        object: ObjectId,
         buffer: &'a [u8],
         frees: bool,
     },
@@ -110,11 +111,11 @@ pub enum Answer<'a> {
     Frees(&'a [u8]),
     /// The thread owns the object of this name so many times, and 0 is given.
     Owns {
-        object: usize,
+        object: ObjectId,
         count: u8,
     },
     /// Nobody owns the object of this name, and 0 is given.
-    Disowns(usize),
+    Disowns(ObjectId),
     /// The run stops.
     Halts(Trap),
 }
@@ -122,7 +123,7 @@ pub enum Answer<'a> {
 /// A part of an array or of a string, and a local array to or from which its numbers are copied.
 #[derive(Clone, Copy)]
 pub struct Region<'a> {
-    pub object: usize,
+    pub object: ObjectId,
     /// The place of the first value, counted from 0.
     pub start: usize,
     pub count: usize,
@@ -197,7 +198,7 @@ pub fn answer_or_trap<'a>(
     shared: &Shared<'_>,
     variables: &Variables<'_>,
     frames: &Frames,
-    pending: Option<usize>,
+    pending: Option<ObjectId>,
     caller: Caller,
     function: JniFunction,
     actuals: &[Actual<'a>],
@@ -249,7 +250,7 @@ fn work_out<'a>(
     shared: &Shared<'_>,
     variables: &Variables<'_>,
     frames: &Frames,
-    pending: Option<usize>,
+    pending: Option<ObjectId>,
     caller: Caller,
     function: JniFunction,
     actuals: &[Actual<'a>],
@@ -448,7 +449,7 @@ fn field_named<'a>(classes: &'a ClassTable, actuals: &[Actual<'a>], is_static: b
 }
 
 /// A class that was found, or else an exception.
-fn found_class<'a>(class: Option<usize>) -> Answer<'a>
+fn found_class<'a>(class: Option<ClassId>) -> Answer<'a>
     ensures { answer_view result ≡ found_class class }
 {
     match class {
@@ -498,7 +499,7 @@ fn pushed<'a>(frames: &Frames, capacity: i32) -> Answer<'a>
 }
 
 /// A global reference to the same object; NULL for NULL.
-fn made_global<'a>(reference: Option<usize>) -> Answer<'a>
+fn made_global<'a>(reference: Option<ObjectId>) -> Answer<'a>
     ensures { answer_view result ≡ made_global reference }
 {
     match reference {
@@ -536,7 +537,7 @@ fn global_deleted<'a>(actuals: &[Actual<'a>]) -> Answer<'a>
 }
 
 /// Whether both are NULL, or one object.
-fn same_reference(first: Option<usize>, second: Option<usize>) -> bool
+fn same_reference(first: Option<ObjectId>, second: Option<ObjectId>) -> bool
     ensures { result ≡ same_reference first second }
 {
     match (first, second) {
@@ -558,7 +559,7 @@ fn place_of_field(classes: &ClassTable, store: &Store, actuals: &[Actual<'_>]) -
 }
 
 /// The class that declares the static of argument 1.
-fn declarer(actuals: &[Actual<'_>]) -> usize
+fn declarer(actuals: &[Actual<'_>]) -> ClassId
     ensures { result ≡ (field_given (map actual_view actuals.now) 1).class }
 {
     field::declaring(field_given(actuals, 1))
@@ -582,7 +583,7 @@ fn number_in(value: ObjectValue) -> i32
 }
 
 /// The reference of a value.
-fn reference_in(value: ObjectValue) -> Option<usize>
+fn reference_in(value: ObjectValue) -> Option<ObjectId>
     ensures { result ≡ reference_in (object_value_view value) }
 {
     match value {
@@ -594,7 +595,7 @@ fn reference_in(value: ObjectValue) -> Option<usize>
 // ---- arrays
 
 /// An array of this class with this many zeros, or else an exception.
-fn new_array<'a>(class: usize, count: i32) -> Answer<'a>
+fn new_array<'a>(class: ClassId, count: i32) -> Answer<'a>
     ensures { answer_view result ≡ new_array class count }
 {
     if count < 0 {

@@ -23,6 +23,7 @@ use jni::{Access, JniFunction};
 use replay_arguments::actual::{Actual, ReleaseMode, mode_given, object_given, variable_given};
 use replay_objects::Store;
 use replay_terms::{BuffersInUse, Content, Lent, Value, Variables};
+use semantics::ObjectId;
 use std::alloc::AllocError;
 
 /// What a function does that gives a buffer or takes it back.
@@ -50,7 +51,7 @@ pub(crate) fn buffer_answer<'a>(
 }
 
 /// The buffer with which an object is accessed so.
-fn lent(store: &Store, in_use: BuffersInUse, access: Access, object: usize) -> Lent
+fn lent(store: &Store, in_use: BuffersInUse, access: Access, object: ObjectId) -> Lent
     ensures { result ≡ lent_by (access_value access) (in_use_view in_use) store.now object }
 {
     match access {
@@ -60,7 +61,7 @@ fn lent(store: &Store, in_use: BuffersInUse, access: Access, object: usize) -> L
 }
 
 /// A copy of an object, or NULL where all copies together would be too long.
-fn copy_lent(store: &Store, in_use: BuffersInUse, object: usize) -> Lent
+fn copy_lent(store: &Store, in_use: BuffersInUse, object: ObjectId) -> Lent
     ensures { result ≡ copy_lent (in_use_view in_use) (length (numbers_of store.now object)) object }
 {
     let count = store.values_of(object).len();
@@ -72,7 +73,7 @@ fn copy_lent(store: &Store, in_use: BuffersInUse, object: usize) -> Lent
 }
 
 /// A view of an object, or NULL where there are as many as there may be.
-fn view_lent(in_use: BuffersInUse, object: usize) -> Lent
+fn view_lent(in_use: BuffersInUse, object: ObjectId) -> Lent
     ensures { result ≡ view_lent (in_use_view in_use) object }
 {
     if in_use.views < MOST_VIEWS as usize {
@@ -83,7 +84,7 @@ fn view_lent(in_use: BuffersInUse, object: usize) -> Lent
 }
 
 /// What a release of a copy in this mode does.
-fn released<'a>(object: usize, buffer: &'a [u8], mode: ReleaseMode) -> Answer<'a>
+fn released<'a>(object: ObjectId, buffer: &'a [u8], mode: ReleaseMode) -> Answer<'a>
     ensures { answer_view result ≡ released object buffer.entry.now (mode_view mode) }
 {
     match mode {
@@ -105,7 +106,7 @@ fn released<'a>(object: usize, buffer: &'a [u8], mode: ReleaseMode) -> Answer<'a
 pub(crate) fn copy_back(
     store: &mut Store,
     variables: &mut Variables<'_>,
-    object: usize,
+    object: ObjectId,
     buffer: &[u8],
     frees: bool,
 ) -> Result<(), AllocError>

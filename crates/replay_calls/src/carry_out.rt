@@ -22,6 +22,7 @@ use jni::ResultKind;
 use replay_arguments::Shared;
 use replay_objects::{Frames, New, make, make_thrown};
 use replay_terms::{Given, StaticReference, Variables};
+use semantics::ObjectId;
 use std::alloc::{AllocError, Global};
 
 /// Does what a function of this kind of result answers to a thread's call, where the run goes on, and tells what it gives. It gives
@@ -32,7 +33,7 @@ pub fn carry_out<'a>(
     shared: &mut Shared<'a>,
     variables: &mut Variables<'a>,
     frames: &mut Frames,
-    pending: &mut Option<usize>,
+    pending: &mut Option<ObjectId>,
     kind: ResultKind,
     thread: u8,
     answer: Answer<'a>,
@@ -127,7 +128,7 @@ fn carry_out_references<'a>(
     classes: &ClassTable,
     shared: &mut Shared<'a>,
     frames: &mut Frames,
-    pending: &mut Option<usize>,
+    pending: &mut Option<ObjectId>,
     thread: u8,
     answer: Answer<'a>,
 ) -> Result<Given<'a>, AllocError>
@@ -170,7 +171,7 @@ fn carry_out_frames<'a>(
     alloc: Global,
     classes: &ClassTable,
     frames: &mut Frames,
-    pending: &mut Option<usize>,
+    pending: &mut Option<ObjectId>,
     answer: Answer<'a>,
 ) -> Result<Given<'a>, AllocError>
     requires of_frames { is_of_frames (answer_view answer) ≡ true }
@@ -235,7 +236,11 @@ pub fn makes_object(answer: Answer<'_>) -> bool
 }
 
 /// The object of a call is refused: the OutOfMemoryError object is pending, and the call fails.
-pub fn refuse<'a>(classes: &ClassTable, pending: &mut Option<usize>, kind: ResultKind) -> Given<'a>
+pub fn refuse<'a>(
+    classes: &ClassTable,
+    pending: &mut Option<ObjectId>,
+    kind: ResultKind,
+) -> Given<'a>
     ensures pending { pending.new ≡ Some (out_of_memory classes.now) }
     ensures given { given_view result ≡ failure (result_value kind) }
 {
@@ -244,7 +249,7 @@ pub fn refuse<'a>(classes: &ClassTable, pending: &mut Option<usize>, kind: Resul
 }
 
 /// The OutOfMemoryError object, which is made right after the class objects, is pending.
-fn run_out(classes: &ClassTable, pending: &mut Option<usize>)
+fn run_out(classes: &ClassTable, pending: &mut Option<ObjectId>)
     ensures { pending.new ≡ Some (out_of_memory classes.now) }
 {
     *pending = Some(classes.len() + 1);

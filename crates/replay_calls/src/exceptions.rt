@@ -15,12 +15,12 @@ use crate::answer::Answer;
 use jni::JniFunction;
 use replay_arguments::actual::{Actual, object_given, reference_given, text_given};
 use replay_terms::Given;
-use semantics::Trap;
+use semantics::{ObjectId, Trap};
 
 /// What a function does that works on the pending exception.
 #[inline]
 pub(crate) fn exception_answer<'a>(
-    pending: Option<usize>,
+    pending: Option<ObjectId>,
     function: JniFunction,
     actuals: &[Actual<'a>],
 ) -> Answer<'a>

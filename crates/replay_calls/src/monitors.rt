@@ -21,6 +21,7 @@ use jni::JniFunction;
 use replay_arguments::actual::{Actual, object_given};
 use replay_objects::{Monitor, Monitors};
 use replay_terms::Given;
+use semantics::ObjectId;
 
 /// What a function does that works on the monitor of an object, where a thread calls it.
 #[inline]
@@ -43,7 +44,7 @@ pub(crate) fn monitor_answer<'a>(
 }
 
 /// One entry more of an object with this monitor, which no other thread owns, if there may be one more.
-fn entered<'a>(object: usize, monitor: Option<Monitor>) -> Answer<'a>
+fn entered<'a>(object: ObjectId, monitor: Option<Monitor>) -> Answer<'a>
     ensures { answer_view result ≡ monitor_entered object (option_map monitor_view monitor) }
 {
     match monitor {
@@ -62,7 +63,7 @@ fn entered<'a>(object: usize, monitor: Option<Monitor>) -> Answer<'a>
 }
 
 /// One entry less of an object with this monitor, or an exception where the thread doesn't own it.
-fn left<'a>(thread: u8, object: usize, monitor: Option<Monitor>) -> Answer<'a>
+fn left<'a>(thread: u8, object: ObjectId, monitor: Option<Monitor>) -> Answer<'a>
     ensures { answer_view result ≡ monitor_left thread object (option_map monitor_view monitor) }
 {
     let Some(monitor) = monitor else {

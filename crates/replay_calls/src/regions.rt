@@ -14,6 +14,7 @@ ghost use Rattle.replay_calls.specs.declared.answer.Subject.TheVariants as subje
 ghost use Rattle.replay_terms.specs.Views.{variables_view};
 
 use crate::answer::{Answer, Region};
+use class_rules::ClassId;
 use classes::built_ins::{
     ARRAY_INDEX_OUT_OF_BOUNDS_EXCEPTION, STRING_INDEX_OUT_OF_BOUNDS_EXCEPTION,
 };
@@ -84,7 +85,7 @@ fn region_given<'a>(store: &Store, actuals: &[Actual<'a>]) -> Option<Region<'a>>
 fn region_got<'a>(
     store: &Store,
     variables: &Variables<'_>,
-    exception: usize,
+    exception: ClassId,
     actuals: &[Actual<'a>],
 ) -> Answer<'a>
     ensures { answer_view result ≡ region_got exception (variables_view variables.now) (region_given store.now (map actual_view actuals.now)) }

@@ -9,6 +9,7 @@ ghost use Rattle.replay_objects.specs.Frames.{frame_view, frames_view, new_frame
 
 use crate::names::Names;
 use base::limits::MOST_REFERENCES;
+use semantics::ObjectId;
 use std::alloc::{AllocError, Global};
 use std::marker::Model;
 
@@ -152,7 +153,7 @@ impl Frames {
     }
 
     /// Puts a reference into the current frame, if there is one.
-    pub fn receive(&mut self, name: usize) -> Result<(), AllocError>
+    pub fn receive(&mut self, name: ObjectId) -> Result<(), AllocError>
         ensures { IfOk result (λ _. self.new ≡ with_local name self.old) }
     {
         let count = self.frames.len();
@@ -164,7 +165,7 @@ impl Frames {
 
     /// Takes a reference away once from the frame of a level, counted from the lowest, which is 1; past the last it is the
     /// current one.
-    pub fn remove(&mut self, level: usize, name: usize)
+    pub fn remove(&mut self, level: usize, name: ObjectId)
         ensures { self.new ≡ without_local level name self.old }
     {
         let place = level.min(self.frames.len());
@@ -175,7 +176,7 @@ impl Frames {
 
     /// Adds the names in all frames to others, those in the current one first. The cost goes by the number of frames and
     /// names.
-    pub fn add_to(&self, names: &mut Vec<usize>) -> Result<(), AllocError>
+    pub fn add_to(&self, names: &mut Vec<ObjectId>) -> Result<(), AllocError>
         ensures { IfOk result (λ _. names.new.items ≡ names.old.items ++ references_in self.now) }
     {
         add_references(names, &self.frames)
@@ -191,7 +192,7 @@ fn set_capacity(frame: &mut Frame, capacity: usize)
 }
 
 /// Puts a reference into a frame.
-fn receive_in(frame: &mut Frame, name: usize) -> Result<(), AllocError>
+fn receive_in(frame: &mut Frame, name: ObjectId) -> Result<(), AllocError>
     ensures references { IfOk result (λ _. frame.new.references ≡ name ∷ frame.old.references) }
     ensures capacity { frame.new.capacity ≡ frame.old.capacity }
 {
@@ -199,7 +200,7 @@ fn receive_in(frame: &mut Frame, name: usize) -> Result<(), AllocError>
 }
 
 /// Takes a reference away from a frame.
-fn remove_from(frame: &mut Frame, name: usize)
+fn remove_from(frame: &mut Frame, name: ObjectId)
     ensures view { frame_view frame.new ≡ without_in name (frame_view frame.old) }
     ensures capacity { frame.new.capacity ≡ frame.old.capacity }
 {
@@ -207,7 +208,7 @@ fn remove_from(frame: &mut Frame, name: usize)
 }
 
 /// Adds the names in frames to others, those in the last frame first.
-fn add_references(names: &mut Vec<usize>, frames: &[Frame]) -> Result<(), AllocError>
+fn add_references(names: &mut Vec<ObjectId>, frames: &[Frame]) -> Result<(), AllocError>
     ensures { IfOk result (λ _. names.new.items ≡ names.old.items ++ references_in (frames_view frames.now)) }
 {
     for done in 0..frames.len() {

@@ -6,6 +6,7 @@ ghost use Rattle.semantics.specs.CallEffects.{monitor};
 ghost use Rattle.semantics.specs.Thread.{monitor_of, without_monitor, without_owner};
 ghost use Rattle.replay_objects.specs.Monitors.{monitor_view, owned_objects};
 
+use semantics::ObjectId;
 use std::alloc::{AllocError, Global};
 use std::marker::Model;
 
@@ -13,7 +14,7 @@ use std::marker::Model;
 #[derive(Clone, Copy)]
 pub struct Monitor {
     /// The object's name.
-    pub object: usize,
+    pub object: ObjectId,
     /// The thread's number, from 1.
     pub owner: u8,
     pub count: u8,
@@ -36,7 +37,7 @@ impl Model for Monitors {
 }
 
 /// The first of these monitors that is of an object.
-fn monitor_in(monitors: &[Monitor], object: usize) -> Option<Monitor>
+fn monitor_in(monitors: &[Monitor], object: ObjectId) -> Option<Monitor>
     ensures { result ≡ find (λ m. m.object == object) monitors.now }
 {
     monitors
@@ -56,7 +57,7 @@ impl Monitors {
     }
 
     /// The monitor of an object.
-    pub fn of(&self, object: usize) -> Option<Monitor>
+    pub fn of(&self, object: ObjectId) -> Option<Monitor>
         ensures { option_map monitor_view result ≡ monitor_of self.now object }
     {
         monitor_in(&self.monitors, object)
@@ -64,7 +65,7 @@ impl Monitors {
 
     /// Lets a thread own an object so many times, whatever its monitor was before. Memory can only be refused where it had none,
     /// and nothing changes then.
-    pub fn put(&mut self, object: usize, owner: u8, count: u8) -> Result<(), AllocError>
+    pub fn put(&mut self, object: ObjectId, owner: u8, count: u8) -> Result<(), AllocError>
         ensures { IfOk result (λ _. self.new ≡ monitor object owner count ∷ without_monitor self.old object) }
     {
         self.remove(object);
@@ -80,7 +81,7 @@ impl Monitors {
     }
 
     /// Lets nobody own an object.
-    pub fn remove(&mut self, object: usize)
+    pub fn remove(&mut self, object: ObjectId)
         ensures { self.new ≡ without_monitor self.old object }
     {
         self.monitors.retain(|monitor| monitor.object != object);
@@ -94,7 +95,7 @@ impl Monitors {
     }
 
     /// Adds the names of the objects to others.
-    pub fn add_to(&self, names: &mut Vec<usize>) -> Result<(), AllocError>
+    pub fn add_to(&self, names: &mut Vec<ObjectId>) -> Result<(), AllocError>
         ensures { IfOk result (λ _. names.new.items ≡ names.old.items ++ owned_objects self.now) }
     {
         for monitor in &self.monitors {

@@ -4,6 +4,7 @@ ghost use Rattle.std.specs.Prelude.{◌≡◌, ◌++◌, ◌∷◌, [], IfOk, On
 ghost use Rattle.semantics.specs.CallEffects.{without_one};
 ghost use Rattle.replay_objects.specs.Names.{Leaves};
 
+use semantics::ObjectId;
 use std::alloc::{AllocError, Global};
 use std::marker::Model;
 
@@ -11,7 +12,7 @@ use std::marker::Model;
 #[derive(Drop)]
 pub struct Names {
     /// The one that was put last is the last.
-    names: Vec<usize>,
+    names: Vec<ObjectId>,
 }
 
 impl Model for Names {
@@ -23,7 +24,7 @@ impl Model for Names {
 }
 
 /// The place of the last of these names that is this one.
-fn last_place(names: &[usize], name: usize) -> Option<usize>
+fn last_place(names: &[ObjectId], name: ObjectId) -> Option<usize>
     ensures { Leaves name names.now result }
 {
     for done in 0..names.len() {
@@ -36,7 +37,7 @@ fn last_place(names: &[usize], name: usize) -> Option<usize>
 }
 
 /// Adds names, the last one first.
-fn add_reversed(all: &mut Vec<usize>, names: &[usize]) -> Result<(), AllocError>
+fn add_reversed(all: &mut Vec<ObjectId>, names: &[ObjectId]) -> Result<(), AllocError>
     ensures { IfOk result (λ _. all.new.items ≡ all.old.items ++ reverse names.now) }
 {
     for done in 0..names.len() {
@@ -63,7 +64,7 @@ impl Names {
     }
 
     /// Puts a name.
-    pub fn push(&mut self, name: usize) -> Result<(), AllocError>
+    pub fn push(&mut self, name: ObjectId) -> Result<(), AllocError>
         ensures ok { IfOk result (λ _. self.new ≡ name ∷ self.old) }
         ensures err { OnErr result (self.new ≡ self.old) }
     {
@@ -72,7 +73,7 @@ impl Names {
     }
 
     /// Takes a name away once, if it is there: the one that was put last. It compares it with those that were put later.
-    pub fn remove(&mut self, name: usize)
+    pub fn remove(&mut self, name: ObjectId)
         ensures { self.new ≡ without_one name self.old }
     {
         if let Some(place) = last_place(&self.names, name) {
@@ -81,7 +82,7 @@ impl Names {
     }
 
     /// Adds the names to others, the one that was put last first.
-    pub fn add_to(&self, names: &mut Vec<usize>) -> Result<(), AllocError>
+    pub fn add_to(&self, names: &mut Vec<ObjectId>) -> Result<(), AllocError>
         ensures { IfOk result (λ _. names.new.items ≡ names.old.items ++ self.now) }
     {
         add_reversed(names, &self.names)

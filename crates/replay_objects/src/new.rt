@@ -11,8 +11,10 @@ ghost use Rattle.world_values.specs.Views.{object_value_view};
 
 use crate::store::{Object, Store, put_value};
 use class_queries::{array_class_of, fresh_values};
+use class_rules::ClassId;
 use classes::built_ins::STRING;
 use classes::table::ClassTable;
+use semantics::ObjectId;
 use std::alloc::{AllocError, Global};
 use world_values::ObjectValue;
 
@@ -20,10 +22,10 @@ use world_values::ObjectValue;
 #[derive(Clone, Copy)]
 pub enum New<'a> {
     /// An object of the class of this number, with zero and null fields.
-    Fresh(usize),
+    Fresh(ClassId),
     /// An array of the class of this number, of equal values.
     Array {
-        class: usize,
+        class: ClassId,
         count: usize,
         value: ObjectValue,
     },
@@ -31,7 +33,7 @@ pub enum New<'a> {
     ObjectArray {
         element: usize,
         count: usize,
-        reference: Option<usize>,
+        reference: Option<ObjectId>,
     },
     /// A string, with one unit for each byte.
     Text(&'a [u8]),
@@ -135,7 +137,7 @@ pub fn make_thrown(
     alloc: Global,
     classes: &ClassTable,
     store: &mut Store,
-    class: usize,
+    class: ClassId,
     text: &[u8],
 ) -> Result<usize, AllocError>
     ensures store { IfOk result (λ _. store.new ≡ store.old ++ thrown classes.now store.old class text.now) }
@@ -156,8 +158,8 @@ pub fn make_thrown(
 fn exception_with(
     alloc: Global,
     classes: &ClassTable,
-    class: usize,
-    message: usize,
+    class: ClassId,
+    message: ObjectId,
 ) -> Result<Object, AllocError>
     ensures short { IfOk result (λ exception. length exception.values.items < 2 ^ 31) }
     ensures mark { IfOk result IsMarked }

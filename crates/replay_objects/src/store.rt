@@ -8,14 +8,15 @@ ghost use Rattle.semantics.specs.Object.{Number};
 ghost use Rattle.replay_objects.specs.Stores.{IsMarked, as_number, object_view};
 ghost use Rattle.semantics.specs.Views.{object_value_view};
 
-use semantics::{ObjectValue, Objects};
+use class_rules::ClassId;
+use semantics::{ObjectId, ObjectValue, Objects};
 use std::alloc::{AllocError, Global};
 use std::marker::Model;
 
 /// An object: the number of its class, and its values.
 #[derive(Drop)]
 pub(crate) struct Object {
-    pub(crate) class: usize,
+    pub(crate) class: ClassId,
     pub(crate) values: Vec<ObjectValue>,
     /// Whether it is known that no value is a reference.
     pub(crate) has_numbers: bool,
@@ -47,15 +48,15 @@ impl Objects for Store {
         self.objects.len()
     }
 
-    fn class_of(&self, name: usize) -> usize {
+    fn class_of(&self, name: ObjectId) -> ClassId {
         Store::class_of(self, name)
     }
 
-    fn count(&self, name: usize) -> usize {
+    fn count(&self, name: ObjectId) -> usize {
         self.values_of(name).len()
     }
 
-    fn value(&self, name: usize, index: usize) -> ObjectValue {
+    fn value(&self, name: ObjectId, index: usize) -> ObjectValue {
         self.values_of(name)[index]
     }
 }
@@ -79,7 +80,7 @@ impl Store {
     }
 
     /// The object of a name.
-    fn object(&self, name: usize) -> Option<&Object>
+    fn object(&self, name: ObjectId) -> Option<&Object>
         ensures view { option_map (λ o. object_view o.now) result ≡ object_at self.now name }
         ensures short { IfSome result (λ o. length o.now.values.items < 2 ^ 31) }
     {
@@ -93,7 +94,7 @@ impl Store {
     }
 
     /// The number of an object's class; 0 where there is no object of this name.
-    pub fn class_of(&self, name: usize) -> usize
+    pub fn class_of(&self, name: ObjectId) -> ClassId
         ensures { result ≡ class_of self.now name }
     {
         match self.object(name) {
@@ -104,7 +105,7 @@ impl Store {
 
     /// An object's fields in the order of its class's layout, the elements of an array, or the units of a string; none where
     /// there is no object of this name.
-    pub fn values_of(&self, name: usize) -> &[ObjectValue]
+    pub fn values_of(&self, name: ObjectId) -> &[ObjectValue]
         ensures values { map object_value_view result.now ≡ values_of self.now name }
         ensures short { length result.now < 2 ^ 31 }
     {
@@ -115,7 +116,7 @@ impl Store {
     }
 
     /// The value at a place of an object, counted from 0; the number 0 where there is none.
-    pub fn value_at(&self, name: usize, place: usize) -> ObjectValue
+    pub fn value_at(&self, name: ObjectId, place: usize) -> ObjectValue
         ensures { object_value_view result ≡ value_at self.now name place }
     {
         match self.values_of(name).get(place) {
@@ -126,7 +127,7 @@ impl Store {
 
     /// Puts a value into an object, if it has the place. The name is 0 in no accepted program: by the definitions the first
     /// object is then left without a class and values.
-    pub fn set(&mut self, name: usize, place: usize, value: ObjectValue)
+    pub fn set(&mut self, name: ObjectId, place: usize, value: ObjectValue)
         ensures { self.new ≡ with_value_at self.old name place (object_value_view value) }
     {
         let count = self.objects.len();
@@ -142,7 +143,7 @@ impl Store {
 
     /// Overwrites numbers of an object, from a place on; a reference in it, as in no accepted program, becomes 0. The cost goes by
     /// the new numbers, and the first time by all of the object's. The name 0 is as in `set`.
-    pub fn set_numbers(&mut self, name: usize, start: usize, numbers: &[i32])
+    pub fn set_numbers(&mut self, name: ObjectId, start: usize, numbers: &[i32])
         requires { start + length numbers.now ≤ length (values_of self.old name) }
         ensures { self.new ≡ with_numbers self.old name (overwritten (numbers_of self.old name) start numbers.now) }
     {
@@ -159,7 +160,7 @@ impl Store {
 
     /// Gives an object these numbers as its values. There is no memory for more or fewer than it has, as in no accepted program. The
     /// name 0 is as in `set`.
-    pub fn put_numbers(&mut self, name: usize, numbers: &[i32]) -> Result<(), AllocError>
+    pub fn put_numbers(&mut self, name: ObjectId, numbers: &[i32]) -> Result<(), AllocError>
         ensures ok { IfOk result (λ _. self.new ≡ with_numbers self.old name numbers.now) }
         ensures err { OnErr result (self.new ≡ self.old) }
     {
@@ -171,14 +172,14 @@ impl Store {
     }
 
     /// The numbers of an object, with 0 for a reference. The cost goes by them.
-    pub fn numbers_of(&self, alloc: Global, name: usize) -> Result<Vec<i32>, AllocError>
+    pub fn numbers_of(&self, alloc: Global, name: ObjectId) -> Result<Vec<i32>, AllocError>
         ensures { IfOk result (λ numbers. numbers.items ≡ numbers_of self.now name) }
     {
         numbers_in(alloc, self.values_of(name))
     }
 
     /// Makes the next object.
-    pub fn add(&mut self, class: usize, values: Vec<ObjectValue>) -> Result<(), AllocError>
+    pub fn add(&mut self, class: ClassId, values: Vec<ObjectValue>) -> Result<(), AllocError>
         requires { length values.items < 2 ^ 31 }
         ensures ok { IfOk result (λ _. self.new ≡ self.old ++ record { class = class; values = map object_value_view values.items } ∷ []) }
         ensures err { OnErr result (self.new ≡ self.old) }

@@ -18,6 +18,7 @@ use replay_arguments::Shared;
 use replay_objects::{Frames, Store};
 use replay_tasks::{Choice, End, Outcome, Statements, Task, loop_task, set_variables, task_of};
 use replay_terms::{Statics, Term, Value, Variables};
+use semantics::ObjectId;
 use std::alloc::{AllocError, Global};
 use std::mem;
 use syntax::{Block, Expr, Stmt};
@@ -263,7 +264,7 @@ fn apply<'a>(
 fn step_task<'a>(
     turn: Turn<'a>,
     shared: &mut Shared<'a>,
-    pending: &mut Option<usize>,
+    pending: &mut Option<ObjectId>,
     activation: &mut Activation<'a>,
 ) -> Result<Outcome<'a>, AllocError>
     requires range { IsInRange activation.old.work }
@@ -283,7 +284,7 @@ fn step_task<'a>(
 fn go_on<'a>(
     turn: Turn<'a>,
     shared: &mut Shared<'a>,
-    pending: &mut Option<usize>,
+    pending: &mut Option<ObjectId>,
     activation: &mut Activation<'a>,
 ) -> Result<Outcome<'a>, AllocError>
     requires range { IsInRange activation.old.work }
@@ -305,7 +306,7 @@ fn go_on<'a>(
 fn take_step<'a>(
     turn: Turn<'a>,
     shared: &mut Shared<'a>,
-    pending: &mut Option<usize>,
+    pending: &mut Option<ObjectId>,
     activation: &mut Activation<'a>,
 ) -> Result<Outcome<'a>, AllocError>
     requires range { IsAtStatement activation.old.work }
@@ -323,7 +324,7 @@ fn take_step<'a>(
 pub fn advance<'a>(
     turn: Turn<'a>,
     shared: &mut Shared<'a>,
-    pending: &mut Option<usize>,
+    pending: &mut Option<ObjectId>,
     activation: &mut Activation<'a>,
 ) -> Result<Outcome<'a>, AllocError>
     requires range { IsAtStatement activation.old.work }

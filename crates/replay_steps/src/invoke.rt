@@ -29,6 +29,7 @@ use replay_calls::carry_out::{carry_out, makes_object, put_local, refuse};
 use replay_calls::{Answer, Caller, answer_or_trap, lent_in, tell_copy, trap_in};
 use replay_tasks::{Invocation, Outcome, Purpose, Target, VariableKind, reduced};
 use replay_terms::{Given, Lent, Operand, Reduction, Term, Variables, is_zero, reduce};
+use semantics::ObjectId;
 use std::alloc::AllocError;
 use syntax::ElementType;
 
@@ -37,7 +38,7 @@ use syntax::ElementType;
 pub(crate) fn invoke<'a>(
     turn: Turn<'a>,
     shared: &mut Shared<'a>,
-    pending: &mut Option<usize>,
+    pending: &mut Option<ObjectId>,
     locals: &mut Locals<'a>,
     i: &mut Invocation<'a>,
 ) -> Result<Outcome<'a>, AllocError>
@@ -62,7 +63,7 @@ pub(crate) fn invoke<'a>(
 fn make_call<'a>(
     turn: Turn<'a>,
     shared: &mut Shared<'a>,
-    pending: &mut Option<usize>,
+    pending: &mut Option<ObjectId>,
     locals: &mut Locals<'a>,
     i: &Invocation<'a>,
 ) -> Result<Outcome<'a>, AllocError>
@@ -171,7 +172,7 @@ pub(crate) fn unless_refused<'a>(refused: bool, took: Outcome<'a>) -> Outcome<'a
 fn call<'a>(
     turn: Turn<'a>,
     shared: &mut Shared<'a>,
-    pending: &mut Option<usize>,
+    pending: &mut Option<ObjectId>,
     locals: &mut Locals<'a>,
     i: &Invocation<'a>,
     actuals: &[Actual<'a>],
@@ -221,7 +222,7 @@ fn wanted_element(variables: &Variables<'_>, purpose: Purpose<'_>) -> ElementTyp
 #[inline]
 fn refuse_object<'a>(
     turn: Turn<'a>,
-    pending: &mut Option<usize>,
+    pending: &mut Option<ObjectId>,
     i: &Invocation<'a>,
     answer: Answer<'_>,
 ) -> Outcome<'a>
@@ -243,7 +244,7 @@ fn refuse_object<'a>(
 fn complete<'a>(
     turn: Turn<'a>,
     shared: &mut Shared<'a>,
-    pending: &mut Option<usize>,
+    pending: &mut Option<ObjectId>,
     locals: &mut Locals<'a>,
     i: &Invocation<'a>,
     actuals: &[Actual<'a>],

@@ -11,13 +11,14 @@ use crate::invoke::{invoke, unless_refused};
 use crate::turn::Turn;
 use replay_arguments::Shared;
 use replay_tasks::{Outcome, Task, plain_step};
+use semantics::ObjectId;
 use std::alloc::AllocError;
 
 /// Lets a task take its next step. With its object refused only a call is possible.
 pub(crate) fn step<'a>(
     turn: Turn<'a>,
     shared: &mut Shared<'a>,
-    pending: &mut Option<usize>,
+    pending: &mut Option<ObjectId>,
     locals: &mut Locals<'a>,
     task: &mut Task<'a>,
 ) -> Result<Outcome<'a>, AllocError>

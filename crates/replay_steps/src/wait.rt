@@ -22,6 +22,7 @@ use replay_arguments::check::check;
 use replay_objects::{Frames, Monitor};
 use replay_tasks::Task;
 use replay_terms::{Operand, Term};
+use semantics::ObjectId;
 use syntax::ElementType;
 
 /// Whether there is nothing to work out of an argument.
@@ -59,7 +60,7 @@ fn is_kept_out(
     classes: &ClassTable,
     thread: usize,
     shared: &Shared<'_>,
-    pending: Option<usize>,
+    pending: Option<ObjectId>,
     frames: &Frames,
     actuals: &[Actual<'_>],
 ) -> bool
@@ -88,7 +89,7 @@ fn waits_to_enter<'a>(
     classes: &ClassTable,
     thread: usize,
     shared: &Shared<'_>,
-    pending: Option<usize>,
+    pending: Option<ObjectId>,
     locals: &Locals<'a>,
     operands: &[Operand<'a>],
 ) -> bool
@@ -112,7 +113,7 @@ fn call_waits<'a>(
     classes: &ClassTable,
     thread: usize,
     shared: &Shared<'_>,
-    pending: Option<usize>,
+    pending: Option<ObjectId>,
     locals: &Locals<'a>,
     function: JniFunction,
     operands: &[Operand<'a>],
@@ -133,7 +134,7 @@ fn task_waits<'a>(
     classes: &ClassTable,
     thread: usize,
     shared: &Shared<'_>,
-    pending: Option<usize>,
+    pending: Option<ObjectId>,
     locals: &Locals<'a>,
     task: &Option<Task<'a>>,
 ) -> bool
@@ -161,7 +162,7 @@ pub fn waits(
     classes: &ClassTable,
     thread: usize,
     shared: &Shared<'_>,
-    pending: Option<usize>,
+    pending: Option<ObjectId>,
     activation: &Activation<'_>,
 ) -> bool
     ensures { (in_use : BuffersInUse) → WaitsIn (scene_with classes.now in_use thread (shared_view shared.now) activation.now.locals.variables activation.now.locals.frames pending) activation.now.work result }

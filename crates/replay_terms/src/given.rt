@@ -6,6 +6,7 @@ ghost use Rattle.replay_terms.specs.Views.{given_view, held_view};
 
 use crate::statics::StaticReference;
 use classes::fields::FieldId;
+use semantics::ObjectId;
 
 /// What a call gives.
 #[derive(Clone, Copy)]
@@ -15,7 +16,7 @@ pub enum Given<'a> {
     Number(i32),
     Flag(bool),
     /// NULL or an object, by its name.
-    Reference(Option<usize>),
+    Reference(Option<ObjectId>),
     Field(Option<FieldId<'a>>),
 }
 
@@ -25,9 +26,9 @@ pub enum Lent {
     /// NULL.
     Nothing,
     /// A copy of the numbers of the object of this name.
-    Copy(usize),
+    Copy(ObjectId),
     /// A view of the object of this name.
-    View(usize),
+    View(ObjectId),
 }
 
 /// Whether it is 0.

@@ -14,7 +14,7 @@ ghost use Rattle.replay_terms.specs.Views.{value_view, evaluated_view, indexed_v
 use crate::statics::{Statics, is_empty};
 use crate::value::{Evaluated, Value, truth};
 use crate::variable::{Content, Variables, held_number};
-use semantics::{Objects, Trap};
+use semantics::{ObjectId, Objects, Trap};
 use syntax::Name;
 
 /// The value of a number variable.
@@ -116,7 +116,7 @@ fn index_of(v: Value) -> Indexed
 #[derive(Clone, Copy)]
 enum Shown<'v> {
     Numbers(&'v [i32]),
-    Object(usize),
+    Object(ObjectId),
 }
 
 /// What the array or the buffer of this name shows.
@@ -137,7 +137,7 @@ fn shown_in<'v>(variables: &'v Variables<'_>, name: &Name) -> Option<Shown<'v>>
 }
 
 /// Whether there is an object of this name.
-fn is_there<O: Objects>(objects: &O, name: usize) -> bool
+fn is_there<O: Objects>(objects: &O, name: ObjectId) -> bool
     ensures there { IsTrue result → IsWithin (length (O.heap objects.now)) name }
     ensures none { (result ≡ false) → numbers_of (O.heap objects.now) name ≡ [] }
 {

@@ -11,6 +11,7 @@ ghost use Rattle.semantics.specs.Variable.{assign};
 ghost use Rattle.replay_terms.specs.Views.{assign_all, held_view};
 
 use indexmap::IndexMap;
+use semantics::ObjectId;
 use std::alloc::{AllocError, Global};
 use std::marker::Model;
 use syntax::{Item, Name};
@@ -21,7 +22,7 @@ pub enum StaticReference {
     /// NULL.
     Empty,
     /// A global reference to an object, by its name.
-    Live(usize),
+    Live(ObjectId),
     /// A global reference that was deleted. It isn't NULL.
     Deleted,
 }

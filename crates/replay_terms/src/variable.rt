@@ -17,7 +17,7 @@ use crate::buffers::{BuffersInUse, NOTHING, exchanged, taken};
 use crate::value::{Value, convert};
 use classes::fields::FieldId;
 use indexmap::IndexMap;
-use semantics::ObjectValue;
+use semantics::{ObjectId, ObjectValue};
 use std::alloc::{AllocError, Global};
 use std::marker::Model;
 use syntax::{ElementType, Name};
@@ -29,7 +29,7 @@ pub enum Content<'a> {
     /// A local reference: its level, the number of frames at its declaration, and NULL or an object, by its name.
     Reference {
         level: usize,
-        object: Option<usize>,
+        object: Option<ObjectId>,
     },
     /// A field ID: NULL, or a field or static.
     Field(Option<FieldId<'a>>),
@@ -38,13 +38,13 @@ pub enum Content<'a> {
     /// A buffer with a copy of the numbers of an array or a string, and its name.
     Copy {
         element: ElementType,
-        object: usize,
+        object: ObjectId,
         numbers: Vec<i32>,
     },
     /// A buffer that shows an array or a string itself, by its name.
     View {
         element: ElementType,
-        object: usize,
+        object: ObjectId,
     },
     /// A local array.
     Array(ElementType, Vec<i32>),
@@ -191,7 +191,7 @@ impl<'a> Variables<'a> {
     }
 
     /// Adds the names of the objects that buffers show to others, in the order of the variables. The cost goes by the variables.
-    pub fn add_viewed(&self, names: &mut Vec<usize>) -> Result<(), AllocError>
+    pub fn add_viewed(&self, names: &mut Vec<ObjectId>) -> Result<(), AllocError>
         ensures { IfOk result (λ _. names.new.items ≡ names.old.items ++ flat_map (λ v. viewed v.1) (variables_view self.now)) }
     {
         add_viewed(&self.contents, names)
@@ -273,7 +273,7 @@ fn begin_content(content: &mut Content<'_>, values: &[ObjectValue])
 }
 
 /// Adds the name of the object that a buffer shows.
-fn push_viewed(names: &mut Vec<usize>, content: &Content<'_>) -> Result<(), AllocError>
+fn push_viewed(names: &mut Vec<ObjectId>, content: &Content<'_>) -> Result<(), AllocError>
     ensures { IfOk result (λ _. names.new.items ≡ names.old.items ++ viewed (content_view content.now)) }
 {
     match content {
@@ -289,7 +289,7 @@ fn push_viewed(names: &mut Vec<usize>, content: &Content<'_>) -> Result<(), Allo
 /// Adds the names of the objects that variables show.
 fn add_viewed(
     contents: &IndexMap<&[u8], Content<'_>>,
-    names: &mut Vec<usize>,
+    names: &mut Vec<ObjectId>,
 ) -> Result<(), AllocError>
     ensures { IfOk result (λ _. names.new.items ≡ names.old.items ++ flat_map viewed_by (values contents.now)) }
 {
@@ -323,7 +323,7 @@ pub enum Written {
     /// It was written.
     Done,
     /// This number, converted to its type, is to be written into the object of this name.
-    Object { object: usize, number: i32 },
+    Object { object: ObjectId, number: i32 },
     /// There are no elements.
     Nothing,
 }

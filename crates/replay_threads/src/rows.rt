@@ -8,6 +8,7 @@ ghost use Rattle.replay_arguments.specs.Shares.{shared_view};
 use crate::thread::Thread;
 use replay_arguments::Shared;
 use replay_steps::Activation;
+use semantics::ObjectId;
 use std::alloc::{AllocError, Global};
 
 /// The names of the objects that global references and threads refer to, that threads own, and that views show, in the order of the
@@ -16,7 +17,7 @@ pub fn root_names(
     alloc: Global,
     shared: &Shared<'_>,
     threads: &[Thread<'_>],
-) -> Result<Vec<usize>, AllocError>
+) -> Result<Vec<ObjectId>, AllocError>
     ensures { IfOk result (λ names. names.items ≡ root_names (shared_view shared.now) threads.now) }
 {
     let mut names = Vec::new(alloc);
@@ -28,7 +29,7 @@ pub fn root_names(
 }
 
 /// Adds the names of the objects that the views of threads show.
-fn add_views(names: &mut Vec<usize>, threads: &[Thread<'_>]) -> Result<(), AllocError>
+fn add_views(names: &mut Vec<ObjectId>, threads: &[Thread<'_>]) -> Result<(), AllocError>
     ensures { IfOk result (λ _. names.new.items ≡ names.old.items ++ flat_map viewed_in threads.now) }
 {
     for thread in threads {
@@ -38,7 +39,7 @@ fn add_views(names: &mut Vec<usize>, threads: &[Thread<'_>]) -> Result<(), Alloc
 }
 
 /// Adds the names of the objects that the views of a thread show.
-fn push_views(names: &mut Vec<usize>, thread: &Thread<'_>) -> Result<(), AllocError>
+fn push_views(names: &mut Vec<ObjectId>, thread: &Thread<'_>) -> Result<(), AllocError>
     ensures { IfOk result (λ _. names.new.items ≡ names.old.items ++ viewed_in thread.now) }
 {
     match &thread.activation {
@@ -48,7 +49,7 @@ fn push_views(names: &mut Vec<usize>, thread: &Thread<'_>) -> Result<(), AllocEr
 }
 
 /// Adds the names of the objects in the frames of threads, and of their pending exceptions.
-fn add_threads(names: &mut Vec<usize>, threads: &[Thread<'_>]) -> Result<(), AllocError>
+fn add_threads(names: &mut Vec<ObjectId>, threads: &[Thread<'_>]) -> Result<(), AllocError>
     ensures { IfOk result (λ _. names.new.items ≡ names.old.items ++ flat_map thread_names threads.now) }
 {
     for thread in threads {
@@ -58,7 +59,7 @@ fn add_threads(names: &mut Vec<usize>, threads: &[Thread<'_>]) -> Result<(), All
 }
 
 /// Adds the names of a thread.
-fn push_thread(names: &mut Vec<usize>, thread: &Thread<'_>) -> Result<(), AllocError>
+fn push_thread(names: &mut Vec<ObjectId>, thread: &Thread<'_>) -> Result<(), AllocError>
     ensures { IfOk result (λ _. names.new.items ≡ names.old.items ++ thread_names thread.now) }
 {
     push_call(names, &thread.activation)?;
@@ -66,7 +67,10 @@ fn push_thread(names: &mut Vec<usize>, thread: &Thread<'_>) -> Result<(), AllocE
 }
 
 /// Adds the names of the call in progress, if there is one.
-fn push_call(names: &mut Vec<usize>, activation: &Option<Activation<'_>>) -> Result<(), AllocError>
+fn push_call(
+    names: &mut Vec<ObjectId>,
+    activation: &Option<Activation<'_>>,
+) -> Result<(), AllocError>
     ensures { IfOk result (λ _. names.new.items ≡ names.old.items ++ activation_names activation.now) }
 {
     match activation {
@@ -76,7 +80,7 @@ fn push_call(names: &mut Vec<usize>, activation: &Option<Activation<'_>>) -> Res
 }
 
 /// Adds the name of a pending exception.
-fn push_pending(names: &mut Vec<usize>, pending: Option<usize>) -> Result<(), AllocError>
+fn push_pending(names: &mut Vec<ObjectId>, pending: Option<ObjectId>) -> Result<(), AllocError>
     ensures { IfOk result (λ _. names.new.items ≡ names.old.items ++ pending_names pending) }
 {
     match pending {

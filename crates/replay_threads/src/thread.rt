@@ -17,6 +17,7 @@ ghost use Rattle.replay_arguments.specs.Shares.{shared_view};
 ghost use Rattle.replay_terms.specs.Views.{assign_all, content_view, variables_view};
 
 use class_queries::native_class;
+use class_rules::ClassId;
 use classes::table::ClassTable;
 use functions::Functions;
 use replay_arguments::Shared;
@@ -24,7 +25,7 @@ use replay_objects::{Frames, Names, Store};
 use replay_steps::{Activation, Locals, Turn, advance, waits, work_of};
 use replay_tasks::Outcome;
 use replay_terms::{Content, Value, Variables};
-use semantics::{Ending, Event};
+use semantics::{Ending, Event, ObjectId};
 use std::alloc::{AllocError, Global};
 use syntax::{Function, Parameter};
 use world_values::{Call, ObjectValue, World};
@@ -33,7 +34,7 @@ use world_values::{Call, ObjectValue, World};
 pub struct Thread<'a> {
     pub calls: &'a [Call],
     pub activation: Option<Activation<'a>>,
-    pub pending: Option<usize>,
+    pub pending: Option<ObjectId>,
     pub ending: Ending,
 }
 
@@ -89,7 +90,7 @@ pub fn class_of(
     alloc: Global,
     world: &World,
     function: &Function,
-) -> Result<Option<usize>, AllocError>
+) -> Result<Option<ClassId>, AllocError>
     ensures { IfOk result (λ class. class ≡ class_of_function world.now.classes (function_tree function.now)) }
 {
     let class = native_class(alloc, world.classes(), function.name.as_bytes())?;
@@ -100,7 +101,7 @@ pub fn class_of(
 fn entry_variables<'a>(
     alloc: Global,
     function: &'a Function,
-    class: usize,
+    class: ClassId,
     arguments: &[ObjectValue],
 ) -> Result<Variables<'a>, AllocError>
     ensures { IfOk result (λ variables. variables_view variables
@@ -138,7 +139,7 @@ fn add_references(references: &mut Names, arguments: &[ObjectValue]) -> Result<(
 /// chapter 4, "EnsureLocalCapacity").
 fn entry_frames(
     alloc: Global,
-    class: usize,
+    class: ClassId,
     arguments: &[ObjectValue],
 ) -> Result<Frames, AllocError>
     ensures { IfOk result (λ frames. frames ≡ entry_frame (class ∷ filter_map named_object (map object_value_view arguments.now)) ∷ []) }
@@ -163,7 +164,7 @@ fn begin_call<'a>(
     alloc: Global,
     place: &mut Option<Activation<'a>>,
     function: &'a Function,
-    class: usize,
+    class: ClassId,
     arguments: &[ObjectValue],
 ) -> Result<(), AllocError>
     requires { StatementsInRange (out-Block function.now.body).statements.items }
@@ -253,7 +254,7 @@ fn event_of(outcome: Outcome<'_>) -> Option<Event>
 }
 
 /// The ending of a thread after its call, with this exception pending and these calls to come.
-fn ending_after(store: &Store, pending: Option<usize>, calls: &[Call]) -> Ending
+fn ending_after(store: &Store, pending: Option<ObjectId>, calls: &[Call]) -> Ending
     ensures { ending_view result ≡ ending_after store.now pending calls.now }
 {
     match pending {

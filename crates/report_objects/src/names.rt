@@ -4,7 +4,7 @@ ghost use Rattle.std.specs.Prelude.{◌≡◌, Some};
 ghost use Rattle.report_objects.specs.Names.{within};
 
 use reachability::Graph;
-use semantics::{ObjectValue, Objects};
+use semantics::{ObjectId, ObjectValue, Objects};
 
 /// The names of objects as the places of a graph. A reference to no object is none.
 #[derive(Clone, Copy)]
@@ -34,7 +34,7 @@ impl<O: Objects> Graph for Names<'_, O> {
 }
 
 /// The name, where it is that of one of this number of objects.
-pub(crate) fn within(count: usize, name: usize) -> Option<usize>
+pub(crate) fn within(count: usize, name: ObjectId) -> Option<usize>
     ensures { result ≡ within count (Some name) }
 {
     if 0 < name && name <= count {

@@ -6,6 +6,7 @@ ghost use Rattle.report_objects.specs.Names.{AreRoots};
 
 use crate::names::within;
 use reachability::Marks;
+use semantics::ObjectId;
 use std::alloc::{AllocError, Global};
 
 /// Marks the roots among this number of objects: those made at load, which have the first names, and these.
@@ -13,7 +14,7 @@ pub(crate) fn marked_roots(
     alloc: Global,
     count: usize,
     loaded: usize,
-    names: &[usize],
+    names: &[ObjectId],
 ) -> Result<Marks, AllocError>
     requires { count < 2 ^ 63 }
     ensures { IfOk result (AreRoots count (Contains (from_one loaded ++ names.now))) }

@@ -11,7 +11,7 @@ ghost use Rattle.semantics.specs.Views.{object_value_view};
 
 use classes::table::ClassTable;
 use report::{Shown, put_row_end, put_row_head, put_value};
-use semantics::{ObjectValue, Objects};
+use semantics::{ObjectId, ObjectValue, Objects};
 use sinks::{Sink, SinkFailed};
 
 /// A value as a row shows it: a class object by its class.
@@ -36,7 +36,7 @@ fn put_values<O: Objects, S: Sink>(
     sink: &mut S,
     classes: &ClassTable,
     objects: &O,
-    name: usize,
+    name: ObjectId,
 ) -> Result<(), SinkFailed>
     requires can_fail { CanFail (S.written sink.old) }
     requires name { IsWithin (length (O.heap objects.now)) name }
@@ -54,7 +54,7 @@ pub(crate) fn put_row<O: Objects, S: Sink>(
     sink: &mut S,
     classes: &ClassTable,
     objects: &O,
-    name: usize,
+    name: ObjectId,
 ) -> Result<(), SinkFailed>
     requires can_fail { CanFail (S.written sink.old) }
     requires name { IsWithin (length (O.heap objects.now)) name }

@@ -10,7 +10,7 @@ use crate::roots::marked_roots;
 use crate::row::put_row;
 use classes::table::ClassTable;
 use report::Rows;
-use semantics::Objects;
+use semantics::{ObjectId, Objects};
 use sinks::{Sink, SinkFailed};
 use std::alloc::{AllocError, Global};
 use std::marker::Model;
@@ -64,7 +64,7 @@ pub fn reached_rows<'a, O: Objects>(
     classes: &'a ClassTable,
     objects: &'a O,
     loaded: usize,
-    names: &[usize],
+    names: &[ObjectId],
 ) -> Result<ReachedRows<'a, O>, AllocError>
     ensures { IfOk result (AreReported classes.now (O.heap objects.now) loaded names.now) }
 {

@@ -5,6 +5,7 @@ ghost use Rattle.semantics.specs.EventViews.{ending_view};
 ghost use Rattle.semantics.specs.Step.{is_unfinished};
 
 use crate::trap::Trap;
+use class_rules::ClassId;
 
 /// What is seen of a thread's step by others.
 #[derive(Clone, Copy)]
@@ -30,7 +31,7 @@ pub enum Ending {
     Unfinished,
     Ended,
     /// Its call returned with an exception of the class of this number pending.
-    Uncaught(usize),
+    Uncaught(ClassId),
 }
 
 impl Ending {

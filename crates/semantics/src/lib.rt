@@ -15,7 +15,7 @@ ghost use Rattle.semantics.specs.Reachable.{ReachableIsComputed};
 
 pub use event::{Ending, Event, Stop};
 pub use journal::Entry;
-pub use object_value::ObjectValue;
+pub use object_value::{ObjectId, ObjectValue};
 pub use objects::Objects;
 pub use printed::Printed;
 pub use schedule::ScheduleWord;

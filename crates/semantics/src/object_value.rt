@@ -1,5 +1,8 @@
 //! The values of objects.
 
+/// An object: its number in the order in which objects are made, counted from 1. In the definitions it is the object's name.
+pub type ObjectId = usize;
+
 /// What is in a field, in an array or a string, or what a call is given. An object goes by its number in the order in which
 /// they are made, counted from 1: the class objects, the OutOfMemoryError object, the world's objects, and then those that are
 /// made in the run.
@@ -8,5 +11,5 @@ pub enum ObjectValue {
     /// In the range of `jint`.
     Number(i32),
     /// NULL or an object.
-    Reference(Option<usize>),
+    Reference(Option<ObjectId>),
 }

@@ -19,6 +19,7 @@ ghost use Rattle.world_values.specs.WorldMeaning.{with_last};
 ghost use Rattle.world_values.specs.WorldRules.{value_in_range};
 
 use crate::builder::WorldBuilder;
+use class_rules::ClassId;
 use std::alloc::{AllocError, Global};
 use world_lines::{FieldWords, Value};
 use world_values::{Call, Object, ObjectValue};
@@ -64,7 +65,7 @@ impl WorldBuilder {
     }
 
     /// The class object of the class of this name.
-    fn class_at(&self, name: &[u8]) -> Option<usize>
+    fn class_at(&self, name: &[u8]) -> Option<ClassId>
         ensures { result ≡ class_named self.now.classes name.now }
     {
         self.classes.find(name)
@@ -155,7 +156,7 @@ impl WorldBuilder {
         &mut self,
         alloc: Global,
         name: &[u8],
-        class: usize,
+        class: ClassId,
         values: Vec<ObjectValue>,
     ) -> Result<(), AllocError>
         requires new { lookup name.now self.old.names ≡ None }
@@ -176,7 +177,7 @@ impl WorldBuilder {
         &mut self,
         alloc: Global,
         name: &[u8],
-        class: usize,
+        class: ClassId,
         values: &[Value],
     ) -> Result<(), AllocError>
         requires new { lookup name.now self.old.names ≡ None }

@@ -4,13 +4,14 @@ ghost use Rattle.std.specs.Prelude.{◌≡◌, ◌<◌, ◌++◌, ◌∷◌, [],
 ghost use Rattle.std.specs.Str.{bytes_eq};
 ghost use Rattle.base.specs.Bytes.{lookup};
 
+use class_rules::ClassId;
 use indexmap::IndexMap;
 use std::alloc::{AllocError, Global};
 use std::marker::Model;
 
 /// Names in their order, each with the number of its object's class. A name is found in constant time.
 pub struct ObjectNames {
-    classes: IndexMap<Vec<u8>, usize>,
+    classes: IndexMap<Vec<u8>, ClassId>,
 }
 
 // Written out, and not derived, so that what holds it drops it by a call and doesn't prove it anew.
@@ -47,7 +48,7 @@ impl ObjectNames {
     }
 
     /// The class of the object of this name.
-    pub fn class_of(&self, name: &[u8]) -> Option<usize>
+    pub fn class_of(&self, name: &[u8]) -> Option<ClassId>
         ensures { result ≡ lookup name.now self.now }
     {
         match self.classes.get(name) {
@@ -64,7 +65,7 @@ impl ObjectNames {
     }
 
     /// Puts a name after the others, of which none is the same.
-    pub fn push(&mut self, alloc: Global, name: &[u8], class: usize) -> Result<(), AllocError>
+    pub fn push(&mut self, alloc: Global, name: &[u8], class: ClassId) -> Result<(), AllocError>
         requires { lookup name.now self.old ≡ None }
         ensures ok { OnOk result (self.new ≡ self.old ++ (name.now, class) ∷ []) }
         ensures err { OnErr result (self.new ≡ self.old) }

@@ -22,6 +22,7 @@ use crate::builder::WorldBuilder;
 use crate::names::ObjectNames;
 use base::limits::{MOST_CALLS, MOST_OBJECTS, MOST_THREADS};
 use class_layouts::LayoutFields;
+use class_rules::ClassId;
 use classes::built_ins::CLASS;
 use classes::class::FieldType;
 use classes::fault::ClassRule;
@@ -64,7 +65,7 @@ fn has_known_values(classes: &ClassTable, names: &ObjectNames, line: &Line) -> b
 }
 
 /// Whether references to objects of a class can be this value.
-fn refers_to(classes: &ClassTable, names: &ObjectNames, class: usize, value: Value) -> bool
+fn refers_to(classes: &ClassTable, names: &ObjectNames, class: ClassId, value: Value) -> bool
     ensures { result ≡ refers_to classes.now names.now class (value_view value.entry) }
 {
     match value {
@@ -89,7 +90,7 @@ fn can_hold(classes: &ClassTable, names: &ObjectNames, field_type: FieldType, va
 fn fields_can_hold(
     classes: &ClassTable,
     names: &ObjectNames,
-    class: usize,
+    class: ClassId,
     values: &[Value],
 ) -> bool
     ensures { result ≡ each_can_hold classes.now names.now (layout_types classes.now class) (map value_view values.now) }

@@ -3,12 +3,13 @@
 ghost use Rattle.std.specs.Prelude.{◌≡◌, map};
 ghost use Rattle.world_values.specs.Views.{object_value_view};
 
+use class_rules::ClassId;
 use semantics::ObjectValue;
 use std::marker::Model;
 
 /// An object that a world begins with.
 pub struct Object {
-    class: usize,
+    class: ClassId,
     values: Vec<ObjectValue>,
 }
 
@@ -32,14 +33,14 @@ impl Model for Object {
 
 impl Object {
     /// An object of the class of this number.
-    pub fn new(class: usize, values: Vec<ObjectValue>) -> Object
+    pub fn new(class: ClassId, values: Vec<ObjectValue>) -> Object
         ensures { result ≡ record { class = class; values = map object_value_view values.items } }
     {
         Object { class, values }
     }
 
     /// The number of its class in the class table.
-    pub fn class(&self) -> usize
+    pub fn class(&self) -> ClassId
         ensures { result ≡ self.now.class }
     {
         self.class
