@@ -12,7 +12,7 @@ pub enum RunFault {
     /// Fault 92: the journal has 1,000,000 entries.
     #[error("the journal is full")]
     Full,
-    /// Fault 9: host memory was refused.
+    /// Host memory was refused.
     #[error("out of memory")]
     Memory,
 }
@@ -20,7 +20,7 @@ pub enum RunFault {
 /// Why a report was not written to its end.
 #[derive(Clone, Copy, Debug, Error)]
 pub enum ReportFault {
-    /// Fault 9: host memory was refused. Nothing was written.
+    /// Host memory was refused. Nothing was written.
     #[error("out of memory")]
     Memory,
     /// The sink failed.

@@ -13,7 +13,7 @@ pub enum LoadFault {
     /// in the world, counted from 1.
     #[error("fault 82 line {0}")]
     DoesNotFit(usize),
-    /// Fault 9: host memory was refused.
+    /// Host memory was refused.
     #[error("out of memory")]
     Memory,
 }

@@ -37,7 +37,7 @@ fn argument_uses(state: &StaticState, condition: Condition, argument: &Argument)
     }
 }
 
-/// Whether an argument of a call does.
+/// Whether an argument of a call uses a name that meets the condition.
 fn call_uses(state: &StaticState, condition: Condition, call: &Call) -> bool
     ensures { result ≡ call_uses (asks condition state.now) (call_tree call.now) }
 {
@@ -67,7 +67,7 @@ fn test_uses(state: &StaticState, condition: Condition, test: &Test) -> bool
     }
 }
 
-/// The same, looked for in the statement.
+/// Whether some name that a statement uses meets the condition. The statements of its blocks aren't looked at.
 fn form_uses(state: &StaticState, condition: Condition, form: &Form) -> bool
     ensures { (line : ℕ) → result ≡ uses (asks condition state.now) (form_tree line form.now) }
 {
@@ -147,7 +147,8 @@ fn test_reads(state: &StaticState, condition: Condition, test: &Test) -> bool
     }
 }
 
-/// The same, looked for in the statement.
+/// Whether a statement reads or writes an element of a name that meets the condition. The statements of its blocks aren't looked
+/// at.
 fn form_reads(state: &StaticState, condition: Condition, form: &Form) -> bool
     ensures { (line : ℕ) → result ≡ reads (asks condition state.now) (form_tree line form.now) }
 {

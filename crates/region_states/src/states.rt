@@ -175,7 +175,7 @@ fn is_one(variables: &[VariableState], condition: Condition) -> bool
     false
 }
 
-/// The same of those after the first `count`.
+/// Whether the answer to a question is yes about some variable after the first `count`.
 fn is_one_after(variables: &[VariableState], count: usize, condition: Condition) -> bool
     requires { count ≤ length variables.now }
     ensures { result ≡ list_any (λ v. condition_holds condition (Some v)) (map variable_state (drop count variables.now)) }
@@ -245,7 +245,7 @@ pub(crate) fn is_held_critical(known: VariableState) -> bool
     }
 }
 
-/// Whether one of these is.
+/// Whether one of these variables is a critical buffer that is held.
 fn has_critical(variables: &[VariableState]) -> bool
     ensures { result ≡ list_any (is_holder (λ held. is_critical held.0)) (map variable_state variables.now) }
 {
@@ -271,7 +271,7 @@ pub fn is_array_in_use(state: &StaticState, name: &[u8]) -> bool
     state.facts.holders.count(name) > 0
 }
 
-/// The same where there is a variable.
+/// Whether there is a variable, and it is the array variable of a held buffer.
 pub fn is_some_in_use(state: &StaticState, name: Option<&[u8]>) -> bool
     ensures { result ≡ some_passes (λ x. holds_of x state.now) (option_map (λ x. x.now) name.entry) }
 {

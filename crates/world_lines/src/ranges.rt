@@ -28,7 +28,7 @@ fn is_in_range(element: ElementType, number: i64) -> bool
     }
 }
 
-/// The same of a value that is a number.
+/// Whether a value that is a number is in the range of its type; any other value counts as in range.
 pub fn is_value_in_range(element: ElementType, value: Value) -> bool
     ensures { result ≡ value_in_range (element_value element) (value_view value.entry) }
 {
