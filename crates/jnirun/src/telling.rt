@@ -1,8 +1,9 @@
 //! What is told of a fault beside its title: the texts are read once more.
 
 use crate::run::thread_count;
-use cli_commands::{Place, Text, Texts};
+use cli_commands::Texts;
 use details::Detail;
+use places::{Place, Text};
 use program_check::{detail_of, read_program};
 use region_rules::Checked;
 use std::alloc::Global;

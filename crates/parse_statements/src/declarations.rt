@@ -10,7 +10,7 @@ ghost use Rattle.parse_statements.specs.Reading.{zeros_at, array_at, is_array, a
 
 use parse_expressions::{expect_two, setting};
 use parse_lexemes::{
-    Cursor, Fixed, ParseFault, element_type, expect, line_at, name_at, number_at, rest_of,
+    Cursor, Fixed, ParseError, element_type, expect, line_at, name_at, number_at, rest_of,
     starts_with, variable_type,
 };
 use scan::{Mark, Word};
@@ -22,7 +22,7 @@ const ELEMENTS: u32 = 1024;
 
 /// What comes after the zeros of a local array.
 #[tactic(auto, using(crate::proofs::Regrouped::zeros_are))]
-fn zeros(lexemes: Cursor<'_>) -> Result<Cursor<'_>, ParseFault>
+fn zeros(lexemes: Cursor<'_>) -> Result<Cursor<'_>, ParseError>
     ensures { Gives (λ x. views x) result (zeros_at (views lexemes.entry)) }
 {
     let rest = expect_two(
@@ -41,7 +41,7 @@ fn zeros(lexemes: Cursor<'_>) -> Result<Cursor<'_>, ParseFault>
 /// The name and the size of a local array, in its brackets.
 #[inline]
 #[tactic(auto, unfolding(crate::specs::Steps::array_head_at))]
-fn array_head(lexemes: Cursor<'_>) -> Result<(&[u8], u32, Cursor<'_>), ParseFault>
+fn array_head(lexemes: Cursor<'_>) -> Result<(&[u8], u32, Cursor<'_>), ParseError>
     ensures { Gives (λ x. (x.0.now, x.1, views x.2)) result (array_head_at (views lexemes.entry)) }
 {
     let (name, rest) = name_at(lexemes)?;
@@ -60,13 +60,13 @@ fn array(
     line: usize,
     element: ElementType,
     lexemes: Cursor<'_>,
-) -> Result<(Stmt, Cursor<'_>), ParseFault>
+) -> Result<(Stmt, Cursor<'_>), ParseError>
     ensures { Gives (λ x. (stmt_tree x.0, views x.1)) result (array_at line (element_value element) (views lexemes.entry)) }
 {
     let (name, size, rest) = array_head(lexemes)?;
     let rest = zeros(rest)?;
     let Ok(name) = Name::new(alloc, name) else {
-        return Err(ParseFault::Memory);
+        return Err(ParseError::Memory);
     };
     let form = Form::DeclareArray(element, name, size);
     Ok((Stmt { line, form }, rest))
@@ -90,7 +90,7 @@ fn after_element(
     line: usize,
     element: ElementType,
     lexemes: Cursor<'_>,
-) -> Result<(Stmt, Cursor<'_>), ParseFault>
+) -> Result<(Stmt, Cursor<'_>), ParseError>
     requires { room ≤ 32 }
     ensures { Gives (λ x. (stmt_tree x.0, views x.1)) result (after_element room line (element_value element) (views lexemes.entry)) }
 {
@@ -117,7 +117,7 @@ fn after_variable(
     line: usize,
     kind: VariableType,
     lexemes: Cursor<'_>,
-) -> Result<(Stmt, Cursor<'_>), ParseFault>
+) -> Result<(Stmt, Cursor<'_>), ParseError>
     requires { room ≤ 32 }
     ensures { Gives (λ x. (stmt_tree x.0, views x.1)) result (after_variable room line (variable_type_tree kind) (views lexemes.entry)) }
 {
@@ -137,7 +137,7 @@ fn after_const(
     room: u32,
     line: usize,
     lexemes: Cursor<'_>,
-) -> Result<(Stmt, Cursor<'_>), ParseFault>
+) -> Result<(Stmt, Cursor<'_>), ParseError>
     requires { room ≤ 32 }
     ensures { Gives (λ x. (stmt_tree x.0, views x.1)) result (after_const room line (views lexemes.entry)) }
 {
@@ -157,7 +157,7 @@ pub(crate) fn declared(
     alloc: Global,
     room: u32,
     lexemes: Cursor<'_>,
-) -> Result<(Stmt, Cursor<'_>), ParseFault>
+) -> Result<(Stmt, Cursor<'_>), ParseError>
     requires { room ≤ 32 }
     ensures { Gives (λ x. (stmt_tree x.0, views x.1)) result (declared_at room (views lexemes.entry)) }
 {
