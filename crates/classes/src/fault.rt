@@ -25,10 +25,10 @@ impl ClassRule {
     ghost use Rattle.classes.specs.Refusals.{rule_view};
 
     /// The number under which the rule is reported.
-    pub fn number(self) -> u8
+    pub fn number(self) -> u32
         ensures { result ≡ class_rule_number (rule_view self) }
     {
-        self as u8
+        self as u32
     }
 }
 

@@ -2,10 +2,8 @@
 use Rattle.std.specs.Prelude.{ℕ, List}
 use Rattle.cli_commands.specs.declared.command.Command.{Command}
 use Rattle.cli_commands.specs.declared.command.Command.TheVariants.{Check, Run, Work, Replay}
-use Rattle.cli_commands.specs.declared.place.Place.{Place}
-use Rattle.cli_commands.specs.declared.place.Place.TheVariants.{Line, Entry}
-use Rattle.cli_commands.specs.declared.place.Text.{Text}
-use Rattle.cli_commands.specs.declared.place.Text.TheVariants as which
+use Rattle.places.specs.declared.place.Text.{Text}
+use Rattle.places.specs.declared.place.Text.TheVariants as which
 
 -- the name of the file of a text
 abbrev pub name_of : Command → Text → List ℕ
@@ -25,8 +23,3 @@ text_of program world order which.Program = program
 text_of program world order which.World = world
 text_of program world order which.Schedule = order
 text_of program world order which.Journal = order
-
--- the text that a place is in
-abbrev pub text_at : Place → Text
-text_at (Line text line) = text
-text_at (Entry entry) = which.Journal

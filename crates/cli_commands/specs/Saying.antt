@@ -1,8 +1,8 @@
 -- What is said of a command.
 use Rattle.std.specs.Prelude.{◌≡◌, ◌⊎◌, ℕ, List, ◌++◌, codes, decimal}
 use Rattle.sinks.specs.Sink.{Written, AppendsText, StopsWithin}
-use Rattle.cli_commands.specs.declared.place.Place.{Place}
-use Rattle.cli_commands.specs.declared.place.Place.TheVariants.{Line, Entry}
+use Rattle.places.specs.declared.place.Place.{Place}
+use Rattle.places.specs.declared.place.Place.TheVariants.{Line, Entry}
 
 -- `fault 81 line 1`, or `fault 91 entry 4`
 abbrev pub fault_line : ℕ → Place → List ℕ

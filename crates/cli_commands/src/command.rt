@@ -1,6 +1,6 @@
 //! What can be done with files.
 
-use crate::place::Text;
+use places::Text;
 
 /// A command, with the names of its files.
 #[derive(Clone, Copy)]

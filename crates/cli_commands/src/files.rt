@@ -4,7 +4,7 @@ ghost use Rattle.std.specs.Prelude.{◌≡◌, ◌≤◌, ◌⊎◌, ℕ, List, 
 ghost use Rattle.cli_commands.specs.Files.{AreGiven, AreTexts, LacksAny, LacksOne};
 
 use crate::command::Command;
-use crate::place::Text;
+use places::Text;
 use std::alloc::Global;
 use std::io::Read;
 use std::rt::Files as System;

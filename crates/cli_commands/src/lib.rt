@@ -3,14 +3,12 @@
 
 mod command;
 mod files;
-mod place;
 mod saying;
 mod status;
 mod telling;
 
 pub use command::Command;
 pub use files::{FileFault, FileSystem, Files, MOST_BYTES, Texts, read_texts};
-pub use place::{Place, Text};
 pub use saying::{fail, say, say_fault};
 pub use status::{COMMAND_LINE, DONE, FAILED, REFUSED};
 pub use telling::tell;

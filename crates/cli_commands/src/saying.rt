@@ -4,9 +4,9 @@ ghost use Rattle.std.specs.Prelude.{◌≡◌, ◌++◌, OnOk, codes, decimal};
 ghost use Rattle.sinks.specs.Sink.{CanFail, Writes};
 ghost use Rattle.cli_commands.specs.Saying.{Tells, fault_line};
 
-use crate::place::Place;
 use crate::status::FAILED;
 use itoa::Buffer;
+use places::Place;
 use sinks::{Sink, SinkFailed, put_all, put_pieces};
 
 /// Writes a text, and sends on all that waits.

@@ -4,9 +4,9 @@ ghost use Rattle.std.specs.Prelude.{◌≡◌, ◌-◌, ◌==◌, OnOk};
 ghost use Rattle.sinks.specs.Sink.{CanFail, Writes};
 ghost use Rattle.cli_commands.specs.Telling.{from_line, shown_byte, shown_line, most_shown, excerpt, place_text, detail_text, reason_text, told};
 
-use crate::place::Place;
 use arrayvec::ArrayVec;
 use itoa::Buffer;
+use places::Place;
 use sinks::{Sink, SinkFailed, put_all, put_pieces};
 
 /// The most bytes of a line that are shown.

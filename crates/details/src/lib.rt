@@ -2,9 +2,11 @@
 #![tactic(auto)]
 
 mod detail;
+mod fault;
 mod line;
 mod names;
 
 pub use detail::Detail;
+pub use fault::Fault;
 pub use line::{Line, Spot};
 pub use names::{Question, first_name};

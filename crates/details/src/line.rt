@@ -60,12 +60,12 @@ impl fmt::Display for Line {
     }
 }
 
-/// The line of a fault, counted from 1, and its place in what is read, which contracts don't see: how many bytes or tokens come
-/// before it.
+/// The line of a fault, counted from 1, and what contracts don't see: its place in what is read, and what alone could come there.
 #[derive(Drop)]
 pub struct Spot {
     line: usize,
     place: usize,
+    wanted: &'static [u8],
 }
 
 impl Model for Spot {
@@ -77,10 +77,22 @@ impl Model for Spot {
 }
 
 impl Spot {
+    /// A spot on this line, before which there are so many bytes or tokens.
     pub fn new(line: usize, place: usize) -> Spot
         ensures { result ≡ line }
     {
-        Spot { line, place }
+        Spot::wanting(line, place, b"")
+    }
+
+    /// A spot on this line where one thing alone could come, which these words name.
+    pub fn wanting(line: usize, place: usize, wanted: &'static [u8]) -> Spot
+        ensures { result ≡ line }
+    {
+        Spot {
+            line,
+            place,
+            wanted,
+        }
     }
 
     pub fn line(&self) -> usize
@@ -92,6 +104,11 @@ impl Spot {
     /// How many bytes or tokens come before it.
     pub fn place(&self) -> usize {
         self.place
+    }
+
+    /// What alone could come there, in words, and none where more could.
+    pub fn wanted(&self) -> &'static [u8] {
+        self.wanted
     }
 }
 

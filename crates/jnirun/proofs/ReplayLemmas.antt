@@ -15,13 +15,13 @@ use Rattle.world_values.specs.WorldRules.{IsWorldText}
 use Rattle.semantics.specs.Load.{first_load_fault}
 use Rattle.report.specs.RunText.{Writes}
 use Rattle.semantics.specs.State.{State}
-use Rattle.replay.specs.declared.fault.ReplayFault.{ReplayFault}
-use Rattle.replay.specs.declared.fault.ReplayFault.TheVariants as replaying
+use Rattle.replay.specs.declared.fault.ReplayError.{ReplayError}
+use Rattle.replay.specs.declared.fault.ReplayError.TheVariants as replaying
 use Rattle.replay.specs.Replays.{WritesRun, IsStoppedBy, IsReplayable, IsFromOutside, EndsBy}
 use Rattle.replay.specs.declared.trap_at.TrapAt.{TrapAt}
 use Rattle.replay.specs.TrapAt.{trap_at}
-use Rattle.cli_commands.specs.declared.place.Place.TheVariants as place
-use Rattle.cli_commands.specs.declared.place.Text.TheVariants as which
+use Rattle.places.specs.declared.place.Place.TheVariants as place
+use Rattle.places.specs.declared.place.Text.TheVariants as which
 use Rattle.program_check.specs.declared.fault.RunError.{RunError}
 use Rattle.program_check.specs.declared.fault.RunError.TheVariants.{Memory, Fault, Writer}
 use Rattle.jnirun.specs.Errors.{of_reading, of_replay}
@@ -81,7 +81,7 @@ module _ (program world journal : List ℕ) (old : Written) where
           none_waits = none;
         }
 
-    pub stopped : (new : Written) (f : ReplayFault) → IsWorldText world meant → IsJournalText (length meant.threads) journal entries → IsStoppedBy unit meant entries old new f
+    pub stopped : (new : Written) (f : ReplayError) → IsWorldText world meant → IsJournalText (length meant.threads) journal entries → IsStoppedBy unit meant entries old new f
         → RunsTexts old new (Err (of_replay f)) (EndsReplay program world journal) (AreRefusedReplays program world journal)
     stopped new replaying.Memory of_world of_journal h = h
     stopped new (replaying.DoesNotFit line) of_world of_journal h = (h.1, by_load unit meant entries line is w j h.0)
@@ -89,7 +89,7 @@ module _ (program world journal : List ℕ) (old : Written) where
     stopped new replaying.Writer of_world of_journal h = record { text = h.text; runs = (option_map trap_at h.is.end.stop, record { replay = is_replay of_world of_journal h.fits h.text h.is; stopped = refl }); stopped = h.stopped }
 
   -- memory or the writer refused
-  pub from_outside : (f : ReplayFault) → IsFromOutside f → IsReplayOrFails (Err (of_replay f))
+  pub from_outside : (f : ReplayError) → IsFromOutside f → IsReplayOrFails (Err (of_replay f))
   from_outside replaying.Memory h = tt
   from_outside (replaying.DoesNotFit line) h = h
   from_outside (replaying.Impossible entry) h = h

@@ -22,8 +22,8 @@ use Rattle.semantics.specs.State.{State}
 use Rattle.semantics.specs.Run.{Over, Collects, Waits, Steps, Follows, JournalFollows, MarkedAreFair, UnmarkedFit, replay}
 use Rattle.report.specs.RunText.{Writes}
 use Rattle.semantics.specs.Start.{start}
-use Rattle.lower.specs.declared.fault.LowerFault.{LowerFault}
-use Rattle.lower.specs.declared.fault.LowerFault.TheVariants as lowering
+use Rattle.lower.specs.declared.fault.LowerError.{LowerError}
+use Rattle.lower.specs.declared.fault.LowerError.TheVariants as lowering
 use Rattle.code_meaning.specs.Length.{IsTooLong}
 use Rattle.machine_threads.specs.declared.fault.LoadFault.{LoadFault}
 use Rattle.machine_threads.specs.declared.fault.LoadFault.TheVariants as loading
@@ -34,7 +34,7 @@ use Rattle.machine.specs.declared.fault.RunFault.TheVariants.{Full}
 use Rattle.machine.specs.Run.{Run, IsUnstarted, RunsAlong, RunsInto, ReportsRun, StoppedBy, replay_of}
 use Rattle.semantics.specs.declared.event.Stop.{Stop}
 use Rattle.semantics.specs.EventViews.{stop_view}
-use Rattle.cli_commands.specs.declared.place.Text.TheVariants as which
+use Rattle.places.specs.declared.place.Text.TheVariants as which
 use Rattle.program_check.specs.declared.fault.RunError.{RunError}
 use Rattle.program_check.specs.declared.fault.RunError.TheVariants.{Memory, Fault, Writer}
 use Rattle.program_check.specs.Errors.{too_long}
@@ -93,7 +93,7 @@ module _ (program world schedule : List ℕ) (old : Written) where
   pub refused_program : (e : RunError) → IsRefusal program e → Refuses e
   refused_program e h = refused_check e (checks.refused_pass program e h)
 
-  pub refused_length : (unit : SourceUnit) (f : LowerFault) → IsProgram program unit → (f ≡ lowering.TooLong → IsTooLong unit) → Refuses (of_lower f)
+  pub refused_length : (unit : SourceUnit) (f : LowerError) → IsProgram program unit → (f ≡ lowering.TooLong → IsTooLong unit) → Refuses (of_lower f)
   refused_length unit lowering.Memory is h = refl
   refused_length unit lowering.TooLong is h = refused_check too_long (checks.refused_length program unit is (h refl))
 

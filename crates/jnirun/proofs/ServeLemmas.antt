@@ -3,12 +3,13 @@ use Rattle.std.proofs.Common.{◌≡◌, ℕ, List, [], Some, Result, refl, subs
 use Rattle.std.specs.Prelude.{OnOk, codes}
 use Rattle.sinks.specs.Sink.{Written, Writes}
 use Rattle.cli_commands.specs.declared.command.Command.{Command}
-use Rattle.cli_commands.specs.declared.place.Place.{Place}
-use Rattle.cli_commands.specs.declared.place.Place.TheVariants.{Line}
-use Rattle.cli_commands.specs.declared.place.Text.{Text}
-use Rattle.cli_commands.specs.declared.place.Text.TheVariants as which
+use Rattle.places.specs.declared.place.Place.{Place}
+use Rattle.places.specs.declared.place.Place.TheVariants.{Line}
+use Rattle.places.specs.declared.place.Text.{Text}
+use Rattle.places.specs.declared.place.Text.TheVariants as which
 use Rattle.replay.specs.declared.trap_at.TrapAt.{TrapAt}
-use Rattle.cli_commands.specs.Commands.{name_of, text_of, text_at}
+use Rattle.places.specs.Places.{text_at}
+use Rattle.cli_commands.specs.Commands.{name_of, text_of}
 use Rattle.cli_commands.specs.Saying.{SendsText, fault_line}
 use Rattle.jnirun.specs.Serve.{TextsEarn, fault_words, trap_words, error_text, trap_text, TellsTrap, ServesTexts, is_refused}
 use Rattle.cli_commands.specs.Telling.{told}

@@ -18,8 +18,8 @@ use Rattle.semantics.specs.ReportOf.{report}
 use Rattle.semantics.specs.Run.{MarkedAreFair, UnmarkedFit}
 use Rattle.semantics.specs.State.{State}
 use Rattle.semantics.specs.World.{World}
-use Rattle.lower.specs.declared.fault.LowerFault.{LowerFault}
-use Rattle.lower.specs.declared.fault.LowerFault.TheVariants as lowering
+use Rattle.lower.specs.declared.fault.LowerError.{LowerError}
+use Rattle.lower.specs.declared.fault.LowerError.TheVariants as lowering
 use Rattle.code_meaning.specs.Length.{IsTooLong}
 use Rattle.machine_threads.specs.declared.fault.LoadFault.{LoadFault}
 use Rattle.machine_threads.specs.declared.fault.LoadFault.TheVariants as loading
@@ -29,8 +29,8 @@ use Rattle.machine.specs.declared.fault.ReportFault.TheVariants as reporting
 use Rattle.semantics.specs.declared.event.Stop.{Stop}
 use Rattle.machine.specs.Run.{Run, IsFinished, ReportsRun, StoppedBy, is_finished}
 use Rattle.semantics.specs.EventViews.{stop_view}
-use Rattle.cli_commands.specs.declared.place.Place.TheVariants.{Line}
-use Rattle.cli_commands.specs.declared.place.Text.TheVariants as which
+use Rattle.places.specs.declared.place.Place.TheVariants.{Line}
+use Rattle.places.specs.declared.place.Text.TheVariants as which
 use Rattle.program_check.specs.declared.fault.RunError.{RunError}
 use Rattle.program_check.specs.declared.fault.RunError.TheVariants.{Memory, Fault, Writer}
 use Rattle.program_check.specs.Errors.{too_long}
@@ -63,7 +63,7 @@ report_fails reporting.Memory = tt
 report_fails reporting.Sink = tt
 
 -- memory was refused, or a function is too long
-pub lower_fails : (f : LowerFault) → IsWorkOrFails (Err (of_lower f))
+pub lower_fails : (f : LowerError) → IsWorkOrFails (Err (of_lower f))
 lower_fails lowering.Memory = tt
 lower_fails lowering.TooLong = (inl refl, refl)
 
@@ -81,7 +81,7 @@ module _ (program world : List ℕ) (old : Written) where
   pub refused_program : (e : RunError) → IsRefusal program e → Refuses e
   refused_program e h = refused_check e (checks.refused_pass program e h)
 
-  pub refused_length : (unit : SourceUnit) (f : LowerFault) → IsProgram program unit → (f ≡ lowering.TooLong → IsTooLong unit) → Refuses (of_lower f)
+  pub refused_length : (unit : SourceUnit) (f : LowerError) → IsProgram program unit → (f ≡ lowering.TooLong → IsTooLong unit) → Refuses (of_lower f)
   refused_length unit lowering.Memory is h = refl
   refused_length unit lowering.TooLong is h = refused_check too_long (checks.refused_length program unit is (h refl))
 

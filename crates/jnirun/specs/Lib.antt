@@ -8,6 +8,7 @@ pub mod ReplayLaws
 pub mod Serve
 -- What the clauses of its calls are about, passed on.
 
+pub use Rattle.places.specs.Places
 pub use Rattle.cli_commands.specs.Commands
 pub use Rattle.cli_commands.specs.Files
 pub use Rattle.cli_commands.specs.Saying

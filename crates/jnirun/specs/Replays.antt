@@ -17,9 +17,9 @@ use Rattle.replay.specs.declared.trap_at.TrapAt.{TrapAt}
 use Rattle.replay.specs.Replays.{IsFirstImpossible}
 use Rattle.replay.specs.TrapAt.{trap_at}
 use Rattle.program_check.specs.Programs.{IsProgram, IsRefusedProgram}
-use Rattle.cli_commands.specs.declared.place.Place.{Place}
-use Rattle.cli_commands.specs.declared.place.Place.TheVariants.{Line, Entry}
-use Rattle.cli_commands.specs.declared.place.Text.TheVariants as which
+use Rattle.places.specs.declared.place.Place.{Place}
+use Rattle.places.specs.declared.place.Place.TheVariants.{Line, Entry}
+use Rattle.places.specs.declared.place.Text.TheVariants as which
 use Rattle.program_check.specs.declared.fault.RunError.{RunError}
 use Rattle.program_check.specs.declared.fault.RunError.TheVariants.{Memory, Fault, Writer}
 

@@ -3,13 +3,14 @@ use Rattle.std.specs.Prelude.{◌≡◌, ℕ, List, [], Option, Some, None, unwr
 use Rattle.sinks.specs.Sink.{Written, StopsWithin}
 use Rattle.cli_commands.specs.declared.command.Command.{Command}
 use Rattle.cli_commands.specs.declared.command.Command.TheVariants.{Check, Run, Work, Replay}
-use Rattle.cli_commands.specs.declared.place.Place.{Place}
-use Rattle.cli_commands.specs.declared.place.Place.TheVariants.{Line}
+use Rattle.places.specs.declared.place.Place.{Place}
+use Rattle.places.specs.declared.place.Place.TheVariants.{Line}
 use Rattle.program_check.specs.Checks.{PassesCheck, FailsCheck}
-use Rattle.cli_commands.specs.Commands.{name_of, text_of, text_at}
+use Rattle.places.specs.Places.{text_at}
+use Rattle.cli_commands.specs.Commands.{name_of, text_of}
 use Rattle.cli_commands.specs.Files.{OfFiles, LacksOne}
 use Rattle.replay.specs.declared.trap_at.TrapAt.{TrapAt}
-use Rattle.cli_commands.specs.declared.place.Text.TheVariants as which
+use Rattle.places.specs.declared.place.Text.TheVariants as which
 use Rattle.jnirun.specs.Replays.{EndsReplay, AreRefusedReplays}
 use Rattle.jnirun.specs.Runs.{EndsRun, AppendsRun, StopsRun}
 use Rattle.cli_commands.specs.Saying.{SendsText, Tells, fault_line}

@@ -8,9 +8,9 @@ use Rattle.world_schedules.specs.Rule.{rule_number}
 use Rattle.semantics.specs.World.{World}
 use Rattle.semantics.specs.Schedule.{Schedule}
 use Rattle.semantics.specs.Load.{first_load_fault}
-use Rattle.cli_commands.specs.declared.place.Place.{Place}
-use Rattle.cli_commands.specs.declared.place.Place.TheVariants.{Line}
-use Rattle.cli_commands.specs.declared.place.Text.TheVariants as which
+use Rattle.places.specs.declared.place.Place.{Place}
+use Rattle.places.specs.declared.place.Place.TheVariants.{Line}
+use Rattle.places.specs.declared.place.Text.TheVariants as which
 use Rattle.program_check.specs.Programs.{IsProgram}
 use Rattle.program_check.specs.Checks.{PassesCheck, FailsCheck}
 

@@ -16,9 +16,9 @@ use Rattle.world.specs.ReadingWorlds.{world_of_text}
 use Rattle.machine.specs.Run.{is_finished}
 use Rattle.replay.specs.declared.trap_at.TrapAt.{TrapAt}
 use Rattle.replay.specs.TrapAt.{trap_at}
-use Rattle.cli_commands.specs.declared.place.Place.{Place}
-use Rattle.cli_commands.specs.declared.place.Place.TheVariants.{Line}
-use Rattle.cli_commands.specs.declared.place.Text.TheVariants as which
+use Rattle.places.specs.declared.place.Place.{Place}
+use Rattle.places.specs.declared.place.Place.TheVariants.{Line}
+use Rattle.places.specs.declared.place.Text.TheVariants as which
 use Rattle.program_check.specs.Programs.{IsProgram}
 use Rattle.program_check.specs.Checks.{PassesCheck, FailsCheck}
 use Rattle.program_check.specs.declared.fault.RunError.{RunError}

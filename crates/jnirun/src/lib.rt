@@ -2,6 +2,7 @@
 //! files, with what is said of them on standard output and standard error.
 #![tactic(auto)]
 
+mod errors;
 mod replaying;
 mod run;
 mod serving;
@@ -9,9 +10,10 @@ mod telling;
 mod working;
 
 pub use cli_commands::{
-    COMMAND_LINE, Command, DONE, FAILED, FileFault, FileSystem, Files, MOST_BYTES, Place, REFUSED,
-    Text, fail, say,
+    COMMAND_LINE, Command, DONE, FAILED, FileFault, FileSystem, Files, MOST_BYTES, REFUSED, fail,
+    say,
 };
+pub use places::{Place, Text};
 pub use program_check::{RunError, check_text};
 pub use replay::TrapAt;
 pub use replaying::{replay_text, runs_are_replayed};

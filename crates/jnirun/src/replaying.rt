@@ -3,7 +3,6 @@
 ghost use Rattle.std.specs.Prelude.{◌≡◌, ℕ, List, Ok};
 ghost use Rattle.syntax.specs.Views.{unit_tree};
 ghost use Rattle.sinks.specs.Sink.{CanFail};
-ghost use Rattle.jnirun.specs.Errors.{of_replay};
 ghost use Rattle.program_check.specs.Programs.{IsProgram};
 ghost use Rattle.jnirun.specs.Runs.{RunsTexts};
 ghost use Rattle.jnirun.specs.ReplayLaws.{RunsAreReplayed, WorksAreReplayed};
@@ -11,28 +10,18 @@ ghost use Rattle.jnirun.specs.Replays.{EndsReplay, AreRefusedReplays, IsPossible
 ghost use Rattle.world_values.specs.WorldRules.{IsWorldText};
 ghost use Rattle.world.specs.ReadingWorlds.{world_of_text};
 
-use crate::run::{of_reading, thread_count};
-use cli_commands::{Place, Text};
+use crate::errors::{of_reading, of_replay};
+use crate::run::thread_count;
 use parse::one_unit;
+use places::Text;
 use program_check::{RunError, read_program};
 use region_rules::Checked;
-use replay::{ReplayFault, TrapAt, replay};
+use replay::{TrapAt, replay};
 use sinks::Sink;
 use std::alloc::Global;
 use world::read_world;
 use world_schedules::read_journal;
 use world_values::World;
-
-fn of_replay(fault: ReplayFault) -> RunError
-    ensures { result ≡ of_replay fault }
-{
-    match fault {
-        ReplayFault::DoesNotFit(line) => RunError::Fault(82, Place::Line(Text::World, line)),
-        ReplayFault::Impossible(entry) => RunError::Fault(91, Place::Entry(entry)),
-        ReplayFault::Memory => RunError::Memory,
-        ReplayFault::Writer => RunError::Writer,
-    }
-}
 
 /// Replays the journal of an accepted program in the world of a text.
 fn replay_checked<W: Sink>(
@@ -71,7 +60,7 @@ fn replay_world<W: Sink>(
     match read_journal(alloc, journal_text, threads) {
         Ok(journal) => match replay(alloc, checked, world, &journal, out) {
             Ok(trap) => Ok(trap),
-            Err(fault) => Err(of_replay(fault)),
+            Err(error) => Err(of_replay(error)),
         },
         Err(error) => Err(of_reading(Text::Journal, error)),
     }

@@ -4,7 +4,6 @@ ghost use Rattle.std.specs.Prelude.{◌≡◌, ◌≤◌, ℕ, List, [], length,
 ghost use Rattle.base.specs.Limits.{most_entries};
 ghost use Rattle.syntax.specs.Views.{unit_tree};
 ghost use Rattle.sinks.specs.Sink.{CanFail};
-ghost use Rattle.jnirun.specs.Errors.{of_lower, of_reading, of_load, of_report};
 ghost use Rattle.program_check.specs.Programs.{IsProgram};
 ghost use Rattle.jnirun.specs.Texts.{Meaning, AreRefused};
 ghost use Rattle.jnirun.specs.Running.{IsPassed, IsLoaded};
@@ -16,59 +15,19 @@ ghost use Rattle.world_schedules.specs.ScheduleText.{IsScheduleText};
 ghost use Rattle.world.specs.ReadingWorlds.{world_of_text};
 ghost use Rattle.replay.specs.TrapAt.{trap_at};
 
-use cli_commands::{Place, Text};
-use lower::{LowerFault, Program, lower};
-use machine::{LoadFault, Machine, ReportFault, RunFault};
-use program_check::{RunError, read_program, too_long};
+use crate::errors::{of_load, of_lower, of_reading, of_report};
+use lower::{Program, lower};
+use machine::{Machine, RunFault};
+use places::Text;
+use program_check::{RunError, read_program};
 use region_rules::Checked;
 use replay::TrapAt;
 use semantics::Stop;
 use sinks::Sink;
 use std::alloc::Global;
 use world::read_world;
-use world_schedules::{ReadError, Schedule, read_schedule};
+use world_schedules::{Schedule, read_schedule};
 use world_values::World;
-
-/// The error of a program that can't be lowered.
-pub(crate) fn of_lower(fault: LowerFault) -> RunError
-    ensures { result ≡ of_lower fault }
-{
-    match fault {
-        LowerFault::Memory => RunError::Memory,
-        LowerFault::TooLong => too_long(),
-    }
-}
-
-/// The fault of a world, a schedule or a journal.
-pub(crate) fn of_reading(text: Text, error: ReadError) -> RunError
-    ensures { result ≡ of_reading text error }
-{
-    match error {
-        ReadError::Memory => RunError::Memory,
-        ReadError::Fault(fault) => RunError::Fault(
-            u32::from(fault.rule.number()),
-            Place::Line(text, fault.line),
-        ),
-    }
-}
-
-pub(crate) fn of_load(fault: LoadFault) -> RunError
-    ensures { result ≡ of_load fault }
-{
-    match fault {
-        LoadFault::Memory => RunError::Memory,
-        LoadFault::DoesNotFit(line) => RunError::Fault(82, Place::Line(Text::World, line)),
-    }
-}
-
-pub(crate) fn of_report(fault: ReportFault) -> RunError
-    ensures { result ≡ of_report fault }
-{
-    match fault {
-        ReportFault::Memory => RunError::Memory,
-        ReportFault::Sink => RunError::Writer,
-    }
-}
 
 /// The number of threads of a world, which are at most 8.
 pub(crate) fn thread_count(world: &World) -> u8
@@ -177,7 +136,7 @@ fn run_checked<W: Sink>(
             Ok(world) => run_world(alloc, lowered, world, schedule_text, out),
             Err(error) => Err(of_reading(Text::World, error)),
         },
-        Err(fault) => Err(of_lower(fault)),
+        Err(error) => Err(of_lower(error)),
     }
 }
 

@@ -11,9 +11,9 @@ use crate::run::run_text;
 use crate::telling::detail_at;
 use crate::working::work_text;
 use cli_commands::{
-    Command, DONE, FileFault, Files, Place, REFUSED, Text, Texts, fail, read_texts, say, say_fault,
-    tell,
+    Command, DONE, FileFault, Files, REFUSED, Texts, fail, read_texts, say, say_fault, tell,
 };
+use places::{Place, Text};
 use program_check::{RunError, check_text};
 use replay::TrapAt;
 use sinks::Sink;

@@ -2,8 +2,9 @@
 
 use crate::run::thread_count;
 use crate::working::FULL;
-use cli_commands::{Place, Text, Texts};
+use cli_commands::Texts;
 use details::Detail;
+use places::{Place, Text};
 use program_check::{detail_of, read_program};
 use region_rules::Checked;
 use semantics::ObjectValue;

@@ -10,11 +10,12 @@ ghost use Rattle.jnirun.specs.Runs.{RunsTexts};
 ghost use Rattle.jnirun.specs.Works.{WorkMeaning, EndsWork, AreRefusedWork, IsWorkOrFails};
 ghost use Rattle.world.specs.ReadingWorlds.{world_of_text};
 
-use crate::run::{of_load, of_lower, of_reading, of_report, trap_at};
-use cli_commands::{Place, Text};
+use crate::errors::{of_load, of_lower, of_reading, of_report};
+use crate::run::trap_at;
 use lower::Program;
 use lower_parallel::{Watch, lower_parallel};
 use machine::Machine;
+use places::{Place, Text};
 use program_check::{RunError, read_program};
 use region_rules::Checked;
 use replay::TrapAt;
@@ -143,7 +144,7 @@ fn work_checked<W: Sink, R: Threads + Wait + Sync>(
             Ok(world) => work_in(rt, alloc, lowered, world, out),
             Err(error) => Err(of_reading(Text::World, error)),
         },
-        Err(fault) => Err(of_lower(fault)),
+        Err(error) => Err(of_lower(error)),
     }
 }
 

@@ -1,9 +1,9 @@
 -- The place of a check's fault.
 use Rattle.std.proofs.Common.{◌≡◌, ℕ, List, refl, sym, subst}
-use Rattle.cli_commands.specs.declared.place.Place.{Place}
-use Rattle.cli_commands.specs.declared.place.Place.TheVariants.{Line}
-use Rattle.cli_commands.specs.declared.place.Text.{Text}
-use Rattle.cli_commands.specs.declared.place.Text.TheVariants.{Program}
+use Rattle.places.specs.declared.place.Place.{Place}
+use Rattle.places.specs.declared.place.Place.TheVariants.{Line}
+use Rattle.places.specs.declared.place.Text.{Text}
+use Rattle.places.specs.declared.place.Text.TheVariants.{Program}
 use Rattle.program_check.specs.Checks.{by_pass, by_length, FailsCheck}
 
 -- a fault is at a line of the program

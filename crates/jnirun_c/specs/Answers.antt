@@ -1,7 +1,7 @@
 -- What the check answers to C.
 use Rattle.std.specs.Prelude.{◌≡◌, ℕ, ℤ, pos, List}
-use Rattle.cli_commands.specs.declared.place.Place.TheVariants.{Line}
-use Rattle.cli_commands.specs.declared.place.Text.TheVariants.{Program}
+use Rattle.places.specs.declared.place.Place.TheVariants.{Line}
+use Rattle.places.specs.declared.place.Text.TheVariants.{Program}
 use Rattle.program_check.specs.Checks.{PassesCheck, FailsCheck}
 use Rattle.jnirun_c.specs.declared.Fault.{Fault}
 

@@ -5,7 +5,7 @@ ghost use Rattle.std.specs.Prelude.{◌≢◌, pos};
 ghost use Rattle.program_check.specs.Checks.{PassesCheck};
 ghost use Rattle.jnirun_c.specs.Answers.{Answers};
 
-use cli_commands::Place;
+use places::Place;
 use program_check::{RunError, check_text};
 use std::alloc::Global;
 

@@ -5,5 +5,5 @@ mod fault;
 mod lowering;
 
 pub use code_meaning::Program;
-pub use fault::LowerFault;
+pub use fault::LowerError;
 pub use lowering::{lower, lower_function};

@@ -12,7 +12,7 @@ ghost use Rattle.lower.specs.Listings.{listing_of, listings_of};
 ghost use Rattle.code_meaning.specs.Length.{function_steps, is_long, IsTooLong};
 ghost use Rattle.code_meaning.specs.Lowered.{IsCodeOf};
 
-use crate::fault::LowerFault;
+use crate::fault::LowerError;
 use base::limits::MOST_STEPS;
 use code::code::Code;
 use code::instr::Instr;
@@ -28,11 +28,11 @@ use syntax::{Function, Item};
 /// `TooLong` exactly where a function has more than 65,535 steps, counted on its tree. Instructions count with 32 bits, so
 /// `Memory` is also answered where a statement is past line 4,294,967,295, where a function takes more slots, as none of an
 /// accepted program does, and where a jump leads over more instructions, as it can in a function alone that is too long.
-pub fn lower<'a>(alloc: Global, checked: &'a Checked) -> Result<Program<'a>, LowerFault>
+pub fn lower<'a>(alloc: Global, checked: &'a Checked) -> Result<Program<'a>, LowerError>
     ensures ok { IfOk result (λ p. p.unit ≡ checked.now) }
     ensures codes { IfOk result (λ p. p.codes ≡ listings_of [] (unit_tree checked.now).items) }
     ensures short { IfOk result (λ _. IsTooLong (unit_tree checked.now) → ⊥) }
-    ensures too_long { result ≡ Err LowerFault.TooLong → IsTooLong (unit_tree checked.now) }
+    ensures too_long { result ≡ Err LowerError.TooLong → IsTooLong (unit_tree checked.now) }
 {
     let mut names = Names::new(alloc);
     let mut codes = Vec::new(alloc);
@@ -51,10 +51,10 @@ fn lower_item<'a>(
     names: &mut Names<'a>,
     codes: &mut Vec<Code>,
     item: &'a Item,
-) -> Result<(), LowerFault>
+) -> Result<(), LowerError>
     requires { ItemFits names.old.known (item_tree item.now) }
     ensures done { OnOk result (IsItemDone names.old.known codes.old.items (item_tree item.now) names.new.known codes.new.items) }
-    ensures too_long { result ≡ Err LowerFault.TooLong → IsTrue (is_long (item_tree item.now)) }
+    ensures too_long { result ≡ Err LowerError.TooLong → IsTrue (is_long (item_tree item.now)) }
 {
     match item {
         Item::Static(named) => names.declare_static(named)?,
@@ -68,16 +68,16 @@ pub fn lower_function<'a>(
     alloc: Global,
     names: &mut Names<'a>,
     function: &'a Function,
-) -> Result<Code, LowerFault>
+) -> Result<Code, LowerError>
     requires { ItemFits names.old.known (FunctionItem (function_tree function.now)) }
     ensures ok { IfOk result (IsCodeOf names.old.known (function_tree function.now)) }
     ensures code { IfOk result (λ code. code ≡ listing_of names.old.known (function_tree function.now)) }
     ensures statics { OnOk result (names.new.known ≡ names.old.known) }
-    ensures too_long { result ≡ Err LowerFault.TooLong → most_steps < function_steps (function_tree function.now) }
+    ensures too_long { result ≡ Err LowerError.TooLong → most_steps < function_steps (function_tree function.now) }
 {
     let mut instrs = body_instrs(alloc, names, function)?;
     if instrs.len() > MOST_STEPS {
-        return Err(LowerFault::TooLong);
+        return Err(LowerError::TooLong);
     }
     emit(&mut instrs, Instr::Return)?;
     Ok(valid_code(instrs, names.slots())?)

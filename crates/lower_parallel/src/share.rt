@@ -9,7 +9,7 @@ ghost use Rattle.lower.specs.Listings.{listings_of};
 ghost use Rattle.lower_parallel.specs.Shares.{IsShare};
 
 use code::code::Code;
-use lower::{LowerFault, lower_function};
+use lower::{LowerError, lower_function};
 use lower_statements::Names;
 use region_rules::Checked;
 use std::alloc::Global;
@@ -29,10 +29,10 @@ pub(crate) fn lower_share<K: Watch>(
     workers: usize,
     worker: usize,
     watch: &K,
-) -> Result<VecDeque<Code>, LowerFault>
+) -> Result<VecDeque<Code>, LowerError>
     requires { 0 < workers }
     ensures share { IfOk result (λ codes. IsShare workers worker (listings_of [] (unit_tree checked.now).items) codes.items) }
-    ensures too_long { result ≡ Err LowerFault.TooLong → IsTooLong (unit_tree checked.now) }
+    ensures too_long { result ≡ Err LowerError.TooLong → IsTooLong (unit_tree checked.now) }
 {
     let mut names = Names::new(alloc);
     let mut codes = VecDeque::new(alloc);
@@ -61,10 +61,10 @@ fn push_code<'a>(
     names: &mut Names<'a>,
     codes: &mut VecDeque<Code>,
     function: &'a Function,
-) -> Result<(), LowerFault>
+) -> Result<(), LowerError>
     requires { ItemFits names.old.known (FunctionItem (function_tree function.now)) }
     ensures done { OnOk result (IsItemDone names.old.known codes.old.items (FunctionItem (function_tree function.now)) names.new.known codes.new.items) }
-    ensures too_long { result ≡ Err LowerFault.TooLong → IsTrue (is_long (FunctionItem (function_tree function.now))) }
+    ensures too_long { result ≡ Err LowerError.TooLong → IsTrue (is_long (FunctionItem (function_tree function.now))) }
 {
     codes.push_back(lower_function(alloc, names, function)?)?;
     Ok(())

@@ -11,7 +11,7 @@ use crate::merge::in_order;
 use crate::share::{Watch, lower_share};
 use code::code::Code;
 use code_meaning::Program;
-use lower::LowerFault;
+use lower::LowerError;
 use region_rules::Checked;
 use std::alloc::Global;
 use std::collections::VecDeque;
@@ -29,12 +29,12 @@ pub fn lower_parallel<'a, K: Watch + Sync, R: Threads + Sync>(
     checked: &'a Checked,
     workers: usize,
     watch: &K,
-) -> Result<Program<'a>, LowerFault>
+) -> Result<Program<'a>, LowerError>
     requires workers { (0 < workers) × (workers ≤ 8) }
     ensures ok { IfOk result (λ p. p.unit ≡ checked.now) }
     ensures codes { IfOk result (λ p. p.codes ≡ listings_of [] (unit_tree checked.now).items) }
     ensures short { IfOk result (λ _. IsTooLong (unit_tree checked.now) → ⊥) }
-    ensures too_long { result ≡ Err LowerFault.TooLong → IsTooLong (unit_tree checked.now) }
+    ensures too_long { result ≡ Err LowerError.TooLong → IsTooLong (unit_tree checked.now) }
 {
     let shares = lower_shares(rt, alloc, checked, workers, watch)?;
     let codes = in_order(alloc, shares)?;
@@ -49,16 +49,16 @@ fn lower_shares<K: Watch + Sync, R: Threads + Sync>(
     checked: &Checked,
     workers: usize,
     watch: &K,
-) -> Result<Vec<VecDeque<Code>>, LowerFault>
+) -> Result<Vec<VecDeque<Code>>, LowerError>
     requires { 0 < workers }
     ensures workers { IfOk result (λ shares. vec_len shares ≡ workers) }
     ensures shares { IfOk result (λ shares. AreShares (listings_of [] (unit_tree checked.now).items) (map (λ s. s.items) shares.items)) }
-    ensures too_long { result ≡ Err LowerFault.TooLong → IsTooLong (unit_tree checked.now) }
+    ensures too_long { result ≡ Err LowerError.TooLong → IsTooLong (unit_tree checked.now) }
 {
-    let share = move |worker: usize| -> Result<VecDeque<Code>, LowerFault>
+    let share = move |worker: usize| -> Result<VecDeque<Code>, LowerError>
         requires { 0 < workers }
         ensures share { IfOk result (λ codes. IsShare workers worker (listings_of [] (unit_tree checked.entry.now).items) codes.items) }
-        ensures too_long { result ≡ Err LowerFault.TooLong → IsTooLong (unit_tree checked.entry.now) }
+        ensures too_long { result ≡ Err LowerError.TooLong → IsTooLong (unit_tree checked.entry.now) }
     { lower_share(alloc, checked, workers, worker, watch) };
     let answers = thread::map_indices(rt, alloc, workers, &share)?;
     all_made(alloc, answers)
@@ -67,10 +67,10 @@ fn lower_shares<K: Watch + Sync, R: Threads + Sync>(
 /// What the workers made, where each made its share, and else the fault of the first that didn't.
 fn all_made(
     alloc: Global,
-    answers: Vec<Result<VecDeque<Code>, LowerFault>>,
-) -> Result<Vec<VecDeque<Code>>, LowerFault>
+    answers: Vec<Result<VecDeque<Code>, LowerError>>,
+) -> Result<Vec<VecDeque<Code>>, LowerError>
     ensures all { IfOk result (λ shares. answers.items ≡ map (λ s. Ok s) shares.items) }
-    ensures fault { result ≡ Err LowerFault.TooLong → Contains answers.items (Err LowerFault.TooLong) }
+    ensures fault { result ≡ Err LowerError.TooLong → Contains answers.items (Err LowerError.TooLong) }
 {
     let mut shares = Vec::new(alloc);
     for answer in answers {

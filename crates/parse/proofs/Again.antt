@@ -5,7 +5,7 @@ use Rattle.std.proofs.lemmas.Bool.{ne_eqb}
 use Rattle.scan.specs.declared.token.Mark.TheVariants as marks
 use Rattle.syntax.specs.Tree.{Expr, Test, Stmt, Declare, DeclareBuffer, DeclareChars, DeclareArray, Assign, AssignElement, Perform, PutJint, If, IfElse, While, Return, ReturnValue, Block, End, Next, Parameter, Function, Static, Item, StaticItem, FunctionItem}
 use Rattle.syntax.specs.Parts.{statements_within, statements_of, line_of}
-use Rattle.parse_lexemes.specs.declared.fault.ParseFault.{ParseFault}
+use Rattle.parse_lexemes.specs.declared.fault.ParseError.{ParseError}
 use Rattle.scan.specs.declared.reserved.Word.TheVariants as words
 use Rattle.parse_lexemes.specs.declared.first.Fixed.{Fixed}
 use Rattle.parse_lexemes.specs.declared.first.Fixed.TheVariants as fixed
@@ -128,7 +128,7 @@ inside_no_else (Next s b) ls rest h =
 
 -- ---- statements without blocks
 
-abbrev statement_read : Stmt → ℕ → List Lexed → Result ReadStmt ParseFault
+abbrev statement_read : Stmt → ℕ → List Lexed → Result ReadStmt ParseError
 statement_read s left ls = Ok (s, left, ls)
 
 declared_simple : (room free : ℕ) (s : Stmt) (ls rest : List Lexed) → Begins (statement s) ls rest → declares (first_meaning s) ≡ true → names_of s ≡ 1 → IsForm room s → IsDeclared s → names_of s ≤ free → simple_at room free ls ≡ Ok (s, free - names_of s, rest)
@@ -158,7 +158,7 @@ record Tested (test more : List Spelled) (ls rest : List Lexed) : Type 0 where
   closes : expect (fixed.Mark marks.CloseParen) closing ≡ Ok mid
   after_it : Begins more mid rest
 
-abbrev rest_read : List Lexed → Result (List Lexed) ParseFault
+abbrev rest_read : List Lexed → Result (List Lexed) ParseError
 rest_read ls = Ok ls
 
 tested_again : (test more : List Spelled) (ls rest : List Lexed) → Begins (tested_tail test ++ more) ls rest → Tested test more ls rest
@@ -181,7 +181,7 @@ tested_again test more ls rest h =
 abbrev AllBlocksAgain : BlockReader → ℕ → Type 0
 AllBlocksAgain deep room = (free : ℕ) (b : Block) (ls rest : List Lexed) → 1 ≤ room → Begins (inside b) ls rest → IsBlock (room - 1) b → names_in b ≤ free → deep free ls ≡ Ok (b, free - names_in b, rest)
 
-abbrev block_read : Block → ℕ → List Lexed → Result ReadBlock ParseFault
+abbrev block_read : Block → ℕ → List Lexed → Result ReadBlock ParseError
 block_read b left ls = Ok (b, left, ls)
 
 module _ (deep : BlockReader) (room : ℕ) (all : AllBlocksAgain deep room) where
@@ -309,7 +309,7 @@ parameter_again p es ls rest h =
     let inside_type = first_rest (word (parameter_word p.type)) (Anywhere (Name' p.name) ∷ es) ls rest h in
     rw (parameter_type_again p.type (Anywhere (Name' p.name) ∷ es) ls rest h, name_again p.name es (rest_of ls) rest inside_type) refl
 
-abbrev parameters_read : List Parameter → List Lexed → Result (List Parameter × List Lexed) ParseFault
+abbrev parameters_read : List Parameter → List Lexed → Result (List Parameter × List Lexed) ParseError
 parameters_read ps ls = Ok (ps, ls)
 
 parameters_again : (free : ℕ) (ps : List Parameter) (ls rest : List Lexed) → length ps ≤ free → Begins (flat_map parameter ps) ls rest → starts_with (fixed.Mark marks.Comma) rest ≡ false → parameters_at free ls ≡ Ok (ps, rest)
@@ -383,7 +383,7 @@ record StaticAgain (s : Static) (ls rest : List Lexed) : Type 0 where
   starts : starts_with (fixed.Word words.Static) ls ≡ true
   shorter : length rest < length ls
 
-abbrev static_read : Static → List Lexed → Result (Static × List Lexed) ParseFault
+abbrev static_read : Static → List Lexed → Result (Static × List Lexed) ParseError
 static_read s ls = Ok (s, ls)
 
 static_again : (s : Static) (ls rest : List Lexed) → Begins (item (StaticItem s)) ls rest → StaticAgain s ls rest

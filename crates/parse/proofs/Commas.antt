@@ -3,9 +3,9 @@ use Rattle.std.proofs.Common.{◌≡◌, ℕ, zero, suc, ◌+◌, ◌-◌, ◌�
 use Rattle.std.proofs.lemmas.List.{append-nil, length-append}
 use Rattle.scan.specs.declared.token.Mark.TheVariants as marks
 use Rattle.syntax.specs.Tree.{Parameter}
-use Rattle.parse_lexemes.specs.declared.fault.Fault.TheVariants.{TooMany}
-use Rattle.parse_lexemes.specs.declared.fault.ParseFault.{ParseFault}
-use Rattle.parse_lexemes.specs.declared.fault.ParseFault.TheVariants.{Memory, Found}
+use Rattle.parse_lexemes.specs.declared.fault.ParseRule.TheVariants.{TooMany}
+use Rattle.parse_lexemes.specs.declared.fault.ParseError.{ParseError}
+use Rattle.parse_lexemes.specs.declared.fault.ParseError.TheVariants.{Memory, Fault}
 use Rattle.parse_lexemes.specs.declared.first.Fixed.TheVariants as fixed
 use Rattle.parse_lexemes.specs.Results.{◌>>=◌, Fails}
 use Rattle.parse_lexemes.specs.Lexemes.{Lexed, fault_at}
@@ -16,7 +16,7 @@ use Rattle.parse_expressions.proofs.Commas.{with_more, given, no_more, regroup}
 -- ---- parameters
 
 abbrev pub ReadParameters : Type 0
-ReadParameters = Result (List Parameter × List Lexed) ParseFault
+ReadParameters = Result (List Parameter × List Lexed) ParseError
 
 pub record FillsParameters (before : List Parameter) (ls : List Lexed) (total : ReadParameters) : Type 0 where
   pub low : length before ≤ 255
@@ -53,10 +53,10 @@ module _ (before : List Parameter) (ls : List Lexed) (total : ReadParameters) (f
   next_is : (length before ≡ 255 → ⊥) → starts_with (fixed.Mark marks.Comma) ls ≡ true → parameters_at (255 - length before) ls ≡ (parameter_at (rest_of ls) >>= λ p. parameters_at (255 - (length before + 1)) p.1 >>= λ more. Ok (p.0 ∷ more.0, more.1))
   next_is n s = let low = f.low in some_free (255 - length before) (255 - (length before + 1)) ls (omega (arith, n, low)) s
 
-  pub parameters_fail : (e : ParseFault) → starts_with (fixed.Mark marks.Comma) ls ≡ true → (length before ≡ 255 → ⊥) → Fails e (parameter_at (rest_of ls)) → Fails e total
+  pub parameters_fail : (e : ParseError) → starts_with (fixed.Mark marks.Comma) ls ≡ true → (length before ≡ 255 → ⊥) → Fails e (parameter_at (rest_of ls)) → Fails e total
   parameters_fail Memory s n h = tt
-  parameters_fail (Found fault line) s n h =
-      let one : with_more before (parameters_at (255 - length before) ls) ≡ Err (Found fault line) = rw (next_is n s, h) refl in
+  parameters_fail (Fault broken) s n h =
+      let one : with_more before (parameters_at (255 - length before) ls) ≡ Err (Fault broken) = rw (next_is n s, h) refl in
       sym f.same ∙ one
 
   pub parameters_on : (p : Parameter) (after : List Lexed) → starts_with (fixed.Mark marks.Comma) ls ≡ true → (length before ≡ 255 → ⊥) → parameter_at (rest_of ls) ≡ Ok (p, after) → FillsParameters (before ++ p ∷ []) after total

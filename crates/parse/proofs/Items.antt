@@ -2,8 +2,8 @@
 use Rattle.std.proofs.Common.{◌≡◌, ℕ, zero, suc, ◌+◌, ◌<◌, ◌≤◌, true, false, List, [], ◌∷◌, ◌++◌, length, Result, Ok, Err, refl, sym, ap, ◌∙◌, arith, append_assoc, add-one}
 use Rattle.std.proofs.lemmas.List.{append-nil}
 use Rattle.syntax.specs.Tree.{Item}
-use Rattle.parse_lexemes.specs.declared.fault.ParseFault.{ParseFault}
-use Rattle.parse_lexemes.specs.declared.fault.ParseFault.TheVariants.{Memory, Found}
+use Rattle.parse_lexemes.specs.declared.fault.ParseError.{ParseError}
+use Rattle.parse_lexemes.specs.declared.fault.ParseError.TheVariants.{Memory, Fault}
 use Rattle.parse_lexemes.specs.declared.first.Fixed.TheVariants as fixed
 use Rattle.parse_lexemes.specs.Results.{◌>>=◌, Fails}
 use Rattle.parse_lexemes.specs.Lexemes.{Lexed}
@@ -11,39 +11,39 @@ use Rattle.parse_lexemes.specs.Reading.{starts_with}
 use Rattle.parse.specs.Reading.{item_at, items_at}
 use Rattle.parse.proofs.Programs.{item_takes}
 
-abbrev pub with_items : List Item → Result (List Item) ParseFault → Result (List Item) ParseFault
+abbrev pub with_items : List Item → Result (List Item) ParseError → Result (List Item) ParseError
 with_items front read = read >>= λ items. Ok (front ++ items)
 
-pub record FillsUnit (items : List Item) (functions statics : ℕ) (ls : List Lexed) (total : Result (List Item) ParseFault) : Type 0 where
+pub record FillsUnit (items : List Item) (functions statics : ℕ) (ls : List Lexed) (total : Result (List Item) ParseError) : Type 0 where
   pub steps : ℕ
   pub enough : length ls ≤ steps
   pub same : with_items items (items_at (suc steps) functions statics ls) ≡ total
 
-no_items : (read : Result (List Item) ParseFault) → with_items [] read ≡ read
+no_items : (read : Result (List Item) ParseError) → with_items [] read ≡ read
 no_items (Ok x) = refl
 no_items (Err f) = refl
 
-abbrev parsed : List Item → Result (List Item) ParseFault
+abbrev parsed : List Item → Result (List Item) ParseError
 parsed items = Ok items
 
 pub unit_start : (ls : List Lexed) → FillsUnit [] 256 256 ls (items_at (length ls + 1) 256 256 ls)
 unit_start ls = record { steps = length ls; enough = omega arith; same = no_items (items_at (suc (length ls)) 256 256 ls) ∙ sym (ap (λ n. items_at n 256 256 ls) (add-one (length ls))) }
 
-module _ (items : List Item) (functions statics : ℕ) (ls : List Lexed) (total : Result (List Item) ParseFault) (f : FillsUnit items functions statics ls total) where
+module _ (items : List Item) (functions statics : ℕ) (ls : List Lexed) (total : Result (List Item) ParseError) (f : FillsUnit items functions statics ls total) where
   pub unit_done : starts_with fixed.End ls ≡ true → total ≡ Ok items
   unfolding items_at
   unit_done s =
       let one : with_items items (items_at (suc f.steps) functions statics ls) ≡ Ok items = rw s (ap parsed (append-nil items)) in
       sym f.same ∙ one
 
-  pub unit_fails : (e : ParseFault) → starts_with fixed.End ls ≡ false → Fails e (item_at functions statics ls) → Fails e total
+  pub unit_fails : (e : ParseError) → starts_with fixed.End ls ≡ false → Fails e (item_at functions statics ls) → Fails e total
   unfolding items_at
   unit_fails Memory s h = tt
-  unit_fails (Found fault line) s h =
-      let one : with_items items (items_at (suc f.steps) functions statics ls) ≡ Err (Found fault line) = rw (s, h) refl in
+  unit_fails (Fault broken) s h =
+      let one : with_items items (items_at (suc f.steps) functions statics ls) ≡ Err (Fault broken) = rw (s, h) refl in
       sym f.same ∙ one
 
-  regroup_items : (x : Item) (read : Result (List Item) ParseFault) → with_items (items ++ x ∷ []) read ≡ with_items items (read >>= λ more. Ok (x ∷ more))
+  regroup_items : (x : Item) (read : Result (List Item) ParseError) → with_items (items ++ x ∷ []) read ≡ with_items items (read >>= λ more. Ok (x ∷ more))
   regroup_items x (Ok more) = ap parsed (append_assoc items (x ∷ []) more)
   regroup_items x (Err e) = refl
 

@@ -5,7 +5,7 @@ use Rattle.std.proofs.lemmas.Bool.{eqb-false}
 use Rattle.scan.specs.declared.token.Mark.TheVariants as marks
 use Rattle.syntax.specs.Tree.{ReferenceType, ResultType, ParameterType, Parameter, Block, Function, Static, Item, StaticItem, FunctionItem}
 use Rattle.syntax.specs.Parts.{functions_of, statics_of}
-use Rattle.parse_lexemes.specs.declared.fault.ParseFault.{ParseFault}
+use Rattle.parse_lexemes.specs.declared.fault.ParseError.{ParseError}
 use Rattle.scan.specs.declared.reserved.Word.TheVariants as words
 use Rattle.parse_lexemes.specs.declared.first.Fixed.{Fixed}
 use Rattle.parse_lexemes.specs.declared.first.Fixed.TheVariants as fixed
@@ -56,7 +56,7 @@ TakesParameter ls x = Begins (word (parameter_word x.0.type) ∷ Anywhere (Name'
 abbrev parameter_of : ParameterType → List ℕ → Parameter
 parameter_of t n = record { type = t; name = n }
 
-abbrev named : ParameterType → List ℕ × List Lexed → Result (Parameter × List Lexed) ParseFault
+abbrev named : ParameterType → List ℕ × List Lexed → Result (Parameter × List Lexed) ParseError
 named t n = Ok (parameter_of t n.0, n.1)
 
 parameter_takes : (ls : List Lexed) (x : Parameter × List Lexed) → parameter_at ls ≡ Ok x → TakesParameter ls x
@@ -125,19 +125,19 @@ on_expected f (l ∷ ls) rest e = let t = expect_takes f (l ∷ ls) rest e in ((
 abbrev Signature : Type 0
 Signature = ResultType × List ℕ × List ℕ × List Lexed
 
-abbrev signature5 : ResultType → List ℕ → List Lexed → Result Signature ParseFault
+abbrev signature5 : ResultType → List ℕ → List Lexed → Result Signature ParseError
 signature5 r n c = name_at c >>= λ k. Ok (r, n, k.0, k.1)
 
-abbrev signature4 : ResultType → List ℕ × List Lexed → Result Signature ParseFault
+abbrev signature4 : ResultType → List ℕ × List Lexed → Result Signature ParseError
 signature4 r n = head_at n.1 >>= signature5 r n.0
 
-abbrev signature3 : ResultType → List Lexed → Result Signature ParseFault
+abbrev signature3 : ResultType → List Lexed → Result Signature ParseError
 signature3 r b = name_at b >>= signature4 r
 
-abbrev signature2 : ResultType × List Lexed → Result Signature ParseFault
+abbrev signature2 : ResultType × List Lexed → Result Signature ParseError
 signature2 r = expect (fixed.Word words.JniCall) r.1 >>= signature3 r.0
 
-abbrev signature1 : List Lexed → Result Signature ParseFault
+abbrev signature1 : List Lexed → Result Signature ParseError
 signature1 a = found (result_type_at a) a >>= signature2
 
 abbrev signature_tokens : ℕ → ResultType → List ℕ → List ℕ → List Spelled
@@ -172,10 +172,10 @@ signature_takes ls s h =
 abbrev made : ℕ → Signature → List Parameter → Block → Function
 made line s ps body = record { line = line; result = s.0; name = s.1; class_name = s.2; parameters = ps; body = body }
 
-abbrev with_parameters : ℕ → Signature → List Parameter × List Lexed → Result (Function × List Lexed) ParseFault
+abbrev with_parameters : ℕ → Signature → List Parameter × List Lexed → Result (Function × List Lexed) ParseError
 with_parameters line s ps = body_at (255 - length ps.0) ps.1 >>= λ body. Ok (made line s ps.0 body.0, body.1)
 
-abbrev with_signature : ℕ → Signature → Result (Function × List Lexed) ParseFault
+abbrev with_signature : ℕ → Signature → Result (Function × List Lexed) ParseError
 with_signature line s = parameters_at 255 s.3 >>= with_parameters line s
 
 pub record TakesFunction (ls : List Lexed) (x : Function × List Lexed) : Type 0 where
@@ -209,7 +209,7 @@ function_takes ls x h =
 -- ---- statics
 
 abbrev ReadStatic : Type 0
-ReadStatic = Result (Static × List Lexed) ParseFault
+ReadStatic = Result (Static × List Lexed) ParseError
 
 abbrev static_of : ℕ → ReferenceType → List ℕ → Static
 static_of line t n = record { line = line; type = t; name = n }

@@ -5,7 +5,7 @@ use Rattle.scan.specs.declared.token.Mark.TheVariants as marks
 use Rattle.scan.specs.declared.reserved.Word.TheVariants as words
 use Rattle.syntax.specs.Tree.{ReferenceType, ResultType, Static}
 use Rattle.parse_lexemes.specs.declared.first.Fixed.TheVariants as fixed
-use Rattle.parse_lexemes.specs.declared.fault.ParseFault.{ParseFault}
+use Rattle.parse_lexemes.specs.declared.fault.ParseError.{ParseError}
 use Rattle.parse_lexemes.specs.Results.{◌>>=◌}
 use Rattle.parse_lexemes.specs.Lexemes.{Lexed, line_at, expect, name_at}
 use Rattle.parse_lexemes.specs.Reading.{reference_type_at, result_type_at, found}
@@ -22,7 +22,7 @@ signature_is ls =
     three (expect (fixed.Word words.JniExport) ls) (λ a. found (result_type_at a) a) (λ a result. expect (fixed.Word words.JniCall) result.1) (λ a result b. (result.0, b))
     (λ (h : ResultType × List Lexed). name_at h.1 >>= λ name. head_at name.1 >>= λ c. name_at c >>= λ class_name. Ok (h.0, name.0, class_name.0, class_name.1))
 
-abbrev static_made : (line : ℕ) → ReferenceType × Identifier × List Lexed → List Lexed → Result (Static × List Lexed) ParseFault
+abbrev static_made : (line : ℕ) → ReferenceType × Identifier × List Lexed → List Lexed → Result (Static × List Lexed) ParseError
 static_made line h rest = Ok (record { line = line; type = h.0; name = h.1 }, rest)
 
 pub static_is : (ls : List Lexed) → static_at ls ≡ (static_head_at ls >>= λ h. two (fixed.Word words.Null) (fixed.Mark marks.Semicolon) h.2 >>= λ rest. static_made (line_at ls) h rest)

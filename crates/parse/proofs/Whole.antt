@@ -8,8 +8,8 @@ use Rattle.scan.specs.declared.token.Kind.TheVariants as kinds
 use Rattle.scan.specs.Spelling.{SpellsFrom, ends, passes, takes, Spells}
 use Rattle.syntax.specs.Tree.{Item, SourceUnit}
 use Rattle.syntax.specs.Limits.{IsTree}
-use Rattle.parse_lexemes.specs.declared.fault.ParseFault.{ParseFault}
-use Rattle.parse_lexemes.specs.declared.fault.ParseFault.TheVariants.{Memory, Found}
+use Rattle.parse_lexemes.specs.declared.fault.ParseError.{ParseError}
+use Rattle.parse_lexemes.specs.declared.fault.ParseError.TheVariants.{Memory, Fault}
 use Rattle.parse_lexemes.specs.declared.first.Fixed.TheVariants as fixed
 use Rattle.parse_lexemes.specs.Meaning.{Fixed', meaning_of, token_meaning}
 use Rattle.parse_lexemes.specs.Lexemes.{Lexed, is_fixed_meaning, lexemes}
@@ -88,7 +88,7 @@ abbrev unit_of : List Item → SourceUnit
 unit_of items = record { items = items }
 
 -- the items that the lexemes of a text give
-abbrev pub items_of : List ℕ → List Token → Result (List Item) ParseFault
+abbrev pub items_of : List ℕ → List Token → Result (List Item) ParseError
 items_of text tokens = items_at (length (lexemes text 1 tokens) + 1) 256 256 (lexemes text 1 tokens)
 
 pub record IsFound (text : List ℕ) (items : List Item) : Type 0 where
@@ -123,10 +123,10 @@ items_only text tokens unit unique spelled s =
 
 -- ---- from items to units
 
-abbrev items_given : List Item → Result (List Item) ParseFault
+abbrev items_given : List Item → Result (List Item) ParseError
 items_given items = Ok items
 
-abbrev unit_given : SourceUnit → Result SourceUnit ParseFault
+abbrev unit_given : SourceUnit → Result SourceUnit ParseError
 unit_given unit = Ok unit
 
 items_same : (a b : List Item) → items_given a ≡ items_given b → a ≡ b
@@ -141,10 +141,10 @@ module _ (text : List ℕ) (tokens : List Token) (spelled : Spells text tokens) 
   unfolding unit_at
   unit_by items given = ap unit_at (sym is) ∙ rw given refl
 
-  pub fault_by : (e : ParseFault) → Fails e (items_at (length ls + 1) 256 256 ls) → Fails e (unit_at (lexemes text 1 tokens))
+  pub fault_by : (e : ParseError) → Fails e (items_at (length ls + 1) 256 256 ls) → Fails e (unit_at (lexemes text 1 tokens))
   unfolding unit_at
   fault_by Memory h = tt
-  fault_by (Found fault line) h = ap unit_at (sym is) ∙ rw h refl
+  fault_by (Fault broken) h = ap unit_at (sym is) ∙ rw h refl
 
   module _ (unique : (others : List Token) → Spells text others → others ≡ tokens) where
     only_items : (unit : SourceUnit) → SpellsUnit text unit → items_at (length ls + 1) 256 256 ls ≡ Ok unit.items
@@ -154,9 +154,9 @@ module _ (text : List ℕ) (tokens : List Token) (spelled : Spells text tokens) 
     only_by items unit given s = ap (λ (l : List Item). unit_given (unit_of l)) (items_same unit.items items (sym (only_items unit s) ∙ given))
 
     -- a fault where a unit is spelled is want of memory
-    pub no_fault_by : (e : ParseFault) (unit : SourceUnit) → Fails e (items_at (length ls + 1) 256 256 ls) → SpellsUnit text unit → Fails e (unit_given unit)
+    pub no_fault_by : (e : ParseError) (unit : SourceUnit) → Fails e (items_at (length ls + 1) 256 256 ls) → SpellsUnit text unit → Fails e (unit_given unit)
     no_fault_by Memory unit h s = tt
-    no_fault_by (Found fault line) unit h s = let f : items_given unit.items ≡ Err (Found fault line) = sym (only_items unit s) ∙ h in absurd cc
+    no_fault_by (Fault broken) unit h s = let f : items_given unit.items ≡ Err (Fault broken) = sym (only_items unit s) ∙ h in absurd cc
 
 -- no text has two trees
 pub one_tree : (text : List ℕ) (a b : SourceUnit) → ((tokens others : List Token) → Spells text tokens → Spells text others → tokens ≡ others) → SpellsUnit text a → SpellsUnit text b → a ≡ b

@@ -4,8 +4,8 @@ use Rattle.base.specs.Bytes.{Identifier}
 use Rattle.scan.specs.declared.token.Mark.TheVariants as marks
 use Rattle.scan.specs.declared.reserved.Word.TheVariants as words
 use Rattle.syntax.specs.Tree.{ReferenceType, ResultType, StaticItem, FunctionItem}
-use Rattle.parse_lexemes.specs.declared.fault.Fault.TheVariants.{TooMany}
-use Rattle.parse_lexemes.specs.declared.fault.ParseFault.{ParseFault}
+use Rattle.parse_lexemes.specs.declared.fault.ParseRule.TheVariants.{TooMany}
+use Rattle.parse_lexemes.specs.declared.fault.ParseError.{ParseError}
 use Rattle.parse_lexemes.specs.Results.{◌>>=◌}
 use Rattle.parse_lexemes.specs.declared.first.Fixed.TheVariants as fixed
 use Rattle.parse_lexemes.specs.Lexemes.{Lexed, expect, name_at, fault_at}
@@ -13,7 +13,7 @@ use Rattle.parse_lexemes.specs.Reading.{reference_type_at, result_type_at, found
 use Rattle.parse.specs.Reading.{ReadItem, function_at, static_at}
 
 -- the result of a function
-unfoldable pub exported_at : List Lexed → Result (ResultType × List Lexed) ParseFault
+unfoldable pub exported_at : List Lexed → Result (ResultType × List Lexed) ParseError
 exported_at ls = do
   a ← expect (fixed.Word words.JniExport) ls
   result ← found (result_type_at a) a
@@ -21,7 +21,7 @@ exported_at ls = do
   Ok (result.0, b)
 
 -- the type and the name of a static, up to the equals sign
-unfoldable pub static_head_at : List Lexed → Result (ReferenceType × Identifier × List Lexed) ParseFault
+unfoldable pub static_head_at : List Lexed → Result (ReferenceType × Identifier × List Lexed) ParseError
 static_head_at ls = do
   a ← expect (fixed.Word words.Static) ls
   t ← found (reference_type_at a) a
@@ -30,9 +30,9 @@ static_head_at ls = do
   Ok (t.0, name.0, b)
 
 -- a function, where there may be this many more functions and statics
-unfoldable pub function_item_at : (functions statics : ℕ) → List Lexed → Result ReadItem ParseFault
+unfoldable pub function_item_at : (functions statics : ℕ) → List Lexed → Result ReadItem ParseError
 function_item_at functions statics ls = if functions == 0 then Err (fault_at TooMany ls) else (function_at ls >>= λ f. Ok (FunctionItem f.0, functions - 1, statics, f.1))
 
 -- the same of a static
-unfoldable pub static_item_at : (functions statics : ℕ) → List Lexed → Result ReadItem ParseFault
+unfoldable pub static_item_at : (functions statics : ℕ) → List Lexed → Result ReadItem ParseError
 static_item_at functions statics ls = if statics == 0 then Err (fault_at TooMany ls) else (static_at ls >>= λ s. Ok (StaticItem s.0, functions, statics - 1, s.1))

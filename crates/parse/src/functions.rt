@@ -15,8 +15,8 @@ use crate::parameters::{NAMES, parameters};
 use base::limits::{MOST_FUNCTIONS, MOST_STATICS};
 use parse_expressions::expect_two;
 use parse_lexemes::{
-    Cursor, Fault, Fixed, ParseFault, Source, expect, fault_at, line_at, name_at, reference_type,
-    rest_of, result_type, start, starts_with, unexpected,
+    Cursor, Fixed, ParseError, ParseRule, Source, expect, fault_at, line_at, name_at,
+    reference_type, rest_of, result_type, start, starts_with, unexpected,
 };
 use parse_statements::block;
 use scan::{Mark, Token, Word, one_spelling};
@@ -28,7 +28,7 @@ const ROOM: u32 = 31;
 
 /// What comes after the parameters that each function has.
 #[tactic(auto, using(crate::proofs::Regrouped::head_is))]
-fn head(lexemes: Cursor<'_>) -> Result<Cursor<'_>, ParseFault>
+fn head(lexemes: Cursor<'_>) -> Result<Cursor<'_>, ParseError>
     ensures { Gives (λ x. views x) result (head_at (views lexemes.entry)) }
 {
     let rest = expect_two(
@@ -42,7 +42,7 @@ fn head(lexemes: Cursor<'_>) -> Result<Cursor<'_>, ParseFault>
 
 /// A function's block, with what closes its parameters, where `free` more names may be declared.
 #[tactic(auto, using(crate::proofs::Regrouped::body_is))]
-fn body(alloc: Global, free: usize, lexemes: Cursor<'_>) -> Result<(Block, Cursor<'_>), ParseFault>
+fn body(alloc: Global, free: usize, lexemes: Cursor<'_>) -> Result<(Block, Cursor<'_>), ParseError>
     ensures { Gives (λ x. (block_tree x.0, views x.1)) result (body_at free (views lexemes.entry)) }
 {
     let rest = expect_two(
@@ -59,7 +59,7 @@ fn body(alloc: Global, free: usize, lexemes: Cursor<'_>) -> Result<(Block, Curso
 /// The result of a function, up to its name.
 #[inline]
 #[tactic(auto, unfolding(crate::specs::Steps::exported_at))]
-fn exported(lexemes: Cursor<'_>) -> Result<(ResultType, Cursor<'_>), ParseFault>
+fn exported(lexemes: Cursor<'_>) -> Result<(ResultType, Cursor<'_>), ParseError>
     ensures { Gives (λ x. (result_tree x.0, views x.1)) result (exported_at (views lexemes.entry)) }
 {
     let rest = expect(Fixed::Word(Word::JniExport), lexemes)?;
@@ -74,7 +74,7 @@ fn exported(lexemes: Cursor<'_>) -> Result<(ResultType, Cursor<'_>), ParseFault>
 
 /// The result, the name and the class of a function, and what comes after them.
 #[tactic(auto, using(crate::proofs::Regrouped::signature_is))]
-fn signature(lexemes: Cursor<'_>) -> Result<(ResultType, &[u8], &[u8], Cursor<'_>), ParseFault>
+fn signature(lexemes: Cursor<'_>) -> Result<(ResultType, &[u8], &[u8], Cursor<'_>), ParseError>
     ensures { Gives (λ x. (result_tree x.0, x.1.now, x.2.now, views x.3)) result (signature_at (views lexemes.entry)) }
 {
     let (result, rest) = exported(lexemes)?;
@@ -88,7 +88,7 @@ fn signature(lexemes: Cursor<'_>) -> Result<(ResultType, &[u8], &[u8], Cursor<'_
 
 /// A function (JNI Specification, chapter 2, "Native Method Arguments").
 #[tactic(auto, unfolding(crate::specs::Reading::function_at))]
-fn function(alloc: Global, lexemes: Cursor<'_>) -> Result<(Function, Cursor<'_>), ParseFault>
+fn function(alloc: Global, lexemes: Cursor<'_>) -> Result<(Function, Cursor<'_>), ParseError>
     ensures { Gives (λ x. (function_tree x.0, views x.1)) result (function_at (views lexemes.entry)) }
 {
     let line = line_at(lexemes);
@@ -96,7 +96,7 @@ fn function(alloc: Global, lexemes: Cursor<'_>) -> Result<(Function, Cursor<'_>)
     let (parameters, rest) = parameters(alloc, rest)?;
     let (body, rest) = body(alloc, NAMES - parameters.len(), rest)?;
     let Ok(function) = made(alloc, line, result, name, class_name, parameters, body) else {
-        return Err(ParseFault::Memory);
+        return Err(ParseError::Memory);
     };
     Ok((function, rest))
 }
@@ -129,7 +129,7 @@ fn made(
 /// The type and the name of a reference that all functions share, up to the equals sign.
 #[inline]
 #[tactic(auto, unfolding(crate::specs::Steps::static_head_at))]
-fn static_head(lexemes: Cursor<'_>) -> Result<(ReferenceType, &[u8], Cursor<'_>), ParseFault>
+fn static_head(lexemes: Cursor<'_>) -> Result<(ReferenceType, &[u8], Cursor<'_>), ParseError>
     ensures { Gives (λ x. (reference_tree x.0, x.1.now, views x.2)) result (static_head_at (views lexemes.entry)) }
 {
     let rest = expect(Fixed::Word(Word::Static), lexemes)?;
@@ -145,14 +145,14 @@ fn static_head(lexemes: Cursor<'_>) -> Result<(ReferenceType, &[u8], Cursor<'_>)
 
 /// A reference that all functions share.
 #[tactic(auto, using(crate::proofs::Regrouped::static_is))]
-fn static_reference(alloc: Global, lexemes: Cursor<'_>) -> Result<(Static, Cursor<'_>), ParseFault>
+fn static_reference(alloc: Global, lexemes: Cursor<'_>) -> Result<(Static, Cursor<'_>), ParseError>
     ensures { Gives (λ x. (static_tree x.0, views x.1)) result (static_at (views lexemes.entry)) }
 {
     let line = line_at(lexemes);
     let (kind, name, rest) = static_head(lexemes)?;
     let rest = expect_two(Fixed::Word(Word::Null), Fixed::Mark(Mark::Semicolon), rest)?;
     let Ok(name) = Name::new(alloc, name) else {
-        return Err(ParseFault::Memory);
+        return Err(ParseError::Memory);
     };
     Ok((Static { line, kind, name }, rest))
 }
@@ -168,11 +168,11 @@ fn function_item(
     functions: usize,
     statics: usize,
     lexemes: Cursor<'_>,
-) -> Result<ReadItem<'_>, ParseFault>
+) -> Result<ReadItem<'_>, ParseError>
     ensures { Gives (λ x. (item_tree x.0, x.1, x.2, views x.3)) result (function_item_at functions statics (views lexemes.entry)) }
 {
     if functions == 0 {
-        return Err(fault_at(Fault::TooMany, lexemes));
+        return Err(fault_at(ParseRule::TooMany, lexemes));
     }
     match function(alloc, lexemes) {
         Ok((function, rest)) => Ok((Item::Function(function), functions - 1, statics, rest)),
@@ -188,11 +188,11 @@ fn static_item(
     functions: usize,
     statics: usize,
     lexemes: Cursor<'_>,
-) -> Result<ReadItem<'_>, ParseFault>
+) -> Result<ReadItem<'_>, ParseError>
     ensures { Gives (λ x. (item_tree x.0, x.1, x.2, views x.3)) result (static_item_at functions statics (views lexemes.entry)) }
 {
     if statics == 0 {
-        return Err(fault_at(Fault::TooMany, lexemes));
+        return Err(fault_at(ParseRule::TooMany, lexemes));
     }
     match static_reference(alloc, lexemes) {
         Ok((shared, rest)) => Ok((Item::Static(shared), functions, statics - 1, rest)),
@@ -207,7 +207,7 @@ fn item(
     functions: usize,
     statics: usize,
     lexemes: Cursor<'_>,
-) -> Result<ReadItem<'_>, ParseFault>
+) -> Result<ReadItem<'_>, ParseError>
     ensures { Gives (λ x. (item_tree x.0, x.1, x.2, views x.3)) result (item_at functions statics (views lexemes.entry)) }
 {
     if starts_with(Fixed::Word(Word::JniExport), lexemes) {
@@ -220,7 +220,7 @@ fn item(
 }
 
 /// All items.
-fn items(alloc: Global, lexemes: Cursor<'_>) -> Result<Vec<Item>, ParseFault>
+fn items(alloc: Global, lexemes: Cursor<'_>) -> Result<Vec<Item>, ParseError>
     ensures { Gives (λ v. map item_tree v.items) result (items_at (length (views lexemes.entry) + 1) most_functions most_statics (views lexemes.entry)) }
 {
     let mut items = Vec::new(alloc);
@@ -239,7 +239,7 @@ fn items(alloc: Global, lexemes: Cursor<'_>) -> Result<Vec<Item>, ParseFault>
 
 /// The syntax tree that the text spells by these tokens, which are the text's (ISO/IEC 9899:1999,
 /// 6.5, 6.8 and 6.9, of which the language is a part). The time is linear in the text.
-pub fn parse(alloc: Global, text: &[u8], tokens: &[Token]) -> Result<Unit, ParseFault>
+pub fn parse(alloc: Global, text: &[u8], tokens: &[Token]) -> Result<Unit, ParseError>
     requires { Spells text.now tokens.now }
     // What is found is spelled by the text.
     ensures found { IfOk result (λ unit. SpellsUnit text.now (unit_tree unit)) }

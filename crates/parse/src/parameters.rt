@@ -8,7 +8,8 @@ ghost use Rattle.parse.specs.Reading.{parameter_at, parameters_at};
 
 use parse_expressions::owned_name;
 use parse_lexemes::{
-    Cursor, Fault, Fixed, ParseFault, fault_at, parameter_type, rest_of, starts_with, unexpected,
+    Cursor, Fixed, ParseError, ParseRule, fault_at, parameter_type, rest_of, starts_with,
+    unexpected,
 };
 use scan::Mark;
 use std::alloc::Global;
@@ -19,7 +20,7 @@ pub(crate) const NAMES: usize = 255;
 
 /// A parameter after its comma.
 #[tactic(auto, unfolding(crate::specs::Reading::parameter_at))]
-fn parameter(alloc: Global, lexemes: Cursor<'_>) -> Result<(Parameter, Cursor<'_>), ParseFault>
+fn parameter(alloc: Global, lexemes: Cursor<'_>) -> Result<(Parameter, Cursor<'_>), ParseError>
     ensures { Gives (λ x. (parameter_tree x.0, views x.1)) result (parameter_at (views lexemes.entry)) }
 {
     let Some(kind) = parameter_type(lexemes) else {
@@ -35,7 +36,7 @@ fn parameter(alloc: Global, lexemes: Cursor<'_>) -> Result<(Parameter, Cursor<'_
 pub(crate) fn parameters(
     alloc: Global,
     lexemes: Cursor<'_>,
-) -> Result<(Vec<Parameter>, Cursor<'_>), ParseFault>
+) -> Result<(Vec<Parameter>, Cursor<'_>), ParseError>
     ensures few { IfOk result (λ x. length x.0.items ≤ 255) }
     ensures gives { Gives (λ x. (map parameter_tree x.0.items, views x.1)) result (parameters_at 255 (views lexemes.entry)) }
 {
@@ -43,7 +44,7 @@ pub(crate) fn parameters(
     let mut rest = lexemes;
     'parameters: while starts_with(Fixed::Mark(Mark::Comma), rest) {
         if parameters.len() == NAMES {
-            return Err(fault_at(Fault::TooMany, rest));
+            return Err(fault_at(ParseRule::TooMany, rest));
         }
         let (parameter, after) = parameter(alloc, rest_of(rest))?;
         parameters.push(parameter)?;

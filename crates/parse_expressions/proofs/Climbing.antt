@@ -5,9 +5,9 @@ use Rattle.std.proofs.lemmas.Bool.{le-ltb, lt-ltb, ltb-true, ltb-false}
 use Rattle.syntax.specs.Tree.{BinaryOp, Expr, Binary}
 use Rattle.syntax.specs.Limits.{operator_level}
 use Rattle.syntax.specs.declared.expr.BinaryOp.{BinaryOp as BinaryInMemory}
-use Rattle.parse_lexemes.specs.declared.fault.Fault.TheVariants.{TooHigh}
-use Rattle.parse_lexemes.specs.declared.fault.ParseFault.{ParseFault}
-use Rattle.parse_lexemes.specs.declared.fault.ParseFault.TheVariants.{Memory, Found}
+use Rattle.parse_lexemes.specs.declared.fault.ParseRule.TheVariants.{TooHigh}
+use Rattle.parse_lexemes.specs.declared.fault.ParseError.{ParseError}
+use Rattle.parse_lexemes.specs.declared.fault.ParseError.TheVariants.{Memory, Fault}
 use Rattle.parse_lexemes.specs.Results.{◌>>=◌, Fails}
 use Rattle.parse_lexemes.specs.Lexemes.{Lexed, fault_at}
 use Rattle.parse_expressions.specs.Reading.{ReadExpr, operator_at, climb, climb_step, deeper, operand_at, expr_by, expr_at}
@@ -15,7 +15,7 @@ use Rattle.parse_expressions.specs.Steps.{joined_by, right_by, within}
 use Rattle.parse_lexemes.specs.Reading.{rest_of}
 
 -- Some steps are left, and what is read from here is all that is read.
-pub record Climbs (room least : ℕ) (left : Expr) (high : ℕ) (ls : List Lexed) (total : Result ReadExpr ParseFault) : Type 0 where
+pub record Climbs (room least : ℕ) (left : Expr) (high : ℕ) (ls : List Lexed) (total : Result ReadExpr ParseError) : Type 0 where
   pub low : high ≤ room
   pub steps : ℕ
   pub enough : room < high + suc steps
@@ -39,10 +39,10 @@ pub climbs_start : (room least : ℕ) (ls : List Lexed) (left : Expr) (high : �
 unfolding expr_by
 climbs_start room least ls left high rest low h = record { low = low; steps = room; enough = omega arith; same = sym (rw (h, add-one room) refl) }
 
-pub start_fails : (room least : ℕ) (ls : List Lexed) (f : ParseFault) → Fails f (operand_at room ls) → Fails f (expr_at room least ls)
+pub start_fails : (room least : ℕ) (ls : List Lexed) (f : ParseError) → Fails f (operand_at room ls) → Fails f (expr_at room least ls)
 unfolding expr_by
 start_fails room least ls Memory h = tt
-start_fails room least ls (Found fault line) h = rw h refl
+start_fails room least ls (Fault broken) h = rw h refl
 
 -- an operator within a level is one that comes next
 pub within_some : (least : ℕ) (o : Option BinaryOp) (op : BinaryOp) → Some op ≡ within least o → Some op ≡ o
@@ -60,7 +60,7 @@ within_tight least (Some other) op e =
       | false ↦ λ lt e. let same : op ≡ other = cc in rw same (ltb-false (operator_level other) least lt)
     ] refl e
 
-module _ (room least : ℕ) (left : Expr) (high : ℕ) (ls : List Lexed) (total : Result ReadExpr ParseFault) (c : Climbs room least left high ls total) where
+module _ (room least : ℕ) (left : Expr) (high : ℕ) (ls : List Lexed) (total : Result ReadExpr ParseError) (c : Climbs room least left high ls total) where
   step_is : (o : Option BinaryOp) → o ≡ operator_at ls → climb_step (deeper room) room least (climb (deeper room) room least c.steps) left high ls o ≡ total
   unfolding climb
   step_is o e = ap (climb_step (deeper room) room least (climb (deeper room) room least c.steps) left high ls) e ∙ c.same
@@ -85,14 +85,14 @@ module _ (room least : ℕ) (left : Expr) (high : ℕ) (ls : List Lexed) (total 
   climb_done none = done_at (operator_at ls) refl none
 
   -- the right operand, and what is read after the larger expression
-  after_right : (op : BinaryOp) → Result ReadExpr ParseFault → Result ReadExpr ParseFault
+  after_right : (op : BinaryOp) → Result ReadExpr ParseError → Result ReadExpr ParseError
   after_right op right = joined_by op (left, high, ls) right >>= λ r. climb (deeper room) room least c.steps r.0 r.1 r.2
 
   joined : (op : BinaryOp) → Some op ≡ operator_at ls → least ≤ operator_level op → total ≡ after_right op (right_by (deeper room) room high op ls)
   unfolding after_right
   joined op e le = sym (step_is (Some op) e) ∙ rw (le-ltb (operator_level op) least le) (chosen (nat_lt high room))
     where
-      one : (r : Result ReadExpr ParseFault) → (r >>= λ r. climb (deeper room) room least c.steps (Binary op left r.0) (1 + max high r.1) r.2) ≡ after_right op r
+      one : (r : Result ReadExpr ParseError) → (r >>= λ r. climb (deeper room) room least c.steps (Binary op left r.0) (1 + max high r.1) r.2) ≡ after_right op r
       one (Ok r) = refl
       one (Err f) = refl
 
@@ -101,10 +101,10 @@ module _ (room least : ℕ) (left : Expr) (high : ℕ) (ls : List Lexed) (total 
       chosen true = one (deeper room (operator_level op + 1) (rest_of ls))
       chosen false = refl
 
-  pub climb_fails : (op : BinaryOp) (f : ParseFault) → Some op ≡ operator_at ls → least ≤ operator_level op → Fails f (joined_by op (left, high, ls) (right_by (deeper room) room high op ls)) → Fails f total
+  pub climb_fails : (op : BinaryOp) (f : ParseError) → Some op ≡ operator_at ls → least ≤ operator_level op → Fails f (joined_by op (left, high, ls) (right_by (deeper room) room high op ls)) → Fails f total
   unfolding after_right
   climb_fails op Memory e le h = tt
-  climb_fails op (Found fault line) e le h = joined op e le ∙ rw h refl
+  climb_fails op (Fault broken) e le h = joined op e le ∙ rw h refl
 
   pub climb_on : (op : BinaryOp) (next : Expr) (high' : ℕ) (rest : List Lexed) → Some op ≡ operator_at ls → least ≤ operator_level op → high < high' → high' ≤ room → joined_by op (left, high, ls) (right_by (deeper room) room high op ls) ≡ Ok (next, high', rest) → Climbs room least next high' rest total
   unfolding after_right

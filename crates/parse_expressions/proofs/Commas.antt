@@ -3,8 +3,8 @@ use Rattle.std.proofs.Common.{◌≡◌, ℕ, zero, suc, ◌+◌, ◌<◌, ◌�
 use Rattle.std.proofs.lemmas.List.{append-nil}
 use Rattle.scan.specs.declared.token.Mark.TheVariants as marks
 use Rattle.syntax.specs.Tree.{Argument}
-use Rattle.parse_lexemes.specs.declared.fault.ParseFault.{ParseFault}
-use Rattle.parse_lexemes.specs.declared.fault.ParseFault.TheVariants.{Memory, Found}
+use Rattle.parse_lexemes.specs.declared.fault.ParseError.{ParseError}
+use Rattle.parse_lexemes.specs.declared.fault.ParseError.TheVariants.{Memory, Fault}
 use Rattle.parse_lexemes.specs.declared.first.Fixed.TheVariants as fixed
 use Rattle.parse_lexemes.specs.Results.{◌>>=◌, Fails}
 use Rattle.parse_lexemes.specs.Lexemes.{Lexed}
@@ -13,24 +13,24 @@ use Rattle.parse_expressions.specs.Reading.{argument_at, arguments_at}
 use Rattle.parse_expressions.proofs.JniCalls.{argument_shorter}
 
 -- what is read, after what came before
-abbrev pub with_more : {A : Type 0} → List A → Result (List A × List Lexed) ParseFault → Result (List A × List Lexed) ParseFault
+abbrev pub with_more : {A : Type 0} → List A → Result (List A × List Lexed) ParseError → Result (List A × List Lexed) ParseError
 with_more before read = read >>= λ more. Ok (before ++ more.0, more.1)
 
-abbrev pub given : {A : Type 0} → List Lexed → List A → Result (List A × List Lexed) ParseFault
+abbrev pub given : {A : Type 0} → List Lexed → List A → Result (List A × List Lexed) ParseError
 given ls more = Ok (more, ls)
 
-pub no_more : {A : Type 0} (read : Result (List A × List Lexed) ParseFault) → with_more [] read ≡ read
+pub no_more : {A : Type 0} (read : Result (List A × List Lexed) ParseError) → with_more [] read ≡ read
 no_more (Ok x) = refl
 no_more (Err f) = refl
 
-pub regroup : {A : Type 0} (before : List A) (x : A) (read : Result (List A × List Lexed) ParseFault) → with_more (before ++ x ∷ []) read ≡ with_more before (read >>= λ more. Ok (x ∷ more.0, more.1))
+pub regroup : {A : Type 0} (before : List A) (x : A) (read : Result (List A × List Lexed) ParseError) → with_more (before ++ x ∷ []) read ≡ with_more before (read >>= λ more. Ok (x ∷ more.0, more.1))
 regroup before x (Ok more) = ap (given more.1) (append_assoc before (x ∷ []) more.0)
 regroup before x (Err e) = refl
 
 -- ---- arguments
 
 abbrev pub ReadArguments : Type 0
-ReadArguments = Result (List Argument × List Lexed) ParseFault
+ReadArguments = Result (List Argument × List Lexed) ParseError
 
 -- What is read from here, after the arguments so far, is all that is read.
 pub record FillsArguments (room : ℕ) (before : List Argument) (ls : List Lexed) (total : ReadArguments) : Type 0 where
@@ -48,11 +48,11 @@ module _ (room : ℕ) (before : List Argument) (ls : List Lexed) (total : ReadAr
       let one : with_more before (arguments_at room (suc f.steps) ls) ≡ Ok (before, ls) = rw s (ap (given ls) (append-nil before)) in
       sym f.same ∙ one
 
-  pub arguments_fail : (e : ParseFault) → starts_with (fixed.Mark marks.Comma) ls ≡ true → Fails e (argument_at room (rest_of ls)) → Fails e total
+  pub arguments_fail : (e : ParseError) → starts_with (fixed.Mark marks.Comma) ls ≡ true → Fails e (argument_at room (rest_of ls)) → Fails e total
   unfolding arguments_at
   arguments_fail Memory s h = tt
-  arguments_fail (Found fault line) s h =
-      let one : with_more before (arguments_at room (suc f.steps) ls) ≡ Err (Found fault line) = rw (s, h) refl in
+  arguments_fail (Fault broken) s h =
+      let one : with_more before (arguments_at room (suc f.steps) ls) ≡ Err (Fault broken) = rw (s, h) refl in
       sym f.same ∙ one
 
   pub arguments_on : (a : Argument) (after : List Lexed) → starts_with (fixed.Mark marks.Comma) ls ≡ true → argument_at room (rest_of ls) ≡ Ok (a, after) → FillsArguments room (before ++ a ∷ []) after total

@@ -5,7 +5,7 @@ use Rattle.std.proofs.lemmas.Bool.{and_parts, eqb-true, false_from_ne_true}
 use Rattle.scan.specs.declared.token.Mark.TheVariants as marks
 use Rattle.syntax.specs.Tree.{LogicalNot, Complement, ToWord, ToInt, Expr, Number, Named, Variable, Element, Prefix, Binary, Paren, Argument, Value, Text, AddressOf, Call, RightSide, FromExpr, FromCall, Test, TestExpr, TestCall}
 use Rattle.syntax.specs.Limits.{height}
-use Rattle.parse_lexemes.specs.declared.fault.ParseFault.{ParseFault}
+use Rattle.parse_lexemes.specs.declared.fault.ParseError.{ParseError}
 use Rattle.scan.specs.declared.reserved.Word.TheVariants as words
 use Rattle.parse_lexemes.specs.declared.first.Fixed.TheVariants as fixed
 use Rattle.parse_lexemes.specs.Results.{◌>>=◌}
@@ -107,7 +107,7 @@ arguments_take room (suc steps) ls x e =
     ]
 
 abbrev Read : Type 0
-Read = Result (Call × List Lexed) ParseFault
+Read = Result (Call × List Lexed) ParseError
 
 abbrev call_of : List ℕ → List Argument → Call
 call_of f arguments = record { function = f; arguments = arguments }
@@ -237,7 +237,7 @@ text_again : (bytes : List ℕ) (ls rest : List Lexed) → Begins (Anywhere (Tex
 text_again bytes [] rest h = absurd h
 text_again bytes (l ∷ ls) rest h = ap text_of h.0
 
-abbrev argument_read : Argument → List Lexed → Result (Argument × List Lexed) ParseFault
+abbrev argument_read : Argument → List Lexed → Result (Argument × List Lexed) ParseError
 argument_read a ls = Ok (a, ls)
 
 argument_again : (room : ℕ) (a : Argument) (ls rest : List Lexed) → Begins (argument a) ls rest → IsArgument room a → Closes rest → argument_at room ls ≡ Ok (a, rest)
@@ -258,7 +258,7 @@ closed_before : (arguments : List Argument) (ls rest : List Lexed) → Begins (a
 closed_before [] ls rest h closed = subst Closes (sym h) closed
 closed_before (a ∷ more) ls rest h closed = closes_mark marks.Comma refl refl (argument a ++ argument_tokens more) ls rest h
 
-abbrev arguments_read : List Argument → List Lexed → Result (List Argument × List Lexed) ParseFault
+abbrev arguments_read : List Argument → List Lexed → Result (List Argument × List Lexed) ParseError
 arguments_read arguments ls = Ok (arguments, ls)
 
 arguments_again : (room : ℕ) (arguments : List Argument) (steps : ℕ) (ls rest : List Lexed) → length ls ≤ steps → Begins (argument_tokens arguments) ls rest → AreArguments room arguments → starts_with (fixed.Mark marks.Comma) rest ≡ false → Closes rest → arguments_at room (suc steps) ls ≡ Ok (arguments, rest)
@@ -333,7 +333,7 @@ unfolding right_at
 right_again room (FromExpr e) ls rest h is closed = rw (no_call 0 e is.levelled ls rest h, right_expr_again room e ls rest h is closed) refl
 right_again room (FromCall c) ls rest h is closed = rw (call_starts (call_after c) ls rest h, call_again room c ls rest h is) refl
 
-abbrev test_read : Test → List Lexed → Result (Test × List Lexed) ParseFault
+abbrev test_read : Test → List Lexed → Result (Test × List Lexed) ParseError
 test_read t ls = Ok (t, ls)
 
 pub test_again : (room : ℕ) (t : Test) (ls rest : List Lexed) → Begins (test_tokens t) ls rest → IsTest room t → Closes rest → test_at room ls ≡ Ok (t, rest)

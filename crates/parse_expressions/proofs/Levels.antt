@@ -7,7 +7,7 @@ use Rattle.scan.specs.declared.token.Mark.{Mark}
 use Rattle.scan.specs.declared.token.Mark.TheVariants as marks
 use Rattle.syntax.specs.Tree.{Constant, True, False, Commit, Abort, Null, PrefixOp, LogicalNot, Complement, ToWord, ToInt, BinaryOp, Expr, Number, Named, Variable, Element, Prefix, Binary, Paren}
 use Rattle.syntax.specs.Limits.{operator_level, prefix_level, height}
-use Rattle.parse_lexemes.specs.declared.fault.ParseFault.{ParseFault}
+use Rattle.parse_lexemes.specs.declared.fault.ParseError.{ParseError}
 use Rattle.scan.specs.declared.reserved.Word.{Word}
 use Rattle.scan.specs.declared.reserved.Word.TheVariants as words
 use Rattle.parse_lexemes.specs.declared.first.Fixed.{Fixed}
@@ -45,7 +45,7 @@ Takeable e ls = (op : BinaryOp) → operator_at ls ≡ Some op → IsLevelled (o
 same_op : (o : Option BinaryOp) (a b : BinaryOp) → o ≡ Some a → o ≡ Some b → a ≡ b
 same_op o a b e f = let g : Some a ≡ Some b = sym e ∙ f in cc
 
-abbrev answer : ReadExpr → Result ReadExpr ParseFault
+abbrev answer : ReadExpr → Result ReadExpr ParseError
 answer x = Ok x
 
 -- ---- what is read is spelled so

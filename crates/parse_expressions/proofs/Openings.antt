@@ -6,9 +6,9 @@ use Rattle.scan.specs.declared.token.Mark.TheVariants as marks
 use Rattle.scan.specs.declared.reserved.Word.TheVariants as words
 use Rattle.syntax.specs.Tree.{LogicalNot, Complement, ToWord, ToInt, PrefixOp, Element}
 use Rattle.parse_lexemes.specs.declared.first.Fixed.TheVariants as fixed
-use Rattle.parse_lexemes.specs.declared.fault.Fault.TheVariants.{TooHigh}
-use Rattle.parse_lexemes.specs.declared.fault.ParseFault.{ParseFault}
-use Rattle.parse_lexemes.specs.declared.fault.ParseFault.TheVariants.{Memory, Found}
+use Rattle.parse_lexemes.specs.declared.fault.ParseRule.TheVariants.{TooHigh}
+use Rattle.parse_lexemes.specs.declared.fault.ParseError.{ParseError}
+use Rattle.parse_lexemes.specs.declared.fault.ParseError.TheVariants.{Memory, Fault}
 use Rattle.parse_lexemes.specs.Results.{◌>>=◌, Fails}
 use Rattle.parse_lexemes.specs.Lexemes.{Lexed, expect, name_at, fault_at}
 use Rattle.parse_lexemes.specs.Reading.{starts_with, rest_of}
@@ -17,18 +17,18 @@ use Rattle.parse_expressions.proofs.Climbing.{deeper_is}
 use Rattle.parse_expressions.specs.Steps.{Opening, OfPrefix, OfParen, OfElement, ReadOpening, level_inside, operand_of, cast_at, paren_opening_at, bracket_at, element_opening_at, opening_at}
 
 -- what is read of an operand that opens so, or of one without an expression inside
-abbrev pub operand_from : Reader → List Lexed → ReadOpening → Result ReadExpr ParseFault
+abbrev pub operand_from : Reader → List Lexed → ReadOpening → Result ReadExpr ParseError
 operand_from deep ls None = primary_at ls
 operand_from deep ls (Some x) = deep (level_inside x.0) x.1 >>= λ e. operand_of x.0 e
 
-abbrev pub until_bracket : ReadExpr → Result ReadExpr ParseFault
+abbrev pub until_bracket : ReadExpr → Result ReadExpr ParseError
 until_bracket i = expect (fixed.Mark marks.CloseBracket) i.2 >>= λ after. Ok (i.0, i.1, after)
 
-abbrev element_of : Identifier → ReadExpr → Result ReadExpr ParseFault
+abbrev element_of : Identifier → ReadExpr → Result ReadExpr ParseError
 element_of name i = Ok (Element name i.0, 1 + i.1, i.2)
 
 module _ (deep : Reader) (ls : List Lexed) where
-  cast_is : (op : PrefixOp) (r : Result (List Lexed) ParseFault) → (r >>= λ after. under_prefix deep op after) ≡ (r >>= (λ after. Ok (Some (OfPrefix op, after))) >>= λ o. operand_from deep ls o)
+  cast_is : (op : PrefixOp) (r : Result (List Lexed) ParseError) → (r >>= λ after. under_prefix deep op after) ≡ (r >>= (λ after. Ok (Some (OfPrefix op, after))) >>= λ o. operand_from deep ls o)
   unfolding under_prefix
   cast_is op (Ok after) = refl
   cast_is op (Err e) = refl
@@ -56,27 +56,27 @@ index_is room deep ls = by_room (room == 0)
     by_room false = refl
 
 module _ (room : ℕ) (deep : Reader) (ls : List Lexed) where
-  ended_is : (name : Identifier) (i : ReadExpr) (r : Result (List Lexed) ParseFault) → (r >>= (λ after. Ok (i.0, i.1, after)) >>= λ x. element_of name x) ≡ (r >>= λ after. Ok (Element name i.0, 1 + i.1, after))
+  ended_is : (name : Identifier) (i : ReadExpr) (r : Result (List Lexed) ParseError) → (r >>= (λ after. Ok (i.0, i.1, after)) >>= λ x. element_of name x) ≡ (r >>= λ after. Ok (Element name i.0, 1 + i.1, after))
   ended_is name i (Ok after) = refl
   ended_is name i (Err e) = refl
 
-  inside_is : (name : Identifier) (r : Result ReadExpr ParseFault) → (r >>= (λ i. until_bracket i) >>= λ x. element_of name x) ≡ (r >>= λ e. operand_of (OfElement name) e)
+  inside_is : (name : Identifier) (r : Result ReadExpr ParseError) → (r >>= (λ i. until_bracket i) >>= λ x. element_of name x) ≡ (r >>= λ e. operand_of (OfElement name) e)
   inside_is name (Ok i) = ended_is name i (expect (fixed.Mark marks.CloseBracket) i.2)
   inside_is name (Err e) = refl
 
-  bracket_is : (name : Identifier) (r : Result (List Lexed) ParseFault) → (r >>= (λ within. deep 0 within >>= λ i. until_bracket i) >>= λ x. element_of name x) ≡ (r >>= (λ rest. Ok (Some (OfElement name, rest))) >>= λ o. operand_from deep ls o)
+  bracket_is : (name : Identifier) (r : Result (List Lexed) ParseError) → (r >>= (λ within. deep 0 within >>= λ i. until_bracket i) >>= λ x. element_of name x) ≡ (r >>= (λ rest. Ok (Some (OfElement name, rest))) >>= λ o. operand_from deep ls o)
   bracket_is name (Ok within) = inside_is name (deep 0 within)
   bracket_is name (Err e) = refl
 
-  named_is : (r : Result (Identifier × List Lexed) ParseFault) → (r >>= λ name. index_by room deep name.1 >>= λ x. element_of name.0 x) ≡ (r >>= (λ name. bracket_at room name.1 >>= λ rest. Ok (Some (OfElement name.0, rest))) >>= λ o. operand_from deep ls o)
-  named_is (Ok name) = ap (λ (r : Result ReadExpr ParseFault). r >>= λ x. element_of name.0 x) (index_is room deep name.1) ∙ bracket_is name.0 (bracket_at room name.1)
+  named_is : (r : Result (Identifier × List Lexed) ParseError) → (r >>= λ name. index_by room deep name.1 >>= λ x. element_of name.0 x) ≡ (r >>= (λ name. bracket_at room name.1 >>= λ rest. Ok (Some (OfElement name.0, rest))) >>= λ o. operand_from deep ls o)
+  named_is (Ok name) = ap (λ (r : Result ReadExpr ParseError). r >>= λ x. element_of name.0 x) (index_is room deep name.1) ∙ bracket_is name.0 (bracket_at room name.1)
   named_is (Err e) = refl
 
   element_is : element_by room deep ls ≡ (element_opening_at room ls >>= λ o. operand_from deep ls o)
   unfolding element_by element_opening_at
   element_is = named_is (name_at ls)
 
-  choice : (z t x p e : Bool) (f : ParseFault) (a b c d : Result ReadExpr ParseFault) (c' d' : Result ReadOpening ParseFault) (a' b' : ReadOpening) → a ≡ operand_from deep ls a' → b ≡ operand_from deep ls b' → c ≡ (c' >>= λ o. operand_from deep ls o) → d ≡ (d' >>= λ o. operand_from deep ls o)
+  choice : (z t x p e : Bool) (f : ParseError) (a b c d : Result ReadExpr ParseError) (c' d' : Result ReadOpening ParseError) (a' b' : ReadOpening) → a ≡ operand_from deep ls a' → b ≡ operand_from deep ls b' → c ≡ (c' >>= λ o. operand_from deep ls o) → d ≡ (d' >>= λ o. operand_from deep ls o)
       → (if t then (if z then Err f else a) else if x then (if z then Err f else b) else if p then (if z then Err f else c) else if e then d else primary_at ls)
       ≡ ((if z && (t || x || p) then Err f else if t then Ok a' else if x then Ok b' else if p then c' else if e then d' else Ok None) >>= λ o. operand_from deep ls o)
   choice true true x p e f a b c d c' d' a' b' ea eb ec ed = refl
@@ -99,9 +99,9 @@ module _ (room : ℕ) (deep : Reader) (ls : List Lexed) where
 
 -- how the cases of an operand are read
 module _ (room : ℕ) (ls : List Lexed) where
-  pub operand_fails : (f : ParseFault) → Fails f (opening_at room ls) → Fails f (operand_at room ls)
+  pub operand_fails : (f : ParseError) → Fails f (opening_at room ls) → Fails f (operand_at room ls)
   operand_fails Memory h = tt
-  operand_fails (Found fault line) h = rw (operand_is room (deeper room) ls, h) refl
+  operand_fails (Fault broken) h = rw (operand_is room (deeper room) ls, h) refl
 
   pub operand_plain : opening_at room ls ≡ Ok None → operand_at room ls ≡ primary_at ls
   operand_plain h = rw (operand_is room (deeper room) ls, h) refl
@@ -109,17 +109,17 @@ module _ (room : ℕ) (ls : List Lexed) where
   pub operand_opens : (o : Opening) (rest : List Lexed) → opening_at room ls ≡ Ok (Some (o, rest)) → 1 ≤ room → operand_at room ls ≡ (expr_at (room - 1) (level_inside o) rest >>= λ e. operand_of o e)
   operand_opens o rest h some = rw (operand_is room (deeper room) ls, h, deeper_is room (level_inside o) rest some) refl
 
-  pub inside_fails : (o : Opening) (rest : List Lexed) (f : ParseFault) → opening_at room ls ≡ Ok (Some (o, rest)) → 1 ≤ room → Fails f (expr_at (room - 1) (level_inside o) rest) → Fails f (operand_at room ls)
+  pub inside_fails : (o : Opening) (rest : List Lexed) (f : ParseError) → opening_at room ls ≡ Ok (Some (o, rest)) → 1 ≤ room → Fails f (expr_at (room - 1) (level_inside o) rest) → Fails f (operand_at room ls)
   inside_fails o rest Memory h some fails = tt
-  inside_fails o rest (Found fault line) h some fails = rw (operand_opens o rest h some, fails) refl
+  inside_fails o rest (Fault broken) h some fails = rw (operand_opens o rest h some, fails) refl
 
-  pub index_fails : (f : ParseFault) → Fails f (bracket_at room ls) → Fails f (index_at room ls)
+  pub index_fails : (f : ParseError) → Fails f (bracket_at room ls) → Fails f (index_at room ls)
   index_fails Memory h = tt
-  index_fails (Found fault line) h = rw (index_is room (deeper room) ls, h) refl
+  index_fails (Fault broken) h = rw (index_is room (deeper room) ls, h) refl
 
   pub index_opens : (within : List Lexed) → bracket_at room ls ≡ Ok within → 1 ≤ room → index_at room ls ≡ (expr_at (room - 1) 0 within >>= λ i. until_bracket i)
   index_opens within h some = rw (index_is room (deeper room) ls, h, deeper_is room 0 within some) refl
 
-  pub index_inside_fails : (within : List Lexed) (f : ParseFault) → bracket_at room ls ≡ Ok within → 1 ≤ room → Fails f (expr_at (room - 1) 0 within) → Fails f (index_at room ls)
+  pub index_inside_fails : (within : List Lexed) (f : ParseError) → bracket_at room ls ≡ Ok within → 1 ≤ room → Fails f (expr_at (room - 1) 0 within) → Fails f (index_at room ls)
   index_inside_fails within Memory h some fails = tt
-  index_inside_fails within (Found fault line) h some fails = rw (index_opens within h some, fails) refl
+  index_inside_fails within (Fault broken) h some fails = rw (index_opens within h some, fails) refl

@@ -3,9 +3,9 @@ use Rattle.std.proofs.Common.{◌≡◌, ℕ, Bool, true, false, List, [], ◌�
 use Rattle.std.specs.Prelude.{is_ok, is_some}
 use Rattle.scan.specs.declared.token.Mark.{Mark}
 use Rattle.syntax.specs.Tree.{BinaryOp, Constant, Number, Variable}
-use Rattle.parse_lexemes.specs.declared.fault.Fault.TheVariants.{NoForm}
-use Rattle.parse_lexemes.specs.declared.fault.ParseFault.{ParseFault}
-use Rattle.parse_lexemes.specs.declared.fault.ParseFault.TheVariants.{Memory, Found}
+use Rattle.parse_lexemes.specs.declared.fault.ParseRule.TheVariants.{NoForm}
+use Rattle.parse_lexemes.specs.declared.fault.ParseError.{ParseError}
+use Rattle.parse_lexemes.specs.declared.fault.ParseError.TheVariants.{Memory, Fault}
 use Rattle.parse_lexemes.specs.declared.first.Fixed.TheVariants as fixed
 use Rattle.parse_lexemes.specs.declared.first.Shape.{Shape}
 use Rattle.parse_lexemes.specs.declared.first.Shape.TheVariants as shapes
@@ -34,7 +34,7 @@ pub operator_at_is : (ls : List Lexed) → mark_operator (mark_of_shape (shape_a
 operator_at_is [] = refl
 operator_at_is (l ∷ ls) = operator_in_is l.meaning
 
-abbrev pub primary_by : Shape → List Lexed → Result ReadExpr ParseFault
+abbrev pub primary_by : Shape → List Lexed → Result ReadExpr ParseError
 primary_by (shapes.Number unsigned value) ls = Ok (Number value unsigned, 0, rest_of ls)
 primary_by shapes.Name ls = name_at ls >>= λ name. Ok (Variable name.0, 0, name.1)
 primary_by (shapes.Fixed (fixed.Word word)) ls = named_of (constant_of_word word) ls (rest_of ls)
@@ -91,6 +91,6 @@ primary_shape ls s is = sym (primary_is ls) ∙ ap (λ (x : Shape). primary_by x
 pub primary_named : (ls after : List Lexed) (s : Shape) (bytes : List ℕ) → s ≡ shape_at ls → s ≡ shapes.Name → name_at ls ≡ Ok (bytes, after) → primary_at ls ≡ Ok (Variable bytes, 0, after)
 primary_named ls after s bytes is name read = rw (primary_shape ls s is, name, read) refl
 
-pub primary_fails : (ls : List Lexed) (s : Shape) (e : ParseFault) → s ≡ shape_at ls → s ≡ shapes.Name → Fails e (name_at ls) → Fails e (primary_at ls)
+pub primary_fails : (ls : List Lexed) (s : Shape) (e : ParseError) → s ≡ shape_at ls → s ≡ shapes.Name → Fails e (name_at ls) → Fails e (primary_at ls)
 primary_fails ls s Memory is name h = tt
-primary_fails ls s (Found fault line) is name h = rw (primary_shape ls s is, name, h) refl
+primary_fails ls s (Fault broken) is name h = rw (primary_shape ls s is, name, h) refl

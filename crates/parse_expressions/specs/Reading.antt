@@ -5,9 +5,9 @@ use Rattle.scan.specs.declared.token.Mark.TheVariants as marks
 use Rattle.base.specs.Bytes.{Identifier}
 use Rattle.syntax.specs.Tree.{Constant, PrefixOp, LogicalNot, Complement, ToWord, ToInt, BinaryOp, LogicalOr, LogicalAnd, BitOr, BitXor, BitAnd, Equal, NotEqual, Less, LessEqual, Greater, GreaterEqual, ShiftLeft, ShiftRight, Add, Subtract, Multiply, Divide, Remainder, Expr, Number, Named, Variable, Element, Prefix, Binary, Paren, Argument, Value, Text, AddressOf, Call, RightSide, FromExpr, FromCall, Test, TestExpr, TestCall}
 use Rattle.syntax.specs.Limits.{operator_level, prefix_level}
-use Rattle.parse_lexemes.specs.declared.fault.Fault.TheVariants.{NoForm, TooHigh}
-use Rattle.parse_lexemes.specs.declared.fault.ParseFault.{ParseFault}
-use Rattle.parse_lexemes.specs.declared.fault.ParseFault.TheVariants.{Found}
+use Rattle.parse_lexemes.specs.declared.fault.ParseRule.TheVariants.{NoForm, TooHigh}
+use Rattle.parse_lexemes.specs.declared.fault.ParseError.{ParseError}
+use Rattle.parse_lexemes.specs.Faults.{breaks}
 use Rattle.scan.specs.declared.reserved.Word.TheVariants as words
 use Rattle.parse_lexemes.specs.declared.first.Fixed.TheVariants as fixed
 use Rattle.parse_lexemes.specs.Results.{◌>>=◌}
@@ -56,13 +56,13 @@ abbrev pub ReadExpr : Type 0
 ReadExpr = Expr × ℕ × List Lexed
 
 abbrev pub Reader : Type 0
-Reader = ℕ → List Lexed → Result ReadExpr ParseFault
+Reader = ℕ → List Lexed → Result ReadExpr ParseError
 
 -- what is read goes on from a larger expression
 abbrev pub More : Type 0
-More = Expr → ℕ → List Lexed → Result ReadExpr ParseFault
+More = Expr → ℕ → List Lexed → Result ReadExpr ParseError
 
-abbrev pub climb_step : Reader → ℕ → ℕ → More → Expr → ℕ → List Lexed → Option BinaryOp → Result ReadExpr ParseFault
+abbrev pub climb_step : Reader → ℕ → ℕ → More → Expr → ℕ → List Lexed → Option BinaryOp → Result ReadExpr ParseError
 climb_step deep room least more left high ls None = Ok (left, high, ls)
 climb_step deep room least more left high ls (Some op) =
     if nat_lt (operator_level op) least then Ok (left, high, ls)
@@ -75,26 +75,26 @@ climb deep room least zero left high ls = Err (fault_at TooHigh ls)
 climb deep room least (suc steps) left high ls = climb_step deep room least (climb deep room least steps) left high ls (operator_at ls)
 
 -- a prefix's operand
-unfoldable pub under_prefix : Reader → PrefixOp → List Lexed → Result ReadExpr ParseFault
+unfoldable pub under_prefix : Reader → PrefixOp → List Lexed → Result ReadExpr ParseError
 under_prefix deep op ls = do
   e ← deep prefix_level ls
   Ok (Prefix op e.0, 1 + e.1, e.2)
 
-unfoldable pub in_parens : Reader → List Lexed → Result ReadExpr ParseFault
+unfoldable pub in_parens : Reader → List Lexed → Result ReadExpr ParseError
 in_parens deep ls = do
   e ← deep 0 ls
   after ← expect (fixed.Mark marks.CloseParen) e.2
   Ok (Paren e.0, 1 + e.1, after)
 
 -- after an opening parenthesis: a type, or an expression
-unfoldable pub after_paren : Reader → List Lexed → Result ReadExpr ParseFault
+unfoldable pub after_paren : Reader → List Lexed → Result ReadExpr ParseError
 after_paren deep ls =
     if starts_with (fixed.Word words.Uint32) ls then (expect (fixed.Mark marks.CloseParen) (rest_of ls) >>= λ after. under_prefix deep ToWord after)
     else if starts_with (fixed.Word words.Jint) ls then (expect (fixed.Mark marks.CloseParen) (rest_of ls) >>= λ after. under_prefix deep ToInt after)
     else in_parens deep ls
 
 -- an index in its brackets
-unfoldable pub index_by : ℕ → Reader → List Lexed → Result ReadExpr ParseFault
+unfoldable pub index_by : ℕ → Reader → List Lexed → Result ReadExpr ParseError
 index_by room deep ls =
     if room == 0 then Err (fault_at TooHigh ls)
     else (expect (fixed.Mark marks.OpenBracket) ls >>= λ within. deep 0 within >>= λ i. expect (fixed.Mark marks.CloseBracket) i.2 >>= λ after. Ok (i.0, i.1, after))
@@ -103,18 +103,18 @@ index_by room deep ls =
 abbrev pub starts_element : List Lexed → Bool
 starts_element ls = if starts_name ls then starts_with (fixed.Mark marks.OpenBracket) (rest_of ls) else false
 
-unfoldable pub element_by : ℕ → Reader → List Lexed → Result ReadExpr ParseFault
+unfoldable pub element_by : ℕ → Reader → List Lexed → Result ReadExpr ParseError
 element_by room deep ls = do
   name ← name_at ls
   i ← index_by room deep name.1
   Ok (Element name.0 i.0, 1 + i.1, i.2)
 
-abbrev pub named_of : Option Constant → List Lexed → List Lexed → Result ReadExpr ParseFault
+abbrev pub named_of : Option Constant → List Lexed → List Lexed → Result ReadExpr ParseError
 named_of None ls after = Err (fault_at NoForm ls)
 named_of (Some c) ls after = Ok (Named c, 0, after)
 
 -- a number, a named constant or a name; the first lexeme means this
-abbrev pub primary_of : Meaning → List Lexed → List Lexed → Result ReadExpr ParseFault
+abbrev pub primary_of : Meaning → List Lexed → List Lexed → Result ReadExpr ParseError
 primary_of (Number' value unsigned) ls after = Ok (Number value unsigned, 0, after)
 primary_of (Name' bytes) ls after = Ok (Variable bytes, 0, after)
 primary_of (Fixed' (fixed.Word w)) ls after = named_of (constant_of_word w) ls after
@@ -122,12 +122,12 @@ primary_of (Fixed' (fixed.Mark m)) ls after = Err (fault_at NoForm ls)
 primary_of (Fixed' fixed.End) ls after = Err (fault_at NoForm ls)
 primary_of (Text' bytes) ls after = Err (fault_at NoForm ls)
 
-unfoldable pub primary_at : List Lexed → Result ReadExpr ParseFault
-primary_at [] = Err (Found NoForm 0)
+unfoldable pub primary_at : List Lexed → Result ReadExpr ParseError
+primary_at [] = Err (breaks NoForm 0)
 primary_at (l ∷ after) = primary_of l.meaning (l ∷ after) after
 
 -- a prefix with its operand, parentheses, an element, or what holds best
-unfoldable pub operand_by : ℕ → Reader → List Lexed → Result ReadExpr ParseFault
+unfoldable pub operand_by : ℕ → Reader → List Lexed → Result ReadExpr ParseError
 operand_by room deep ls =
     if starts_with (fixed.Mark marks.Tilde) ls then (if room == 0 then Err (fault_at TooHigh ls) else under_prefix deep Complement (rest_of ls))
     else if starts_with (fixed.Mark marks.Exclamation) ls then (if room == 0 then Err (fault_at TooHigh ls) else under_prefix deep LogicalNot (rest_of ls))
@@ -135,7 +135,7 @@ operand_by room deep ls =
     else if starts_element ls then element_by room deep ls
     else primary_at ls
 
-unfoldable pub expr_by : ℕ → Reader → ℕ → List Lexed → Result ReadExpr ParseFault
+unfoldable pub expr_by : ℕ → Reader → ℕ → List Lexed → Result ReadExpr ParseError
 expr_by room deep least ls = operand_by room deep ls >>= λ e. climb deep room least (room + 1) e.0 e.1 e.2
 
 -- expressions one step deeper than where there is this room
@@ -143,21 +143,21 @@ unfoldable pub deeper : ℕ → Reader
 deeper zero = λ least ls. Err (fault_at TooHigh ls)
 deeper (suc room) = λ least ls. expr_by room (deeper room) least ls
 
-abbrev pub operand_at : ℕ → List Lexed → Result ReadExpr ParseFault
+abbrev pub operand_at : ℕ → List Lexed → Result ReadExpr ParseError
 operand_at room ls = operand_by room (deeper room) ls
 
 -- the expression of this level or tighter, no higher than there is room
-abbrev pub expr_at : ℕ → ℕ → List Lexed → Result ReadExpr ParseFault
+abbrev pub expr_at : ℕ → ℕ → List Lexed → Result ReadExpr ParseError
 expr_at room least ls = expr_by room (deeper room) least ls
 
 -- an index where there is this room
-abbrev pub index_at : ℕ → List Lexed → Result ReadExpr ParseFault
+abbrev pub index_at : ℕ → List Lexed → Result ReadExpr ParseError
 index_at room ls = index_by room (deeper room) ls
 
 -- ---- calls
 
 -- (*env)->
-unfoldable pub interface_at : List Lexed → Result (List Lexed) ParseFault
+unfoldable pub interface_at : List Lexed → Result (List Lexed) ParseError
 interface_at ls = do
   a ← expect (fixed.Mark marks.OpenParen) ls
   b ← expect (fixed.Mark marks.Star) a
@@ -166,27 +166,27 @@ interface_at ls = do
   expect (fixed.Mark marks.Arrow) d
 
 -- an argument that is no string
-unfoldable pub value_at : ℕ → List Lexed → Result (Argument × List Lexed) ParseFault
+unfoldable pub value_at : ℕ → List Lexed → Result (Argument × List Lexed) ParseError
 value_at room ls =
     if starts_with (fixed.Mark marks.Ampersand) ls then (name_at (rest_of ls) >>= λ name. Ok (AddressOf name.0, name.1))
     else (expr_at room 0 ls >>= λ e. Ok (Value e.0, e.2))
 
-abbrev pub argument_by : ℕ → Option (List ℕ) → List Lexed → Result (Argument × List Lexed) ParseFault
+abbrev pub argument_by : ℕ → Option (List ℕ) → List Lexed → Result (Argument × List Lexed) ParseError
 argument_by room None ls = value_at room ls
 argument_by room (Some bytes) ls = Ok (Text bytes, rest_of ls)
 
-unfoldable pub argument_at : ℕ → List Lexed → Result (Argument × List Lexed) ParseFault
+unfoldable pub argument_at : ℕ → List Lexed → Result (Argument × List Lexed) ParseError
 argument_at room ls = argument_by room (text_at ls) ls
 
 -- arguments, each with the comma before it, of which there are fewer than steps
-unfoldable pub arguments_at : (room steps : ℕ) → List Lexed → Result (List Argument × List Lexed) ParseFault
+unfoldable pub arguments_at : (room steps : ℕ) → List Lexed → Result (List Argument × List Lexed) ParseError
 arguments_at room zero ls = Err (fault_at NoForm ls)
 arguments_at room (suc steps) ls =
     if starts_with (fixed.Mark marks.Comma) ls
     then (argument_at room (rest_of ls) >>= λ a. arguments_at room steps a.1 >>= λ more. Ok (a.0 ∷ more.0, more.1))
     else Ok ([], ls)
 
-unfoldable pub call_at : ℕ → List Lexed → Result (Call × List Lexed) ParseFault
+unfoldable pub call_at : ℕ → List Lexed → Result (Call × List Lexed) ParseError
 call_at room ls = do
   a ← interface_at ls
   function ← name_at a
@@ -207,12 +207,12 @@ starts_inside ls =
     || starts_with (fixed.Word words.Uint32) ls || starts_with (fixed.Word words.Jint) ls
 
 -- The expression of a right side. Where no height is left, its parenthesis may still be that of a call: the token after it is the first that can't be there.
-unfoldable pub right_expr_at : ℕ → List Lexed → Result ReadExpr ParseFault
+unfoldable pub right_expr_at : ℕ → List Lexed → Result ReadExpr ParseError
 right_expr_at room ls =
     if starts_with (fixed.Mark marks.OpenParen) ls && room == 0 then Err (fault_at (if starts_inside (rest_of ls) then TooHigh else NoForm) (rest_of ls))
     else expr_at room 0 ls
 
-unfoldable pub right_at : ℕ → List Lexed → Result (RightSide × List Lexed) ParseFault
+unfoldable pub right_at : ℕ → List Lexed → Result (RightSide × List Lexed) ParseError
 right_at room ls =
     if starts_call ls then (call_at room ls >>= λ c. Ok (FromCall c.0, c.1))
     else (right_expr_at room ls >>= λ e. Ok (FromExpr e.0, e.2))
@@ -220,7 +220,7 @@ right_at room ls =
 -- ---- statements without blocks
 
 -- a name, and what it is set to
-unfoldable pub setting_at : ℕ → List Lexed → Result (Identifier × RightSide × List Lexed) ParseFault
+unfoldable pub setting_at : ℕ → List Lexed → Result (Identifier × RightSide × List Lexed) ParseError
 setting_at room ls = do
   name ← name_at ls
   within ← expect (fixed.Mark marks.Assign) name.1
@@ -229,7 +229,7 @@ setting_at room ls = do
   Ok (name.0, right.0, rest)
 
 -- an expression, or a call that is tested for 0
-unfoldable pub test_at : ℕ → List Lexed → Result (Test × List Lexed) ParseFault
+unfoldable pub test_at : ℕ → List Lexed → Result (Test × List Lexed) ParseError
 test_at room ls =
     if starts_call ls then (call_at room ls >>= λ c. expect (fixed.Mark marks.Equal) c.1 >>= λ a. number_at 0 0 a >>= λ number. Ok (TestCall c.0, number.1))
     else (expr_at room 0 ls >>= λ e. Ok (TestExpr e.0, e.2))

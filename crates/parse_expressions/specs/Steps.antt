@@ -8,8 +8,8 @@ use Rattle.syntax.specs.Tree.{PrefixOp, LogicalNot, Complement, ToWord, ToInt, B
 use Rattle.syntax.specs.Views.{prefix_tree}
 use Rattle.parse_lexemes.specs.declared.first.Fixed.{Fixed}
 use Rattle.parse_lexemes.specs.declared.first.Fixed.TheVariants as fixed
-use Rattle.parse_lexemes.specs.declared.fault.Fault.TheVariants.{TooHigh}
-use Rattle.parse_lexemes.specs.declared.fault.ParseFault.{ParseFault}
+use Rattle.parse_lexemes.specs.declared.fault.ParseRule.TheVariants.{TooHigh}
+use Rattle.parse_lexemes.specs.declared.fault.ParseError.{ParseError}
 use Rattle.parse_lexemes.specs.Reading.{rest_of, starts_with, number_at}
 use Rattle.parse_lexemes.specs.Results.{◌>>=◌}
 use Rattle.parse_lexemes.specs.Lexemes.{Lexed, name_at, expect, fault_at}
@@ -18,7 +18,7 @@ use Rattle.parse_expressions.specs.declared.expressions.Opening.TheVariants as o
 use Rattle.parse_expressions.specs.Reading.{Reader, ReadExpr, interface_at, starts_element}
 
 -- what is made of what a step gives
-abbrev pub made_of : {A B : Type 0} → Result A ParseFault → (A → B) → Result B ParseFault
+abbrev pub made_of : {A B : Type 0} → Result A ParseError → (A → B) → Result B ParseError
 made_of step make = step >>= λ x. Ok (make x)
 
 -- a name, and what comes after it
@@ -38,7 +38,7 @@ abbrev pub ReadTest : Type 0
 ReadTest = Test × List Lexed
 
 -- what comes after a test for 0
-unfoldable pub zero_at : List Lexed → Result (List Lexed) ParseFault
+unfoldable pub zero_at : List Lexed → Result (List Lexed) ParseError
 zero_at ls = do
   a ← expect (fixed.Mark marks.Equal) ls
   number ← number_at 0 0 a
@@ -50,19 +50,19 @@ within least None = None
 within least (Some op) = if nat_lt (operator_level op) least then None else Some op
 
 -- the name of the function that is called
-abbrev pub function_at : List Lexed → Result ReadName ParseFault
+abbrev pub function_at : List Lexed → Result ReadName ParseError
 function_at ls = interface_at ls >>= λ a. name_at a
 
 -- two lexemes
-abbrev pub two : (first second : Fixed) → List Lexed → Result (List Lexed) ParseFault
+abbrev pub two : (first second : Fixed) → List Lexed → Result (List Lexed) ParseError
 two first second ls = expect first ls >>= λ rest. expect second rest
 
 -- what comes after an operator, whose left operand is this high
-abbrev pub right_by : Reader → (room high : ℕ) → BinaryOp → List Lexed → Result ReadExpr ParseFault
+abbrev pub right_by : Reader → (room high : ℕ) → BinaryOp → List Lexed → Result ReadExpr ParseError
 right_by deep room high op ls = if nat_lt high room then deep (operator_level op + 1) (rest_of ls) else Err (fault_at TooHigh ls)
 
 -- an operator with both operands, of which the right one is read so
-abbrev pub joined_by : BinaryOp → ReadExpr → Result ReadExpr ParseFault → Result ReadExpr ParseFault
+abbrev pub joined_by : BinaryOp → ReadExpr → Result ReadExpr ParseError → Result ReadExpr ParseError
 joined_by op left read = read >>= λ r. Ok (Binary op left.0 r.0, 1 + max left.1 r.1, r.2)
 
 -- ---- operands
@@ -95,31 +95,31 @@ around OfParen e = Paren e
 around (OfElement name) e = Element name e
 
 -- what comes after the end of the operand
-abbrev pub ending_at : Opening → List Lexed → Result (List Lexed) ParseFault
+abbrev pub ending_at : Opening → List Lexed → Result (List Lexed) ParseError
 ending_at (OfPrefix op) ls = Ok ls
 ending_at OfParen ls = expect (fixed.Mark marks.CloseParen) ls
 ending_at (OfElement name) ls = expect (fixed.Mark marks.CloseBracket) ls
 
-abbrev pub operand_of : Opening → ReadExpr → Result ReadExpr ParseFault
+abbrev pub operand_of : Opening → ReadExpr → Result ReadExpr ParseError
 operand_of opening e = ending_at opening e.2 >>= λ after. Ok (around opening e.0, 1 + e.1, after)
 
 -- a cast to a type, of which the closing parenthesis is read
-abbrev pub cast_at : PrefixOp → List Lexed → Result ReadOpening ParseFault
+abbrev pub cast_at : PrefixOp → List Lexed → Result ReadOpening ParseError
 cast_at op ls = expect (fixed.Mark marks.CloseParen) ls >>= λ after. Ok (Some (OfPrefix op, after))
 
 -- what opens with a parenthesis: a cast, or an expression
-unfoldable pub paren_opening_at : List Lexed → Result ReadOpening ParseFault
+unfoldable pub paren_opening_at : List Lexed → Result ReadOpening ParseError
 paren_opening_at ls =
     if starts_with (fixed.Word words.Uint32) ls then cast_at ToWord (rest_of ls)
     else if starts_with (fixed.Word words.Jint) ls then cast_at ToInt (rest_of ls)
     else Ok (Some (OfParen, ls))
 
 -- the opening bracket of an index
-unfoldable pub bracket_at : ℕ → List Lexed → Result (List Lexed) ParseFault
+unfoldable pub bracket_at : ℕ → List Lexed → Result (List Lexed) ParseError
 bracket_at room ls = if room == 0 then Err (fault_at TooHigh ls) else expect (fixed.Mark marks.OpenBracket) ls
 
 -- the name of an element, and its opening bracket
-unfoldable pub element_opening_at : ℕ → List Lexed → Result ReadOpening ParseFault
+unfoldable pub element_opening_at : ℕ → List Lexed → Result ReadOpening ParseError
 element_opening_at room ls = do
   name ← name_at ls
   rest ← bracket_at room name.1
@@ -129,7 +129,7 @@ element_opening_at room ls = do
 abbrev pub starts_deep : List Lexed → Bool
 starts_deep ls = starts_with (fixed.Mark marks.Tilde) ls || starts_with (fixed.Mark marks.Exclamation) ls || starts_with (fixed.Mark marks.OpenParen) ls
 
-unfoldable pub opening_at : ℕ → List Lexed → Result ReadOpening ParseFault
+unfoldable pub opening_at : ℕ → List Lexed → Result ReadOpening ParseError
 opening_at room ls =
     if room == 0 && starts_deep ls then Err (fault_at TooHigh ls)
     else if starts_with (fixed.Mark marks.Tilde) ls then Ok (Some (OfPrefix Complement, rest_of ls))

@@ -10,14 +10,14 @@ ghost use Rattle.parse_expressions.specs.Reading.{interface_at, value_at, argume
 
 use crate::expressions::{expect_two, expression, owned_name, right_expression};
 use parse_lexemes::{
-    Cursor, Fixed, ParseFault, expect, name_at, number_at, rest_of, starts_with, text_at,
+    Cursor, Fixed, ParseError, expect, name_at, number_at, rest_of, starts_with, text_at,
 };
 use scan::{Mark, Word};
 use std::alloc::Global;
 use syntax::{Argument, Call, Name, RightSide, Test};
 
 /// What comes after `(*env)->`.
-fn interface(lexemes: Cursor<'_>) -> Result<Cursor<'_>, ParseFault>
+fn interface(lexemes: Cursor<'_>) -> Result<Cursor<'_>, ParseError>
     ensures { Gives (λ x. views x) result (interface_at (views lexemes.entry)) }
 {
     let rest = expect_two(
@@ -35,7 +35,7 @@ fn value(
     alloc: Global,
     room: u32,
     lexemes: Cursor<'_>,
-) -> Result<(Argument, Cursor<'_>), ParseFault>
+) -> Result<(Argument, Cursor<'_>), ParseError>
     requires { room ≤ 32 }
     ensures { Gives (λ x. (argument_tree x.0, views x.1)) result (value_at room (views lexemes.entry)) }
 {
@@ -57,14 +57,14 @@ fn argument(
     alloc: Global,
     room: u32,
     lexemes: Cursor<'_>,
-) -> Result<(Argument, Cursor<'_>), ParseFault>
+) -> Result<(Argument, Cursor<'_>), ParseError>
     requires { room ≤ 32 }
     ensures { Gives (λ x. (argument_tree x.0, views x.1)) result (argument_at room (views lexemes.entry)) }
 {
     match text_at(lexemes) {
         Some(bytes) => {
             let Ok(bytes) = Vec::from_slice(alloc, bytes) else {
-                return Err(ParseFault::Memory);
+                return Err(ParseError::Memory);
             };
             Ok((Argument::Text(bytes), rest_of(lexemes)))
         }
@@ -77,7 +77,7 @@ fn arguments(
     alloc: Global,
     room: u32,
     lexemes: Cursor<'_>,
-) -> Result<(Vec<Argument>, Cursor<'_>), ParseFault>
+) -> Result<(Vec<Argument>, Cursor<'_>), ParseError>
     requires { room ≤ 32 }
     ensures { Gives (λ x. (map argument_tree x.0.items, views x.1)) result (arguments_at room (length (views lexemes.entry) + 1) (views lexemes.entry)) }
 {
@@ -98,12 +98,12 @@ fn called<'t>(
     arguments: Vec<Argument>,
     paren: Fixed,
     lexemes: Cursor<'t>,
-) -> Result<(Call, Cursor<'t>), ParseFault>
+) -> Result<(Call, Cursor<'t>), ParseError>
     ensures { Gives (λ x. (call_tree x.0, views x.1)) result (made_of {B = ReadCall} (expect paren (views lexemes.entry)) (λ after. (record { function = function.now; arguments = map argument_tree arguments.items }, after))) }
 {
     let rest = expect(paren, lexemes)?;
     let Ok(function) = Name::new(alloc, function) else {
-        return Err(ParseFault::Memory);
+        return Err(ParseError::Memory);
     };
     Ok((
         Call {
@@ -116,7 +116,7 @@ fn called<'t>(
 
 /// The name of the function that is called.
 #[inline(always)]
-fn function(lexemes: Cursor<'_>) -> Result<(&[u8], Cursor<'_>), ParseFault>
+fn function(lexemes: Cursor<'_>) -> Result<(&[u8], Cursor<'_>), ParseError>
     ensures { Gives (λ x. (x.0.now, views x.1)) result (function_at (views lexemes.entry)) }
 {
     let rest = interface(lexemes)?;
@@ -124,7 +124,7 @@ fn function(lexemes: Cursor<'_>) -> Result<(&[u8], Cursor<'_>), ParseFault>
 }
 
 /// A call.
-pub fn call(alloc: Global, room: u32, lexemes: Cursor<'_>) -> Result<(Call, Cursor<'_>), ParseFault>
+pub fn call(alloc: Global, room: u32, lexemes: Cursor<'_>) -> Result<(Call, Cursor<'_>), ParseError>
     requires { room ≤ 32 }
     ensures { Gives (λ x. (call_tree x.0, views x.1)) result (call_at room (views lexemes.entry)) }
 {
@@ -154,7 +154,7 @@ pub(crate) fn right_side(
     alloc: Global,
     room: u32,
     lexemes: Cursor<'_>,
-) -> Result<(RightSide, Cursor<'_>), ParseFault>
+) -> Result<(RightSide, Cursor<'_>), ParseError>
     requires { room ≤ 32 }
     ensures { Gives (λ x. (right_side_tree x.0, views x.1)) result (right_at room (views lexemes.entry)) }
 {
@@ -177,7 +177,7 @@ fn set_to<'t>(
     right: RightSide,
     semicolon: Fixed,
     lexemes: Cursor<'t>,
-) -> Result<(Name, RightSide, Cursor<'t>), ParseFault>
+) -> Result<(Name, RightSide, Cursor<'t>), ParseError>
     ensures { Gives (λ x. (x.0, right_side_tree x.1, views x.2)) result (made_of {B = ReadSetting} (expect semicolon (views lexemes.entry)) (λ rest. (name.now, right_side_tree right, rest))) }
 {
     match ended_name(alloc, name, semicolon, lexemes) {
@@ -193,12 +193,12 @@ fn ended_name<'t>(
     name: &[u8],
     end: Fixed,
     lexemes: Cursor<'t>,
-) -> Result<(Name, Cursor<'t>), ParseFault>
+) -> Result<(Name, Cursor<'t>), ParseError>
     ensures { Gives (λ x. (x.0, views x.1)) result (made_of {B = ReadName} (expect end (views lexemes.entry)) (λ rest. (name.now, rest))) }
 {
     let rest = expect(end, lexemes)?;
     let Ok(name) = Name::new(alloc, name) else {
-        return Err(ParseFault::Memory);
+        return Err(ParseError::Memory);
     };
     Ok((name, rest))
 }
@@ -209,7 +209,7 @@ pub fn setting(
     alloc: Global,
     room: u32,
     lexemes: Cursor<'_>,
-) -> Result<(Name, RightSide, Cursor<'_>), ParseFault>
+) -> Result<(Name, RightSide, Cursor<'_>), ParseError>
     requires { room ≤ 32 }
     ensures { Gives (λ x. (x.0, right_side_tree x.1, views x.2)) result (setting_at room (views lexemes.entry)) }
 {
@@ -222,7 +222,7 @@ pub fn setting(
 /// What comes after `== 0`.
 #[inline]
 #[tactic(auto, unfolding(crate::specs::Steps::zero_at))]
-fn zero(lexemes: Cursor<'_>) -> Result<Cursor<'_>, ParseFault>
+fn zero(lexemes: Cursor<'_>) -> Result<Cursor<'_>, ParseError>
     ensures { Gives views result (zero_at (views lexemes.entry)) }
 {
     let rest = expect(Fixed::Mark(Mark::Equal), lexemes)?;
@@ -234,7 +234,7 @@ fn zero(lexemes: Cursor<'_>) -> Result<Cursor<'_>, ParseFault>
 
 /// A call with what tests it for 0, which comes next.
 #[inline]
-fn called_test(call: Call, lexemes: Cursor<'_>) -> Result<(Test, Cursor<'_>), ParseFault>
+fn called_test(call: Call, lexemes: Cursor<'_>) -> Result<(Test, Cursor<'_>), ParseError>
     ensures { Gives (λ x. (test_tree x.0, views x.1)) result (made_of {B = ReadTest} (zero_at (views lexemes.entry)) (λ rest. (TestCall (call_tree call), rest))) }
 {
     match zero(lexemes) {
@@ -245,7 +245,7 @@ fn called_test(call: Call, lexemes: Cursor<'_>) -> Result<(Test, Cursor<'_>), Pa
 
 /// An expression, or a call that is tested for 0.
 #[tactic(auto, using(crate::proofs::Called::test_is))]
-pub fn test(alloc: Global, room: u32, lexemes: Cursor<'_>) -> Result<(Test, Cursor<'_>), ParseFault>
+pub fn test(alloc: Global, room: u32, lexemes: Cursor<'_>) -> Result<(Test, Cursor<'_>), ParseError>
     requires { room ≤ 32 }
     ensures { Gives (λ x. (test_tree x.0, views x.1)) result (test_at room (views lexemes.entry)) }
 {

@@ -6,14 +6,14 @@ ghost use Rattle.syntax.specs.Limits.{operator_level};
 ghost use Rattle.syntax.specs.Views.{constant_tree, prefix_tree, binary_tree, expr_tree};
 ghost use Rattle.parse_lexemes.specs.Results.{Gives};
 ghost use Rattle.parse_expressions.specs.Steps.{made_of, two, joined_by, right_by, within, opening_view, level_inside, around, ending_at, operand_of, cast_at, paren_opening_at, bracket_at, element_opening_at, starts_deep, opening_at};
-ghost use Rattle.parse_lexemes.specs.declared.fault.ParseFault.{ParseFault};
+ghost use Rattle.parse_lexemes.specs.declared.fault.ParseError.{ParseError};
 ghost use Rattle.parse_lexemes.specs.Lexemes.{views, expect, name_at};
 ghost use Rattle.parse_expressions.specs.Reading.{ReadExpr, operator_at, binary_of_mark, named_of, primary_at, starts_element, starts_inside, index_at, operand_at, expr_at, right_expr_at, deeper};
 ghost use Rattle.parse_lexemes.specs.Reading.{constant_of_word, rest_of};
 
 use parse_lexemes::{
-    Cursor, Fault, Fixed, ParseFault, Shape, expect, fault_at, mark_at, name_at, rest_of, shape_at,
-    starts_name, starts_with, unexpected,
+    Cursor, Fixed, ParseError, ParseRule, Shape, expect, fault_at, mark_at, name_at, rest_of,
+    shape_at, starts_name, starts_with, unexpected,
 };
 use scan::{Mark, Word};
 use std::alloc::{AllocError, Global};
@@ -107,12 +107,12 @@ fn constant_of(word: Word) -> Option<Constant>
 }
 
 /// A name, and what comes after it.
-pub fn owned_name(alloc: Global, lexemes: Cursor<'_>) -> Result<(Name, Cursor<'_>), ParseFault>
+pub fn owned_name(alloc: Global, lexemes: Cursor<'_>) -> Result<(Name, Cursor<'_>), ParseError>
     ensures { Gives (λ x. (x.0, views x.1)) result (name_at (views lexemes.entry)) }
 {
     let (name, rest) = name_at(lexemes)?;
     let Ok(name) = Name::new(alloc, name) else {
-        return Err(ParseFault::Memory);
+        return Err(ParseError::Memory);
     };
     Ok((name, rest))
 }
@@ -123,7 +123,7 @@ pub fn expect_two(
     first: Fixed,
     second: Fixed,
     lexemes: Cursor<'_>,
-) -> Result<Cursor<'_>, ParseFault>
+) -> Result<Cursor<'_>, ParseError>
     ensures { Gives views result (two first second (views lexemes.entry)) }
 {
     let rest = expect(first, lexemes)?;
@@ -132,7 +132,7 @@ pub fn expect_two(
 
 /// A named constant.
 #[inline(always)]
-fn named(word: Word, lexemes: Cursor<'_>) -> Result<ReadExpr<'_>, ParseFault>
+fn named(word: Word, lexemes: Cursor<'_>) -> Result<ReadExpr<'_>, ParseError>
     ensures low { IfOk result (λ x. x.1 ≡ 0) }
     ensures gives { Gives {Y = ReadExpr} (λ x. (expr_tree x.0, x.1, views x.2)) result (named_of (constant_of_word word) (views lexemes.entry) (rest_of (views lexemes.entry))) }
 {
@@ -144,7 +144,7 @@ fn named(word: Word, lexemes: Cursor<'_>) -> Result<ReadExpr<'_>, ParseFault>
 
 /// A number, a named constant or a name.
 #[tactic(auto, unfolding(crate::specs::Reading::primary_at))]
-fn primary(alloc: Global, lexemes: Cursor<'_>) -> Result<ReadExpr<'_>, ParseFault>
+fn primary(alloc: Global, lexemes: Cursor<'_>) -> Result<ReadExpr<'_>, ParseError>
     ensures low { IfOk result (λ x. x.1 ≡ 0) }
     ensures gives { Gives (λ x. (expr_tree x.0, x.1, views x.2)) result (primary_at (views lexemes.entry)) }
 {
@@ -180,7 +180,7 @@ pub fn closed(
     inside: Expr,
     height: u32,
     lexemes: Cursor<'_>,
-) -> Result<ReadExpr<'_>, ParseFault>
+) -> Result<ReadExpr<'_>, ParseError>
     ensures low { IfOk result (λ x. x.1 ≡ height) }
     ensures gives { Gives (λ x. (expr_tree x.0, x.1, views x.2)) result (made_of {B = ReadExpr} (expect end (views lexemes.entry)) (λ after. (expr_tree inside, height, after))) }
 {
@@ -192,7 +192,7 @@ pub fn closed(
 
 /// What is read of an expression, and what comes after the next lexeme, which ends it.
 #[inline(always)]
-fn ended<'t>(end: Fixed, read: ReadExpr<'t>) -> Result<ReadExpr<'t>, ParseFault>
+fn ended<'t>(end: Fixed, read: ReadExpr<'t>) -> Result<ReadExpr<'t>, ParseError>
     ensures low { IfOk result (λ x. x.1 ≡ read.entry.1) }
     ensures gives { Gives (λ x. (expr_tree x.0, x.1, views x.2)) result (made_of {B = ReadExpr} (expect end (views read.entry.2)) (λ after. (expr_tree read.entry.0, read.entry.1, after))) }
 {
@@ -202,7 +202,7 @@ fn ended<'t>(end: Fixed, read: ReadExpr<'t>) -> Result<ReadExpr<'t>, ParseFault>
 
 /// What is read inside an operand which opened so, and what comes after the lexeme that ends it.
 #[inline(always)]
-fn ended_as<'t>(opening: Opening<'t>, inside: ReadExpr<'t>) -> Result<ReadExpr<'t>, ParseFault>
+fn ended_as<'t>(opening: Opening<'t>, inside: ReadExpr<'t>) -> Result<ReadExpr<'t>, ParseError>
     ensures low { IfOk result (λ x. x.1 ≡ inside.entry.1) }
     ensures gives { Gives (λ x. (expr_tree x.0, x.1, views x.2)) result (made_of {B = ReadExpr} (ending_at (opening_view opening.entry) (views inside.entry.2)) (λ after. (expr_tree inside.entry.0, inside.entry.1, after))) }
 {
@@ -219,14 +219,14 @@ fn operand_of<'t>(
     alloc: Global,
     opening: Opening<'t>,
     inside: ReadExpr<'t>,
-) -> Result<ReadExpr<'t>, ParseFault>
+) -> Result<ReadExpr<'t>, ParseError>
     requires { inside.1 < 32 }
     ensures low { IfOk result (λ x. x.1 ≡ 1 + inside.entry.1) }
     ensures gives { Gives (λ x. (expr_tree x.0, x.1, views x.2)) result (operand_of (opening_view opening.entry) (expr_tree inside.entry.0, inside.entry.1, views inside.entry.2)) }
 {
     let (inside, height, rest) = ended_as(opening, inside)?;
     let Ok(operand) = around(alloc, opening, inside) else {
-        return Err(ParseFault::Memory);
+        return Err(ParseError::Memory);
     };
     Ok((operand, 1 + height, rest))
 }
@@ -237,11 +237,11 @@ fn joined<'t>(
     alloc: Global,
     op: BinaryOp,
     left: ReadExpr<'t>,
-    right: Result<ReadExpr<'t>, ParseFault>,
-) -> Result<ReadExpr<'t>, ParseFault>
+    right: Result<ReadExpr<'t>, ParseError>,
+) -> Result<ReadExpr<'t>, ParseError>
     requires { IfOk right (λ x. (x.1 < 32) × (left.1 < 32)) }
     ensures low { (most : ℕ) → IfOk right.entry (λ x. (x.1 < most) × (left.entry.1 < most)) → IfOk result (λ x. (x.1 ≤ most) × (left.entry.1 < x.1)) }
-    ensures gives { (read : Result ReadExpr ParseFault) → Gives (λ x. (expr_tree x.0, x.1, views x.2)) right.entry read → Gives (λ x. (expr_tree x.0, x.1, views x.2)) result (joined_by (binary_tree op) (expr_tree left.entry.0, left.entry.1, views left.entry.2) read) }
+    ensures gives { (read : Result ReadExpr ParseError) → Gives (λ x. (expr_tree x.0, x.1, views x.2)) right.entry read → Gives (λ x. (expr_tree x.0, x.1, views x.2)) result (joined_by (binary_tree op) (expr_tree left.entry.0, left.entry.1, views left.entry.2) read) }
 {
     let (right, right_height, rest) = right?;
     let (left, height, _) = left;
@@ -282,7 +282,7 @@ pub fn starts_element(lexemes: Cursor<'_>) -> bool
 
 /// A cast to a type, of which the closing parenthesis is read.
 #[inline(always)]
-fn cast(op: PrefixOp, lexemes: Cursor<'_>) -> Result<ReadOpening<'_>, ParseFault>
+fn cast(op: PrefixOp, lexemes: Cursor<'_>) -> Result<ReadOpening<'_>, ParseError>
     ensures { Gives (option_map (λ x. (opening_view x.0, views x.1))) result (cast_at (prefix_tree op) (views lexemes.entry)) }
 {
     match expect(Fixed::Mark(Mark::CloseParen), lexemes) {
@@ -294,7 +294,7 @@ fn cast(op: PrefixOp, lexemes: Cursor<'_>) -> Result<ReadOpening<'_>, ParseFault
 /// What opens with a parenthesis: a cast, or an expression.
 #[inline(always)]
 #[tactic(auto, unfolding(crate::specs::Steps::paren_opening_at))]
-fn paren_opening(lexemes: Cursor<'_>) -> Result<ReadOpening<'_>, ParseFault>
+fn paren_opening(lexemes: Cursor<'_>) -> Result<ReadOpening<'_>, ParseError>
     ensures { Gives (option_map (λ x. (opening_view x.0, views x.1))) result (paren_opening_at (views lexemes.entry)) }
 {
     if starts_with(Fixed::Word(Word::Uint32), lexemes) {
@@ -309,12 +309,12 @@ fn paren_opening(lexemes: Cursor<'_>) -> Result<ReadOpening<'_>, ParseFault>
 /// What comes after the opening bracket of an index, which counts one.
 #[inline(always)]
 #[tactic(auto, unfolding(crate::specs::Steps::bracket_at))]
-fn bracket(room: u32, lexemes: Cursor<'_>) -> Result<Cursor<'_>, ParseFault>
+fn bracket(room: u32, lexemes: Cursor<'_>) -> Result<Cursor<'_>, ParseError>
     ensures some { IfOk result (λ _. 1 ≤ room) }
     ensures gives { Gives views result (bracket_at room (views lexemes.entry)) }
 {
     if room == 0 {
-        return Err(fault_at(Fault::TooHigh, lexemes));
+        return Err(fault_at(ParseRule::TooHigh, lexemes));
     }
     expect(Fixed::Mark(Mark::OpenBracket), lexemes)
 }
@@ -322,7 +322,7 @@ fn bracket(room: u32, lexemes: Cursor<'_>) -> Result<Cursor<'_>, ParseFault>
 /// The name of an element, and its opening bracket.
 #[inline(always)]
 #[tactic(auto, unfolding(crate::specs::Steps::element_opening_at))]
-fn element_opening(room: u32, lexemes: Cursor<'_>) -> Result<ReadOpening<'_>, ParseFault>
+fn element_opening(room: u32, lexemes: Cursor<'_>) -> Result<ReadOpening<'_>, ParseError>
     ensures some { IfOk result (λ _. 1 ≤ room) }
     ensures gives { Gives (option_map (λ x. (opening_view x.0, views x.1))) result (element_opening_at room (views lexemes.entry)) }
 {
@@ -336,12 +336,12 @@ fn element_opening(room: u32, lexemes: Cursor<'_>) -> Result<ReadOpening<'_>, Pa
 /// How an operand opens that has an expression inside, for which there is room, and what comes after that.
 #[inline(always)]
 #[tactic(auto, unfolding(crate::specs::Steps::opening_at))]
-fn operand_opening(room: u32, lexemes: Cursor<'_>) -> Result<ReadOpening<'_>, ParseFault>
+fn operand_opening(room: u32, lexemes: Cursor<'_>) -> Result<ReadOpening<'_>, ParseError>
     ensures some { IfOk result (λ x. IfSome x (λ _. 1 ≤ room)) }
     ensures gives { Gives (option_map (λ x. (opening_view x.0, views x.1))) result (opening_at room (views lexemes.entry)) }
 {
     if room == 0 && starts_deep(lexemes) {
-        return Err(fault_at(Fault::TooHigh, lexemes));
+        return Err(fault_at(ParseRule::TooHigh, lexemes));
     }
     if starts_with(Fixed::Mark(Mark::Tilde), lexemes) {
         let prefix = Opening::Prefix(PrefixOp::Complement);
@@ -378,7 +378,7 @@ pub fn expression(
     room: u32,
     least: u32,
     lexemes: Cursor<'_>,
-) -> Result<ReadExpr<'_>, ParseFault>
+) -> Result<ReadExpr<'_>, ParseError>
     requires { room ≤ 32 }
     ensures low { IfOk result (λ x. x.1 ≤ room) }
     ensures gives { Gives (λ x. (expr_tree x.0, x.1, views x.2)) result (expr_at room least (views lexemes.entry)) }
@@ -399,20 +399,20 @@ fn right_operand(
     height: u32,
     op: BinaryOp,
     lexemes: Cursor<'_>,
-) -> Result<ReadExpr<'_>, ParseFault>
+) -> Result<ReadExpr<'_>, ParseError>
     requires { room ≤ 32 }
     ensures low { IfOk result (λ x. (x.1 < room) × (height < room)) }
     ensures gives { Gives (λ x. (expr_tree x.0, x.1, views x.2)) result (right_by (deeper room) room height (binary_tree op) (views lexemes.entry)) }
 {
     if height >= room {
-        return Err(fault_at(Fault::TooHigh, lexemes));
+        return Err(fault_at(ParseRule::TooHigh, lexemes));
     }
     expression(alloc, room - 1, level(op) + 1, rest_of(lexemes))
 }
 
 /// A prefix with its operand, parentheses, an element, or what holds best.
 #[cycle(expressions)]
-fn operand(alloc: Global, room: u32, lexemes: Cursor<'_>) -> Result<ReadExpr<'_>, ParseFault>
+fn operand(alloc: Global, room: u32, lexemes: Cursor<'_>) -> Result<ReadExpr<'_>, ParseError>
     requires { room ≤ 32 }
     ensures low { IfOk result (λ x. x.1 ≤ room) }
     ensures gives { Gives (λ x. (expr_tree x.0, x.1, views x.2)) result (operand_at room (views lexemes.entry)) }
@@ -425,7 +425,7 @@ fn operand(alloc: Global, room: u32, lexemes: Cursor<'_>) -> Result<ReadExpr<'_>
 }
 
 /// An index in its brackets, which counts one.
-pub fn index(alloc: Global, room: u32, lexemes: Cursor<'_>) -> Result<ReadExpr<'_>, ParseFault>
+pub fn index(alloc: Global, room: u32, lexemes: Cursor<'_>) -> Result<ReadExpr<'_>, ParseError>
     requires { room ≤ 32 }
     ensures low { IfOk result (λ x. x.1 < room) }
     ensures gives { Gives (λ x. (expr_tree x.0, x.1, views x.2)) result (index_at room (views lexemes.entry)) }
@@ -467,14 +467,14 @@ pub(crate) fn right_expression(
     alloc: Global,
     room: u32,
     lexemes: Cursor<'_>,
-) -> Result<ReadExpr<'_>, ParseFault>
+) -> Result<ReadExpr<'_>, ParseError>
     requires { room ≤ 32 }
     ensures { Gives (λ x. (expr_tree x.0, x.1, views x.2)) result (right_expr_at room (views lexemes.entry)) }
 {
     if starts_with(Fixed::Mark(Mark::OpenParen), lexemes) && room == 0 {
         let rest = rest_of(lexemes);
         if starts_inside(rest) {
-            return Err(fault_at(Fault::TooHigh, rest));
+            return Err(fault_at(ParseRule::TooHigh, rest));
         }
         return Err(unexpected(rest));
     }

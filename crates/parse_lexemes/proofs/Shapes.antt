@@ -6,9 +6,9 @@ use Rattle.std.proofs.lemmas.List.{drop_more, drop_all}
 use Rattle.scan.specs.declared.token.Token.{Token}
 use Rattle.scan.specs.declared.token.Kind.{Kind}
 use Rattle.scan.specs.declared.token.Kind.TheVariants as kinds
-use Rattle.parse_lexemes.specs.declared.fault.Fault.TheVariants.{NoForm}
-use Rattle.parse_lexemes.specs.declared.fault.ParseFault.{ParseFault}
-use Rattle.parse_lexemes.specs.declared.fault.ParseFault.TheVariants.{Found}
+use Rattle.parse_lexemes.specs.declared.fault.ParseRule.TheVariants.{NoForm}
+use Rattle.parse_lexemes.specs.declared.fault.ParseError.{ParseError}
+use Rattle.parse_lexemes.specs.Faults.{breaks}
 use Rattle.parse_lexemes.specs.declared.first.Fixed.{Fixed}
 use Rattle.parse_lexemes.specs.declared.first.Fixed.TheVariants as fixed
 use Rattle.parse_lexemes.specs.declared.first.Shape.{Shape}
@@ -225,7 +225,7 @@ expect_err f (l ∷ ls) is = rw is refl
 name_in_ok : (m : Meaning) (bytes : List ℕ) (line : ℕ) (ls : List Lexed) → IsNameIn bytes m → is_name m ≡ true → name_in m line ls ≡ Ok (bytes, ls)
 name_in_ok (Name' found) bytes line ls h is = ap (λ (b : List ℕ). named b ls) (sym h)
   where
-    named : List ℕ → List Lexed → Result (List ℕ × List Lexed) ParseFault
+    named : List ℕ → List Lexed → Result (List ℕ × List Lexed) ParseError
     named b rest = Ok (b, rest)
 name_in_ok (Fixed' f) bytes line ls h is = absurd cc
 name_in_ok (Number' value unsigned) bytes line ls h is = absurd cc
@@ -236,7 +236,7 @@ unfolding name_at
 name_ok [] bytes h is = absurd cc
 name_ok (l ∷ ls) bytes h is = name_in_ok l.meaning bytes l.line ls h is
 
-name_in_err : (m : Meaning) (line : ℕ) (ls : List Lexed) → is_name m ≡ false → name_in m line ls ≡ Err (Found NoForm line)
+name_in_err : (m : Meaning) (line : ℕ) (ls : List Lexed) → is_name m ≡ false → name_in m line ls ≡ Err (breaks NoForm line)
 name_in_err (Name' found) line ls is = absurd cc
 name_in_err (Fixed' f) line ls is = refl
 name_in_err (Number' value unsigned) line ls is = refl
@@ -248,7 +248,7 @@ name_err [] is = refl
 name_err (l ∷ ls) is = name_in_err l.meaning l.line ls is
 
 -- a number without `u`, by the shape
-abbrev pub number_by : (least most : ℕ) → Shape → List Lexed → Result (ℕ × List Lexed) ParseFault
+abbrev pub number_by : (least most : ℕ) → Shape → List Lexed → Result (ℕ × List Lexed) ParseError
 number_by least most (shapes.Number unsigned value) ls =
     if unsigned then Err (fault_at NoForm ls)
     else if nat_lt value least then Err (fault_at NoForm ls)

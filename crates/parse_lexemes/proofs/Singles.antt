@@ -4,9 +4,9 @@ use Rattle.std.specs.Prelude.{◌⊎◌, ◌==◌, nat_lt, if◌then◌else◌}
 use Rattle.std.proofs.lemmas.Bool.{eqb-true, eq-eqb, false_from_ne_true, ltb-false, le-ltb}
 use Rattle.scan.specs.declared.token.Mark.{Mark}
 use Rattle.scan.specs.declared.token.Mark.TheVariants as marks
-use Rattle.parse_lexemes.specs.declared.fault.Fault.TheVariants.{NoForm}
-use Rattle.parse_lexemes.specs.declared.fault.ParseFault.{ParseFault}
-use Rattle.parse_lexemes.specs.declared.fault.ParseFault.TheVariants.{Found}
+use Rattle.parse_lexemes.specs.declared.fault.ParseRule.TheVariants.{NoForm}
+use Rattle.parse_lexemes.specs.declared.fault.ParseError.{ParseError}
+use Rattle.parse_lexemes.specs.Faults.{breaks}
 use Rattle.scan.specs.declared.reserved.Word.{Word}
 use Rattle.scan.specs.declared.reserved.Word.TheVariants as words
 use Rattle.parse_lexemes.specs.declared.first.Fixed.{Fixed}
@@ -20,11 +20,11 @@ use Rattle.parse_lexemes.specs.Reading.{starts_with, rest_of, is_name, starts_na
 -- ---- results
 
 -- the value of a step that did not fail
-pub bind_ok : {A B : Type 0} (r : Result A ParseFault) (f : A → Result B ParseFault) (y : B) → (r >>= f) ≡ Ok y → (x : A) × (r ≡ Ok x) × (f x ≡ Ok y)
+pub bind_ok : {A B : Type 0} (r : Result A ParseError) (f : A → Result B ParseError) (y : B) → (r >>= f) ≡ Ok y → (x : A) × (r ≡ Ok x) × (f x ≡ Ok y)
 bind_ok (Ok x) f y e = (x, refl, e)
 bind_ok (Err d) f y e = absurd cc
 
-abbrev done : {A : Type 0} → A → Result A ParseFault
+abbrev done : {A : Type 0} → A → Result A ParseError
 done x = Ok x
 
 pub ok_is : {A : Type 0} (x y : A) → done x ≡ done y → x ≡ y
@@ -213,7 +213,7 @@ pub expect_takes : (f : Fixed) (ls rest : List Lexed) → expect f ls ≡ Ok res
 unfolding expect
 expect_takes f [] rest e = absurd cc
 expect_takes f (l ∷ ls) rest e =
-    elim (chosen (is_fixed l f) (Ok ls) (Err (Found NoForm l.line)) (Ok rest) e) [
+    elim (chosen (is_fixed l f) (Ok ls) (Err (breaks NoForm l.line)) (Ok rest) e) [
       | inl w ↦ (fixed_is l.meaning f w.0, ok_is ls rest w.1)
       | inr w ↦ absurd cc
     ]

@@ -1,17 +1,21 @@
--- The numbers of faults.
+-- Faults of tokens, and the numbers of the rules.
 use Rattle.std.specs.Prelude.{ℕ}
-use Rattle.parse_lexemes.specs.declared.fault.Fault.{Fault}
-use Rattle.parse_lexemes.specs.declared.fault.Fault.TheVariants.{NoForm, TooHigh, TooMany}
-use Rattle.parse_lexemes.specs.declared.fault.ParseFault.{ParseFault}
-use Rattle.parse_lexemes.specs.declared.fault.ParseFault.TheVariants.{Memory, Found}
+use Rattle.details.specs.declared.fault.Fault.{Fault as FaultAt}
+use Rattle.parse_lexemes.specs.declared.fault.ParseRule.{ParseRule}
+use Rattle.parse_lexemes.specs.declared.fault.ParseRule.TheVariants.{NoForm, TooHigh, TooMany}
+use Rattle.parse_lexemes.specs.declared.fault.ParseError.{ParseError}
+use Rattle.parse_lexemes.specs.declared.fault.ParseError.TheVariants.{Fault}
 
--- what is wrong at a token: 11 to 13
-abbrev pub number_of_kind : Fault → ℕ
-number_of_kind NoForm = 11
-number_of_kind TooHigh = 12
-number_of_kind TooMany = 13
+-- a rule that tokens break, and the line
+abbrev pub ParseFault : Type 0
+ParseFault = FaultAt ParseRule ℕ
 
--- 9 for memory
-abbrev pub fault_number : ParseFault → ℕ
-fault_number Memory = 9
-fault_number (Found fault line) = number_of_kind fault
+-- 11 to 13
+abbrev pub parse_rule_number : ParseRule → ℕ
+parse_rule_number NoForm = 11
+parse_rule_number TooHigh = 12
+parse_rule_number TooMany = 13
+
+-- the rule is broken at this line
+abbrev pub breaks : ParseRule → ℕ → ParseError
+breaks rule line = Fault (record { rule = rule; line = line })

@@ -3,10 +3,10 @@ use Rattle.std.specs.Prelude.{ℕ, Bool, true, false, ◌==◌, List, [], ◌∷
 use Rattle.scan.specs.declared.token.Token.{Token}
 use Rattle.scan.specs.declared.token.Mark.{Mark}
 use Rattle.scan.specs.declared.token.Mark.TheVariants as marks
-use Rattle.parse_lexemes.specs.declared.fault.Fault.{Fault}
-use Rattle.parse_lexemes.specs.declared.fault.Fault.TheVariants.{NoForm}
-use Rattle.parse_lexemes.specs.declared.fault.ParseFault.{ParseFault}
-use Rattle.parse_lexemes.specs.declared.fault.ParseFault.TheVariants.{Found}
+use Rattle.parse_lexemes.specs.declared.fault.ParseRule.{ParseRule}
+use Rattle.parse_lexemes.specs.declared.fault.ParseRule.TheVariants.{NoForm}
+use Rattle.parse_lexemes.specs.declared.fault.ParseError.{ParseError}
+use Rattle.parse_lexemes.specs.Faults.{breaks}
 use Rattle.scan.specs.declared.reserved.Word.{Word}
 use Rattle.scan.specs.declared.reserved.Word.TheVariants as words
 use Rattle.parse_lexemes.specs.declared.first.Fixed.{Fixed}
@@ -132,21 +132,21 @@ abbrev pub line_at : List Lexed → ℕ
 line_at [] = 0
 line_at (l ∷ ls) = l.line
 
-abbrev pub fault_at : Fault → List Lexed → ParseFault
-fault_at fault ls = Found fault (line_at ls)
+abbrev pub fault_at : ParseRule → List Lexed → ParseError
+fault_at rule ls = breaks rule (line_at ls)
 
 -- ---- reading single lexemes
 
-unfoldable pub expect : Fixed → List Lexed → Result (List Lexed) ParseFault
-expect f [] = Err (Found NoForm 0)
-expect f (l ∷ ls) = if is_fixed l f then Ok ls else Err (Found NoForm l.line)
+unfoldable pub expect : Fixed → List Lexed → Result (List Lexed) ParseError
+expect f [] = Err (breaks NoForm 0)
+expect f (l ∷ ls) = if is_fixed l f then Ok ls else Err (breaks NoForm l.line)
 
-abbrev pub name_in : Meaning → ℕ → List Lexed → Result (List ℕ × List Lexed) ParseFault
-name_in (Fixed' found) line ls = Err (Found NoForm line)
+abbrev pub name_in : Meaning → ℕ → List Lexed → Result (List ℕ × List Lexed) ParseError
+name_in (Fixed' found) line ls = Err (breaks NoForm line)
 name_in (Name' bytes) line ls = Ok (bytes, ls)
-name_in (Number' value unsigned) line ls = Err (Found NoForm line)
-name_in (Text' bytes) line ls = Err (Found NoForm line)
+name_in (Number' value unsigned) line ls = Err (breaks NoForm line)
+name_in (Text' bytes) line ls = Err (breaks NoForm line)
 
-unfoldable pub name_at : List Lexed → Result (List ℕ × List Lexed) ParseFault
-name_at [] = Err (Found NoForm 0)
+unfoldable pub name_at : List Lexed → Result (List ℕ × List Lexed) ParseError
+name_at [] = Err (breaks NoForm 0)
 name_at (l ∷ ls) = name_in l.meaning l.line ls

@@ -3,9 +3,9 @@ use Rattle.std.specs.Prelude.{ℕ, Bool, true, false, nat_lt, List, [], ◌∷�
 use Rattle.std.specs.Option.{option_map, option_flatten}
 use Rattle.base.specs.Element.{ElementType, JInt, JShort, JByte, JChar}
 use Rattle.syntax.specs.Tree.{ReferenceType, JObject, JClass, JString, JArray, JThrowable, JIntArray, JShortArray, JByteArray, JCharArray, JObjectArray, Constant, True, False, Commit, Abort, Null, ParameterType, IntParameter, ReferenceParameter, VariableType, UInt32, JSize, JBoolean, JFieldId, ReferenceVariable, ResultType, Void, IntResult, ReferenceResult}
-use Rattle.parse_lexemes.specs.declared.fault.Fault.TheVariants.{NoForm}
-use Rattle.parse_lexemes.specs.declared.fault.ParseFault.{ParseFault}
-use Rattle.parse_lexemes.specs.declared.fault.ParseFault.TheVariants.{Found}
+use Rattle.parse_lexemes.specs.declared.fault.ParseRule.TheVariants.{NoForm}
+use Rattle.parse_lexemes.specs.declared.fault.ParseError.{ParseError}
+use Rattle.parse_lexemes.specs.Faults.{breaks}
 use Rattle.scan.specs.declared.reserved.Word.{Word}
 use Rattle.scan.specs.declared.reserved.Word.TheVariants as words
 use Rattle.parse_lexemes.specs.declared.first.Fixed.{Fixed}
@@ -108,7 +108,7 @@ abbrev pub variable_type_at : List Lexed → Option VariableType
 variable_type_at ls = option_flatten (option_map variable_of_word (word_at ls))
 
 -- what the first lexeme stands for, and what comes after it
-abbrev pub found : {A : Type 0} → Option A → List Lexed → Result (A × List Lexed) ParseFault
+abbrev pub found : {A : Type 0} → Option A → List Lexed → Result (A × List Lexed) ParseError
 found None ls = Err (fault_at NoForm ls)
 found (Some x) ls = Ok (x, rest_of ls)
 
@@ -126,7 +126,7 @@ text_at (l ∷ ls) = text_of l.meaning
 -- ---- single numbers
 
 -- a number without `u`, from the least to the most
-abbrev pub number_in : (least most : ℕ) → Meaning → List Lexed → List Lexed → Result (ℕ × List Lexed) ParseFault
+abbrev pub number_in : (least most : ℕ) → Meaning → List Lexed → List Lexed → Result (ℕ × List Lexed) ParseError
 number_in least most (Number' value unsigned) ls after =
     if unsigned then Err (fault_at NoForm ls)
     else if nat_lt value least then Err (fault_at NoForm ls)
@@ -136,6 +136,6 @@ number_in least most (Fixed' found) ls after = Err (fault_at NoForm ls)
 number_in least most (Name' bytes) ls after = Err (fault_at NoForm ls)
 number_in least most (Text' bytes) ls after = Err (fault_at NoForm ls)
 
-unfoldable pub number_at : (least most : ℕ) → List Lexed → Result (ℕ × List Lexed) ParseFault
-number_at least most [] = Err (Found NoForm 0)
+unfoldable pub number_at : (least most : ℕ) → List Lexed → Result (ℕ × List Lexed) ParseError
+number_at least most [] = Err (breaks NoForm 0)
 number_at least most (l ∷ after) = number_in least most l.meaning (l ∷ after) after

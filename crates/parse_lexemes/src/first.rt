@@ -1,7 +1,7 @@
 //! Tokens with what they stand for and their lines, and reading single ones.
 
 ghost use Rattle.std.specs.Prelude.{◌≡◌, ◌≤◌, ◌<◌, ◌+◌, length, get_or, slice_range};
-ghost use Rattle.parse_lexemes.specs.declared.fault.Fault.TheVariants.{NoForm};
+ghost use Rattle.parse_lexemes.specs.declared.fault.ParseRule.TheVariants.{NoForm};
 ghost use Rattle.parse_lexemes.specs.Meaning.{between_quotes};
 ghost use Rattle.parse_lexemes.specs.Order.{IsInside};
 ghost use Rattle.parse_lexemes.specs.Results.{Gives};
@@ -11,7 +11,9 @@ ghost use Rattle.std.specs.Option.{option_map};
 ghost use Rattle.parse_lexemes.specs.Reading.{rest_of, starts_with, starts_name, text_at, number_at, word_at};
 
 use crate::cursor::{Cursor, Source};
-use crate::fault::{Fault, ParseFault, Spot};
+use crate::fault::{ParseError, ParseRule};
+use crate::telling::fixed_words;
+use details::{Fault, Spot};
 use scan::{Kind, Mark, Token, Word};
 
 /// What always stands for itself.
@@ -146,36 +148,36 @@ fn line_of_end(tokens: &[Token], at: usize) -> usize
 }
 
 /// The fault at the first of these lexemes, in whose place this one alone could come.
-pub fn missing(fixed: Fixed, rest: Cursor<'_>) -> ParseFault
+pub fn missing(fixed: Fixed, rest: Cursor<'_>) -> ParseError
     ensures { result ≡ fault_at NoForm (views rest.entry) }
 {
-    ParseFault::Found {
-        fault: Fault::NoForm,
-        line: Spot::new(line_at(rest), rest.at, Some(fixed)),
-    }
+    ParseError::Fault(Fault {
+        rule: ParseRule::NoForm,
+        line: Spot::wanting(line_at(rest), rest.at, fixed_words(fixed)),
+    })
 }
 
 /// The fault at the first of these lexemes, which can't come there.
-pub fn unexpected(rest: Cursor<'_>) -> ParseFault
+pub fn unexpected(rest: Cursor<'_>) -> ParseError
     ensures { result ≡ fault_at NoForm (views rest.entry) }
 {
-    fault_at(Fault::NoForm, rest)
+    fault_at(ParseRule::NoForm, rest)
 }
 
-/// This fault at the first of these lexemes.
-pub fn fault_at(fault: Fault, rest: Cursor<'_>) -> ParseFault
-    ensures { result ≡ fault_at fault (views rest.entry) }
+/// The fault of this rule at the first of these lexemes.
+pub fn fault_at(rule: ParseRule, rest: Cursor<'_>) -> ParseError
+    ensures { result ≡ fault_at rule (views rest.entry) }
 {
-    ParseFault::Found {
-        fault,
-        line: Spot::new(line_at(rest), rest.at, None),
-    }
+    ParseError::Fault(Fault {
+        rule,
+        line: Spot::new(line_at(rest), rest.at),
+    })
 }
 
 /// What comes after this lexeme, which has to come next.
 #[inline(always)]
 #[tactic(auto, unfolding(crate::specs::Lexemes::expect))]
-pub fn expect(fixed: Fixed, rest: Cursor<'_>) -> Result<Cursor<'_>, ParseFault>
+pub fn expect(fixed: Fixed, rest: Cursor<'_>) -> Result<Cursor<'_>, ParseError>
     ensures { Gives views result (expect fixed (views rest.entry)) }
 {
     if starts_with(fixed, rest) {
@@ -290,7 +292,7 @@ pub fn text_at(rest: Cursor<'_>) -> Option<&[u8]>
 
 /// A number without `u`, from the least to the most, and what comes after it.
 #[tactic(auto, unfolding(crate::specs::Reading::number_at))]
-pub fn number_at(least: u32, most: u32, rest: Cursor<'_>) -> Result<(u32, Cursor<'_>), ParseFault>
+pub fn number_at(least: u32, most: u32, rest: Cursor<'_>) -> Result<(u32, Cursor<'_>), ParseError>
     ensures { Gives (λ x. (x.0, views x.1)) result (number_at least most (views rest.entry)) }
 {
     match shape_at(rest) {
@@ -306,7 +308,7 @@ pub fn number_at(least: u32, most: u32, rest: Cursor<'_>) -> Result<(u32, Cursor
 
 /// A name's bytes, and what comes after it.
 #[tactic(auto, unfolding(crate::specs::Lexemes::name_at))]
-pub fn name_at(rest: Cursor<'_>) -> Result<(&[u8], Cursor<'_>), ParseFault>
+pub fn name_at(rest: Cursor<'_>) -> Result<(&[u8], Cursor<'_>), ParseError>
     ensures { Gives (λ x. (x.0.now, views x.1)) result (name_at (views rest.entry)) }
 {
     if starts_name(rest) {

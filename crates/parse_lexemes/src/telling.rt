@@ -1,9 +1,9 @@
 //! What is told of a fault: the token that was found, and what was wanted; and of what C has and the language hasn't, what to
 //! write instead.
 
-use crate::fault::{Fault, ParseFault, Spot};
+use crate::fault::{ParseError, ParseRule};
 use crate::first::Fixed;
-use details::Detail;
+use details::{Detail, Spot};
 use scan::{Kind, Mark, Token, Word};
 
 /// A word of C, and what to write instead.
@@ -92,17 +92,21 @@ fn word_words(word: Word) -> &'static [u8] {
     }
 }
 
-/// Puts what alone could come.
-fn with_wanted(detail: Detail, wanted: Option<Fixed>) -> Detail {
-    let words = match wanted {
-        Some(Fixed::Mark(mark)) => mark_words(mark),
-        Some(Fixed::Word(word)) => word_words(word),
-        Some(Fixed::End) | None => b"",
-    };
-    if words.is_empty() {
+/// A lexeme that alone could come, in C's words, and none for the end of the text.
+pub(crate) fn fixed_words(fixed: Fixed) -> &'static [u8] {
+    match fixed {
+        Fixed::Mark(mark) => mark_words(mark),
+        Fixed::Word(word) => word_words(word),
+        Fixed::End => b"",
+    }
+}
+
+/// Puts what alone could come, where that is known.
+fn with_wanted(detail: Detail, wanted: &[u8]) -> Detail {
+    if wanted.is_empty() {
         return detail;
     }
-    detail.words(b", wanted ").quoted(words)
+    detail.words(b", wanted ").quoted(wanted)
 }
 
 /// The bytes of a token.
@@ -305,7 +309,7 @@ fn keyword(word: &[u8], begins: Option<Detail>) -> Detail {
 
 /// What is told of a token that can't come where it is.
 fn unexpected(text: &[u8], tokens: &[Token], spot: &Spot) -> Detail {
-    let at = spot.at();
+    let at = spot.place();
     let Some(found) = token_at(tokens, at) else {
         return with_wanted(Detail::of(b"found the end of the text"), spot.wanted());
     };
@@ -336,17 +340,17 @@ fn too_many(tokens: &[Token], at: usize) -> Detail {
     Detail::of(b"at most 256 names in a function, with its class and its other parameters")
 }
 
-impl ParseFault {
+impl ParseError {
     /// What was found in this text of these tokens, in words that no contract fixes.
     pub fn detail(&self, text: &[u8], tokens: &[Token]) -> Detail {
         match self {
-            ParseFault::Memory => Detail::none(),
-            ParseFault::Found { fault, line } => match fault {
-                Fault::NoForm => unexpected(text, tokens, line),
-                Fault::TooHigh => Detail::of(
+            ParseError::Memory => Detail::none(),
+            ParseError::Fault(fault) => match fault.rule {
+                ParseRule::NoForm => unexpected(text, tokens, &fault.line),
+                ParseRule::TooHigh => Detail::of(
                     b"at most 32 blocks, operators, casts, parentheses and indexes in one another",
                 ),
-                Fault::TooMany => too_many(tokens, line.at()),
+                ParseRule::TooMany => too_many(tokens, fault.line.place()),
             },
         }
     }

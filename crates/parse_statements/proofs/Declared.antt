@@ -6,7 +6,7 @@ use Rattle.scan.specs.declared.token.Mark.TheVariants as marks
 use Rattle.base.specs.Bytes.{Identifier}
 use Rattle.base.specs.Element.{ElementType, JInt, JShort, JByte, JChar}
 use Rattle.syntax.specs.Tree.{VariableType, JIntVariable, RightSide, Stmt, Declare, DeclareBuffer, DeclareChars, DeclareArray, Assign, AssignElement, Perform, PutJint, If, IfElse, While, Return, ReturnValue}
-use Rattle.parse_lexemes.specs.declared.fault.ParseFault.{ParseFault}
+use Rattle.parse_lexemes.specs.declared.fault.ParseError.{ParseError}
 use Rattle.scan.specs.declared.reserved.Word.TheVariants as words
 use Rattle.parse_lexemes.specs.declared.first.Fixed.{Fixed}
 use Rattle.parse_lexemes.specs.declared.first.Fixed.TheVariants as fixed
@@ -54,16 +54,16 @@ zeros_take ls rest h =
     let t1 = then_takes (fixed.Mark marks.OpenBrace) (Anywhere (Number' 0 false) ∷ mark marks.CloseBrace ∷ mark marks.Semicolon ∷ []) a.0 b.0 rest b.1 t2 in
     then_takes (fixed.Mark marks.Assign) (mark marks.OpenBrace ∷ Anywhere (Number' 0 false) ∷ mark marks.CloseBrace ∷ mark marks.Semicolon ∷ []) ls a.0 rest a.1 t1
 
-abbrev array_step3 : ℕ → ElementType → Identifier → ℕ → List Lexed → Result ReadPlain ParseFault
+abbrev array_step3 : ℕ → ElementType → Identifier → ℕ → List Lexed → Result ReadPlain ParseError
 array_step3 line t x size b = zeros_at b >>= λ rest. Ok (DeclareArray line t x size, rest)
 
-abbrev array_step2 : ℕ → ElementType → Identifier → ℕ × List Lexed → Result ReadPlain ParseFault
+abbrev array_step2 : ℕ → ElementType → Identifier → ℕ × List Lexed → Result ReadPlain ParseError
 array_step2 line t x size = expect (fixed.Mark marks.CloseBracket) size.1 >>= array_step3 line t x size.0
 
-abbrev array_step1 : ℕ → ElementType → Identifier → List Lexed → Result ReadPlain ParseFault
+abbrev array_step1 : ℕ → ElementType → Identifier → List Lexed → Result ReadPlain ParseError
 array_step1 line t x a = number_at 1 1024 a >>= array_step2 line t x
 
-abbrev array_step0 : ℕ → ElementType → Identifier × List Lexed → Result ReadPlain ParseFault
+abbrev array_step0 : ℕ → ElementType → Identifier × List Lexed → Result ReadPlain ParseError
 array_step0 line t x = expect (fixed.Mark marks.OpenBracket) x.1 >>= array_step1 line t x.0
 
 array_takes : (room line : ℕ) (t : ElementType) (ls : List Lexed) (x : ReadPlain) → array_at line t ls ≡ Ok x → TakesAfter room line (on_word line t) ls x
@@ -184,10 +184,10 @@ declared_takes room ls x s e = declared_by_takes room (element_type_at ls) (vari
 
 -- ---- what is spelled so is read
 
-abbrev plain_read : Stmt → List Lexed → Result ReadPlain ParseFault
+abbrev plain_read : Stmt → List Lexed → Result ReadPlain ParseError
 plain_read s ls = Ok (s, ls)
 
-abbrev rest_read : List Lexed → Result (List Lexed) ParseFault
+abbrev rest_read : List Lexed → Result (List Lexed) ParseError
 rest_read ls = Ok ls
 
 zeros_again : (ls rest : List Lexed) → Begins zeros_tokens ls rest → zeros_at ls ≡ Ok rest

@@ -7,7 +7,7 @@ use Rattle.std.proofs.lemmas.List.Elements.{filter_map-append}
 use Rattle.scan.specs.declared.token.Mark.TheVariants as marks
 use Rattle.syntax.specs.Tree.{Expr, Test, Stmt, If, IfElse, While, Block, End, Next}
 use Rattle.syntax.specs.Parts.{statements_within, statements_of, declared_name, names_declared}
-use Rattle.parse_lexemes.specs.declared.fault.ParseFault.{ParseFault}
+use Rattle.parse_lexemes.specs.declared.fault.ParseError.{ParseError}
 use Rattle.scan.specs.declared.reserved.Word.{Word}
 use Rattle.scan.specs.declared.reserved.Word.TheVariants as words
 use Rattle.parse_lexemes.specs.declared.first.Fixed.TheVariants as fixed
@@ -78,27 +78,27 @@ AllTakeBlocks deep room = (free : ℕ) (ls : List Lexed) (x : ReadBlock) → dee
 abbrev pub tested_tail : List Spelled → List Spelled
 tested_tail test = mark marks.OpenParen ∷ (test ++ mark marks.CloseParen ∷ [])
 
-abbrev if_step4 : BlockReader → ℕ → Test → ReadBlock → Result ReadStmt ParseFault
+abbrev if_step4 : BlockReader → ℕ → Test → ReadBlock → Result ReadStmt ParseError
 if_step4 deep line test b = else_by deep line test b.0 b.1 b.2
 
-abbrev if_step3 : BlockReader → (free line : ℕ) → Test → List Lexed → Result ReadStmt ParseFault
+abbrev if_step3 : BlockReader → (free line : ℕ) → Test → List Lexed → Result ReadStmt ParseError
 if_step3 deep free line test within = deep free within >>= if_step4 deep line test
 
-abbrev if_step2 : BlockReader → (free line : ℕ) → Test → List Lexed → Result ReadStmt ParseFault
+abbrev if_step2 : BlockReader → (free line : ℕ) → Test → List Lexed → Result ReadStmt ParseError
 if_step2 deep free line test b = expect (fixed.Mark marks.OpenBrace) b >>= if_step3 deep free line test
 
-abbrev if_step1 : BlockReader → (free line : ℕ) → Test × List Lexed → Result ReadStmt ParseFault
+abbrev if_step1 : BlockReader → (free line : ℕ) → Test × List Lexed → Result ReadStmt ParseError
 if_step1 deep free line test = expect (fixed.Mark marks.CloseParen) test.1 >>= if_step2 deep free line test.0
 
-abbrev if_step0 : BlockReader → (room free line : ℕ) → List Lexed → Result ReadStmt ParseFault
+abbrev if_step0 : BlockReader → (room free line : ℕ) → List Lexed → Result ReadStmt ParseError
 if_step0 deep room free line a = test_at room a >>= if_step1 deep free line
 
 -- steps in a row, the first of them read as one
-pub in_a_row : {A B C : Type 0} (r : Result A ParseFault) (f : A → Result B ParseFault) (g : B → Result C ParseFault) (h : A → Result C ParseFault) → ((x : A) → (f x >>= g) ≡ h x) → ((r >>= f) >>= g) ≡ (r >>= h)
+pub in_a_row : {A B C : Type 0} (r : Result A ParseError) (f : A → Result B ParseError) (g : B → Result C ParseError) (h : A → Result C ParseError) → ((x : A) → (f x >>= g) ≡ h x) → ((r >>= f) >>= g) ≡ (r >>= h)
 in_a_row (Ok x) f g h same = same x
 in_a_row (Err e) f g h same = refl
 
-abbrev if_steps : BlockReader → (free line : ℕ) → Test × List Lexed → Result ReadStmt ParseFault
+abbrev if_steps : BlockReader → (free line : ℕ) → Test × List Lexed → Result ReadStmt ParseError
 if_steps deep free line test = if_step3 deep free line test.0 test.1
 
 if_is : (deep : BlockReader) (room free line : ℕ) (ls : List Lexed) → if_by deep room free line ls ≡ (expect (fixed.Mark marks.OpenParen) ls >>= if_step0 deep room free line)
@@ -109,22 +109,22 @@ if_is deep room free line ls =
     in_a_row (expect (fixed.Mark marks.CloseParen) test.1) _ (if_steps deep free line) (if_step2 deep free line test.0) (λ b.
     in_a_row (expect (fixed.Mark marks.OpenBrace) b) _ (if_steps deep free line) (if_step3 deep free line test.0) (λ within. refl))))
 
-abbrev while_step4 : ℕ → Expr → ReadBlock → Result ReadStmt ParseFault
+abbrev while_step4 : ℕ → Expr → ReadBlock → Result ReadStmt ParseError
 while_step4 line test b = Ok (While line test b.0, b.1, b.2)
 
-abbrev while_step3 : BlockReader → (free line : ℕ) → Expr → List Lexed → Result ReadStmt ParseFault
+abbrev while_step3 : BlockReader → (free line : ℕ) → Expr → List Lexed → Result ReadStmt ParseError
 while_step3 deep free line test within = deep free within >>= while_step4 line test
 
-abbrev while_step2 : BlockReader → (free line : ℕ) → Expr → List Lexed → Result ReadStmt ParseFault
+abbrev while_step2 : BlockReader → (free line : ℕ) → Expr → List Lexed → Result ReadStmt ParseError
 while_step2 deep free line test b = expect (fixed.Mark marks.OpenBrace) b >>= while_step3 deep free line test
 
-abbrev while_step1 : BlockReader → (free line : ℕ) → ReadExpr → Result ReadStmt ParseFault
+abbrev while_step1 : BlockReader → (free line : ℕ) → ReadExpr → Result ReadStmt ParseError
 while_step1 deep free line test = expect (fixed.Mark marks.CloseParen) test.2 >>= while_step2 deep free line test.0
 
-abbrev while_step0 : BlockReader → (room free line : ℕ) → List Lexed → Result ReadStmt ParseFault
+abbrev while_step0 : BlockReader → (room free line : ℕ) → List Lexed → Result ReadStmt ParseError
 while_step0 deep room free line a = expr_at room 0 a >>= while_step1 deep free line
 
-abbrev while_steps : BlockReader → (free line : ℕ) → Expr × List Lexed → Result ReadStmt ParseFault
+abbrev while_steps : BlockReader → (free line : ℕ) → Expr × List Lexed → Result ReadStmt ParseError
 while_steps deep free line test = while_step3 deep free line test.0 test.1
 
 while_is : (deep : BlockReader) (room free line : ℕ) (ls : List Lexed) → while_by deep room free line ls ≡ (expect (fixed.Mark marks.OpenParen) ls >>= while_step0 deep room free line)

@@ -7,7 +7,7 @@ use Rattle.scan.specs.declared.reserved.Word.TheVariants as words
 use Rattle.syntax.specs.Tree.{Expr, AssignElement, DeclareArray, DeclareChars, PutJint, Return, ReturnValue}
 use Rattle.parse_lexemes.specs.declared.first.Fixed.{Fixed}
 use Rattle.parse_lexemes.specs.declared.first.Fixed.TheVariants as fixed
-use Rattle.parse_lexemes.specs.declared.fault.ParseFault.{ParseFault}
+use Rattle.parse_lexemes.specs.declared.fault.ParseError.{ParseError}
 use Rattle.parse_lexemes.specs.Results.{◌>>=◌}
 use Rattle.parse_lexemes.specs.Lexemes.{Lexed, expect, name_at}
 use Rattle.parse_lexemes.specs.Reading.{number_at, starts_with, rest_of}
@@ -51,7 +51,7 @@ pub return_is : (room line : ℕ) (ls : List Lexed) → return_at room line ls �
 unfolding return_at ended_at
 return_is room line ls = chosen (starts_with (fixed.Mark marks.Semicolon) ls)
   where
-    with_value : Expr × List Lexed → Result ReadPlain ParseFault
+    with_value : Expr × List Lexed → Result ReadPlain ParseError
     with_value e = Ok (ReturnValue line e.0, e.1)
 
     chosen : (b : Bool) → (if b then Ok (Return line, rest_of ls) else (expr_at room 0 ls >>= λ e. expect (fixed.Mark marks.Semicolon) e.2 >>= λ rest. with_value (e.0, rest)))

@@ -3,7 +3,7 @@ use Rattle.std.proofs.Common.{◌≡◌, ℕ, ◌<◌, Bool, true, false, List, 
 use Rattle.scan.specs.declared.token.Mark.TheVariants as marks
 use Rattle.base.specs.Bytes.{Identifier}
 use Rattle.syntax.specs.Tree.{Expr, Call, RightSide, Stmt, Declare, DeclareBuffer, DeclareChars, DeclareArray, Assign, AssignElement, Perform, PutJint, If, IfElse, While, Return, ReturnValue}
-use Rattle.parse_lexemes.specs.declared.fault.ParseFault.{ParseFault}
+use Rattle.parse_lexemes.specs.declared.fault.ParseError.{ParseError}
 use Rattle.scan.specs.declared.reserved.Word.TheVariants as words
 use Rattle.parse_lexemes.specs.declared.first.Fixed.TheVariants as fixed
 use Rattle.parse_lexemes.specs.Results.{◌>>=◌}
@@ -74,16 +74,16 @@ Setting = Identifier × RightSide × List Lexed
 abbrev pub TakesSetting : ℕ → List Lexed → Setting → Type 0
 TakesSetting room ls x = Begins (setting x.0 x.1) ls x.2 × IsRight room x.1
 
-abbrev setting3 : Identifier → RightSide → List Lexed → Result Setting ParseFault
+abbrev setting3 : Identifier → RightSide → List Lexed → Result Setting ParseError
 setting3 x r rest = Ok (x, r, rest)
 
-abbrev setting2 : Identifier → RightSide × List Lexed → Result Setting ParseFault
+abbrev setting2 : Identifier → RightSide × List Lexed → Result Setting ParseError
 setting2 x r = expect (fixed.Mark marks.Semicolon) r.1 >>= setting3 x r.0
 
-abbrev setting1 : ℕ → Identifier → List Lexed → Result Setting ParseFault
+abbrev setting1 : ℕ → Identifier → List Lexed → Result Setting ParseError
 setting1 room x ls = right_at room ls >>= setting2 x
 
-abbrev setting0 : ℕ → Identifier × List Lexed → Result Setting ParseFault
+abbrev setting0 : ℕ → Identifier × List Lexed → Result Setting ParseError
 setting0 room x = expect (fixed.Mark marks.Assign) x.1 >>= setting1 room x.0
 
 pub setting_takes : (room : ℕ) (ls : List Lexed) (x : Setting) → setting_at room ls ≡ Ok x → TakesSetting room ls x
@@ -137,16 +137,16 @@ perform_takes room ls x e =
 abbrev pub element_tail : Expr → Expr → List Spelled
 element_tail i e = mark marks.OpenBracket ∷ (expression i ++ mark marks.CloseBracket ∷ mark marks.Assign ∷ (expression e ++ mark marks.Semicolon ∷ []))
 
-abbrev set_step3 : (line : ℕ) → Identifier → Expr → ReadExpr → Result ReadPlain ParseFault
+abbrev set_step3 : (line : ℕ) → Identifier → Expr → ReadExpr → Result ReadPlain ParseError
 set_step3 line x i e = expect (fixed.Mark marks.Semicolon) e.2 >>= λ rest. Ok (AssignElement line x i e.0, rest)
 
-abbrev set_step2 : (room line : ℕ) → Identifier → Expr → List Lexed → Result ReadPlain ParseFault
+abbrev set_step2 : (room line : ℕ) → Identifier → Expr → List Lexed → Result ReadPlain ParseError
 set_step2 room line x i within = expr_at room 0 within >>= set_step3 line x i
 
-abbrev set_step1 : (room line : ℕ) → Identifier → ReadExpr → Result ReadPlain ParseFault
+abbrev set_step1 : (room line : ℕ) → Identifier → ReadExpr → Result ReadPlain ParseError
 set_step1 room line x i = expect (fixed.Mark marks.Assign) i.2 >>= set_step2 room line x i.0
 
-abbrev set_step0 : (room line : ℕ) → Identifier × List Lexed → Result ReadPlain ParseFault
+abbrev set_step0 : (room line : ℕ) → Identifier × List Lexed → Result ReadPlain ParseError
 set_step0 room line x = index_at room x.1 >>= set_step1 room line x.0
 
 set_element_takes : (room : ℕ) (ls : List Lexed) (x : ReadPlain) → set_element_at room (line_at ls) ls ≡ Ok x → TakesPlain room ls x
@@ -219,7 +219,7 @@ plain_takes room ls x e =
 
 -- ---- what is spelled so is read
 
-abbrev plain_read : Stmt → List Lexed → Result ReadPlain ParseFault
+abbrev plain_read : Stmt → List Lexed → Result ReadPlain ParseError
 plain_read s ls = Ok (s, ls)
 
 put_again : (room line : ℕ) (e : Expr) (ls rest : List Lexed) → Begins (mark marks.OpenParen ∷ (expression e ++ (mark marks.CloseParen ∷ mark marks.Semicolon ∷ []))) ls rest → IsExpr room e → put_at room line ls ≡ Ok (PutJint line e, rest)
@@ -248,7 +248,7 @@ value_again room line e ls rest h is =
     let c = expect_again (fixed.Mark marks.Semicolon) [] parts.0 rest parts.2 in
     rw (s, d, c.1) (ap (plain_read (ReturnValue line e)) c.2)
 
-abbrev setting_read : Identifier → RightSide → List Lexed → Result Setting ParseFault
+abbrev setting_read : Identifier → RightSide → List Lexed → Result Setting ParseError
 setting_read x r ls = Ok (x, r, ls)
 
 pub setting_again : (room : ℕ) (x : Identifier) (r : RightSide) (ls rest : List Lexed) → Begins (setting x r) ls rest → IsRight room r → setting_at room ls ≡ Ok (x, r, rest)

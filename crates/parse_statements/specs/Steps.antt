@@ -6,8 +6,8 @@ use Rattle.scan.specs.declared.token.Mark.TheVariants as marks
 use Rattle.scan.specs.declared.reserved.Word.TheVariants as words
 use Rattle.syntax.specs.Tree.{Expr, AssignElement, Test, Stmt, If, IfElse, While, Block}
 use Rattle.syntax.specs.Views.{expr_tree, test_tree}
-use Rattle.parse_lexemes.specs.declared.fault.Fault.TheVariants.{TooHigh}
-use Rattle.parse_lexemes.specs.declared.fault.ParseFault.{ParseFault}
+use Rattle.parse_lexemes.specs.declared.fault.ParseRule.TheVariants.{TooHigh}
+use Rattle.parse_lexemes.specs.declared.fault.ParseError.{ParseError}
 use Rattle.parse_lexemes.specs.Results.{◌>>=◌}
 use Rattle.parse_lexemes.specs.declared.first.Fixed.{Fixed}
 use Rattle.parse_lexemes.specs.declared.first.Fixed.TheVariants as fixed
@@ -23,14 +23,14 @@ abbrev pub ReadTest : Type 0
 ReadTest = Test × List Lexed
 
 -- an expression, and the lexeme that ends it
-unfoldable pub ended_at : ℕ → Fixed → List Lexed → Result (Expr × List Lexed) ParseFault
+unfoldable pub ended_at : ℕ → Fixed → List Lexed → Result (Expr × List Lexed) ParseError
 ended_at room end ls = do
   e ← expr_at room 0 ls
   rest ← expect end e.2
   Ok (e.0, rest)
 
 -- an expression in parentheses, and the lexeme after them
-unfoldable pub parenthesized_at : ℕ → Fixed → List Lexed → Result (Expr × List Lexed) ParseFault
+unfoldable pub parenthesized_at : ℕ → Fixed → List Lexed → Result (Expr × List Lexed) ParseError
 parenthesized_at room end ls = do
   a ← expect (fixed.Mark marks.OpenParen) ls
   e ← expr_at room 0 a
@@ -39,7 +39,7 @@ parenthesized_at room end ls = do
   Ok (e.0, rest)
 
 -- what comes after an equals sign up to the semicolon
-unfoldable pub assigned_at : ℕ → List Lexed → Result (Expr × List Lexed) ParseFault
+unfoldable pub assigned_at : ℕ → List Lexed → Result (Expr × List Lexed) ParseError
 assigned_at room ls = do
   within ← expect (fixed.Mark marks.Assign) ls
   e ← expr_at room 0 within
@@ -47,7 +47,7 @@ assigned_at room ls = do
   Ok (e.0, rest)
 
 -- what an element is set to
-unfoldable pub element_set_at : (room line : ℕ) → Identifier → Expr → List Lexed → Result ReadPlain ParseFault
+unfoldable pub element_set_at : (room line : ℕ) → Identifier → Expr → List Lexed → Result ReadPlain ParseError
 element_set_at room line x i ls = do
   within ← expect (fixed.Mark marks.Assign) ls
   e ← expr_at room 0 within
@@ -55,7 +55,7 @@ element_set_at room line x i ls = do
   Ok (AssignElement line x i e.0, rest)
 
 -- the name and the size of a local array, in its brackets
-unfoldable pub array_head_at : List Lexed → Result (Identifier × ℕ × List Lexed) ParseFault
+unfoldable pub array_head_at : List Lexed → Result (Identifier × ℕ × List Lexed) ParseError
 array_head_at ls = do
   name ← name_at ls
   a ← expect (fixed.Mark marks.OpenBracket) name.1
@@ -79,7 +79,7 @@ ReadHead = Option (Head × List Lexed)
 abbrev pub starts_nested : List Lexed → Bool
 starts_nested ls = starts_with (fixed.Word words.If) ls || starts_with (fixed.Word words.While) ls
 
-unfoldable pub nested_head_at : (room : ℕ) → List Lexed → Result ReadHead ParseFault
+unfoldable pub nested_head_at : (room : ℕ) → List Lexed → Result ReadHead ParseError
 nested_head_at room ls =
     if room == 0 && starts_nested ls then Err (fault_at TooHigh ls)
     else if starts_with (fixed.Word words.If) ls then (if_test_at room (rest_of ls) >>= λ t. Ok (Some (IfHead t.0, t.1)))
@@ -106,22 +106,22 @@ OtherRead = Option Block × ℕ × List Lexed
 abbrev pub WaysRead : Type 0
 WaysRead = Block × Option Block × ℕ × List Lexed
 
-abbrev pub second_of : Result BlockRead ParseFault → Result OtherRead ParseFault
+abbrev pub second_of : Result BlockRead ParseError → Result OtherRead ParseError
 second_of read = read >>= λ b. Ok (Some b.0, b.1, b.2)
 
 -- the second block, where there may be one
-unfoldable pub other_at : BlockReader → (free : ℕ) → Bool → List Lexed → Result OtherRead ParseFault
+unfoldable pub other_at : BlockReader → (free : ℕ) → Bool → List Lexed → Result OtherRead ParseError
 other_at deep free otherwise ls =
     if otherwise && starts_with (fixed.Word words.Else) ls
     then (expect (fixed.Mark marks.OpenBrace) (rest_of ls) >>= λ within. second_of (deep free within))
     else Ok (None, free, ls)
 
-abbrev pub both_of : Block → Result OtherRead ParseFault → Result WaysRead ParseFault
+abbrev pub both_of : Block → Result OtherRead ParseError → Result WaysRead ParseError
 both_of body read = read >>= λ o. Ok (body, o.0, o.1, o.2)
 
 -- both blocks
-unfoldable pub ways_at : BlockReader → (free : ℕ) → Bool → List Lexed → Result WaysRead ParseFault
+unfoldable pub ways_at : BlockReader → (free : ℕ) → Bool → List Lexed → Result WaysRead ParseError
 ways_at deep free otherwise ls = deep free ls >>= λ body. both_of body.0 (other_at deep body.1 otherwise body.2)
 
-abbrev pub nested_of : (line : ℕ) → Head → Result WaysRead ParseFault → Result (Stmt × ℕ × List Lexed) ParseFault
+abbrev pub nested_of : (line : ℕ) → Head → Result WaysRead ParseError → Result (Stmt × ℕ × List Lexed) ParseError
 nested_of line head read = read >>= λ w. Ok (nested_made line head w.0 w.1, w.2, w.3)

@@ -11,7 +11,7 @@ ghost use Rattle.parse_statements.specs.Reading.{zeros_at, array_at, is_array, a
 use base::limits::MOST_ELEMENTS;
 use parse_expressions::{expect_two, setting};
 use parse_lexemes::{
-    Cursor, Fixed, ParseFault, element_type, expect, line_at, name_at, number_at, rest_of,
+    Cursor, Fixed, ParseError, element_type, expect, line_at, name_at, number_at, rest_of,
     starts_with, variable_type,
 };
 use scan::{Mark, Word};
@@ -20,7 +20,7 @@ use syntax::{ElementType, Form, Name, Stmt, VariableType};
 
 /// What comes after the zeros of a local array.
 #[tactic(auto, using(crate::proofs::Regrouped::zeros_are))]
-fn zeros(lexemes: Cursor<'_>) -> Result<Cursor<'_>, ParseFault>
+fn zeros(lexemes: Cursor<'_>) -> Result<Cursor<'_>, ParseError>
     ensures { Gives (λ x. views x) result (zeros_at (views lexemes.entry)) }
 {
     let rest = expect_two(
@@ -39,7 +39,7 @@ fn zeros(lexemes: Cursor<'_>) -> Result<Cursor<'_>, ParseFault>
 /// The name and the size of a local array, in its brackets.
 #[inline]
 #[tactic(auto, unfolding(crate::specs::Steps::array_head_at))]
-fn array_head(lexemes: Cursor<'_>) -> Result<(&[u8], u32, Cursor<'_>), ParseFault>
+fn array_head(lexemes: Cursor<'_>) -> Result<(&[u8], u32, Cursor<'_>), ParseError>
     ensures { Gives (λ x. (x.0.now, x.1, views x.2)) result (array_head_at (views lexemes.entry)) }
 {
     let (name, rest) = name_at(lexemes)?;
@@ -58,13 +58,13 @@ fn array(
     line: usize,
     element: ElementType,
     lexemes: Cursor<'_>,
-) -> Result<(Stmt, Cursor<'_>), ParseFault>
+) -> Result<(Stmt, Cursor<'_>), ParseError>
     ensures { Gives (λ x. (stmt_tree x.0, views x.1)) result (array_at line (element_value element) (views lexemes.entry)) }
 {
     let (name, size, rest) = array_head(lexemes)?;
     let rest = zeros(rest)?;
     let Ok(name) = Name::new(alloc, name) else {
-        return Err(ParseFault::Memory);
+        return Err(ParseError::Memory);
     };
     let form = Form::DeclareArray(element, name, size);
     Ok((Stmt { line, form }, rest))
@@ -88,7 +88,7 @@ fn after_element(
     line: usize,
     element: ElementType,
     lexemes: Cursor<'_>,
-) -> Result<(Stmt, Cursor<'_>), ParseFault>
+) -> Result<(Stmt, Cursor<'_>), ParseError>
     requires { room ≤ 32 }
     ensures { Gives (λ x. (stmt_tree x.0, views x.1)) result (after_element room line (element_value element) (views lexemes.entry)) }
 {
@@ -115,7 +115,7 @@ fn after_variable(
     line: usize,
     kind: VariableType,
     lexemes: Cursor<'_>,
-) -> Result<(Stmt, Cursor<'_>), ParseFault>
+) -> Result<(Stmt, Cursor<'_>), ParseError>
     requires { room ≤ 32 }
     ensures { Gives (λ x. (stmt_tree x.0, views x.1)) result (after_variable room line (variable_type_tree kind) (views lexemes.entry)) }
 {
@@ -135,7 +135,7 @@ fn after_const(
     room: u32,
     line: usize,
     lexemes: Cursor<'_>,
-) -> Result<(Stmt, Cursor<'_>), ParseFault>
+) -> Result<(Stmt, Cursor<'_>), ParseError>
     requires { room ≤ 32 }
     ensures { Gives (λ x. (stmt_tree x.0, views x.1)) result (after_const room line (views lexemes.entry)) }
 {
@@ -155,7 +155,7 @@ pub(crate) fn declared(
     alloc: Global,
     room: u32,
     lexemes: Cursor<'_>,
-) -> Result<(Stmt, Cursor<'_>), ParseFault>
+) -> Result<(Stmt, Cursor<'_>), ParseError>
     requires { room ≤ 32 }
     ensures { Gives (λ x. (stmt_tree x.0, views x.1)) result (declared_at room (views lexemes.entry)) }
 {

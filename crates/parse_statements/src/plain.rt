@@ -8,7 +8,7 @@ ghost use Rattle.parse_lexemes.specs.Lexemes.{views};
 ghost use Rattle.parse_statements.specs.Reading.{put_at, return_at, perform_at, set_element_at, set_at, plain_at};
 
 use parse_expressions::{call, closed, expression, index, setting, starts_element};
-use parse_lexemes::{Cursor, Fixed, ParseFault, expect, line_at, name_at, rest_of, starts_with};
+use parse_lexemes::{Cursor, Fixed, ParseError, expect, line_at, name_at, rest_of, starts_with};
 use scan::{Mark, Word};
 use std::alloc::Global;
 use syntax::{Expr, Form, Name, Stmt};
@@ -21,7 +21,7 @@ fn ended(
     room: u32,
     end: Fixed,
     lexemes: Cursor<'_>,
-) -> Result<(Expr, Cursor<'_>), ParseFault>
+) -> Result<(Expr, Cursor<'_>), ParseError>
     requires { room ≤ 32 }
     ensures { Gives (λ x. (expr_tree x.0, views x.1)) result (ended_at room end (views lexemes.entry)) }
 {
@@ -39,7 +39,7 @@ pub(crate) fn parenthesized(
     room: u32,
     end: Fixed,
     lexemes: Cursor<'_>,
-) -> Result<(Expr, Cursor<'_>), ParseFault>
+) -> Result<(Expr, Cursor<'_>), ParseError>
     requires { room ≤ 32 }
     ensures { Gives (λ x. (expr_tree x.0, views x.1)) result (parenthesized_at room end (views lexemes.entry)) }
 {
@@ -58,7 +58,7 @@ fn put(
     room: u32,
     line: usize,
     lexemes: Cursor<'_>,
-) -> Result<(Stmt, Cursor<'_>), ParseFault>
+) -> Result<(Stmt, Cursor<'_>), ParseError>
     requires { room ≤ 32 }
     ensures { Gives (λ x. (stmt_tree x.0, views x.1)) result (put_at room line (views lexemes.entry)) }
 {
@@ -78,7 +78,7 @@ fn returned(
     room: u32,
     line: usize,
     lexemes: Cursor<'_>,
-) -> Result<(Stmt, Cursor<'_>), ParseFault>
+) -> Result<(Stmt, Cursor<'_>), ParseError>
     requires { room ≤ 32 }
     ensures { Gives (λ x. (stmt_tree x.0, views x.1)) result (return_at room line (views lexemes.entry)) }
 {
@@ -102,7 +102,7 @@ fn perform(
     room: u32,
     line: usize,
     lexemes: Cursor<'_>,
-) -> Result<(Stmt, Cursor<'_>), ParseFault>
+) -> Result<(Stmt, Cursor<'_>), ParseError>
     requires { room ≤ 32 }
     ensures { Gives (λ x. (stmt_tree x.0, views x.1)) result (perform_at room line (views lexemes.entry)) }
 {
@@ -119,7 +119,7 @@ fn perform(
 /// What comes after an equals sign up to the semicolon.
 #[inline]
 #[tactic(auto, unfolding(crate::specs::Steps::assigned_at, crate::specs::Steps::ended_at))]
-fn assigned(alloc: Global, room: u32, lexemes: Cursor<'_>) -> Result<(Expr, Cursor<'_>), ParseFault>
+fn assigned(alloc: Global, room: u32, lexemes: Cursor<'_>) -> Result<(Expr, Cursor<'_>), ParseError>
     requires { room ≤ 32 }
     ensures { Gives (λ x. (expr_tree x.0, views x.1)) result (assigned_at room (views lexemes.entry)) }
 {
@@ -136,7 +136,7 @@ fn set_to(
     name: Name,
     index: Expr,
     lexemes: Cursor<'_>,
-) -> Result<(Stmt, Cursor<'_>), ParseFault>
+) -> Result<(Stmt, Cursor<'_>), ParseError>
     requires { room ≤ 32 }
     ensures { Gives (λ x. (stmt_tree x.0, views x.1)) result (element_set_at room line name (expr_tree index) (views lexemes.entry)) }
 {
@@ -156,14 +156,14 @@ fn set_element(
     room: u32,
     line: usize,
     lexemes: Cursor<'_>,
-) -> Result<(Stmt, Cursor<'_>), ParseFault>
+) -> Result<(Stmt, Cursor<'_>), ParseError>
     requires { room ≤ 32 }
     ensures { Gives (λ x. (stmt_tree x.0, views x.1)) result (set_element_at room line (views lexemes.entry)) }
 {
     let (name, rest) = name_at(lexemes)?;
     let (index, _, rest) = index(alloc, room, rest)?;
     let Ok(name) = Name::new(alloc, name) else {
-        return Err(ParseFault::Memory);
+        return Err(ParseError::Memory);
     };
     set_to(alloc, room, line, name, index, rest)
 }
@@ -175,7 +175,7 @@ fn set(
     room: u32,
     line: usize,
     lexemes: Cursor<'_>,
-) -> Result<(Stmt, Cursor<'_>), ParseFault>
+) -> Result<(Stmt, Cursor<'_>), ParseError>
     requires { room ≤ 32 }
     ensures { Gives (λ x. (stmt_tree x.0, views x.1)) result (set_at room line (views lexemes.entry)) }
 {
@@ -197,7 +197,7 @@ pub(crate) fn plain(
     alloc: Global,
     room: u32,
     lexemes: Cursor<'_>,
-) -> Result<(Stmt, Cursor<'_>), ParseFault>
+) -> Result<(Stmt, Cursor<'_>), ParseError>
     requires { room ≤ 32 }
     ensures { Gives (λ x. (stmt_tree x.0, views x.1)) result (plain_at room (views lexemes.entry)) }
 {

@@ -3,7 +3,7 @@
 ghost use Rattle.std.specs.Prelude.{◌≡◌, ◌≤◌, ℕ, Result, IfOk, IfSome};
 ghost use Rattle.std.specs.Option.{option_map};
 ghost use Rattle.syntax.specs.Views.{expr_tree, test_tree, stmt_tree, block_tree};
-ghost use Rattle.parse_lexemes.specs.declared.fault.ParseFault.{ParseFault};
+ghost use Rattle.parse_lexemes.specs.declared.fault.ParseError.{ParseError};
 ghost use Rattle.parse_lexemes.specs.Results.{Gives};
 ghost use Rattle.parse_lexemes.specs.Lexemes.{views};
 ghost use Rattle.parse_expressions.specs.Steps.{made_of, two};
@@ -14,7 +14,7 @@ use crate::declarations::{declared, starts_declaration};
 use crate::plain::{parenthesized, plain};
 use parse_expressions::{expect_two, test};
 use parse_lexemes::{
-    Cursor, Fault, Fixed, ParseFault, expect, fault_at, line_at, missing, rest_of, starts_with,
+    Cursor, Fixed, ParseError, ParseRule, expect, fault_at, line_at, missing, rest_of, starts_with,
 };
 use scan::{Mark, Word};
 use std::alloc::Global;
@@ -46,13 +46,13 @@ fn simple(
     room: u32,
     free: usize,
     lexemes: Cursor<'_>,
-) -> Result<ReadStmt<'_>, ParseFault>
+) -> Result<ReadStmt<'_>, ParseError>
     requires { room ≤ 32 }
     ensures { Gives (λ x. (stmt_tree x.0, x.1, views x.2)) result (simple_at room free (views lexemes.entry)) }
 {
     if starts_declaration(lexemes) {
         if free == 0 {
-            return Err(fault_at(Fault::TooMany, lexemes));
+            return Err(fault_at(ParseRule::TooMany, lexemes));
         }
         return match declared(alloc, room, lexemes) {
             Ok((stmt, rest)) => Ok((stmt, free - 1, rest)),
@@ -74,7 +74,7 @@ fn is_return(stmt: &Stmt) -> bool
 
 /// A test, and what comes after its parenthesis and the brace of a block.
 #[inline]
-fn tested(test: Test, lexemes: Cursor<'_>) -> Result<(Test, Cursor<'_>), ParseFault>
+fn tested(test: Test, lexemes: Cursor<'_>) -> Result<(Test, Cursor<'_>), ParseError>
     ensures { Gives (λ x. (test_tree x.0, views x.1)) result (made_of {B = ReadTest} (two (Fixed.Mark Mark.CloseParen) (Fixed.Mark Mark.OpenBrace) (views lexemes.entry)) (λ after. (test_tree test, after))) }
 {
     let paren = Fixed::Mark(Mark::CloseParen);
@@ -86,7 +86,7 @@ fn tested(test: Test, lexemes: Cursor<'_>) -> Result<(Test, Cursor<'_>), ParseFa
 
 /// What an `if` tests, in its parentheses, and what comes after the brace of its block.
 #[tactic(auto, using(crate::proofs::Regrouped::if_test_is))]
-fn if_test(alloc: Global, room: u32, lexemes: Cursor<'_>) -> Result<(Test, Cursor<'_>), ParseFault>
+fn if_test(alloc: Global, room: u32, lexemes: Cursor<'_>) -> Result<(Test, Cursor<'_>), ParseError>
     requires { room ≤ 32 }
     ensures { Gives (λ x. (test_tree x.0, views x.1)) result (if_test_at room (views lexemes.entry)) }
 {
@@ -101,7 +101,7 @@ fn while_test(
     alloc: Global,
     room: u32,
     lexemes: Cursor<'_>,
-) -> Result<(Expr, Cursor<'_>), ParseFault>
+) -> Result<(Expr, Cursor<'_>), ParseError>
     requires { room ≤ 32 }
     ensures { Gives (λ x. (expr_tree x.0, views x.1)) result (while_test_at room (views lexemes.entry)) }
 {
@@ -114,13 +114,13 @@ fn nested_head(
     alloc: Global,
     room: u32,
     lexemes: Cursor<'_>,
-) -> Result<Option<(Head, Cursor<'_>)>, ParseFault>
+) -> Result<Option<(Head, Cursor<'_>)>, ParseError>
     requires { room ≤ 32 }
     ensures some { IfOk result (λ x. IfSome x (λ _. 1 ≤ room)) }
     ensures gives { Gives (option_map (λ x. (head_view x.0, views x.1))) result (nested_head_at room (views lexemes.entry)) }
 {
     if room == 0 && starts_nested(lexemes) {
-        return Err(fault_at(Fault::TooHigh, lexemes));
+        return Err(fault_at(ParseRule::TooHigh, lexemes));
     }
     if starts_with(Fixed::Word(Word::If), lexemes) {
         return match if_test(alloc, room, rest_of(lexemes)) {
@@ -171,9 +171,9 @@ fn nested_form(head: Head, body: Block, other: Option<Block>) -> Form
 fn nested<'t>(
     line: usize,
     head: Head,
-    ways: Result<ReadWays<'t>, ParseFault>,
-) -> Result<ReadStmt<'t>, ParseFault>
-    ensures { (read : Result WaysRead ParseFault) → Gives (λ x. (block_tree x.0, option_map block_tree x.1, x.2, views x.3)) ways.entry read → Gives (λ x. (stmt_tree x.0, x.1, views x.2)) result (nested_of line (head_view head) read) }
+    ways: Result<ReadWays<'t>, ParseError>,
+) -> Result<ReadStmt<'t>, ParseError>
+    ensures { (read : Result WaysRead ParseError) → Gives (λ x. (block_tree x.0, option_map block_tree x.1, x.2, views x.3)) ways.entry read → Gives (λ x. (stmt_tree x.0, x.1, views x.2)) result (nested_of line (head_view head) read) }
 {
     match ways {
         Ok((body, other, free, rest)) => {
@@ -188,9 +188,9 @@ fn nested<'t>(
 #[inline]
 fn both<'t>(
     body: Block,
-    other: Result<ReadOther<'t>, ParseFault>,
-) -> Result<ReadWays<'t>, ParseFault>
-    ensures { (read : Result OtherRead ParseFault) → Gives (λ x. (option_map block_tree x.0, x.1, views x.2)) other.entry read → Gives (λ x. (block_tree x.0, option_map block_tree x.1, x.2, views x.3)) result (both_of (block_tree body) read) }
+    other: Result<ReadOther<'t>, ParseError>,
+) -> Result<ReadWays<'t>, ParseError>
+    ensures { (read : Result OtherRead ParseError) → Gives (λ x. (option_map block_tree x.0, x.1, views x.2)) other.entry read → Gives (λ x. (block_tree x.0, option_map block_tree x.1, x.2, views x.3)) result (both_of (block_tree body) read) }
 {
     match other {
         Ok((other, free, rest)) => Ok((body, other, free, rest)),
@@ -206,7 +206,7 @@ fn ways(
     free: usize,
     otherwise: bool,
     lexemes: Cursor<'_>,
-) -> Result<ReadWays<'_>, ParseFault>
+) -> Result<ReadWays<'_>, ParseError>
     requires some { 1 ≤ room }
     requires bound { room ≤ 32 }
     ensures { Gives (λ x. (block_tree x.0, option_map block_tree x.1, x.2, views x.3)) result (ways_at (inner room) free otherwise (views lexemes.entry)) }
@@ -218,8 +218,8 @@ fn ways(
 
 /// A block that was read as the second one.
 #[inline]
-fn second(read: Result<ReadBlock<'_>, ParseFault>) -> Result<ReadOther<'_>, ParseFault>
-    ensures { (from : Result BlockRead ParseFault) → Gives (λ x. (block_tree x.0, x.1, views x.2)) read.entry from → Gives (λ x. (option_map block_tree x.0, x.1, views x.2)) result (second_of from) }
+fn second(read: Result<ReadBlock<'_>, ParseError>) -> Result<ReadOther<'_>, ParseError>
+    ensures { (from : Result BlockRead ParseError) → Gives (λ x. (block_tree x.0, x.1, views x.2)) read.entry from → Gives (λ x. (option_map block_tree x.0, x.1, views x.2)) result (second_of from) }
 {
     match read {
         Ok((other, free, rest)) => Ok((Some(other), free, rest)),
@@ -236,7 +236,7 @@ fn other_block(
     free: usize,
     otherwise: bool,
     lexemes: Cursor<'_>,
-) -> Result<ReadOther<'_>, ParseFault>
+) -> Result<ReadOther<'_>, ParseError>
     requires some { 1 ≤ room }
     requires bound { room ≤ 32 }
     ensures { Gives (λ x. (option_map block_tree x.0, x.1, views x.2)) result (other_at (inner room) free otherwise (views lexemes.entry)) }
@@ -255,7 +255,7 @@ fn statement(
     room: u32,
     free: usize,
     lexemes: Cursor<'_>,
-) -> Result<ReadStmt<'_>, ParseFault>
+) -> Result<ReadStmt<'_>, ParseError>
     requires { room ≤ 32 }
     ensures { Gives (λ x. (stmt_tree x.0, x.1, views x.2)) result (statement_at room free (views lexemes.entry)) }
 {
@@ -273,7 +273,7 @@ pub fn block(
     room: u32,
     names: usize,
     lexemes: Cursor<'_>,
-) -> Result<ReadBlock<'_>, ParseFault>
+) -> Result<ReadBlock<'_>, ParseError>
     requires { room ≤ 32 }
     ensures { Gives (λ x. (block_tree x.0, x.1, views x.2)) result (block_at room names (views lexemes.entry)) }
 {

@@ -23,7 +23,7 @@ pub enum Place {
 }
 
 impl Place {
-    ghost use Rattle.cli_commands.specs.Commands.{text_at};
+    ghost use Rattle.places.specs.Places.{text_at};
 
     /// The text that the place is in.
     pub fn text(self) -> Text

@@ -1,8 +1,8 @@
 -- A pass refuses the text of an accepted program for want of memory alone.
 use Rattle.std.proofs.Common.{◌≡◌, List, ℕ, Ok, refl, subst}
 use Rattle.syntax.specs.Tree.{SourceUnit}
-use Rattle.parse_lexemes.specs.declared.fault.ParseFault.{ParseFault}
-use Rattle.parse_lexemes.specs.declared.fault.ParseFault.TheVariants as parsing
+use Rattle.parse_lexemes.specs.declared.fault.ParseError.{ParseError}
+use Rattle.parse_lexemes.specs.declared.fault.ParseError.TheVariants as parsing
 use Rattle.parse_lexemes.specs.Results.{Fails}
 use Rattle.type_rules.specs.SortRules.{IsSorted}
 use Rattle.region_rules.specs.Regions.{HasRegions}
@@ -10,9 +10,9 @@ use Rattle.program_check.specs.declared.fault.RunError.TheVariants.{Memory}
 use Rattle.program_check.specs.Errors.{of_parse}
 use Rattle.program_check.specs.Programs.{IsProgram}
 
-pub parse_accepts : (unit : SourceUnit) (f : ParseFault) → Fails f (Ok unit) → of_parse f ≡ Memory
+pub parse_accepts : (unit : SourceUnit) (f : ParseError) → Fails f (Ok unit) → of_parse f ≡ Memory
 parse_accepts unit parsing.Memory h = refl
-parse_accepts unit (parsing.Found fault line) h = absurd (cc h)
+parse_accepts unit (parsing.Fault fault) h = absurd (cc h)
 
 -- what the unit that was found keeps, where it is that of the program
 module _ (text : List ℕ) (unit found : SourceUnit) (p : IsProgram text unit) (same : unit ≡ found) where

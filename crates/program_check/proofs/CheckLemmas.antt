@@ -2,8 +2,8 @@
 use Rattle.std.proofs.Common.{◌≡◌, ℕ, List, Err, subst}
 use Rattle.syntax.specs.Tree.{SourceUnit}
 use Rattle.code_meaning.specs.Length.{IsTooLong}
-use Rattle.cli_commands.specs.declared.place.Place.TheVariants as place
-use Rattle.cli_commands.specs.declared.place.Text.TheVariants as which
+use Rattle.places.specs.declared.place.Place.TheVariants as place
+use Rattle.places.specs.declared.place.Text.TheVariants as which
 use Rattle.program_check.specs.declared.fault.RunError.{RunError}
 use Rattle.program_check.specs.declared.fault.RunError.TheVariants.{Memory, Fault, Writer}
 use Rattle.program_check.specs.Errors.{too_long}

@@ -2,40 +2,40 @@
 use Rattle.std.proofs.Common.{◌≡◌, List, ℕ, Some}
 use Rattle.syntax.specs.Tree.{SourceUnit}
 use Rattle.scan.specs.declared.token.Token.{Token}
-use Rattle.scan.specs.declared.fault.ScanFault.{ScanFault}
-use Rattle.scan.specs.declared.fault.ScanFault.TheVariants as scanning
+use Rattle.scan.specs.declared.fault.ScanError.{ScanError}
+use Rattle.scan.specs.declared.fault.ScanError.TheVariants as scanning
 use Rattle.scan.specs.Spelling.{Spells}
 use Rattle.scan.specs.Faults.{IsFirstFault}
-use Rattle.parse_lexemes.specs.declared.fault.ParseFault.{ParseFault}
-use Rattle.parse_lexemes.specs.declared.fault.ParseFault.TheVariants as parsing
+use Rattle.parse_lexemes.specs.declared.fault.ParseError.{ParseError}
+use Rattle.parse_lexemes.specs.declared.fault.ParseError.TheVariants as parsing
 use Rattle.parse_lexemes.specs.Lexemes.{lexemes}
 use Rattle.parse.specs.Reading.{unit_at}
 use Rattle.parse_lexemes.specs.Results.{Fails}
 use Rattle.parse.specs.Spelling.{SpellsUnit}
-use Rattle.types.specs.declared.fault.TypeFault.{TypeFault}
-use Rattle.types.specs.declared.fault.TypeFault.TheVariants as sorting
+use Rattle.types.specs.declared.fault.TypeError.{TypeError}
+use Rattle.types.specs.declared.fault.TypeError.TheVariants as sorting
 use Rattle.types.specs.Faults.{IfBroken, fault_of, rule_of}
 use Rattle.type_rules.specs.SortRules.{IsSorted, first_broken}
-use Rattle.regions.specs.declared.fault.CheckFault.{CheckFault}
-use Rattle.regions.specs.declared.fault.CheckFault.TheVariants as region_checking
+use Rattle.regions.specs.declared.fault.CheckError.{CheckError}
+use Rattle.regions.specs.declared.fault.CheckError.TheVariants as region_checking
 use Rattle.region_rules.specs.FirstFaults.{IsFirstRegionFault}
 use Rattle.regions.specs.Findings as findings
 use Rattle.program_check.specs.Errors.{of_scan, of_parse, of_types, of_regions}
 use Rattle.program_check.specs.Passes.{IsRefusal}
 use Rattle.program_check.specs.Programs.{by_scan, by_parse, by_sorts, by_regions}
 
-pub scan_refusal : (text : List ℕ) (f : ScanFault) → IsFirstFault text f → IsRefusal text (of_scan f)
+pub scan_refusal : (text : List ℕ) (f : ScanError) → IsFirstFault text f → IsRefusal text (of_scan f)
 scan_refusal text scanning.Memory h = tt
-scan_refusal text (scanning.Found fault line) h = by_scan fault line h
+scan_refusal text (scanning.Fault fault) h = by_scan fault h
 
-pub parse_refusal : (text : List ℕ) (tokens : List Token) (f : ParseFault) → Spells text tokens → Fails f (unit_at (lexemes text 1 tokens)) → IsRefusal text (of_parse f)
+pub parse_refusal : (text : List ℕ) (tokens : List Token) (f : ParseError) → Spells text tokens → Fails f (unit_at (lexemes text 1 tokens)) → IsRefusal text (of_parse f)
 parse_refusal text tokens parsing.Memory s h = tt
-parse_refusal text tokens (parsing.Found fault line) s h = by_parse tokens fault line s h
+parse_refusal text tokens (parsing.Fault fault) s h = by_parse tokens fault s h
 
-pub types_refusal : (text : List ℕ) (unit : SourceUnit) (f : TypeFault) → SpellsUnit text unit → IfBroken f (λ g. first_broken unit ≡ Some (fault_of g)) → IsRefusal text (of_types f)
+pub types_refusal : (text : List ℕ) (unit : SourceUnit) (f : TypeError) → SpellsUnit text unit → IfBroken f (λ g. first_broken unit ≡ Some (fault_of g)) → IsRefusal text (of_types f)
 types_refusal text unit sorting.Memory s h = tt
-types_refusal text unit (sorting.Broken fault) s h = by_sorts unit (rule_of fault.rule) fault.line s h
+types_refusal text unit (sorting.Fault fault) s h = by_sorts unit (rule_of fault.rule) fault.line s h
 
-pub regions_refusal : (text : List ℕ) (unit : SourceUnit) (f : CheckFault) → SpellsUnit text unit → IsSorted unit → findings.IfBroken f (λ g. IsFirstRegionFault (findings.rule_of g.rule) g.line unit) → IsRefusal text (of_regions f)
+pub regions_refusal : (text : List ℕ) (unit : SourceUnit) (f : CheckError) → SpellsUnit text unit → IsSorted unit → findings.IfBroken f (λ g. IsFirstRegionFault (findings.rule_of g.rule) g.line unit) → IsRefusal text (of_regions f)
 regions_refusal text unit region_checking.Memory s t h = tt
-regions_refusal text unit (region_checking.Broken fault) s t h = by_regions unit (findings.rule_of fault.rule) fault.line s t h
+regions_refusal text unit (region_checking.Fault fault) s t h = by_regions unit (findings.rule_of fault.rule) fault.line s t h

@@ -2,11 +2,11 @@
 use Rattle.std.specs.Prelude.{◌≡◌, ℕ, List, Result, Ok, Err}
 use Rattle.syntax.specs.Tree.{SourceUnit}
 use Rattle.code_meaning.specs.Length.{IsTooLong}
-use Rattle.cli_commands.specs.declared.place.Place.{Place}
-use Rattle.cli_commands.specs.declared.place.Place.TheVariants.{Line}
+use Rattle.places.specs.declared.place.Place.{Place}
+use Rattle.places.specs.declared.place.Place.TheVariants.{Line}
 use Rattle.program_check.specs.declared.fault.RunError.{RunError}
 use Rattle.program_check.specs.declared.fault.RunError.TheVariants.{Memory, Fault, Writer}
-use Rattle.cli_commands.specs.declared.place.Text.TheVariants as which
+use Rattle.places.specs.declared.place.Text.TheVariants as which
 use Rattle.program_check.specs.Programs.{IsProgram, IsRefusedProgram}
 
 -- the text is that of an accepted program

@@ -1,38 +1,38 @@
--- The faults of the passes over a program text, as errors of that text.
-use Rattle.scan.specs.declared.fault.ScanFault.{ScanFault}
-use Rattle.scan.specs.declared.fault.ScanFault.TheVariants as scanning
-use Rattle.scan.specs.Faults as scan_faults
-use Rattle.parse_lexemes.specs.declared.fault.ParseFault.{ParseFault}
-use Rattle.parse_lexemes.specs.declared.fault.ParseFault.TheVariants as parsing
-use Rattle.parse_lexemes.specs.Faults as parse_faults
-use Rattle.types.specs.declared.fault.TypeFault.{TypeFault}
-use Rattle.types.specs.declared.fault.TypeFault.TheVariants as sorting
+-- The errors of the passes over a program text, as errors of that text.
+use Rattle.scan.specs.declared.fault.ScanError.{ScanError}
+use Rattle.scan.specs.declared.fault.ScanError.TheVariants as scanning
+use Rattle.scan.specs.Faults.{scan_rule_number}
+use Rattle.parse_lexemes.specs.declared.fault.ParseError.{ParseError}
+use Rattle.parse_lexemes.specs.declared.fault.ParseError.TheVariants as parsing
+use Rattle.parse_lexemes.specs.Faults.{parse_rule_number}
+use Rattle.types.specs.declared.fault.TypeError.{TypeError}
+use Rattle.types.specs.declared.fault.TypeError.TheVariants as sorting
 use Rattle.types.specs.Faults as type_faults
 use Rattle.type_rules.specs.SortRules.{sort_rule_number}
-use Rattle.regions.specs.declared.fault.CheckFault.{CheckFault}
-use Rattle.regions.specs.declared.fault.CheckFault.TheVariants as region_checking
+use Rattle.regions.specs.declared.fault.CheckError.{CheckError}
+use Rattle.regions.specs.declared.fault.CheckError.TheVariants as region_checking
 use Rattle.regions.specs.Findings as region_faults
 use Rattle.region_rules.specs.RegionRules.{region_rule_number}
-use Rattle.cli_commands.specs.declared.place.Place.TheVariants.{Line}
+use Rattle.places.specs.declared.place.Place.TheVariants.{Line}
 use Rattle.program_check.specs.declared.fault.RunError.{RunError}
 use Rattle.program_check.specs.declared.fault.RunError.TheVariants.{Memory, Fault}
-use Rattle.cli_commands.specs.declared.place.Text.TheVariants as which
+use Rattle.places.specs.declared.place.Text.TheVariants as which
 
-abbrev pub of_scan : ScanFault → RunError
+abbrev pub of_scan : ScanError → RunError
 of_scan scanning.Memory = Memory
-of_scan (scanning.Found fault line) = Fault (scan_faults.number_of_kind fault) (Line which.Program line)
+of_scan (scanning.Fault fault) = Fault (scan_rule_number fault.rule) (Line which.Program fault.line)
 
-abbrev pub of_parse : ParseFault → RunError
+abbrev pub of_parse : ParseError → RunError
 of_parse parsing.Memory = Memory
-of_parse (parsing.Found fault line) = Fault (parse_faults.number_of_kind fault) (Line which.Program line)
+of_parse (parsing.Fault fault) = Fault (parse_rule_number fault.rule) (Line which.Program fault.line)
 
-abbrev pub of_types : TypeFault → RunError
+abbrev pub of_types : TypeError → RunError
 of_types sorting.Memory = Memory
-of_types (sorting.Broken fault) = Fault (sort_rule_number (type_faults.rule_of fault.rule)) (Line which.Program fault.line)
+of_types (sorting.Fault fault) = Fault (sort_rule_number (type_faults.rule_of fault.rule)) (Line which.Program fault.line)
 
-abbrev pub of_regions : CheckFault → RunError
+abbrev pub of_regions : CheckError → RunError
 of_regions region_checking.Memory = Memory
-of_regions (region_checking.Broken fault) = Fault (region_rule_number (region_faults.rule_of fault.rule)) (Line which.Program fault.line)
+of_regions (region_checking.Fault fault) = Fault (region_rule_number (region_faults.rule_of fault.rule)) (Line which.Program fault.line)
 
 -- a function is too long, which has no line
 abbrev pub too_long : RunError

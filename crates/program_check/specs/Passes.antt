@@ -3,10 +3,10 @@ use Rattle.std.specs.Prelude.{◌≡◌, ℕ, List, Result, Ok, Err}
 use Rattle.syntax.specs.declared.unit.Item.{Item}
 use Rattle.syntax.specs.Tree.{SourceUnit}
 use Rattle.syntax.specs.Views.{unit_tree}
-use Rattle.cli_commands.specs.declared.place.Place.TheVariants.{Line, Entry}
+use Rattle.places.specs.declared.place.Place.TheVariants.{Line, Entry}
 use Rattle.program_check.specs.declared.fault.RunError.{RunError}
 use Rattle.program_check.specs.declared.fault.RunError.TheVariants.{Memory, Fault, Writer}
-use Rattle.cli_commands.specs.declared.place.Text.TheVariants as which
+use Rattle.places.specs.declared.place.Text.TheVariants as which
 use Rattle.program_check.specs.Programs.{IsRefusedProgram}
 
 -- the passes refuse the text so

@@ -2,14 +2,11 @@
 use Rattle.std.specs.Prelude.{◌≡◌, ℕ, List, Some, Err}
 use Rattle.syntax.specs.Tree.{SourceUnit}
 use Rattle.scan.specs.declared.token.Token.{Token}
-use Rattle.scan.specs.declared.fault.Fault.{Fault as BadToken}
-use Rattle.scan.specs.declared.fault.ScanFault.TheVariants as scanning
+use Rattle.scan.specs.declared.fault.ScanError.TheVariants as scanning
 use Rattle.scan.specs.Spelling.{Spells}
-use Rattle.scan.specs.Faults.{IsFirstFault}
-use Rattle.scan.specs.Faults as scan_faults
-use Rattle.parse_lexemes.specs.declared.fault.Fault.{Fault as BadForm}
-use Rattle.parse_lexemes.specs.declared.fault.ParseFault.TheVariants as parsing
-use Rattle.parse_lexemes.specs.Faults as parse_faults
+use Rattle.scan.specs.Faults.{ScanFault, IsFirstFault, scan_rule_number}
+use Rattle.parse_lexemes.specs.declared.fault.ParseError.TheVariants as parsing
+use Rattle.parse_lexemes.specs.Faults.{ParseFault, parse_rule_number}
 use Rattle.parse_lexemes.specs.Lexemes.{lexemes}
 use Rattle.parse.specs.Reading.{unit_at}
 use Rattle.parse.specs.Spelling.{SpellsUnit}
@@ -27,9 +24,9 @@ pub record IsProgram (text : List ℕ) (unit : SourceUnit) : Type 0 where
 -- The text is refused with this number at this line, by the first pass that finds a fault.
 pub data IsRefusedProgram (text : List ℕ) : (number line : ℕ) → Type 0 where
   -- it has no tokens
-  by_scan : (fault : BadToken) (line : ℕ) → IsFirstFault text (scanning.Found fault line) → IsRefusedProgram text (scan_faults.number_of_kind fault) line
+  by_scan : (fault : ScanFault) → IsFirstFault text (scanning.Fault fault) → IsRefusedProgram text (scan_rule_number fault.rule) fault.line
   -- its tokens form no tree
-  by_parse : (tokens : List Token) (fault : BadForm) (line : ℕ) → Spells text tokens → unit_at (lexemes text 1 tokens) ≡ Err (parsing.Found fault line) → IsRefusedProgram text (parse_faults.number_of_kind fault) line
+  by_parse : (tokens : List Token) (fault : ParseFault) → Spells text tokens → unit_at (lexemes text 1 tokens) ≡ Err (parsing.Fault fault) → IsRefusedProgram text (parse_rule_number fault.rule) fault.line
   -- a rule of sorts is broken
   by_sorts : (unit : SourceUnit) (rule : SortRule) (line : ℕ) → SpellsUnit text unit → first_broken unit ≡ Some (line, rule) → IsRefusedProgram text (sort_rule_number rule) line
   -- a rule of regions is broken

@@ -2,12 +2,12 @@
 
 use details::Detail;
 use parse::parse;
-use regions::{CheckFault, Checked, check};
+use regions::{CheckError, Checked, check};
 use scan::scan;
 use std::alloc::Global;
 use step_counts::long_function;
 use syntax::Unit;
-use types::{TypeFault, type_unit};
+use types::{TypeError, type_unit};
 
 /// The function that is too long.
 fn detail_of_length(checked: &Checked) -> Detail {
@@ -23,13 +23,13 @@ fn detail_of_length(checked: &Checked) -> Detail {
 fn detail_of_unit(alloc: Global, unit: Unit) -> Detail {
     let typed = match type_unit(alloc, unit) {
         Ok(typed) => typed,
-        Err(TypeFault::Memory) => return Detail::none(),
-        Err(TypeFault::Broken(fault)) => return fault.line.into_detail(),
+        Err(TypeError::Memory) => return Detail::none(),
+        Err(TypeError::Fault(fault)) => return fault.line.into_detail(),
     };
     match check(alloc, typed) {
         Ok(checked) => detail_of_length(&checked),
-        Err(CheckFault::Memory) => Detail::none(),
-        Err(CheckFault::Broken(fault)) => fault.line.into_detail(),
+        Err(CheckError::Memory) => Detail::none(),
+        Err(CheckError::Fault(fault)) => fault.line.into_detail(),
     }
 }
 
@@ -38,10 +38,10 @@ fn detail_of_unit(alloc: Global, unit: Unit) -> Detail {
 pub fn detail_of(alloc: Global, text: &[u8]) -> Detail {
     let tokens = match scan(alloc, text) {
         Ok(tokens) => tokens,
-        Err(fault) => return fault.detail(text),
+        Err(error) => return error.detail(text),
     };
     match parse(alloc, text, &tokens) {
         Ok(unit) => detail_of_unit(alloc, unit),
-        Err(fault) => fault.detail(text, &tokens),
+        Err(error) => error.detail(text, &tokens),
     }
 }

@@ -8,36 +8,36 @@ use Rattle.region_rules.specs.RegionRules.{RegionRule, HeldBuffer, WaysDiffer, N
 use Rattle.region_rules.specs.RegionStates.{RegionState, state_at_entry}
 use Rattle.region_rules.specs.Regions.{Way, On, Returned, Join, ComesBack, IsEnd, Keeps, KeepsBlock, holds_own, left, where_true, where_false, Differ, EndLine, BreaksAfter, BreaksHere, BreaksIn, BreaksBlock, BreaksFunction, AcceptedFunction}
 use Rattle.region_states.specs.SameStates.{same_state}
-use Rattle.regions.specs.Ways.{Fault, own_way, way_after, way_if, returned_before, join_ways, turn_way, way_of, way_of_block}
+use Rattle.regions.specs.Ways.{Found, own_way, way_after, way_if, returned_before, join_ways, turn_way, way_of, way_of_block}
 use Rattle.region_states.proofs.Same.{state_decides}
 use Rattle.regions.proofs.Ways.{find_some, ok_is, obeys, keeps, keeps_block, answers, answers_block}
 
 -- ---- a fault is of a rule that is broken at its line
 
-pub err_is : (f g : Fault) → ◌≡◌ {A = Result Way Fault} (Err f) (Err g) → g ≡ f
+pub err_is : (f g : Found) → ◌≡◌ {A = Result Way Found} (Err f) (Err g) → g ≡ f
 err_is f g e = cc
 
-pub if_err : (t : Bool) (a : Way) (f g : Fault) → way_if t a f ≡ Err g → (t ≡ false) × (g ≡ f)
+pub if_err : (t : Bool) (a : Way) (f g : Found) → way_if t a f ≡ Err g → (t ≡ false) × (g ≡ f)
 if_err true a f g e = cc
 if_err false a f g e = (refl, err_is f g e)
 
-pub own_err : (o : Option RegionRule) (line : ℕ) (go : Result Way Fault) (f : Fault) → own_way o line go ≡ Err f
+pub own_err : (o : Option RegionRule) (line : ℕ) (go : Result Way Found) (f : Found) → own_way o line go ≡ Err f
     → ((rule : RegionRule) × (o ≡ Some rule) × (f ≡ (line, rule))) ⊎ ((o ≡ None) × (go ≡ Err f))
 own_err None line go f h = inr (refl, h)
 own_err (Some rule) line go f h = inl (rule, refl, err_is (line, rule) f h)
 
 -- the fault of a join: of the first way, of the second, or of the join itself
-pub join_err : (line : ℕ) (r q : Result Way Fault) (f : Fault) → join_ways line r q ≡ Err f
+pub join_err : (line : ℕ) (r q : Result Way Found) (f : Found) → join_ways line r q ≡ Err f
     → (r ≡ Err f) ⊎ ((q ≡ Err f) ⊎ ((a b : Way) × (r ≡ Ok a) × (q ≡ Ok b) × Differ a b × (f ≡ (line, WaysDiffer))))
 join_err line (Err e) q f h = inl h
-join_err line (Ok a) (Err e) f h = inr (inl (elim a as (λ x. join_ways line (Ok x) (Err e) ≡ Err f → ◌≡◌ {A = Result Way Fault} (Err e) (Err f)) [ On s ↦ λ k. k | Returned ↦ λ k. k ] h))
+join_err line (Ok a) (Err e) f h = inr (inl (elim a as (λ x. join_ways line (Ok x) (Err e) ≡ Err f → ◌≡◌ {A = Result Way Found} (Err e) (Err f)) [ On s ↦ λ k. k | Returned ↦ λ k. k ] h))
 join_err line (Ok Returned) (Ok b) f h = cc
 join_err line (Ok (On a)) (Ok Returned) f h = cc
 join_err line (Ok (On a)) (Ok (On b)) f h =
     let both = if_err (same_state a b) (On a) (line, WaysDiffer) f h in
     inr (inr (On a, On b, refl, refl, (λ e. true≢false (sym ((state_decides a b).1 e) ∙ both.0)), both.1))
 
-pub turn_err : (line : ℕ) (before : RegionState) (r : Result Way Fault) (f : Fault) → turn_way line before r ≡ Err f
+pub turn_err : (line : ℕ) (before : RegionState) (r : Result Way Found) (f : Found) → turn_way line before r ≡ Err f
     → (r ≡ Err f) ⊎ ((turn : Way) × (r ≡ Ok turn) × Differ turn (On before) × (f ≡ (line, WaysDiffer)))
 turn_err line before (Err e) f h = inl h
 turn_err line before (Ok Returned) f h = cc
@@ -45,34 +45,34 @@ turn_err line before (Ok (On after)) f h =
     let both = if_err (same_state after before) (On before) (line, WaysDiffer) f h in
     inr (On after, refl, (λ e. true≢false (sym ((state_decides after before).1 e) ∙ both.0)), both.1)
 
-pub after_err : (r : Result Way Fault) (go : RegionState → Result Way Fault) (stop : Result Way Fault) (f : Fault) → way_after r go stop ≡ Err f
+pub after_err : (r : Result Way Found) (go : RegionState → Result Way Found) (stop : Result Way Found) (f : Found) → way_after r go stop ≡ Err f
     → (r ≡ Err f) ⊎ (((middle : RegionState) × (r ≡ Ok (On middle)) × (go middle ≡ Err f)) ⊎ ((r ≡ Ok Returned) × (stop ≡ Err f)))
 after_err (Err e) go stop f h = inl h
 after_err (Ok (On middle)) go stop f h = inr (inl (middle, refl, h))
 after_err (Ok Returned) go stop f h = inr (inr (refl, h))
 
 -- the statement itself breaks the rule
-pub here : (before : RegionState) (s : Stmt) (line : ℕ) (rule : RegionRule) (f : Fault) → line ≡ line_of s → first_broken before s ≡ Some rule → f ≡ (line, rule) → BreaksHere f.1 f.0 before s
+pub here : (before : RegionState) (s : Stmt) (line : ℕ) (rule : RegionRule) (f : Found) → line ≡ line_of s → first_broken before s ≡ Some rule → f ≡ (line, rule) → BreaksHere f.1 f.0 before s
 here before s line rule f k e h =
-    (ap (λ (g : Fault). breaks_region_rule g.1 before s) h ∙ find_some (λ r. breaks_region_rule r before s) own_rules rule e, ap (λ (g : Fault). g.0) h ∙ k)
+    (ap (λ (g : Found). breaks_region_rule g.1 before s) h ∙ find_some (λ r. breaks_region_rule r before s) own_rules rule e, ap (λ (g : Found). g.0) h ∙ k)
 
-pub ok_err' : (x : Way) (g : Fault) → ◌≡◌ {A = Result Way Fault} (Ok x) (Err g) → ⊥
+pub ok_err' : (x : Way) (g : Found) → ◌≡◌ {A = Result Way Found} (Ok x) (Err g) → ⊥
 ok_err' x g e = cc
 
-pub plain_fault : (before : RegionState) (s : Stmt) (line : ℕ) (a : Way) (f : Fault) → line ≡ line_of s → own_way (first_broken before s) line (Ok a) ≡ Err f → BreaksHere f.1 f.0 before s
+pub plain_fault : (before : RegionState) (s : Stmt) (line : ℕ) (a : Way) (f : Found) → line ≡ line_of s → own_way (first_broken before s) line (Ok a) ≡ Err f → BreaksHere f.1 f.0 before s
 plain_fault before s line a f k h =
     elim (own_err (first_broken before s) line (Ok a) f h) [ inl own ↦ here before s line own.0 f k own.1 own.2 | inr none ↦ absurd (ok_err' a f none.1) ]
 
-pub returned_err : (rest : Block) (f : Fault) → returned_before rest ≡ Err f → BreaksAfter f.1 f.0 rest
+pub returned_err : (rest : Block) (f : Found) → returned_before rest ≡ Err f → BreaksAfter f.1 f.0 rest
 returned_err (End line) f h = cc
-returned_err (Next s rest) f h = let e = err_is (line_of s, NoReturn) f h in (ap (λ (g : Fault). g.1) e, ap (λ (g : Fault). g.0) e)
+returned_err (Next s rest) f h = let e = err_is (line_of s, NoReturn) f h in (ap (λ (g : Found). g.1) e, ap (λ (g : Found). g.0) e)
 
 pub not_false : (b : Bool) → not b ≡ false → b ≡ true
 not_false true h = refl
 not_false false h = absurd (true≢false h)
 
 mutual
-  pub faults : (before : RegionState) (s : Stmt) (f : Fault) → way_of before s ≡ Err f → BreaksIn f.1 f.0 before s
+  pub faults : (before : RegionState) (s : Stmt) (f : Found) → way_of before s ≡ Err f → BreaksIn f.1 f.0 before s
   faults before (If line test then') f h =
       elim (own_err (first_broken before (If line test then')) line _ f h) [
         | inl own ↦ inl (here before (If line test then') line own.0 f refl own.1 own.2)
@@ -82,8 +82,8 @@ mutual
               | inr (inl second) ↦ absurd (ok_err' (On (where_false before test)) f second)
               | inr (inr two) ↦ inr (inr (
                 o,
-                ap (λ (g : Fault). g.1) two.5,
-                ap (λ (g : Fault). g.0) two.5,
+                ap (λ (g : Found). g.1) two.5,
+                ap (λ (g : Found). g.0) two.5,
                 (two.0, keeps_block before (where_true before test) then' two.0 two.2, subst (λ b. Differ two.0 b) (ok_is (On (where_false before test)) two.1 two.3) two.4),
               ))
             ]
@@ -97,8 +97,8 @@ mutual
               | inr (inl second) ↦ inr (inl (o, inr (faults_block before (where_false before test) else' f second)))
               | inr (inr two) ↦ inr (inr (
                 o,
-                ap (λ (g : Fault). g.1) two.5,
-                ap (λ (g : Fault). g.0) two.5,
+                ap (λ (g : Found). g.1) two.5,
+                ap (λ (g : Found). g.0) two.5,
                 (two.0, two.1, keeps_block before (where_true before test) then' two.0 two.2, keeps_block before (where_false before test) else' two.1 two.3, two.4),
               ))
             ]
@@ -109,7 +109,7 @@ mutual
         | inr go ↦ let o = obeys before (While line test body) go.0 in
             elim (turn_err line before (way_of_block before before body) f go.1) [
               | inl first ↦ inr (inl (o, faults_block before before body f first))
-              | inr two ↦ inr (inr (o, ap (λ (g : Fault). g.1) two.3, ap (λ (g : Fault). g.0) two.3, (two.0, keeps_block before before body two.0 two.1, two.2)))
+              | inr two ↦ inr (inr (o, ap (λ (g : Found). g.1) two.3, ap (λ (g : Found). g.0) two.3, (two.0, keeps_block before before body two.0 two.1, two.2)))
             ]
       ]
   faults before (Return line) f h = plain_fault before (Return line) line Returned f refl h
@@ -123,10 +123,10 @@ mutual
   faults before (Perform line c) f h = plain_fault before (Perform line c) line _ f refl h
   faults before (PutJint line e) f h = plain_fault before (PutJint line e) line _ f refl h
 
-  pub faults_block : (outer before : RegionState) (b : Block) (f : Fault) → way_of_block outer before b ≡ Err f → BreaksBlock f.1 f.0 outer before b
+  pub faults_block : (outer before : RegionState) (b : Block) (f : Found) → way_of_block outer before b ≡ Err f → BreaksBlock f.1 f.0 outer before b
   faults_block outer before (End line) f h =
       let e = if_err (not (holds_own outer before)) (On (left outer before)) (line, HeldBuffer) f h in
-      (ap (λ (g : Fault). g.1) e.1, ap (λ (g : Fault). g.0) e.1, not_false (holds_own outer before) e.0)
+      (ap (λ (g : Found). g.1) e.1, ap (λ (g : Found). g.0) e.1, not_false (holds_own outer before) e.0)
   faults_block outer before (Next s rest) f h =
       elim (after_err (way_of before s) (λ middle. way_of_block outer middle rest) (returned_before rest) f h) [
         | inl first ↦ inl (faults before s f first)
@@ -237,7 +237,7 @@ end_line_of (Next s rest) = end_line_of rest
 pub accepted_or_broken : (f : Function) → AcceptedFunction f ⊎ ((rule : RegionRule) × (l : ℕ) × BreaksFunction rule l f)
 accepted_or_broken f = case (way_of_block (state_at_entry f) (state_at_entry f) f.body) refl
   where
-    case : (r : Result Way Fault) → way_of_block (state_at_entry f) (state_at_entry f) f.body ≡ r → AcceptedFunction f ⊎ ((rule : RegionRule) × (l : ℕ) × BreaksFunction rule l f)
+    case : (r : Result Way Found) → way_of_block (state_at_entry f) (state_at_entry f) f.body ≡ r → AcceptedFunction f ⊎ ((rule : RegionRule) × (l : ℕ) × BreaksFunction rule l f)
     case (Err fault) h = inr (fault.1, fault.0, inl (faults_block (state_at_entry f) (state_at_entry f) f.body fault h))
     case (Ok Returned) h = inl (keeps_block (state_at_entry f) (state_at_entry f) f.body Returned h)
     case (Ok (On end)) h = inr (NoReturn, (end_line_of f.body).0, inr (refl, (end_line_of f.body).1, (end, keeps_block (state_at_entry f) (state_at_entry f) f.body (On end) h)))

@@ -8,17 +8,17 @@ use Rattle.region_rules.specs.RegionRules.{RegionRule, HeldBuffer, WaysDiffer, N
 use Rattle.region_rules.specs.RegionStates.{RegionState, state_at_entry}
 use Rattle.region_rules.specs.Regions.{Way, On, Returned, holds_own, left, where_true, where_false, Differ, BreaksAfter, AcceptedFunction}
 use Rattle.region_states.specs.SameStates.{same_state}
-use Rattle.regions.specs.Ways.{Fault, own_way, way_after, way_if, returned_before, join_ways, turn_way, way_of, way_of_block}
+use Rattle.regions.specs.Ways.{Found, own_way, way_after, way_if, returned_before, join_ways, turn_way, way_of, way_of_block}
 use Rattle.region_states.proofs.Same.{state_decides}
 use Rattle.regions.proofs.Ways.{ok_is, obeys, unbroken, keeps, keeps_block, answers, answers_block}
 use Rattle.regions.proofs.BrokenWays.{ok_err', err_is, if_err, own_err, join_err, turn_err, after_err, returned_err, not_false, one_end, on_returned, end_line_of}
 
 -- ---- the first fault is the answer
 
-pub own_first : (o : Option RegionRule) (line : ℕ) (go : Result Way Fault) (rule : RegionRule) (l : ℕ) → o ≡ Some rule → l ≡ line → own_way o line go ≡ Err (l, rule)
+pub own_first : (o : Option RegionRule) (line : ℕ) (go : Result Way Found) (rule : RegionRule) (l : ℕ) → o ≡ Some rule → l ≡ line → own_way o line go ≡ Err (l, rule)
 own_first o line go rule l e k = ap (λ p. own_way p line go) e ∙ ap (λ n. Err (n, rule)) (sym k)
 
-pub own_later : (before : RegionState) (s : Stmt) (line : ℕ) (go : Result Way Fault) (f : Fault) → Obeys before s → go ≡ Err f → own_way (first_broken before s) line go ≡ Err f
+pub own_later : (before : RegionState) (s : Stmt) (line : ℕ) (go : Result Way Found) (f : Found) → Obeys before s → go ≡ Err f → own_way (first_broken before s) line go ≡ Err f
 own_later before s line go f h e = ap (λ p. own_way p line go) (unbroken before s h) ∙ e
 
 pub differ_ways : (line : ℕ) (a b : Way) → Differ a b → join_ways line (Ok a) (Ok b) ≡ Err (line, WaysDiffer)
@@ -38,14 +38,14 @@ differ_turn line before (On after) d = if_false (same_state after before) (λ e.
     if_false true k = absurd (k refl)
     if_false false k = refl
 
-pub fault_of : (line : ℕ) (rule : RegionRule) (l : ℕ) → rule ≡ WaysDiffer → l ≡ line → ◌≡◌ {A = Result Way Fault} (Err (line, WaysDiffer)) (Err (l, rule))
+pub fault_of : (line : ℕ) (rule : RegionRule) (l : ℕ) → rule ≡ WaysDiffer → l ≡ line → ◌≡◌ {A = Result Way Found} (Err (line, WaysDiffer)) (Err (l, rule))
 fault_of line rule l e k = ap (λ r. Err (line, r)) (sym e) ∙ ap (λ n. Err (n, rule)) (sym k)
 
-pub second_fault : (line : ℕ) (a : Way) (f : Fault) → join_ways line (Ok a) (Err f) ≡ Err f
+pub second_fault : (line : ℕ) (a : Way) (f : Found) → join_ways line (Ok a) (Err f) ≡ Err f
 second_fault line (On s) f = refl
 second_fault line Returned f = refl
 
-pub held_end : (t : Bool) (a : Way) (f : Fault) → t ≡ false → way_if t a f ≡ Err f
+pub held_end : (t : Bool) (a : Way) (f : Found) → t ≡ false → way_if t a f ≡ Err f
 held_end true a f e = absurd (true≢false e)
 held_end false a f e = refl
 
@@ -111,19 +111,19 @@ mutual
       ]
 
 -- the fault of a join is the first way's, or the first way is kept
-pub first_kept : (line : ℕ) (r q : Result Way Fault) (f : Fault) → q ≡ Err f → join_ways line r q ≡ Err f → (r ≡ Err f) ⊎ ((a : Way) × (r ≡ Ok a))
+pub first_kept : (line : ℕ) (r q : Result Way Found) (f : Found) → q ≡ Err f → join_ways line r q ≡ Err f → (r ≡ Err f) ⊎ ((a : Way) × (r ≡ Ok a))
 first_kept line (Err e) q f k h = inl h
 first_kept line (Ok a) q f k h = inr (a, refl)
 
-pub first_here : (before : RegionState) (s : Stmt) (line : ℕ) (rule : RegionRule) (f : Fault) → line ≡ line_of s → first_broken before s ≡ Some rule → f ≡ (line, rule) → FirstHere f.1 f.0 before s
-first_here before s line rule f k e h = (e ∙ ap (λ (g : Fault). Some g.1) (sym h), ap (λ (g : Fault). g.0) h ∙ k)
+pub first_here : (before : RegionState) (s : Stmt) (line : ℕ) (rule : RegionRule) (f : Found) → line ≡ line_of s → first_broken before s ≡ Some rule → f ≡ (line, rule) → FirstHere f.1 f.0 before s
+first_here before s line rule f k e h = (e ∙ ap (λ (g : Found). Some g.1) (sym h), ap (λ (g : Found). g.0) h ∙ k)
 
-pub plain_first : (before : RegionState) (s : Stmt) (line : ℕ) (a : Way) (f : Fault) → line ≡ line_of s → own_way (first_broken before s) line (Ok a) ≡ Err f → FirstHere f.1 f.0 before s
+pub plain_first : (before : RegionState) (s : Stmt) (line : ℕ) (a : Way) (f : Found) → line ≡ line_of s → own_way (first_broken before s) line (Ok a) ≡ Err f → FirstHere f.1 f.0 before s
 plain_first before s line a f k h =
     elim (own_err (first_broken before s) line (Ok a) f h) [ inl own ↦ first_here before s line own.0 f k own.1 own.2 | inr none ↦ absurd (ok_err' a f none.1) ]
 
 mutual
-  pub firsts : (before : RegionState) (s : Stmt) (f : Fault) → way_of before s ≡ Err f → FirstIn f.1 f.0 before s
+  pub firsts : (before : RegionState) (s : Stmt) (f : Found) → way_of before s ≡ Err f → FirstIn f.1 f.0 before s
   firsts before (If line test then') f h =
       elim (own_err (first_broken before (If line test then')) line _ f h) [
         | inl own ↦ inl (first_here before (If line test then') line own.0 f refl own.1 own.2)
@@ -133,8 +133,8 @@ mutual
               | inr (inl second) ↦ absurd (ok_err' (On (where_false before test)) f second)
               | inr (inr two) ↦ inr (inr (
                 o,
-                ap (λ (g : Fault). g.1) two.5,
-                ap (λ (g : Fault). g.0) two.5,
+                ap (λ (g : Found). g.1) two.5,
+                ap (λ (g : Found). g.0) two.5,
                 (two.0, keeps_block before (where_true before test) then' two.0 two.2, subst (λ b. Differ two.0 b) (ok_is (On (where_false before test)) two.1 two.3) two.4),
               ))
             ]
@@ -152,8 +152,8 @@ mutual
                   ]
               | inr (inr two) ↦ inr (inr (
                 o,
-                ap (λ (g : Fault). g.1) two.5,
-                ap (λ (g : Fault). g.0) two.5,
+                ap (λ (g : Found). g.1) two.5,
+                ap (λ (g : Found). g.0) two.5,
                 (two.0, two.1, keeps_block before (where_true before test) then' two.0 two.2, keeps_block before (where_false before test) else' two.1 two.3, two.4),
               ))
             ]
@@ -164,7 +164,7 @@ mutual
         | inr go ↦ let o = obeys before (While line test body) go.0 in
             elim (turn_err line before (way_of_block before before body) f go.1) [
               | inl first ↦ inr (inl (o, firsts_block before before body f first))
-              | inr two ↦ inr (inr (o, ap (λ (g : Fault). g.1) two.3, ap (λ (g : Fault). g.0) two.3, (two.0, keeps_block before before body two.0 two.1, two.2)))
+              | inr two ↦ inr (inr (o, ap (λ (g : Found). g.1) two.3, ap (λ (g : Found). g.0) two.3, (two.0, keeps_block before before body two.0 two.1, two.2)))
             ]
       ]
   firsts before (Return line) f h = plain_first before (Return line) line Returned f refl h
@@ -178,10 +178,10 @@ mutual
   firsts before (Perform line c) f h = plain_first before (Perform line c) line _ f refl h
   firsts before (PutJint line e) f h = plain_first before (PutJint line e) line _ f refl h
 
-  pub firsts_block : (outer before : RegionState) (b : Block) (f : Fault) → way_of_block outer before b ≡ Err f → FirstBlock f.1 f.0 outer before b
+  pub firsts_block : (outer before : RegionState) (b : Block) (f : Found) → way_of_block outer before b ≡ Err f → FirstBlock f.1 f.0 outer before b
   firsts_block outer before (End line) f h =
       let e = if_err (not (holds_own outer before)) (On (left outer before)) (line, HeldBuffer) f h in
-      (ap (λ (g : Fault). g.1) e.1, ap (λ (g : Fault). g.0) e.1, not_false (holds_own outer before) e.0)
+      (ap (λ (g : Found). g.1) e.1, ap (λ (g : Found). g.0) e.1, not_false (holds_own outer before) e.0)
   firsts_block outer before (Next s rest) f h =
       elim (after_err (way_of before s) (λ middle. way_of_block outer middle rest) (returned_before rest) f h) [
         | inl first ↦ inl (firsts before s f first)
@@ -190,7 +190,7 @@ mutual
       ]
 
 -- so there is one first fault at most
-pub one_first : (before : RegionState) (s : Stmt) (rule rule' : RegionRule) (l l' : ℕ) → FirstIn rule l before s → FirstIn rule' l' before s → ◌≡◌ {A = Fault} (l, rule) (l', rule')
+pub one_first : (before : RegionState) (s : Stmt) (rule rule' : RegionRule) (l l' : ℕ) → FirstIn rule l before s → FirstIn rule' l' before s → ◌≡◌ {A = Found} (l, rule) (l', rule')
 one_first before s rule rule' l l' h k = err_is (l', rule') (l, rule) (sym (first_is before s rule' l' k) ∙ first_is before s rule l h)
 
 -- ---- units
@@ -199,7 +199,7 @@ one_first before s rule rule' l l' h k = err_is (l', rule') (l, rule) (sym (firs
 pub first_or_accepted : (f : Function) → AcceptedFunction f ⊎ ((rule : RegionRule) × (l : ℕ) × FirstInFunction rule l f)
 first_or_accepted f = case (way_of_block (state_at_entry f) (state_at_entry f) f.body) refl
   where
-    case : (r : Result Way Fault) → way_of_block (state_at_entry f) (state_at_entry f) f.body ≡ r → AcceptedFunction f ⊎ ((rule : RegionRule) × (l : ℕ) × FirstInFunction rule l f)
+    case : (r : Result Way Found) → way_of_block (state_at_entry f) (state_at_entry f) f.body ≡ r → AcceptedFunction f ⊎ ((rule : RegionRule) × (l : ℕ) × FirstInFunction rule l f)
     case (Err fault) h = inr (fault.1, fault.0, inl (firsts_block (state_at_entry f) (state_at_entry f) f.body fault h))
     case (Ok Returned) h = inl (keeps_block (state_at_entry f) (state_at_entry f) f.body Returned h)
     case (Ok (On end)) h = inr (NoReturn, (end_line_of f.body).0, inr (refl, (end_line_of f.body).1, (end, keeps_block (state_at_entry f) (state_at_entry f) f.body (On end) h)))

@@ -5,26 +5,26 @@ use Rattle.std.specs.List.{AllByRecursion}
 use Rattle.std.specs.Option.{option_or}
 use Rattle.syntax.specs.Parts.{functions_of}
 use Rattle.syntax.specs.Tree.{Block, End, Next, Function, Item, StaticItem, FunctionItem}
-use Rattle.regions.specs.declared.fault.CheckFault.{CheckFault}
-use Rattle.regions.specs.declared.fault.CheckFault.TheVariants.{Memory, Broken}
+use Rattle.regions.specs.declared.fault.CheckError.{CheckError}
+use Rattle.regions.specs.declared.fault.CheckError.TheVariants.{Memory, Fault}
 use Rattle.regions.specs.Findings.{Finds, Refuses, IfBroken, rule_of, fault_of, end_line_of, fault_at_end, function_fault, items_fault, first_fault}
 use Rattle.region_rules.specs.FirstFaults.{FirstInFunction, FirstInFunctions}
 use Rattle.region_rules.specs.RegionRules.{RegionRule, NoReturn}
 use Rattle.region_rules.specs.RegionStates.{state_at_entry}
 use Rattle.region_rules.specs.Regions.{Way, On, Returned, AcceptedFunction, EndLine, BreaksFunction, BreaksRegionRule}
-use Rattle.regions.specs.Ways.{Fault, way_of_block}
+use Rattle.regions.specs.Ways.{Found, way_of_block}
 use Rattle.regions.proofs.Ways.{keeps_block, answers_block}
 use Rattle.regions.proofs.BrokenWays.{faults_block, end_is}
 use Rattle.regions.proofs.FirstWays.{firsts_block, first_block_is, no_first_in}
 
 -- ---- faults one after another
 
-pub Finds-later : {A : Type 0} (r : Result A CheckFault) (earlier later : Option Fault) → earlier ≡ None → Finds r later → Finds r (option_or earlier later)
+pub Finds-later : {A : Type 0} (r : Result A CheckError) (earlier later : Option Found) → earlier ≡ None → Finds r later → Finds r (option_or earlier later)
 Finds-later r earlier later none h = subst (λ o. Finds r (option_or o later)) (sym none) h
 
-pub Refuses-first : (e : CheckFault) (earlier later : Option Fault) → Refuses e earlier → Refuses e (option_or earlier later)
+pub Refuses-first : (e : CheckError) (earlier later : Option Found) → Refuses e earlier → Refuses e (option_or earlier later)
 Refuses-first Memory earlier later h = tt
-Refuses-first (Broken f) earlier later h = ap (λ o. option_or o later) h
+Refuses-first (Fault f) earlier later h = ap (λ o. option_or o later) h
 
 pub ruleset finds_rules = (Finds-later, Refuses-first)
 
@@ -44,24 +44,24 @@ end-line : (b : Block) → EndLine b (end_line_of b)
 end-line (End line) = refl
 end-line (Next s rest) = end-line rest
 
-accepted : (f : Function) (r : Result Way Fault) → way_of_block (state_at_entry f) (state_at_entry f) f.body ≡ r → fault_at_end r (end_line_of f.body) ≡ None → AcceptedFunction f
+accepted : (f : Function) (r : Result Way Found) → way_of_block (state_at_entry f) (state_at_entry f) f.body ≡ r → fault_at_end r (end_line_of f.body) ≡ None → AcceptedFunction f
 accepted f (Err e) h none = absurd cc
 accepted f (Ok (On end)) h none = absurd cc
 accepted f (Ok Returned) h none = keeps_block (state_at_entry f) (state_at_entry f) f.body Returned h
 
-some_is : (f g : Fault) → ◌≡◌ {A = Option Fault} (Some f) (Some g) → f ≡ g
+some_is : (f g : Found) → ◌≡◌ {A = Option Found} (Some f) (Some g) → f ≡ g
 some_is f g e = cc
 
-faulty : (f : Function) (e : Fault) (r : Result Way Fault) → way_of_block (state_at_entry f) (state_at_entry f) f.body ≡ r → fault_at_end r (end_line_of f.body) ≡ Some e → FirstInFunction e.1 e.0 f
-faulty f e (Err g) h some = subst (λ (x : Fault). FirstInFunction x.1 x.0 f) (some_is g e some) (inl (firsts_block (state_at_entry f) (state_at_entry f) f.body g h))
+faulty : (f : Function) (e : Found) (r : Result Way Found) → way_of_block (state_at_entry f) (state_at_entry f) f.body ≡ r → fault_at_end r (end_line_of f.body) ≡ Some e → FirstInFunction e.1 e.0 f
+faulty f e (Err g) h some = subst (λ (x : Found). FirstInFunction x.1 x.0 f) (some_is g e some) (inl (firsts_block (state_at_entry f) (state_at_entry f) f.body g h))
 faulty f e (Ok (On end)) h some =
-    subst (λ (x : Fault). FirstInFunction x.1 x.0 f) (some_is (end_line_of f.body, NoReturn) e some)
+    subst (λ (x : Found). FirstInFunction x.1 x.0 f) (some_is (end_line_of f.body, NoReturn) e some)
     (inr (refl, end-line f.body, (end, keeps_block (state_at_entry f) (state_at_entry f) f.body (On end) h)))
 faulty f e (Ok Returned) h some = absurd cc
 
 -- ---- units
 
-or_none : (a b : Option Fault) → option_or a b ≡ None → (a ≡ None) × (b ≡ None)
+or_none : (a b : Option Found) → option_or a b ≡ None → (a ≡ None) × (b ≡ None)
 or_none None b h = (refl, h)
 or_none (Some x) b h = absurd cc
 
@@ -71,29 +71,29 @@ accepted-all (f ∷ functions) h =
     let both = or_none (function_fault f) (first_fault functions) h in
     (accepted f (way_of_block (state_at_entry f) (state_at_entry f) f.body) refl both.0, accepted-all functions both.1)
 
-faulty-next : (f : Function) (functions : List Function) (e : Fault) (o : Option Fault) → function_fault f ≡ o → (first_fault functions ≡ Some e → FirstInFunctions e.1 e.0 functions)
+faulty-next : (f : Function) (functions : List Function) (e : Found) (o : Option Found) → function_fault f ≡ o → (first_fault functions ≡ Some e → FirstInFunctions e.1 e.0 functions)
     → option_or o (first_fault functions) ≡ Some e → FirstInFunctions e.1 e.0 (f ∷ functions)
 faulty-next f functions e None is further k = inr (accepted f (way_of_block (state_at_entry f) (state_at_entry f) f.body) refl is, further k)
 faulty-next f functions e (Some g) is further k = inl (faulty f e (way_of_block (state_at_entry f) (state_at_entry f) f.body) refl (is ∙ k))
 
-pub faulty-all : (functions : List Function) (e : Fault) → first_fault functions ≡ Some e → FirstInFunctions e.1 e.0 functions
+pub faulty-all : (functions : List Function) (e : Found) → first_fault functions ≡ Some e → FirstInFunctions e.1 e.0 functions
 faulty-all [] e h = absurd cc
 faulty-all (f ∷ functions) e h = faulty-next f functions e (function_fault f) refl (λ k. faulty-all functions e k) h
 
 -- an accepted unit has none
-pub accepted-none : (functions : List Function) (e : Fault) → first_fault functions ≡ Some e → AllByRecursion AcceptedFunction functions → ⊥
+pub accepted-none : (functions : List Function) (e : Found) → first_fault functions ≡ Some e → AllByRecursion AcceptedFunction functions → ⊥
 accepted-none functions e h accepted = no_first_in functions e.1 e.0 (faulty-all functions e h) accepted
 
 -- ---- a unit has one first fault at most
 
 accepted_is : (f : Function) → AcceptedFunction f → function_fault f ≡ None
-accepted_is f a = ap (λ (r : Result Way Fault). fault_at_end r (end_line_of f.body)) (answers_block (state_at_entry f) (state_at_entry f) f.body Returned a)
+accepted_is f a = ap (λ (r : Result Way Found). fault_at_end r (end_line_of f.body)) (answers_block (state_at_entry f) (state_at_entry f) f.body Returned a)
 
 function_fault_is : (f : Function) (rule : RegionRule) (l : ℕ) → FirstInFunction rule l f → function_fault f ≡ Some (l, rule)
 function_fault_is f rule l b =
     elim b [
-      | inl inner ↦ ap (λ (r : Result Way Fault). fault_at_end r (end_line_of f.body)) (first_block_is (state_at_entry f) (state_at_entry f) f.body rule l inner)
-      | inr open' ↦ ap (λ (r : Result Way Fault). fault_at_end r (end_line_of f.body)) (answers_block (state_at_entry f) (state_at_entry f) f.body (On (open'.2).0) (open'.2).1)
+      | inl inner ↦ ap (λ (r : Result Way Found). fault_at_end r (end_line_of f.body)) (first_block_is (state_at_entry f) (state_at_entry f) f.body rule l inner)
+      | inr open' ↦ ap (λ (r : Result Way Found). fault_at_end r (end_line_of f.body)) (answers_block (state_at_entry f) (state_at_entry f) f.body (On (open'.2).0) (open'.2).1)
           ∙ ap₂ (λ (n : ℕ) (r : RegionRule). Some (n, r)) (end_is f.body (end_line_of f.body) l (end-line f.body) open'.1) (sym open'.0)
     ]
 
@@ -108,7 +108,7 @@ fault_is (f ∷ functions) rule l b =
 pub one_first_of : (functions : List Function) (rule rule' : RegionRule) (l l' : ℕ) → FirstInFunctions rule l functions → FirstInFunctions rule' l' functions → (l ≡ l') × (rule ≡ rule')
 one_first_of functions rule rule' l l' h k =
     let e = some_is (l, rule) (l', rule') (sym (fault_is functions rule l h) ∙ fault_is functions rule' l' k) in
-    (ap (λ (f : Fault). f.0) e, ap (λ (f : Fault). f.1) e)
+    (ap (λ (f : Found). f.0) e, ap (λ (f : Found). f.1) e)
 
 -- ---- a first fault is of a rule that is broken
 
@@ -137,14 +137,14 @@ items-fault (FunctionItem f ∷ items) = ap (λ further. option_or (function_fau
 
 -- ---- what is answered
 
-pub accepted-memory : (items : List Item) (e : CheckFault) → Refuses e (items_fault items) → AllByRecursion AcceptedFunction (functions_of (record { items = items })) → e ≡ Memory
+pub accepted-memory : (items : List Item) (e : CheckError) → Refuses e (items_fault items) → AllByRecursion AcceptedFunction (functions_of (record { items = items })) → e ≡ Memory
 accepted-memory items Memory h accepted = refl
-accepted-memory items (Broken f) h accepted = absurd (accepted-none (functions_of (record { items = items })) (fault_of f) (sym (items-fault items) ∙ h) accepted)
+accepted-memory items (Fault f) h accepted = absurd (accepted-none (functions_of (record { items = items })) (fault_of f) (sym (items-fault items) ∙ h) accepted)
 
-pub fault-first : (items : List Item) (e : CheckFault) → Refuses e (items_fault items) → IfBroken e (λ f. FirstInFunctions (rule_of f.rule) f.line (functions_of (record { items = items })))
+pub fault-first : (items : List Item) (e : CheckError) → Refuses e (items_fault items) → IfBroken e (λ f. FirstInFunctions (rule_of f.rule) f.line (functions_of (record { items = items })))
 fault-first items Memory h = tt
-fault-first items (Broken f) h = faulty-all (functions_of (record { items = items })) (fault_of f) (sym (items-fault items) ∙ h)
+fault-first items (Fault f) h = faulty-all (functions_of (record { items = items })) (fault_of f) (sym (items-fault items) ∙ h)
 
-pub fault-broken : (items : List Item) (e : CheckFault) → Refuses e (items_fault items) → IfBroken e (λ f. BreaksRegionRule (rule_of f.rule) f.line (record { items = items }))
+pub fault-broken : (items : List Item) (e : CheckError) → Refuses e (items_fault items) → IfBroken e (λ f. BreaksRegionRule (rule_of f.rule) f.line (record { items = items }))
 fault-broken items Memory h = tt
-fault-broken items (Broken f) h = first_broken_in (functions_of (record { items = items })) (rule_of f.rule) f.line (fault-first items (Broken f) h)
+fault-broken items (Fault f) h = first_broken_in (functions_of (record { items = items })) (rule_of f.rule) f.line (fault-first items (Fault f) h)

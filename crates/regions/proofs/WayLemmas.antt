@@ -9,8 +9,8 @@ use Rattle.syntax.specs.Parts.{line_of}
 use Rattle.syntax.specs.Tree.{Stmt, If, IfElse, While, Return, ReturnValue, Test, Block, End, Next}
 use Rattle.syntax.specs.Views.{form_tree, stmt_tree, statements_tree, block_tree}
 use Rattle.syntax.proofs.Blocks.{block_is}
-use Rattle.regions.specs.declared.fault.CheckFault.{CheckFault}
-use Rattle.regions.specs.declared.fault.CheckFault.TheVariants.{Memory, Broken}
+use Rattle.regions.specs.declared.fault.CheckError.{CheckError}
+use Rattle.regions.specs.declared.fault.CheckError.TheVariants.{Memory, Fault}
 use Rattle.regions.specs.declared.joins.Way.{Way as WayInMemory}
 use Rattle.regions.specs.declared.joins.Branch.{Branch}
 use Rattle.regions.specs.Findings.{fault_of, end_line_of}
@@ -20,7 +20,7 @@ use Rattle.region_rules.specs.RegionStates.{RegionState}
 use Rattle.region_rules.specs.Regions.{Way, On, Returned, left, where_false}
 use Rattle.regions.specs.Walks.{Stops, Goes, Branches, Awaits, go_on, inner_way}
 use Rattle.region_states.specs.StatesInMemory.{names_of, holds_other}
-use Rattle.regions.specs.Ways.{Fault, way_if, own_way, way_after, returned_before, join_ways, turn_way, way_of, way_of_block}
+use Rattle.regions.specs.Ways.{Found, way_if, own_way, way_after, returned_before, join_ways, turn_way, way_of, way_of_block}
 use Rattle.syntax.specs.declared.unit.Item.{Item as ItemInMemory}
 use Rattle.region_states.proofs.Same.{same_swapped}
 use Rattle.region_states.proofs.StateLemmas.{own_is}
@@ -28,10 +28,10 @@ use Rattle.region_states.proofs.NameLemmas.{where_false_names}
 
 -- ---- answers along equations
 
-pub Goes-along : (r : Result WayInMemory CheckFault) (after : RegionState) (a b : Result Way Fault) → a ≡ b → Goes r after b → Goes r after a
+pub Goes-along : (r : Result WayInMemory CheckError) (after : RegionState) (a b : Result Way Found) → a ≡ b → Goes r after b → Goes r after a
 Goes-along r after a b e h = subst (λ x. Goes r after x) (sym e) h
 
-pub Stops-along : (e : CheckFault) (a b : Result Way Fault) → a ≡ b → Stops e b → Stops e a
+pub Stops-along : (e : CheckError) (a b : Result Way Found) → a ≡ b → Stops e b → Stops e a
 Stops-along e a b h k = subst (λ x. Stops e x) (sym h) k
 
 -- a weaker fact of an answer
@@ -45,11 +45,11 @@ if_ok_always (Err e) f = tt
 
 -- ---- first branches
 
-pub branch_awaits : (r : Result Branch CheckFault) (now other : RegionState) (expected : Result Way Fault) → Branches r now expected other → Awaits r now
+pub branch_awaits : (r : Result Branch CheckError) (now other : RegionState) (expected : Result Way Found) → Branches r now expected other → Awaits r now
 branch_awaits (Ok b) now other expected h = (h.0, h.1, h.2)
 branch_awaits (Err e) now other expected h = tt
 
-pub passed_names : (r : Result Branch CheckFault) (now before : RegionState) (test : Test) (expected : Result Way Fault) → Branches r now expected (where_false before test) → IfOk r (λ _. names_of now ≡ names_of before)
+pub passed_names : (r : Result Branch CheckError) (now before : RegionState) (test : Test) (expected : Result Way Found) → Branches r now expected (where_false before test) → IfOk r (λ _. names_of now ≡ names_of before)
 passed_names (Ok b) now before test expected h = ap names_of h.4 ∙ where_false_names before test
 passed_names (Err e) now before test expected h = tt
 
@@ -69,11 +69,11 @@ way_is before (ReturnValue line e) = refl
 way_is before s = refl
 
 -- the statement's own fault, and the way after it where it has none
-pub stmt_fault : (r : Result WayInMemory CheckFault) (after before : RegionState) (s : StmtInMemory) (rule : RegionRule) → Some rule ≡ first_broken before (stmt_tree s) → Goes r after (Err (s.line, rule)) → Goes r after (way_of before (stmt_tree s))
+pub stmt_fault : (r : Result WayInMemory CheckError) (after before : RegionState) (s : StmtInMemory) (rule : RegionRule) → Some rule ≡ first_broken before (stmt_tree s) → Goes r after (Err (s.line, rule)) → Goes r after (way_of before (stmt_tree s))
 stmt_fault r after before s rule h k =
     Goes-along r after _ _ (way_is before (stmt_tree s) ∙ ap (λ o. own_way o (line_of (stmt_tree s)) (inner_way before (stmt_tree s))) (sym h) ∙ ap (λ n. Err (n, rule)) (line_is s.line s.form)) k
 
-pub stmt_goes : (r : Result WayInMemory CheckFault) (after before : RegionState) (s : StmtInMemory) → None ≡ first_broken before (stmt_tree s) → Goes r after (inner_way before (stmt_tree s)) → Goes r after (way_of before (stmt_tree s))
+pub stmt_goes : (r : Result WayInMemory CheckError) (after before : RegionState) (s : StmtInMemory) → None ≡ first_broken before (stmt_tree s) → Goes r after (inner_way before (stmt_tree s)) → Goes r after (way_of before (stmt_tree s))
 stmt_goes r after before s h k =
     Goes-along r after _ _ (way_is before (stmt_tree s) ∙ ap (λ o. own_way o (line_of (stmt_tree s)) (inner_way before (stmt_tree s))) (sym h)) k
 
@@ -91,12 +91,12 @@ go_rest outer w items i s end_line h e = ap (λ rest. go_on outer w (statements_
 pub go_step : (outer before : RegionState) (w : Way) (s : Stmt) (rest : Block) → way_of before s ≡ Ok w → go_on outer (On before) (Next s rest) ≡ go_on outer w rest
 go_step outer before w s rest h = ap (λ r. way_after r (λ m. way_of_block outer m rest) (returned_before rest)) h
 
-pub go_fault : (outer before : RegionState) (s : Stmt) (rest : Block) (e : CheckFault) → Stops e (way_of before s) → Stops e (go_on outer (On before) (Next s rest))
+pub go_fault : (outer before : RegionState) (s : Stmt) (rest : Block) (e : CheckError) → Stops e (way_of before s) → Stops e (go_on outer (On before) (Next s rest))
 go_fault outer before s rest Memory h = tt
-go_fault outer before s rest (Broken f) h = ap (λ r. way_after r (λ m. way_of_block outer m rest) (returned_before rest)) h
+go_fault outer before s rest (Fault f) h = ap (λ r. way_after r (λ m. way_of_block outer m rest) (returned_before rest)) h
 
 -- a statement after a return
-pub go_after : (r : Result WayInMemory CheckFault) (after outer : RegionState) (s : StmtInMemory) (rest : Block) → Goes r after (Err (s.line, NoReturn)) → Goes r after (go_on outer Returned (Next (stmt_tree s) rest))
+pub go_after : (r : Result WayInMemory CheckError) (after outer : RegionState) (s : StmtInMemory) (rest : Block) → Goes r after (Err (s.line, NoReturn)) → Goes r after (go_on outer Returned (Next (stmt_tree s) rest))
 go_after r after outer s rest k = Goes-along r after _ _ (ap (λ n. Err (n, NoReturn)) (line_is s.line s.form)) k
 
 -- after its end a list has nothing
@@ -108,20 +108,20 @@ past (suc i) (x ∷ xs) h = past i xs (omega arith)
 
 -- ---- joins
 
-pub first_stops : (line : ℕ) (r q : Result Way Fault) (e : CheckFault) → Stops e r → Stops e (join_ways line r q)
+pub first_stops : (line : ℕ) (r q : Result Way Found) (e : CheckError) → Stops e r → Stops e (join_ways line r q)
 first_stops line r q Memory h = tt
-first_stops line r q (Broken f) h = ap (λ x. join_ways line x q) h
+first_stops line r q (Fault f) h = ap (λ x. join_ways line x q) h
 
-pub second_stops : (line : ℕ) (a : Way) (q : Result Way Fault) (e : CheckFault) → Stops e q → Stops e (join_ways line (Ok a) q)
+pub second_stops : (line : ℕ) (a : Way) (q : Result Way Found) (e : CheckError) → Stops e q → Stops e (join_ways line (Ok a) q)
 second_stops line a q Memory k = tt
-second_stops line a q (Broken f) k = ap (join_ways line (Ok a)) k ∙ last line a (fault_of f)
+second_stops line a q (Fault f) k = ap (join_ways line (Ok a)) k ∙ last line a (fault_of f)
   where
-    last : (line : ℕ) (a : Way) (f : Fault) → join_ways line (Ok a) (Err f) ≡ Err f
+    last : (line : ℕ) (a : Way) (f : Found) → join_ways line (Ok a) (Err f) ≡ Err f
     last line (On s) f = refl
     last line Returned f = refl
 
 -- the way after a loop is that of two that become one: of none of its turns, and of one
-pub turn_is_join : (line : ℕ) (before : RegionState) (r : Result Way Fault) → turn_way line before r ≡ join_ways line (Ok (On before)) r
+pub turn_is_join : (line : ℕ) (before : RegionState) (r : Result Way Found) → turn_way line before r ≡ join_ways line (Ok (On before)) r
 turn_is_join line before (Err e) = refl
 turn_is_join line before (Ok Returned) = refl
 turn_is_join line before (Ok (On after)) = ap (λ b. way_if b (On before) (line, WaysDiffer)) (same_swapped after before)
@@ -136,7 +136,7 @@ pub end_line_is : (b : BlockInMemory) → end_line_of (block_tree b) ≡ (out-Bl
 end_line_is b = ap end_line_of (block_is b) ∙ end_is (out-Block b).statements.items (out-Block b).end_line
 
 -- an error that is passed on
-pub goes_err : (r : Result WayInMemory CheckFault) (after : RegionState) (e : CheckFault) (x : Result Way Fault) → r ≡ Err e → Stops e x → Goes r after x
+pub goes_err : (r : Result WayInMemory CheckError) (after : RegionState) (e : CheckError) (x : Result Way Found) → r ≡ Err e → Stops e x → Goes r after x
 goes_err r after e x was h = subst (λ y. Goes y after x) (sym was) h
 
 -- ---- ends of blocks

@@ -7,7 +7,7 @@ use Rattle.region_rules.specs.RegionRules.{RegionRule, HeldBuffer, WaysDiffer, b
 use Rattle.region_rules.specs.RegionStates.{RegionState}
 use Rattle.region_rules.specs.Regions.{Way, On, Returned, Join, ComesBack, IsEnd, Keeps, KeepsBlock, holds_own, left, where_true, where_false}
 use Rattle.region_states.specs.SameStates.{same_state}
-use Rattle.regions.specs.Ways.{Fault, own_way, way_after, way_if, returned_before, join_ways, turn_way, way_of, way_of_block}
+use Rattle.regions.specs.Ways.{Found, own_way, way_after, way_if, returned_before, join_ways, turn_way, way_of, way_of_block}
 use Rattle.region_states.proofs.Same.{state_decides}
 
 -- ---- the first rule of a list that is broken
@@ -29,22 +29,22 @@ find_some p (x ∷ xs) y e = elim (p x) as (λ b. p x ≡ b → cond b (Some x) 
 
 -- ---- a way is kept just where it is the answer
 
-pub ok_is : (x y : Way) → ◌≡◌ {A = Result Way Fault} (Ok x) (Ok y) → y ≡ x
+pub ok_is : (x y : Way) → ◌≡◌ {A = Result Way Found} (Ok x) (Ok y) → y ≡ x
 ok_is x y e = cc
 
-pub if_ok : (t : Bool) (a w : Way) (f : Fault) → way_if t a f ≡ Ok w → (t ≡ true) × (w ≡ a)
+pub if_ok : (t : Bool) (a w : Way) (f : Found) → way_if t a f ≡ Ok w → (t ≡ true) × (w ≡ a)
 if_ok true a w f e = (refl, ok_is a w e)
 if_ok false a w f e = cc
 
-pub if_true : (t : Bool) (a : Way) (f : Fault) → t ≡ true → way_if t a f ≡ Ok a
+pub if_true : (t : Bool) (a : Way) (f : Found) → t ≡ true → way_if t a f ≡ Ok a
 if_true true a f e = refl
 if_true false a f e = absurd (true≢false (sym e))
 
-pub own_ok : (o : Option RegionRule) (line : ℕ) (go : Result Way Fault) (w : Way) → own_way o line go ≡ Ok w → (o ≡ None) × (go ≡ Ok w)
+pub own_ok : (o : Option RegionRule) (line : ℕ) (go : Result Way Found) (w : Way) → own_way o line go ≡ Ok w → (o ≡ None) × (go ≡ Ok w)
 own_ok None line go w h = (refl, h)
 own_ok (Some rule) line go w h = cc
 
-pub own_none : (o : Option RegionRule) (line : ℕ) (go : Result Way Fault) (w : Way) → o ≡ None → go ≡ Ok w → own_way o line go ≡ Ok w
+pub own_none : (o : Option RegionRule) (line : ℕ) (go : Result Way Found) (w : Way) → o ≡ None → go ≡ Ok w → own_way o line go ≡ Ok w
 own_none None line go w e h = h
 own_none (Some rule) line go w e h = cc
 
@@ -61,15 +61,15 @@ join_is line (On a) Returned w h = ap Ok (sym h)
 join_is line (On a) (On b) w h = if_true (same_state a b) (On a) (line, WaysDiffer) ((state_decides a b).1 h.0) ∙ ap Ok (sym h.1)
 
 -- the two ways that were joined
-pub joined : (line : ℕ) (r q : Result Way Fault) (w : Way) → join_ways line r q ≡ Ok w → (a b : Way) × (r ≡ Ok a) × (q ≡ Ok b) × Join a b w
+pub joined : (line : ℕ) (r q : Result Way Found) (w : Way) → join_ways line r q ≡ Ok w → (a b : Way) × (r ≡ Ok a) × (q ≡ Ok b) × Join a b w
 joined line (Err e) q w h = absurd (err_ok e w h)
   where
-    err_ok : (f : Fault) (y : Way) → ◌≡◌ {A = Result Way Fault} (Err f) (Ok y) → ⊥
+    err_ok : (f : Found) (y : Way) → ◌≡◌ {A = Result Way Found} (Err f) (Ok y) → ⊥
     err_ok f y e = cc
 joined line (Ok a) (Err e) w h = elim a as (λ x. join_ways line (Ok x) (Err e) ≡ Ok w → (c b : Way) × (Ok x ≡ Ok c) × (Err e ≡ Ok b) × Join c b w) [ On s ↦ λ k. cc | Returned ↦ λ k. cc ] h
 joined line (Ok a) (Ok b) w h = (a, b, refl, refl, join_ok line a b w h)
 
-pub turned : (line : ℕ) (before : RegionState) (r : Result Way Fault) (w : Way) → turn_way line before r ≡ Ok w → (turn : Way) × (r ≡ Ok turn) × ComesBack before turn × (w ≡ On before)
+pub turned : (line : ℕ) (before : RegionState) (r : Result Way Found) (w : Way) → turn_way line before r ≡ Ok w → (turn : Way) × (r ≡ Ok turn) × ComesBack before turn × (w ≡ On before)
 turned line before (Err e) w h = cc
 turned line before (Ok Returned) w h = (Returned, refl, tt, ok_is (On before) w h)
 turned line before (Ok (On after)) w h =
@@ -88,7 +88,7 @@ pub unbroken : (before : RegionState) (s : Stmt) → Obeys before s → first_br
 unbroken before s h = all_none (λ rule. breaks_region_rule rule before s) own_rules h
 
 -- of what is after a statement: its way goes on or has returned
-pub after_ok : (r : Result Way Fault) (go : RegionState → Result Way Fault) (stop : Result Way Fault) (w : Way) → way_after r go stop ≡ Ok w
+pub after_ok : (r : Result Way Found) (go : RegionState → Result Way Found) (stop : Result Way Found) (w : Way) → way_after r go stop ≡ Ok w
     → ((middle : RegionState) × (r ≡ Ok (On middle)) × (go middle ≡ Ok w)) ⊎ ((r ≡ Ok Returned) × (stop ≡ Ok w))
 after_ok (Err e) go stop w h = cc
 after_ok (Ok (On middle)) go stop w h = inl (middle, refl, h)
@@ -146,7 +146,7 @@ mutual
 
 -- ---- what the rules give is the answer
 
-pub joined_is : (line : ℕ) (r q : Result Way Fault) (a b w : Way) → r ≡ Ok a → q ≡ Ok b → Join a b w → join_ways line r q ≡ Ok w
+pub joined_is : (line : ℕ) (r q : Result Way Found) (a b w : Way) → r ≡ Ok a → q ≡ Ok b → Join a b w → join_ways line r q ≡ Ok w
 joined_is line r q a b w e f h = ap (λ x. join_ways line x q) e ∙ ap (λ x. join_ways line (Ok a) x) f ∙ join_is line a b w h
 
 mutual

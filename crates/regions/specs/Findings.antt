@@ -4,13 +4,13 @@ use Rattle.std.specs.Option.{option_or}
 use Rattle.syntax.specs.Tree.{Block, End, Next, Function, Item, StaticItem, FunctionItem}
 use Rattle.regions.specs.declared.fault.RegionRule.{RegionRule as RuleInMemory}
 use Rattle.regions.specs.declared.fault.RegionRule.TheVariants as rules
-use Rattle.regions.specs.declared.fault.RegionFault.{RegionFault}
-use Rattle.regions.specs.declared.fault.CheckFault.{CheckFault}
-use Rattle.regions.specs.declared.fault.CheckFault.TheVariants.{Memory, Broken}
+use Rattle.details.specs.declared.fault.Fault.{Fault as FaultAt}
+use Rattle.regions.specs.declared.fault.CheckError.{CheckError}
+use Rattle.regions.specs.declared.fault.CheckError.TheVariants.{Memory, Fault}
 use Rattle.region_rules.specs.RegionRules.{RegionRule, CallWhileCritical, ReturnWithBuffer, HeldBuffer, UntestedBuffer, WrongBuffer, ReturnInFrame, PopLastFrame, DeadReference, ArrayInUse, WaysDiffer, WrongLevel, NoReturn}
 use Rattle.region_rules.specs.RegionStates.{state_at_entry}
 use Rattle.region_rules.specs.Regions.{Way, On, Returned}
-use Rattle.regions.specs.Ways.{Fault, way_of_block}
+use Rattle.regions.specs.Ways.{Found, way_of_block}
 
 -- the rule of the definitions
 abbrev pub rule_of : RuleInMemory → RegionRule
@@ -27,24 +27,28 @@ rule_of rules.WaysDiffer = WaysDiffer
 rule_of rules.WrongLevel = WrongLevel
 rule_of rules.NoReturn = NoReturn
 
+-- a rule that is broken, and the line
+abbrev pub RegionFault : Type 0
+RegionFault = FaultAt RuleInMemory ℕ
+
 -- the line and the rule
-abbrev pub fault_of : RegionFault → Fault
+abbrev pub fault_of : RegionFault → Found
 fault_of f = (f.line, rule_of f.rule)
 
 -- memory ran out, or this is the fault
-abbrev pub Refuses : CheckFault → Option Fault → Type 0
+abbrev pub Refuses : CheckError → Option Found → Type 0
 Refuses Memory found = Unit {0}
-Refuses (Broken f) found = found ≡ Some (fault_of f)
+Refuses (Fault f) found = found ≡ Some (fault_of f)
 
 -- what a check found: nothing, or this fault, unless memory ran out
-abbrev pub Finds : {A : Type 0} → Result A CheckFault → Option Fault → Type 0
+abbrev pub Finds : {A : Type 0} → Result A CheckError → Option Found → Type 0
 Finds (Ok x) found = found ≡ None
 Finds (Err e) found = Refuses e found
 
 -- the fact of the fault, unless memory ran out
-abbrev pub IfBroken : CheckFault → (RegionFault → Type 0) → Type 0
+abbrev pub IfBroken : CheckError → (RegionFault → Type 0) → Type 0
 IfBroken Memory P = Unit {0}
-IfBroken (Broken f) P = P f
+IfBroken (Fault f) P = P f
 
 -- ---- functions
 
@@ -54,26 +58,26 @@ end_line_of (End line) = line
 end_line_of (Next s rest) = end_line_of rest
 
 -- the fault where a function's body ends with this way
-abbrev pub fault_at_end : Result Way Fault → ℕ → Option Fault
+abbrev pub fault_at_end : Result Way Found → ℕ → Option Found
 fault_at_end (Err e) line = Some e
 fault_at_end (Ok (On state)) line = Some (line, NoReturn)
 fault_at_end (Ok Returned) line = None
 
 -- a function's first fault
-abbrev pub function_fault : Function → Option Fault
+abbrev pub function_fault : Function → Option Found
 function_fault f = fault_at_end (way_of_block (state_at_entry f) (state_at_entry f) f.body) (end_line_of f.body)
 
 -- the fault of an item
-abbrev pub item_fault : Item → Option Fault
+abbrev pub item_fault : Item → Option Found
 item_fault (StaticItem s) = None
 item_fault (FunctionItem f) = function_fault f
 
 -- the first fault of items
-abbrev pub items_fault : List Item → Option Fault
+abbrev pub items_fault : List Item → Option Found
 items_fault [] = None
 items_fault (item ∷ items) = let further = items_fault items in option_or (item_fault item) further
 
 -- the first fault of functions
-abbrev pub first_fault : List Function → Option Fault
+abbrev pub first_fault : List Function → Option Found
 first_fault [] = None
 first_fault (f ∷ functions) = let further = first_fault functions in option_or (function_fault f) further

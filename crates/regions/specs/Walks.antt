@@ -1,8 +1,8 @@
 -- The walk over the ways of a function, as the code takes it.
 use Rattle.std.specs.Prelude.{◌≡◌, if◌then◌else◌, Result, Ok, Err}
 use Rattle.syntax.specs.Tree.{Stmt, If, IfElse, While, Return, ReturnValue, Block}
-use Rattle.regions.specs.declared.fault.CheckFault.{CheckFault}
-use Rattle.regions.specs.declared.fault.CheckFault.TheVariants.{Memory, Broken}
+use Rattle.regions.specs.declared.fault.CheckError.{CheckError}
+use Rattle.regions.specs.declared.fault.CheckError.TheVariants.{Memory, Fault}
 use Rattle.regions.specs.declared.joins.Way.{Way as WayInMemory}
 use Rattle.regions.specs.declared.joins.Way.TheVariants as way
 use Rattle.regions.specs.declared.joins.Branch.{Branch}
@@ -11,11 +11,11 @@ use Rattle.region_rules.specs.RegionRules.{is_return}
 use Rattle.region_rules.specs.RegionStates.{RegionState, state_after}
 use Rattle.region_rules.specs.Regions.{Way, On, Returned, where_true, where_false}
 use Rattle.region_states.specs.StatesInMemory.{names_of, IsSaved}
-use Rattle.regions.specs.Ways.{Fault, way_after, returned_before, join_ways, turn_way, way_of_block}
+use Rattle.regions.specs.Ways.{Found, way_after, returned_before, join_ways, turn_way, way_of_block}
 
 -- a way of the definitions, or the fault
 abbrev pub WayOrFault : Type 0
-WayOrFault = Result Way Fault
+WayOrFault = Result Way Found
 
 -- the way of the definitions, where this is the state after it
 abbrev pub way_value : WayInMemory → RegionState → Way
@@ -23,22 +23,22 @@ way_value way.On state = On state
 way_value way.Returned state = Returned
 
 -- memory ran out, or this is the fault
-abbrev pub Stops : CheckFault → WayOrFault → Type 0
+abbrev pub Stops : CheckError → WayOrFault → Type 0
 Stops Memory expected = Unit {0}
-Stops (Broken f) expected = expected ≡ Err (fault_of f)
+Stops (Fault f) expected = expected ≡ Err (fault_of f)
 
 -- this is the way, with this state after it, or the fault, unless memory ran out
-abbrev pub Goes : Result WayInMemory CheckFault → RegionState → WayOrFault → Type 0
+abbrev pub Goes : Result WayInMemory CheckError → RegionState → WayOrFault → Type 0
 Goes (Ok w) after expected = expected ≡ Ok (way_value w after)
 Goes (Err e) after expected = Stops e expected
 
 -- this is the way through the first branch of a test, and what is known after it, while the state is now this other one; or the fault, unless memory ran out
-abbrev pub Branches : Result Branch CheckFault → RegionState → WayOrFault → RegionState → Type 0
+abbrev pub Branches : Result Branch CheckError → RegionState → WayOrFault → RegionState → Type 0
 Branches (Ok b) now expected other = (s : RegionState) × IsSaved b.known s × (names_of s ≡ names_of now) × (expected ≡ Ok (way_value b.way s)) × (now ≡ other)
 Branches (Err e) now expected other = Stops e expected
 
 -- where there is a first branch, what is known after it is kept of the variables of this state
-abbrev pub Awaits : Result Branch CheckFault → RegionState → Type 0
+abbrev pub Awaits : Result Branch CheckError → RegionState → Type 0
 Awaits (Ok b) now = (s : RegionState) × IsSaved b.known s × (names_of s ≡ names_of now)
 Awaits (Err e) now = Unit {0}
 

@@ -1,11 +1,11 @@
 //! Why a unit is not accepted.
 
 ghost use Rattle.std.specs.Prelude.{◌≡◌};
-ghost use Rattle.regions.specs.declared.fault.CheckFault.TheVariants.{Memory};
+ghost use Rattle.regions.specs.declared.fault.CheckError.TheVariants.{Memory};
 ghost use Rattle.region_rules.specs.RegionRules.{region_rule_number};
 ghost use Rattle.regions.specs.Findings.{rule_of};
 
-use details::Line;
+use details::{Fault, Line};
 use std::alloc::{AllocError, AllocFailed};
 use thiserror::Error;
 
@@ -63,33 +63,31 @@ impl RegionRule {
 
 /// A rule that is broken, and its line, with what was found there: that of the first token of the statement, or of the closing brace
 /// where a block's or the function's end is reached.
-#[derive(Debug, Drop)]
-pub struct RegionFault {
-    pub rule: RegionRule,
-    pub line: Line,
-}
+pub type RegionFault = Fault<RegionRule, Line>;
 
 /// Why `check` answers no unit.
 #[derive(Debug, Drop, Error)]
-pub enum CheckFault {
+pub enum CheckError {
+    /// Host memory was refused.
     #[error("out of memory")]
     Memory,
+    /// The first fault of the unit.
     #[error("line {}: {:?}", .0.line, .0.rule)]
-    Broken(RegionFault),
+    Fault(RegionFault),
 }
 
-impl From<AllocError> for CheckFault {
+impl From<AllocError> for CheckError {
     ghost from_gives = { λ _ e. e ≡ Memory };
 
-    fn from(_e: AllocError) -> CheckFault {
-        CheckFault::Memory
+    fn from(_e: AllocError) -> CheckError {
+        CheckError::Memory
     }
 }
 
-impl<T: Drop> From<AllocFailed<T>> for CheckFault {
+impl<T: Drop> From<AllocFailed<T>> for CheckError {
     ghost from_gives = { λ _ e. e ≡ Memory };
 
-    fn from(_e: AllocFailed<T>) -> CheckFault {
-        CheckFault::Memory
+    fn from(_e: AllocFailed<T>) -> CheckError {
+        CheckError::Memory
     }
 }

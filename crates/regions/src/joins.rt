@@ -1,7 +1,7 @@
 //! How ways go on, and how two of them become one.
 
 ghost use Rattle.std.specs.Prelude.{◌≡◌, List, Ok, Err, length, OnOk, IfOk, IfErr};
-ghost use Rattle.regions.specs.declared.fault.CheckFault.TheVariants.{Memory};
+ghost use Rattle.regions.specs.declared.fault.CheckError.TheVariants.{Memory};
 ghost use Rattle.base.specs.Bytes.{Identifier};
 ghost use Rattle.syntax.specs.Views.{test_tree};
 ghost use Rattle.region_rules.specs.RegionStates.{RegionState};
@@ -11,9 +11,9 @@ ghost use Rattle.region_states.specs.StatesInMemory.{names_of, IsSaved, HasCount
 ghost use Rattle.regions.specs.Findings.{rule_of};
 ghost use Rattle.regions.specs.Walks.{WayOrFault, way_value, Goes, Branches, Awaits};
 
-use crate::fault::{CheckFault, RegionFault, RegionRule};
+use crate::fault::{CheckError, RegionRule};
 use crate::telling::ways_detail;
-use details::{Detail, Line};
+use details::{Detail, Fault, Line};
 use region_states::changes::{take_false, take_true};
 use region_states::states::{Facts, StaticState, exchange, is_as_saved, save};
 use std::alloc::Global;
@@ -34,11 +34,11 @@ pub(crate) struct Branch<'a> {
 }
 
 /// The fault of a rule on this line, with what was found there.
-pub(crate) fn refuse(rule: RegionRule, line: usize, detail: Detail) -> Result<Way, CheckFault>
+pub(crate) fn refuse(rule: RegionRule, line: usize, detail: Detail) -> Result<Way, CheckError>
     ensures fault { (after : RegionState) → Goes result after (Err (line, rule_of rule)) }
     ensures never { IfOk result (λ _. ⊥) }
 {
-    Err(CheckFault::Broken(RegionFault {
+    Err(CheckError::Fault(Fault {
         rule,
         line: Line::told(line, detail),
     }))
@@ -51,7 +51,7 @@ fn join_ways<'a>(
     first: Way,
     known: &mut Facts<'a>,
     second: Way,
-) -> Result<Way, CheckFault>
+) -> Result<Way, CheckError>
     requires long { length known.old.variables.items ≡ length (names_of state.old) }
     requires counted { HasCounts known.old }
     ensures goes { (a : RegionState) → IsSaved known.old a → names_of a ≡ names_of state.old → Goes result state.new (join_ways line (Ok (way_value first a)) (Ok (way_value second state.old))) }
@@ -79,8 +79,8 @@ pub(crate) fn join<'a>(
     state: &mut StaticState<'a>,
     line: usize,
     first: Branch<'a>,
-    second: Result<Way, CheckFault>,
-) -> Result<Way, CheckFault>
+    second: Result<Way, CheckError>,
+) -> Result<Way, CheckError>
     requires long { IfOk second (λ _. length first.known.variables.items ≡ length (names_of state.old)) }
     requires counted { HasCounts first.known }
     ensures goes { (a : RegionState) (expected : WayOrFault) → IsSaved first.entry.known a → IfOk second (λ _. names_of a ≡ names_of state.old) → Goes second state.old expected → Goes result state.new (join_ways line (Ok (way_value first.entry.way a)) expected) }
@@ -98,8 +98,8 @@ pub(crate) fn join<'a>(
 pub(crate) fn one_way<'a>(
     state: &mut StaticState<'a>,
     line: usize,
-    first: Result<Branch<'a>, CheckFault>,
-) -> Result<Way, CheckFault>
+    first: Result<Branch<'a>, CheckError>,
+) -> Result<Way, CheckError>
     requires { Awaits first state.old }
     ensures goes { (expected : WayOrFault) (other : RegionState) → Branches first.entry state.old expected other → Goes result state.new (join_ways line expected (Ok (On other))) }
     ensures names { (names : List Identifier) → IfOk first.entry (λ _. names_of state.old ≡ names) → IfOk result (λ _. names_of state.new ≡ names) }
@@ -112,7 +112,7 @@ pub(crate) fn one_way<'a>(
 
 /// The way after none of a loop's turns, which is one of its two ways.
 #[inline]
-pub(crate) fn no_turn<'a>(alloc: Global, state: &StaticState<'a>) -> Result<Branch<'a>, CheckFault>
+pub(crate) fn no_turn<'a>(alloc: Global, state: &StaticState<'a>) -> Result<Branch<'a>, CheckError>
     ensures { Branches result state.now (Ok (On state.now)) state.now }
 {
     let known = save(alloc, state)?;
@@ -127,7 +127,7 @@ pub(crate) fn take_then<'a>(
     alloc: Global,
     state: &mut StaticState<'a>,
     test: &'a Test,
-) -> Result<Facts<'a>, CheckFault>
+) -> Result<Facts<'a>, CheckError>
     ensures before { IfOk result (λ known. IsSaved known state.old) }
     ensures after { OnOk result (state.new ≡ where_true state.old (test_tree test.now)) }
     ensures memory { IfErr result (λ e. e ≡ Memory) }
@@ -141,9 +141,9 @@ pub(crate) fn take_then<'a>(
 pub(crate) fn take_else<'a>(
     state: &mut StaticState<'a>,
     test: &'a Test,
-    first: Result<Way, CheckFault>,
+    first: Result<Way, CheckError>,
     before: Facts<'a>,
-) -> Result<Branch<'a>, CheckFault>
+) -> Result<Branch<'a>, CheckError>
     requires long { IfOk first (λ _. length before.variables.items ≡ length (names_of state.old)) }
     requires counted { HasCounts before }
     ensures { (s : RegionState) (expected : WayOrFault) → IsSaved before.entry s → IfOk first (λ _. names_of s ≡ names_of state.old) → Goes first state.old expected → Branches result state.new expected (where_false s (test_tree test.now)) }

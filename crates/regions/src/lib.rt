@@ -11,7 +11,7 @@ mod walk;
 ghost use Rattle.region_rules.specs.FirstFaults.{AcceptedBreaksNothing, AcceptedOrBroken, AcceptedOrFirst, FirstIsBroken, NotBoth, OneFirst, OneFirstOfUnit};
 
 pub use checked::check;
-pub use fault::{CheckFault, RegionFault, RegionRule};
+pub use fault::{CheckError, RegionFault, RegionRule};
 pub use region_rules::Checked;
 
 /// A function that is accepted breaks no rule.

@@ -13,11 +13,11 @@ ghost use Rattle.region_states.specs.NewNames.{own_names, AreNew, DeclaresNew, D
 ghost use Rattle.regions.specs.Findings.{Finds, function_fault, item_fault, items_fault};
 ghost use Rattle.regions.specs.Walks.{WayOrFault, way_value, Goes, Branches, Awaits, go_on, plain_way, inner_way};
 
-use crate::fault::{CheckFault, RegionFault, RegionRule};
+use crate::fault::{CheckError, RegionRule};
 use crate::joins::{Branch, Way, join, no_turn, one_way, refuse, take_else, take_then};
 use crate::rules::{first_broken, is_return};
 use crate::telling::{end_detail, held_detail, statement_detail, unreached_detail};
-use details::Line;
+use details::{Fault, Line};
 use region_states::changes::pass;
 use region_states::states::{
     StaticState, VariableState, add, clear, count, holds_own, leave, nothing,
@@ -26,7 +26,7 @@ use std::alloc::{AllocError, Global};
 use syntax::{Block, Form, Function, Item, ParameterType, Stmt, Test};
 
 /// A block's end on this line, where the block began with this many variables and its way so far is this one.
-fn end(state: &mut StaticState, count: usize, way: Way, line: usize) -> Result<Way, CheckFault>
+fn end(state: &mut StaticState, count: usize, way: Way, line: usize) -> Result<Way, CheckError>
     requires { count ≤ length (names_of state.old) }
     ensures goes { (outer : RegionState) → count ≡ length (names_of outer) → Grows outer state.old → Goes result state.new (go_on outer (way_value way state.old) (End line)) }
     ensures names { (outer : RegionState) → count ≡ length (names_of outer) → Grows outer state.old → IfOk result (λ _. names_of state.new ≡ names_of outer) }
@@ -47,7 +47,7 @@ fn end(state: &mut StaticState, count: usize, way: Way, line: usize) -> Result<W
 }
 
 /// The way after a statement without blocks.
-fn plain_way<'a>(state: &mut StaticState<'a>, form: &'a Form) -> Result<Way, CheckFault>
+fn plain_way<'a>(state: &mut StaticState<'a>, form: &'a Form) -> Result<Way, CheckError>
     requires { (line : ℕ) → AreNew (names_of state.old) (own_names (form_tree line form.now)) }
     ensures goes { (line : ℕ) → Goes result state.new (plain_way state.old (form_tree line form.now)) }
     ensures names { (line : ℕ) → IfOk result (λ _. names_of state.new ≡ names_of state.old ++ own_names (form_tree line form.now)) }
@@ -66,7 +66,7 @@ fn then_way<'a>(
     state: &mut StaticState<'a>,
     test: &'a Test,
     then: &'a Block,
-) -> Result<Branch<'a>, CheckFault>
+) -> Result<Branch<'a>, CheckError>
     requires { DeclareNew (names_of state.old) (block_tree then.now) }
     ensures { Branches result state.new (way_of_block state.old (where_true state.old (test_tree test.now)) (block_tree then.now)) (where_false state.old (test_tree test.now)) }
 {
@@ -85,9 +85,9 @@ fn other_way<'a>(
     alloc: Global,
     state: &mut StaticState<'a>,
     line: usize,
-    first: Result<Branch<'a>, CheckFault>,
+    first: Result<Branch<'a>, CheckError>,
     block: &'a Block,
-) -> Result<Way, CheckFault>
+) -> Result<Way, CheckError>
     requires saved { Awaits first state.old }
     requires new { IfOk first (λ _. DeclareNew (names_of state.old) (block_tree block.now)) }
     ensures goes { (outer : RegionState) (expected : WayOrFault) (other : RegionState) → names_of outer ≡ names_of other → Branches first.entry state.old expected other → Goes result state.new (join_ways line expected (way_of_block outer other (block_tree block.now))) }
@@ -109,7 +109,7 @@ fn inner_way<'a>(
     state: &mut StaticState<'a>,
     line: usize,
     form: &'a Form,
-) -> Result<Way, CheckFault>
+) -> Result<Way, CheckError>
     requires { DeclaresNew (names_of state.old) (form_tree line form.now) }
     ensures goes { Goes result state.new (inner_way state.old (form_tree line form.now)) }
     ensures names { IfOk result (λ _. names_of state.new ≡ names_of state.old ++ own_names (form_tree line form.now)) }
@@ -137,7 +137,7 @@ fn stmt_way<'a>(
     alloc: Global,
     state: &mut StaticState<'a>,
     stmt: &'a Stmt,
-) -> Result<Way, CheckFault>
+) -> Result<Way, CheckError>
     requires { DeclaresNew (names_of state.old) (stmt_tree stmt.now) }
     ensures goes { Goes result state.new (way_of state.old (stmt_tree stmt.now)) }
     ensures names { IfOk result (λ _. names_of state.new ≡ names_of state.old ++ own_names (stmt_tree stmt.now)) }
@@ -154,7 +154,7 @@ fn block_way<'a>(
     alloc: Global,
     state: &mut StaticState<'a>,
     block: &'a Block,
-) -> Result<Way, CheckFault>
+) -> Result<Way, CheckError>
     requires { DeclareNew (names_of state.old) (block_tree block.now) }
     ensures goes { (outer : RegionState) → names_of outer ≡ names_of state.old → Goes result state.new (way_of_block outer state.old (block_tree block.now)) }
     ensures names { IfOk result (λ _. names_of state.new ≡ names_of state.old) }
@@ -193,13 +193,13 @@ fn check_function<'a>(
     alloc: Global,
     state: &mut StaticState<'a>,
     f: &'a Function,
-) -> Result<(), CheckFault>
+) -> Result<(), CheckError>
     requires { DeclaresOnce (function_tree f.now) }
     ensures { Finds result (function_fault (function_tree f.now)) }
 {
     enter(state, f)?;
     match block_way(alloc, state, &f.body)? {
-        Way::On => Err(CheckFault::Broken(RegionFault {
+        Way::On => Err(CheckError::Fault(Fault {
             rule: RegionRule::NoReturn,
             line: Line::told(f.body.end_line, end_detail(&f.name)),
         })),
@@ -212,7 +212,7 @@ fn check_item<'a>(
     alloc: Global,
     state: &mut StaticState<'a>,
     item: &'a Item,
-) -> Result<(), CheckFault>
+) -> Result<(), CheckError>
     requires { ItemOnce (item_tree item.now) }
     ensures { Finds result (item_fault (item_tree item.now)) }
 {
@@ -228,7 +228,7 @@ fn check_each<'a>(
     alloc: Global,
     state: &mut StaticState<'a>,
     items: &'a [Item],
-) -> Result<(), CheckFault>
+) -> Result<(), CheckError>
     requires { AllByRecursion ItemOnce (map item_tree items.now) }
     ensures { Finds result (items_fault (map item_tree items.now)) }
 {
@@ -239,7 +239,7 @@ fn check_each<'a>(
 }
 
 /// The ways through the functions of a unit. All share one state, so the memory is taken once.
-pub(crate) fn check_items<'a>(alloc: Global, items: &'a [Item]) -> Result<(), CheckFault>
+pub(crate) fn check_items<'a>(alloc: Global, items: &'a [Item]) -> Result<(), CheckError>
     requires { AllByRecursion ItemOnce (map item_tree items.now) }
     ensures { Finds result (items_fault (map item_tree items.now)) }
 {

@@ -24,8 +24,8 @@ use Rattle.report.specs.RunText.{Writes}
 use Rattle.semantics.specs.Start.{start}
 use Rattle.semantics.specs.State.{State}
 use Rattle.semantics.proofs.RunLaws.{replay_from-append, replay_more}
-use Rattle.replay.specs.declared.fault.ReplayFault.{ReplayFault}
-use Rattle.replay.specs.declared.fault.ReplayFault.TheVariants.{DoesNotFit, Impossible, Memory, Writer}
+use Rattle.replay.specs.declared.fault.ReplayError.{ReplayError}
+use Rattle.replay.specs.declared.fault.ReplayError.TheVariants.{DoesNotFit, Impossible, Memory, Writer}
 use Rattle.replay_threads.specs.declared.state.State.{State as StateInMemory}
 use Rattle.replay_threads.specs.States.{Stands, TakesEntry, AreInRange, AreStandings}
 use Rattle.semantics.specs.EventViews.{stop_view}
@@ -76,14 +76,14 @@ at_end unit w journal i m past h = subst (λ j. Replayed unit w j m) (take_all i
 -- ---- faults
 
 -- a replay that didn't begin
-pub not_begun : (unit : SourceUnit) (w : World) (journal : Journal) (f : ReplayFault) → IsLoadFault unit w f → IsRefused unit w journal f
+pub not_begun : (unit : SourceUnit) (w : World) (journal : Journal) (f : ReplayError) → IsLoadFault unit w f → IsRefused unit w journal f
 not_begun unit w journal (DoesNotFit line) h = h
 not_begun unit w journal (Impossible i) h = absurd h
 not_begun unit w journal Memory h = tt
 not_begun unit w journal Writer h = absurd h
 
 -- nothing was written
-pub unwritten : (unit : SourceUnit) (w : World) (journal : Journal) (old : Written) (f : ReplayFault) → IsRefused unit w journal f → IsStoppedBy unit w journal old old f
+pub unwritten : (unit : SourceUnit) (w : World) (journal : Journal) (old : Written) (f : ReplayError) → IsRefused unit w journal f → IsStoppedBy unit w journal old old f
 unwritten unit w journal old (DoesNotFit line) h = (h, refl)
 unwritten unit w journal old (Impossible i) h = (h.0, h.1, refl)
 unwritten unit w journal old Memory h = refl
@@ -98,7 +98,7 @@ no_replay unit w journal i h =
     ∙ ap (option_and_then (λ s. replay_from unit w s h.rest)) h.impossible
 
 -- a journal that can be replayed is refused for lack of memory alone
-pub from_outside : (unit : SourceUnit) (w : World) (journal : Journal) (f : ReplayFault) → IsRefused unit w journal f → IsReplayable unit w journal → IsFromOutside f
+pub from_outside : (unit : SourceUnit) (w : World) (journal : Journal) (f : ReplayError) → IsRefused unit w journal f → IsReplayable unit w journal → IsFromOutside f
 from_outside unit w journal (DoesNotFit line) h r = let bad : None ≡ Some line = sym r.fits ∙ h in absurd (cc)
 from_outside unit w journal (Impossible i) h r =
     let bad : false ≡ true = subst (λ (o : Option State). is_some o ≡ true) (no_replay unit w journal i h.1) r.defined in absurd (cc)
@@ -148,26 +148,26 @@ writes unit w journal m standings rows h is shows = record {
 -- ---- answers
 
 -- a replay that was refused
-pub refused_answer : (unit : SourceUnit) (w : World) (journal : Journal) (old : Written) (fault : ReplayFault) → IsRefused unit w journal fault → Answers unit w journal old old (Err fault)
+pub refused_answer : (unit : SourceUnit) (w : World) (journal : Journal) (old : Written) (fault : ReplayError) → IsRefused unit w journal fault → Answers unit w journal old old (Err fault)
 refused_answer unit w journal old fault h = (unwritten unit w journal old fault h, from_outside unit w journal fault h)
 
 module _ (unit : SourceUnit) (w : World) (journal : Journal) (old new : Written) where
-  pub ok_of : (r : Result (Option TrapAt) ReplayFault) → Answers unit w journal old new r → OnOk r (WritesRun unit w journal old new)
+  pub ok_of : (r : Result (Option TrapAt) ReplayError) → Answers unit w journal old new r → OnOk r (WritesRun unit w journal old new)
   ok_of (Ok trap) h = h.0
   ok_of (Err fault) h = tt
 
-  pub trap_of : (r : Result (Option TrapAt) ReplayFault) → Answers unit w journal old new r → IfOk r (EndsBy unit w journal)
+  pub trap_of : (r : Result (Option TrapAt) ReplayError) → Answers unit w journal old new r → IfOk r (EndsBy unit w journal)
   trap_of (Ok trap) h = h.1
   trap_of (Err fault) h = tt
 
-  pub none_waits_of : (r : Result (Option TrapAt) ReplayFault) → Answers unit w journal old new r → OnOk r (new.waiting ≡ 0)
+  pub none_waits_of : (r : Result (Option TrapAt) ReplayError) → Answers unit w journal old new r → OnOk r (new.waiting ≡ 0)
   none_waits_of (Ok trap) h = h.2
   none_waits_of (Err fault) h = tt
 
-  pub err_of : (r : Result (Option TrapAt) ReplayFault) → Answers unit w journal old new r → IfErr r (IsStoppedBy unit w journal old new)
+  pub err_of : (r : Result (Option TrapAt) ReplayError) → Answers unit w journal old new r → IfErr r (IsStoppedBy unit w journal old new)
   err_of (Ok trap) h = tt
   err_of (Err fault) h = h.0
 
-  pub only_of : (r : Result (Option TrapAt) ReplayFault) → Answers unit w journal old new r → IsReplayable unit w journal → IfErr r IsFromOutside
+  pub only_of : (r : Result (Option TrapAt) ReplayError) → Answers unit w journal old new r → IsReplayable unit w journal → IfErr r IsFromOutside
   only_of (Ok trap) h replayable = tt
   only_of (Err fault) h replayable = h.1 replayable

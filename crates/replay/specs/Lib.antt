@@ -1,4 +1,3 @@
 pub mod TrapAt
 pub mod Loading
-pub mod Faults
 pub mod Replays

@@ -13,8 +13,8 @@ use Rattle.semantics.specs.Report.{ShownRow}
 use Rattle.semantics.specs.ReportOf.{report}
 use Rattle.semantics.specs.State.{State}
 use Rattle.semantics.specs.Step.{world_step}
-use Rattle.replay.specs.declared.fault.ReplayFault.{ReplayFault}
-use Rattle.replay.specs.declared.fault.ReplayFault.TheVariants.{DoesNotFit, Impossible, Memory, Writer}
+use Rattle.replay.specs.declared.fault.ReplayError.{ReplayError}
+use Rattle.replay.specs.declared.fault.ReplayError.TheVariants.{DoesNotFit, Impossible, Memory, Writer}
 use Rattle.replay_threads.specs.declared.state.State.{State as StateInMemory}
 use Rattle.semantics.specs.declared.event.Stop.{Stop as StopInMemory}
 use Rattle.replay.specs.declared.trap_at.TrapAt.{TrapAt}
@@ -58,14 +58,14 @@ pub record EndsBy (unit : SourceUnit) (w : World) (journal : Journal) (trap : Op
   pub stopped : option_map trap_at end.stop ≡ trap
 
 -- why a replay wasn't written, and what was done to the sink
-abbrev pub IsStoppedBy : SourceUnit → World → Journal → Written → Written → ReplayFault → Type 0
+abbrev pub IsStoppedBy : SourceUnit → World → Journal → Written → Written → ReplayError → Type 0
 IsStoppedBy unit w journal old new (DoesNotFit line) = (first_load_fault unit w ≡ Some line) × (new ≡ old)
 IsStoppedBy unit w journal old new (Impossible i) = (first_load_fault unit w ≡ None) × IsFirstImpossible unit w journal i × (new ≡ old)
 IsStoppedBy unit w journal old new Memory = new ≡ old
 IsStoppedBy unit w journal old new Writer = StopsInRun unit w journal old new
 
 -- memory was refused, or the writer failed
-abbrev pub IsFromOutside : ReplayFault → Type 0
+abbrev pub IsFromOutside : ReplayError → Type 0
 IsFromOutside (DoesNotFit line) = ⊥
 IsFromOutside (Impossible i) = ⊥
 IsFromOutside Memory = Unit {0}
@@ -95,29 +95,29 @@ abbrev pub ShowsRows : StateInMemory → List ShownRow → Type 0
 ShowsRows m rows = (unit : SourceUnit) (w : World) (s : State) → Stands unit w m s → rows ≡ (report w s).objects
 
 -- for each unit and world whose replay leads to this state, what writing its report and the journal did
-abbrev pub WritesState : StateInMemory → Journal → Written → Written → Result (Unit {0}) ReplayFault → Type 0
+abbrev pub WritesState : StateInMemory → Journal → Written → Written → Result (Unit {0}) ReplayError → Type 0
 WritesState m journal old new (Ok _) = ((unit : SourceUnit) (w : World) → Replayed unit w journal m → WritesRun unit w journal old new) × (new.waiting ≡ 0)
 WritesState m journal old new (Err fault) = ((unit : SourceUnit) (w : World) → Replayed unit w journal m → IsStoppedBy unit w journal old new fault) × IsFromOutside fault
 
 -- what a replay answers, and what it did to the sink
-abbrev pub Answers : SourceUnit → World → Journal → Written → Written → Result (Option TrapAt) ReplayFault → Type 0
+abbrev pub Answers : SourceUnit → World → Journal → Written → Written → Result (Option TrapAt) ReplayError → Type 0
 Answers unit w journal old new (Ok trap) = WritesRun unit w journal old new × EndsBy unit w journal trap × (new.waiting ≡ 0)
 Answers unit w journal old new (Err fault) = IsStoppedBy unit w journal old new fault × (IsReplayable unit w journal → IsFromOutside fault)
 
 -- why a replay didn't begin
-abbrev pub IsLoadFault : SourceUnit → World → ReplayFault → Type 0
+abbrev pub IsLoadFault : SourceUnit → World → ReplayError → Type 0
 IsLoadFault unit w (DoesNotFit line) = first_load_fault unit w ≡ Some line
 IsLoadFault unit w (Impossible i) = ⊥
 IsLoadFault unit w Memory = Unit {0}
 IsLoadFault unit w Writer = ⊥
 
 -- why a journal wasn't replayed
-abbrev pub IsRefused : SourceUnit → World → Journal → ReplayFault → Type 0
+abbrev pub IsRefused : SourceUnit → World → Journal → ReplayError → Type 0
 IsRefused unit w journal (DoesNotFit line) = first_load_fault unit w ≡ Some line
 IsRefused unit w journal (Impossible i) = (first_load_fault unit w ≡ None) × IsFirstImpossible unit w journal i
 IsRefused unit w journal Memory = Unit {0}
 IsRefused unit w journal Writer = ⊥
 
 -- the same in each world in which this is the state before the first entry
-abbrev pub IsRefusedFrom : SourceUnit → StateInMemory → Journal → ReplayFault → Type 0
+abbrev pub IsRefusedFrom : SourceUnit → StateInMemory → Journal → ReplayError → Type 0
 IsRefusedFrom unit old journal fault = (w : World) → Replayed unit w [] old → IsRefused unit w journal fault

@@ -9,7 +9,7 @@ ghost use Rattle.semantics.specs.World.{World};
 ghost use Rattle.replay_threads.specs.States.{AreInRange};
 ghost use Rattle.replay.specs.Replays.{Answers, Replayed, LeadsTo, IsRefusedFrom, ShowsRows, WritesRun, WritesState, IsStoppedBy, IsReplayable, IsFromOutside, EndsBy, shown_stop};
 
-use crate::fault::ReplayFault;
+use crate::fault::ReplayError;
 use crate::load::start;
 use crate::trap_at::TrapAt;
 use functions::Functions;
@@ -30,7 +30,7 @@ fn follow<'a>(
     functions: &Functions<'a>,
     state: &mut State<'a>,
     journal: &[Entry],
-) -> Result<(), ReplayFault>
+) -> Result<(), ReplayError>
     requires tree { IsTree (unit_tree functions.now) }
     requires sorted { IsSorted (unit_tree functions.now) }
     requires range { AreInRange state.old.threads.items }
@@ -40,8 +40,8 @@ fn follow<'a>(
     for (done, entry) in journal.iter().enumerate() {
         match take_entry(alloc, functions, state, *entry) {
             Ok(true) => {}
-            Ok(false) => return Err(ReplayFault::Impossible(done + 1)),
-            Err(_) => return Err(ReplayFault::Memory),
+            Ok(false) => return Err(ReplayError::Impossible(done + 1)),
+            Err(_) => return Err(ReplayError::Memory),
         }
     }
     Ok(())
@@ -69,18 +69,18 @@ fn write_rows<W: Sink>(
     rows: &ReachedRows<'_, Store>,
     journal: &[Entry],
     out: &mut W,
-) -> Result<(), ReplayFault>
+) -> Result<(), ReplayError>
     requires sink { CanFail (W.written out.old) }
     requires rows { ShowsRows state.now rows.now }
     ensures { WritesState state.now journal.now (W.written out.old) (W.written out.new) result }
 {
     let standings = match standings_of(alloc, state) {
         Ok(standings) => standings,
-        Err(_) => return Err(ReplayFault::Memory),
+        Err(_) => return Err(ReplayError::Memory),
     };
     match write_run(out, &state.printed, &standings, rows, journal) {
         Ok(()) => Ok(()),
-        Err(_) => Err(ReplayFault::Writer),
+        Err(_) => Err(ReplayError::Writer),
     }
 }
 
@@ -90,13 +90,13 @@ fn write_report<W: Sink>(
     state: &State<'_>,
     journal: &[Entry],
     out: &mut W,
-) -> Result<(), ReplayFault>
+) -> Result<(), ReplayError>
     requires { CanFail (W.written out.old) }
     ensures { WritesState state.now journal.now (W.written out.old) (W.written out.new) result }
 {
     match rows_of(alloc, state) {
         Ok(rows) => write_rows(alloc, state, &rows, journal, out),
-        Err(_) => Err(ReplayFault::Memory),
+        Err(_) => Err(ReplayError::Memory),
     }
 }
 
@@ -118,7 +118,7 @@ fn replay_from<'a, W: Sink>(
     state: &mut State<'a>,
     journal: &[Entry],
     out: &mut W,
-) -> Result<Option<TrapAt>, ReplayFault>
+) -> Result<Option<TrapAt>, ReplayError>
     requires sink { CanFail (W.written out.old) }
     requires tree { IsTree (unit_tree functions.now) }
     requires sorted { IsSorted (unit_tree functions.now) }
@@ -141,7 +141,7 @@ fn replay_with<W: Sink>(
     world: &World,
     journal: &[Entry],
     out: &mut W,
-) -> Result<Option<TrapAt>, ReplayFault>
+) -> Result<Option<TrapAt>, ReplayError>
     requires sink { CanFail (W.written out.old) }
     requires tree { IsTree (unit_tree functions.now) }
     requires sorted { IsSorted (unit_tree functions.now) }
@@ -165,7 +165,7 @@ pub fn replay<W: Sink>(
     world: &World,
     journal: &[Entry],
     out: &mut W,
-) -> Result<Option<TrapAt>, ReplayFault>
+) -> Result<Option<TrapAt>, ReplayError>
     requires { CanFail (W.written out.old) }
     ensures ok { OnOk result (WritesRun (unit_tree checked.now) world.now journal.now (W.written out.old) (W.written out.new)) }
     ensures trap { IfOk result (EndsBy (unit_tree checked.now) world.now journal.now) }
@@ -176,6 +176,6 @@ pub fn replay<W: Sink>(
 {
     match Functions::of(alloc, checked.items()) {
         Ok(functions) => replay_with(alloc, &functions, world, journal, out),
-        Err(_) => Err(ReplayFault::Memory),
+        Err(_) => Err(ReplayError::Memory),
     }
 }

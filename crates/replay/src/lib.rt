@@ -6,6 +6,6 @@ mod journal;
 mod load;
 mod trap_at;
 
-pub use fault::ReplayFault;
+pub use fault::ReplayError;
 pub use journal::replay;
 pub use trap_at::TrapAt;

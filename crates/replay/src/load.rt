@@ -11,7 +11,7 @@ ghost use Rattle.replay_threads.specs.States.{AreInRange, Stands};
 ghost use Rattle.replay.specs.Loading.{first_line, AddsWaiting, AreWaiting, IsWaiting};
 ghost use Rattle.replay.specs.Replays.{IsLoadFault};
 
-use crate::fault::ReplayFault;
+use crate::fault::ReplayError;
 use functions::Functions;
 use replay_arguments::Shared;
 use replay_objects::{Monitors, Names, loaded_store};
@@ -173,7 +173,7 @@ pub(crate) fn start<'a>(
     alloc: Global,
     functions: &Functions<'a>,
     world: &'a World,
-) -> Result<State<'a>, ReplayFault>
+) -> Result<State<'a>, ReplayError>
     requires { IsSorted (unit_tree functions.now) }
     ensures stands { IfOk result (λ m. Stands (unit_tree functions.now) world.now m (start (unit_tree functions.now) world.now)) }
     ensures range { IfOk result (λ m. AreInRange m.threads.items) }
@@ -182,11 +182,11 @@ pub(crate) fn start<'a>(
 {
     match first_fault(alloc, functions, world) {
         Ok(None) => {}
-        Ok(Some(line)) => return Err(ReplayFault::DoesNotFit(line)),
-        Err(_) => return Err(ReplayFault::Memory),
+        Ok(Some(line)) => return Err(ReplayError::DoesNotFit(line)),
+        Err(_) => return Err(ReplayError::Memory),
     }
     match begun(alloc, functions, world) {
         Ok(state) => Ok(state),
-        Err(_) => Err(ReplayFault::Memory),
+        Err(_) => Err(ReplayError::Memory),
     }
 }

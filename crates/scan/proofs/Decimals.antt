@@ -7,14 +7,14 @@ use Rattle.std.proofs.lemmas.List.{append-nil, get_or-drop, get_or-take, length-
 use Rattle.base.specs.Bytes.{is_from_to}
 use Rattle.scan.specs.declared.token.Kind.{Kind}
 use Rattle.scan.specs.declared.token.Kind.TheVariants.{Number}
-use Rattle.scan.specs.declared.fault.Fault.{Fault}
+use Rattle.scan.specs.declared.fault.ScanRule.{ScanRule}
 use Rattle.scan.specs.Bytes.{is_word, is_digit, digit_value, base_value}
 use Rattle.scan.specs.Spelling.{Every, IsDigits, IsNumber}
 use Rattle.scan.specs.Reading.{Piece, number_at, number_of, number_piece, is_e, is_sign}
 use Rattle.scan.proofs.Words.{within_parts, every_append, prefix_front}
 use Rattle.scan.proofs.Digits.{number_words, number_again}
 
-abbrev answer : Kind → ℕ → Result Piece Fault
+abbrev answer : Kind → ℕ → Result Piece ScanRule
 answer kind n = Ok (Some kind, n)
 
 -- ---- the digits that are read

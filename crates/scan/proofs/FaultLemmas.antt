@@ -9,8 +9,8 @@ use Rattle.scan.specs.declared.token.Kind.{Kind}
 use Rattle.scan.specs.declared.token.Kind.TheVariants.{Name, Reserved, Number, Text, Symbol}
 use Rattle.scan.specs.declared.token.Mark.{Mark}
 use Rattle.scan.specs.declared.token.Mark.TheVariants.{OpenParen, CloseParen, OpenBrace, CloseBrace, OpenBracket, CloseBracket, Semicolon, Comma, Assign, Star, Arrow, Ampersand, Bar, Caret, Tilde, Exclamation, Plus, Minus, Slash, Percent, Less, Greater, LessEqual, GreaterEqual, Equal, NotEqual, LogicalAnd, LogicalOr, ShiftLeft, ShiftRight}
-use Rattle.scan.specs.declared.fault.Fault.{Fault}
-use Rattle.scan.specs.declared.fault.Fault.TheVariants.{BadByte, OpenComment, BadNumber, BadText}
+use Rattle.scan.specs.declared.fault.ScanRule.{ScanRule}
+use Rattle.scan.specs.declared.fault.ScanRule.TheVariants.{BadByte, OpenComment, BadNumber, BadText}
 use Rattle.scan.specs.Bytes.{is_blank, is_name_start, is_word, is_text, is_in_line}
 use Rattle.scan.specs.Spelling.{IsLexeme, IsToken, mark_bytes}
 use Rattle.scan.specs.Faults.{BeginsNothing, HasFault}
@@ -20,16 +20,16 @@ use Rattle.scan.proofs.Digits.{number_first}
 use Rattle.scan.proofs.Grammar.{chosen}
 use Rattle.scan.proofs.Tokens.{token_again}
 
-abbrev answer : Piece → Result Piece Fault
+abbrev answer : Piece → Result Piece ScanRule
 answer p = Ok p
 
-abbrev refused : Fault → Result Piece Fault
+abbrev refused : ScanRule → Result Piece ScanRule
 refused fault = Err fault
 
-no_refusal : (p : Piece) (fault : Fault) → answer p ≡ refused fault → ⊥
+no_refusal : (p : Piece) (fault : ScanRule) → answer p ≡ refused fault → ⊥
 no_refusal p fault e = absurd cc
 
-same_fault : (a b : Fault) → refused a ≡ refused b → a ≡ b
+same_fault : (a b : ScanRule) → refused a ≡ refused b → a ≡ b
 same_fault a b e = cc
 
 -- ---- a byte with which nothing begins
@@ -111,21 +111,21 @@ unclosed (a ∷ b ∷ rest) e front back is =
 
 -- ---- where nothing is read
 
-mark_refused : (pair one : Option Mark) (fault : Fault) → mark_piece pair one ≡ refused fault → (one ≡ None) × (BadByte ≡ fault)
+mark_refused : (pair one : Option Mark) (fault : ScanRule) → mark_piece pair one ≡ refused fault → (one ≡ None) × (BadByte ≡ fault)
 mark_refused (Some m) one fault e = absurd (no_refusal (Some (Symbol m), 2) fault e)
 mark_refused None (Some m) fault e = absurd (no_refusal (Some (Symbol m), 1) fault e)
 mark_refused None None fault e = (refl, same_fault BadByte fault e)
 
-number_refused : (o : Option (ℕ × Bool)) (glued : Bool) (len : ℕ) (fault : Fault) → number_piece o glued len ≡ refused fault → BadNumber ≡ fault
+number_refused : (o : Option (ℕ × Bool)) (glued : Bool) (len : ℕ) (fault : ScanRule) → number_piece o glued len ≡ refused fault → BadNumber ≡ fault
 number_refused None glued len fault e = same_fault BadNumber fault e
 number_refused (Some v) true len fault e = same_fault BadNumber fault e
 number_refused (Some v) false len fault e = absurd (no_refusal (Some (Number v.1 v.0), len) fault e)
 
 -- where nothing is read, there is no token
-no_token : (s : List ℕ) (fault : Fault) → piece_at s ≡ refused fault → (kind : Kind) (n : ℕ) → IsToken kind s n → ⊥
+no_token : (s : List ℕ) (fault : ScanRule) → piece_at s ≡ refused fault → (kind : Kind) (n : ℕ) → IsToken kind s n → ⊥
 no_token s fault e kind n token = no_refusal (Some kind, n) fault (sym (token_again s kind n token) ∙ e)
 
-comment_refused : (a : ℕ) (rest : List ℕ) (fault : Fault) → (mark_of a ≡ None → BeginsNothing a) → comment_or_mark a rest ≡ refused fault → HasFault (a ∷ rest) fault
+comment_refused : (a : ℕ) (rest : List ℕ) (fault : ScanRule) → (mark_of a ≡ None → BeginsNothing a) → comment_or_mark a rest ≡ refused fault → HasFault (a ∷ rest) fault
 unfolding comment_or_mark
 comment_refused a [] fault bare e = let p = mark_refused (pair_of a 0) (mark_of a) fault e in subst (HasFault (a ∷ [])) p.1 (a, [], refl, bare p.0)
 comment_refused a (b ∷ inside) fault bare e =
@@ -145,7 +145,7 @@ comment_refused a (b ∷ inside) fault bare e =
 digit_first : (a : ℕ) → is_name_start a ≡ false → is_word a ≡ true → is_from_to 48 57 a ≡ true
 digit_first a letter word = elim (or_cases (is_name_start a) (is_from_to 48 57 a) word) [ inl w ↦ let f : true ≡ false = sym w ∙ letter in absurd cc | inr w ↦ w ]
 
-pub fault_here : (s : List ℕ) (fault : Fault) → 0 < length s → piece_at s ≡ Err fault → HasFault s fault
+pub fault_here : (s : List ℕ) (fault : ScanRule) → 0 < length s → piece_at s ≡ Err fault → HasFault s fault
 unfolding piece_at number_at text_at
 fault_here [] fault lt e = absurd (omega (arith, lt))
 fault_here (a ∷ rest) fault lt e =

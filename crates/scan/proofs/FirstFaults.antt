@@ -8,8 +8,8 @@ use Rattle.scan.specs.declared.token.Kind.{Kind}
 use Rattle.scan.specs.declared.token.Kind.TheVariants.{Name, Reserved, Number, Text, Symbol}
 use Rattle.scan.specs.declared.token.Mark.TheVariants.{Slash}
 use Rattle.scan.specs.declared.token.Token.{Token}
-use Rattle.scan.specs.declared.fault.Fault.{Fault}
-use Rattle.scan.specs.declared.fault.Fault.TheVariants.{BadByte, OpenComment, BadNumber, BadText}
+use Rattle.scan.specs.declared.fault.ScanRule.{ScanRule}
+use Rattle.scan.specs.declared.fault.ScanRule.TheVariants.{BadByte, OpenComment, BadNumber, BadText}
 use Rattle.scan.specs.Bytes.{is_blank, base_value}
 use Rattle.scan.specs.Spelling.{IsName, IsLexeme, IsGap, IsToken, SpellsFrom, ends, passes, takes, Spells, line_of}
 use Rattle.scan.specs.Faults.{IsFilledTo, begins, with_gap, with_token, BeginsNothing, HasFault, OneFirstFault, NoFaultWhereSpelled}
@@ -34,7 +34,7 @@ slash_of byte rest text more e f = let g : byte ∷ rest ≡ 47 ∷ more = sym e
 no_figure : (digit : ℕ) → is_from_to 48 57 digit ≡ true → digit ≡ 47 → ⊥
 no_figure digit figure e = let f : false ≡ true = subst (λ b. is_from_to 48 57 b ≡ true) e figure in absurd cc
 
-no_gap : (text : List ℕ) (fault : Fault) → HasFault text fault → (n : ℕ) → IsGap text n → ⊥
+no_gap : (text : List ℕ) (fault : ScanRule) → HasFault text fault → (n : ℕ) → IsGap text n → ⊥
 no_gap text BadByte h n (inl w) = let g : h.0 ∷ h.1 ≡ w.0 ∷ w.1 = sym h.2 ∙ w.2 in let e : h.0 ≡ w.0 = cc in not_blank h.0 h.3.no_blank (ap is_blank e ∙ w.3)
 no_gap text BadByte h n (inr (inl w)) = no_slash h.0 h.3 (slash_of h.0 h.1 text (42 ∷ (w.0 ++ w.1)) h.2 w.2)
 no_gap text BadByte h n (inr (inr w)) = no_slash h.0 h.3 (slash_of h.0 h.1 text (47 ∷ w.0) h.2 w.1)
@@ -65,7 +65,7 @@ figure_no_name digit rest n figure name = let f : true ≡ false = sym (front_na
 quote_no_name : (rest : List ℕ) (n : ℕ) → IsName (take n (34 ∷ rest)) → ⊥
 quote_no_name rest n name = let f : false ≡ true = front_name n 34 rest name in absurd cc
 
-no_token : (text : List ℕ) (fault : Fault) → HasFault text fault → (kind : Kind) (n : ℕ) → IsToken kind text n → ⊥
+no_token : (text : List ℕ) (fault : ScanRule) → HasFault text fault → (kind : Kind) (n : ℕ) → IsToken kind text n → ⊥
 no_token text BadByte h kind n token =
     no_lexeme_of h.0 h.1 kind n h.3 (piece_sized text (Some kind) n (token_again text kind n token)).0 (subst (λ (t : List ℕ). IsLexeme kind (take n t)) h.2 token.form)
 no_token text OpenComment h kind n token = token.no_comment (rw h.1 (refl, inl refl))
@@ -80,7 +80,7 @@ no_token text BadText h (Number unsigned value) n token = let f : false ≡ true
 no_token text BadText h Text n token = h.2 n token
 no_token text BadText h (Symbol mark) n token = let p = front_mark n 34 h.0 mark (subst (λ (t : List ℕ). IsLexeme (Symbol mark) (take n t)) h.1 token.form) in let f : true ≡ false = p.3 in absurd cc
 
-no_piece : (text : List ℕ) (fault : Fault) → HasFault text fault → (kind : Option Kind) (n : ℕ) → piece_at text ≡ Ok (kind, n) → ⊥
+no_piece : (text : List ℕ) (fault : ScanRule) → HasFault text fault → (kind : Option Kind) (n : ℕ) → piece_at text ≡ Ok (kind, n) → ⊥
 no_piece text fault h None n e = no_gap text fault h n (gap_takes text n e)
 no_piece text fault h (Some kind) n e = no_token text fault h kind n (token_takes text kind n e)
 
@@ -129,7 +129,7 @@ no_number_and_text text h k =
     let e : h.0 ≡ 34 = cc in
     word_no_quote h.0 (figure_is_word h.0 h.3) e
 
-same_fault : (text : List ℕ) (a b : Fault) → HasFault text a → HasFault text b → a ≡ b
+same_fault : (text : List ℕ) (a b : ScanRule) → HasFault text a → HasFault text b → a ≡ b
 same_fault text BadByte BadByte h k = refl
 same_fault text BadByte OpenComment h k = absurd (no_byte_and_comment text h k)
 same_fault text BadByte BadNumber h k = absurd (no_byte_and_number text h k)
@@ -163,7 +163,7 @@ leads text begins = here refl
 leads text (with_gap {at = at} n filled gap) = one_more text None n (gap_again (drop at text) n gap) (leads text filled)
 leads text (with_token {at = at} kind n filled token) = one_more text (Some kind) n (token_again (drop at text) kind n token) (leads text filled)
 
-abbrev answer : Piece → Result Piece Fault
+abbrev answer : Piece → Result Piece ScanRule
 answer p = Ok p
 
 same_len : (kind other : Option Kind) (m n : ℕ) → answer (kind, m) ≡ answer (other, n) → m ≡ n
@@ -185,11 +185,11 @@ along text (with_gap {at = at} n filled gap) to way =
 along text (with_token {at = at} kind n filled token) to way =
     elim (along text filled to way) [ inl w ↦ after text (Some kind) n (token_again (drop at text) kind n token) w | inr w ↦ inr w ]
 
-stays : (text : List ℕ) (fault : Fault) {at to : ℕ} → HasFault (drop at text) fault → Leads text to at → at ≡ to
+stays : (text : List ℕ) (fault : ScanRule) {at to : ℕ} → HasFault (drop at text) fault → Leads text to at → at ≡ to
 stays text fault h (here is) = is
 stays text fault {at} h (over kind n e rest) = absurd (no_piece (drop at text) fault h kind n e)
 
-one_place : (text : List ℕ) (a b : Fault) (at other : ℕ) → IsFilledTo text at → HasFault (drop at text) a → IsFilledTo text other → HasFault (drop other text) b → at ≡ other
+one_place : (text : List ℕ) (a b : ScanRule) (at other : ℕ) → IsFilledTo text at → HasFault (drop at text) a → IsFilledTo text other → HasFault (drop other text) b → at ≡ other
 one_place text a b at other filled h also k =
     elim (along text filled other (leads text also)) [
       | inl w ↦ stays text a h w
@@ -197,9 +197,9 @@ one_place text a b at other filled h also k =
     ]
 
 pub one_first_fault : OneFirstFault
-one_first_fault text a b line other h k =
-    let e = one_place text a b h.0 k.0 h.1 h.2 k.1 k.2 in
-    (same_fault (drop h.0 text) a b h.2 (subst (λ i. HasFault (drop i text) b) (sym e) k.2), h.3 ∙ ap (line_of text) e ∙ sym k.3)
+one_first_fault text a b h k =
+    let e = one_place text a.rule b.rule h.0 k.0 h.1 h.2 k.1 k.2 in
+    (same_fault (drop h.0 text) a.rule b.rule h.2 (subst (λ i. HasFault (drop i text) b.rule) (sym e) k.2), h.3 ∙ ap (line_of text) e ∙ sym k.3)
 
 -- ---- no fault where tokens are spelled
 
@@ -216,18 +216,18 @@ spelled_along text (with_token {at = at} kind n filled token) tokens s =
     (v.0, v.2)
 
 -- where a text ends it has no fault
-no_fault_in_nothing : (fault : Fault) → HasFault [] fault → ⊥
+no_fault_in_nothing : (fault : ScanRule) → HasFault [] fault → ⊥
 no_fault_in_nothing BadByte h = let e = h.2 in absurd cc
 no_fault_in_nothing OpenComment h = let e = h.1 in absurd cc
 no_fault_in_nothing BadNumber h = let e = h.2 in absurd cc
 no_fault_in_nothing BadText h = let e = h.1 in absurd cc
 
-no_fault_here : (text : List ℕ) (fault : Fault) {at : ℕ} {more : List Token} → SpellsFrom text at more → HasFault (drop at text) fault → ⊥
+no_fault_here : (text : List ℕ) (fault : ScanRule) {at : ℕ} {more : List Token} → SpellsFrom text at more → HasFault (drop at text) fault → ⊥
 no_fault_here text fault {at} (ends e) h = no_fault_in_nothing fault (subst (λ (t : List ℕ). HasFault t fault) (drop_all at text (omega (arith, e))) h)
 no_fault_here text fault {at} (passes n gap rest) h = no_gap (drop at text) fault h n gap
 no_fault_here text fault {at} (takes kind n token rest) h = no_token (drop at text) fault h kind n token
 
 pub no_fault_where_spelled : NoFaultWhereSpelled
-no_fault_where_spelled text tokens fault line s h =
+no_fault_where_spelled text tokens fault s h =
     let w = spelled_along text h.1 tokens s in
-    no_fault_here text fault w.1 h.2
+    no_fault_here text fault.rule w.1 h.2

@@ -3,10 +3,10 @@ use Rattle.std.proofs.Common.{◌≡◌, ℕ, List, [], ◌∷◌, Some, Result,
 use Rattle.scan.specs.declared.token.Mark.{Mark}
 use Rattle.scan.specs.declared.token.Mark.TheVariants.{OpenParen, CloseParen, OpenBrace, CloseBrace, OpenBracket, CloseBracket, Semicolon, Comma, Star, Caret, Tilde, Plus, Percent}
 use Rattle.scan.specs.declared.token.Kind.TheVariants.{Symbol}
-use Rattle.scan.specs.declared.fault.Fault.{Fault}
+use Rattle.scan.specs.declared.fault.ScanRule.{ScanRule}
 use Rattle.scan.specs.Reading.{Piece, piece_at, comment_or_mark}
 
-abbrev lone : Mark → Result Piece Fault
+abbrev lone : Mark → Result Piece ScanRule
 lone mark = Ok (Some (Symbol mark), 1)
 
 pub open_paren : (rest : List ℕ) → piece_at (40 ∷ rest) ≡ lone OpenParen

@@ -1,13 +1,14 @@
--- The faults of a text: where and why it has no tokens, and their numbers.
+-- The faults of a text: where and why it has no tokens, and the numbers of the rules.
 use Rattle.std.specs.Prelude.{◌≡◌, ◌≢◌, ℕ, ◌+◌, false, IsTrue, List, ◌∷◌, ◌++◌, drop, Bool}
 use Rattle.base.specs.Bytes.{is_from_to}
+use Rattle.details.specs.declared.fault.Fault.{Fault as FaultAt}
 use Rattle.scan.specs.declared.token.Kind.{Kind}
 use Rattle.scan.specs.declared.token.Kind.TheVariants.{Number, Text}
 use Rattle.scan.specs.declared.token.Token.{Token}
-use Rattle.scan.specs.declared.fault.Fault.{Fault}
-use Rattle.scan.specs.declared.fault.Fault.TheVariants.{BadByte, OpenComment, BadNumber, BadText}
-use Rattle.scan.specs.declared.fault.ScanFault.{ScanFault}
-use Rattle.scan.specs.declared.fault.ScanFault.TheVariants.{Memory, Found}
+use Rattle.scan.specs.declared.fault.ScanRule.{ScanRule}
+use Rattle.scan.specs.declared.fault.ScanRule.TheVariants.{BadByte, OpenComment, BadNumber, BadText}
+use Rattle.scan.specs.declared.fault.ScanError.{ScanError}
+use Rattle.scan.specs.declared.fault.ScanError.TheVariants.{Memory, Fault}
 use Rattle.scan.specs.Bytes.{is_blank}
 use Rattle.scan.specs.Spelling.{IsLexeme, IsGap, IsToken, Spells, line_of}
 
@@ -22,34 +23,33 @@ pub record BeginsNothing (byte : ℕ) : Type 0 where
   pub no_blank : is_blank byte ≡ false
   pub no_lexeme : (kind : Kind) (rest : List ℕ) → IsLexeme kind (byte ∷ rest) → ⊥
 
+-- a rule that a text breaks, and the line
+abbrev pub ScanFault : Type 0
+ScanFault = FaultAt ScanRule ℕ
+
 -- what is wrong with a text that begins so
-abbrev pub HasFault : List ℕ → Fault → Type 0
+abbrev pub HasFault : List ℕ → ScanRule → Type 0
 HasFault text BadByte = (byte : ℕ) × (rest : List ℕ) × (text ≡ byte ∷ rest) × BeginsNothing byte
 HasFault text OpenComment = (rest : List ℕ) × (text ≡ 47 ∷ 42 ∷ rest) × ((inside rest_of : List ℕ) → rest ≢ inside ++ 42 ∷ 47 ∷ rest_of)
 HasFault text BadNumber = (digit : ℕ) × (rest : List ℕ) × (text ≡ digit ∷ rest) × IsTrue (is_from_to 48 57 digit) × ((value : ℕ) (unsigned : Bool) (n : ℕ) → IsToken (Number unsigned value) text n → ⊥)
 HasFault text BadText = (rest : List ℕ) × (text ≡ 34 ∷ rest) × ((n : ℕ) → IsToken Text text n → ⊥)
 
 -- The text is filled up to a place of this line, where it has this fault.
-abbrev pub IsFirstFault : List ℕ → ScanFault → Type 0
+abbrev pub IsFirstFault : List ℕ → ScanError → Type 0
 IsFirstFault text Memory = Unit {0}
-IsFirstFault text (Found fault line) = (at : ℕ) × IsFilledTo text at × HasFault (drop at text) fault × (line ≡ line_of text at)
+IsFirstFault text (Fault f) = (at : ℕ) × IsFilledTo text at × HasFault (drop at text) f.rule × (f.line ≡ line_of text at)
 
 -- No text has two first faults.
 abbrev pub OneFirstFault : Type 0
-OneFirstFault = (text : List ℕ) (a b : Fault) (line other : ℕ) → IsFirstFault text (Found a line) → IsFirstFault text (Found b other) → (a ≡ b) × (line ≡ other)
+OneFirstFault = (text : List ℕ) (a b : ScanFault) → IsFirstFault text (Fault a) → IsFirstFault text (Fault b) → (a.rule ≡ b.rule) × (a.line ≡ b.line)
 
 -- No text that spells tokens has a fault.
 abbrev pub NoFaultWhereSpelled : Type 0
-NoFaultWhereSpelled = (text : List ℕ) (tokens : List Token) (fault : Fault) (line : ℕ) → Spells text tokens → IsFirstFault text (Found fault line) → ⊥
+NoFaultWhereSpelled = (text : List ℕ) (tokens : List Token) (fault : ScanFault) → Spells text tokens → IsFirstFault text (Fault fault) → ⊥
 
--- what is wrong with a text: 1 to 4
-abbrev pub number_of_kind : Fault → ℕ
-number_of_kind BadByte = 1
-number_of_kind OpenComment = 2
-number_of_kind BadNumber = 3
-number_of_kind BadText = 4
-
--- 9 for memory
-abbrev pub fault_number : ScanFault → ℕ
-fault_number Memory = 9
-fault_number (Found fault line) = number_of_kind fault
+-- the numbers of the rules: 1 to 4
+abbrev pub scan_rule_number : ScanRule → ℕ
+scan_rule_number BadByte = 1
+scan_rule_number OpenComment = 2
+scan_rule_number BadNumber = 3
+scan_rule_number BadText = 4

@@ -8,8 +8,8 @@ use Rattle.scan.specs.declared.token.Mark.TheVariants.{OpenParen, CloseParen, Op
 use Rattle.scan.specs.declared.token.Kind.{Kind}
 use Rattle.scan.specs.declared.token.Kind.TheVariants.{Name, Reserved, Number, Text, Symbol}
 use Rattle.scan.specs.declared.reserved.Word.{Word}
-use Rattle.scan.specs.declared.fault.Fault.{Fault}
-use Rattle.scan.specs.declared.fault.Fault.TheVariants.{BadByte, OpenComment, BadNumber, BadText}
+use Rattle.scan.specs.declared.fault.ScanRule.{ScanRule}
+use Rattle.scan.specs.declared.fault.ScanRule.TheVariants.{BadByte, OpenComment, BadNumber, BadText}
 use Rattle.scan.specs.Words.{word_of}
 use Rattle.scan.specs.Bytes.{is_blank, is_name_start, is_word, is_text, is_in_line, is_digit, base_value}
 
@@ -76,17 +76,17 @@ is_e byte = byte == 101 || byte == 69
 abbrev pub is_sign : ℕ → Bool
 is_sign byte = byte == 43 || byte == 45
 
-abbrev pub number_piece : Option (ℕ × Bool) → Bool → ℕ → Result Piece Fault
+abbrev pub number_piece : Option (ℕ × Bool) → Bool → ℕ → Result Piece ScanRule
 number_piece None glued len = Err BadNumber
 number_piece (Some number) glued len = if glued then Err BadNumber else Ok (Some (Number number.1 number.0), len)
 
-unfoldable pub number_at : List ℕ → Result Piece Fault
+unfoldable pub number_at : List ℕ → Result Piece ScanRule
 number_at text =
     let len = prefix_len is_word text in
     let word = take len text in
     number_piece (number_of word) (is_e (slice_index word (length word - 1)) && is_sign (slice_index text len)) len
 
-unfoldable pub text_at : List ℕ → Result Piece Fault
+unfoldable pub text_at : List ℕ → Result Piece ScanRule
 text_at inside = if slice_index inside (prefix_len is_text inside) == 34 then Ok (Some Text, prefix_len is_text inside + 2) else Err BadText
 
 abbrev pub close_len : List ℕ → Option ℕ
@@ -94,26 +94,26 @@ close_len [] = None
 close_len (a ∷ []) = None
 close_len (a ∷ b ∷ rest) = if a == 42 && b == 47 then Some 2 else option_map (λ n. n + 1) (close_len (b ∷ rest))
 
-abbrev pub mark_piece : Option Mark → Option Mark → Result Piece Fault
+abbrev pub mark_piece : Option Mark → Option Mark → Result Piece ScanRule
 mark_piece (Some pair) one = Ok (Some (Symbol pair), 2)
 mark_piece None (Some mark) = Ok (Some (Symbol mark), 1)
 mark_piece None None = Err BadByte
 
-abbrev pub mark_at : ℕ → ℕ → Result Piece Fault
+abbrev pub mark_at : ℕ → ℕ → Result Piece ScanRule
 mark_at first second = mark_piece (pair_of first second) (mark_of first)
 
-abbrev pub block_piece : Option ℕ → Result Piece Fault
+abbrev pub block_piece : Option ℕ → Result Piece ScanRule
 block_piece None = Err OpenComment
 block_piece (Some len) = Ok (None, len + 2)
 
-unfoldable pub comment_or_mark : ℕ → List ℕ → Result Piece Fault
+unfoldable pub comment_or_mark : ℕ → List ℕ → Result Piece ScanRule
 comment_or_mark first [] = mark_at first 0
 comment_or_mark first (second ∷ inside) =
     if first == 47 && second == 42 then block_piece (close_len inside)
     else if first == 47 && second == 47 then Ok (None, prefix_len is_in_line inside + 2)
     else mark_at first second
 
-unfoldable pub piece_at : List ℕ → Result Piece Fault
+unfoldable pub piece_at : List ℕ → Result Piece ScanRule
 piece_at [] = Err BadByte
 piece_at (first ∷ rest) =
     if is_blank first then Ok (None, 1)

@@ -1,71 +1,59 @@
 //! Why a text has no tokens.
 
 ghost use Rattle.std.specs.Prelude.{◌≡◌};
-ghost use Rattle.scan.specs.declared.fault.ScanFault.TheVariants.{Memory};
+ghost use Rattle.scan.specs.declared.fault.ScanError.TheVariants.{Memory};
 
-use details::Spot;
-use std::alloc::{AllocError, AllocFailed};
+use details::{Fault, Spot};
+use std::alloc::AllocFailed;
 use thiserror::Error;
 
-/// What is wrong at a place of a text.
+/// A rule on the tokens of a text.
 #[derive(Clone, Copy, Debug)]
-pub enum Fault {
-    /// Fault 1: a byte with which neither a blank nor a comment nor a token begins.
+pub enum ScanRule {
+    /// A byte with which neither a blank nor a comment nor a token begins.
     BadByte,
-    /// Fault 2: a comment that opens with `/*` and has no end (ISO/IEC 9899:1999, 6.4.9).
+    /// A comment that opens with `/*` and has no end (ISO/IEC 9899:1999, 6.4.9).
     OpenComment,
-    /// Fault 3: a digit with which no number begins, one out of its range, or one glued to what
-    /// comes after it (6.4.4.1, 6.4.8).
+    /// A digit with which no number begins, one out of its range, or one glued to what comes after it (6.4.4.1, 6.4.8).
     BadNumber,
-    /// Fault 4: a quote with which no string begins (6.4.5).
+    /// A quote with which no string begins (6.4.5).
     BadText,
 }
 
-impl Fault {
-    ghost use Rattle.scan.specs.Faults.{number_of_kind};
+impl ScanRule {
+    ghost use Rattle.scan.specs.Faults.{scan_rule_number};
 
-    /// The fault's number, 1 to 4.
-    pub fn number(self) -> u8
-        ensures { result ≡ number_of_kind self }
+    /// The number of the fault.
+    pub fn number(self) -> u32
+        ensures { result ≡ scan_rule_number self }
     {
         match self {
-            Fault::BadByte => 1,
-            Fault::OpenComment => 2,
-            Fault::BadNumber => 3,
-            Fault::BadText => 4,
+            ScanRule::BadByte => 1,
+            ScanRule::OpenComment => 2,
+            ScanRule::BadNumber => 3,
+            ScanRule::BadText => 4,
         }
     }
 }
+
+/// The rule that a text breaks, and the place of the first byte that does.
+pub type ScanFault = Fault<ScanRule, Spot>;
 
 /// Why `scan` gave no tokens.
 #[derive(Debug, Drop, Error)]
-pub enum ScanFault {
-    /// Fault 9: host memory was refused.
+pub enum ScanError {
+    /// Host memory was refused.
     #[error("out of memory")]
     Memory,
-    /// The first fault of the text, and the line of its first byte, counted from 1.
-    #[error("line {line}: {fault:?}")]
-    Found { fault: Fault, line: Spot },
+    /// The first fault of the text.
+    #[error("line {}: {:?}", .0.line, .0.rule)]
+    Fault(ScanFault),
 }
 
-impl ScanFault {
-    ghost use Rattle.scan.specs.Faults.{fault_number};
-
-    /// The fault's number: 1 to 4 for one of the text, 9 for memory.
-    pub fn number(&self) -> u8
-        ensures { result ≡ fault_number self.now }
-    {
-        match self {
-            ScanFault::Memory => 9,
-            ScanFault::Found { fault, .. } => fault.number(),
-        }
-    }
-}
-
-impl<T: Drop> From<AllocFailed<T>> for ScanFault {
+impl<T: Drop> From<AllocFailed<T>> for ScanError {
     ghost from_gives = { λ _ e. e ≡ Memory };
 
-    fn from(_e: AllocFailed<T>) -> ScanFault {
-        ScanFault::Memory
+    fn from(_e: AllocFailed<T>) -> ScanError {
+        ScanError::Memory
     }
 }

@@ -1,6 +1,6 @@
 //! What is told of a fault: the bytes that were found, and what to write instead.
 
-use crate::fault::{Fault, ScanFault};
+use crate::fault::{ScanError, ScanRule};
 use crate::pieces::word_len;
 use details::Detail;
 
@@ -65,21 +65,21 @@ fn bad_string(rest: &[u8]) -> Detail {
     Detail::of(b"found the end of the text before the closing quote")
 }
 
-impl ScanFault {
+impl ScanError {
     /// What was found in this text, in words that no contract fixes.
     pub fn detail(&self, text: &[u8]) -> Detail {
         match self {
-            ScanFault::Memory => Detail::none(),
-            ScanFault::Found { fault, line } => {
-                let rest = from(text, line.place());
-                match fault {
-                    Fault::BadByte => bad_byte(rest),
-                    Fault::OpenComment => Detail::none(),
-                    Fault::BadNumber => {
+            ScanError::Memory => Detail::none(),
+            ScanError::Fault(fault) => {
+                let rest = from(text, fault.line.place());
+                match fault.rule {
+                    ScanRule::BadByte => bad_byte(rest),
+                    ScanRule::OpenComment => Detail::none(),
+                    ScanRule::BadNumber => {
                         let word = word_of(rest);
                         Detail::of(b"found ").quoted(word).words(wrong_number(word))
                     }
-                    Fault::BadText => match rest {
+                    ScanRule::BadText => match rest {
                         [] => Detail::none(),
                         [_, inside @ ..] => bad_string(inside),
                     },

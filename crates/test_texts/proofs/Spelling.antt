@@ -4,7 +4,7 @@ use Rattle.std.specs.List.{AllZip}
 use Rattle.std.proofs.lemmas.Bool.{eqb-true}
 use Rattle.syntax.specs.Limits.{IsTree}
 use Rattle.syntax.specs.Tree.{SourceUnit}
-use Rattle.scan.specs.declared.fault.Fault.{Fault}
+use Rattle.scan.specs.declared.fault.ScanRule.{ScanRule}
 use Rattle.scan.specs.declared.token.Kind.{Kind}
 use Rattle.scan.specs.declared.token.Token.{Token}
 use Rattle.scan.specs.Reading.{Piece, name_at, number_in, number_of, number_at, text_at, comment_or_mark, piece_at}
@@ -29,7 +29,7 @@ with_token t None = None
 with_token t (Some tokens) = Some (t ∷ tokens)
 
 -- after a piece of the text
-abbrev pub after_piece : List ℕ → ℕ → (ℕ → Option (List Token)) → Result Piece Fault → Option (List Token)
+abbrev pub after_piece : List ℕ → ℕ → (ℕ → Option (List Token)) → Result Piece ScanRule → Option (List Token)
 after_piece text at go (Err fault) = None
 after_piece text at go (Ok (None, n)) = go (at + n)
 after_piece text at go (Ok (Some kind, n)) = with_token (token_at text at kind n) (go (at + n))
@@ -56,7 +56,7 @@ token-spelled : (text : List ℕ) (at n : ℕ) (kind : Kind) (r : Option (List T
 token-spelled text at n kind None e h = tt
 token-spelled text at n kind (Some tokens) e h = takes kind n (token_takes (drop at text) kind n e) h
 
-piece-spelled : (text : List ℕ) (at : ℕ) (go : ℕ → Option (List Token)) (r : Result Piece Fault) → piece_at (drop at text) ≡ r → ((next : ℕ) → SpellsIf text next (go next)) → SpellsIf text at (after_piece text at go r)
+piece-spelled : (text : List ℕ) (at : ℕ) (go : ℕ → Option (List Token)) (r : Result Piece ScanRule) → piece_at (drop at text) ≡ r → ((next : ℕ) → SpellsIf text next (go next)) → SpellsIf text at (after_piece text at go r)
 piece-spelled text at go (Err fault) e further = tt
 piece-spelled text at go (Ok (None, n)) e further = gap-spelled text at n (go (at + n)) e (further (at + n))
 piece-spelled text at go (Ok (Some kind, n)) e further = token-spelled text at n kind (go (at + n)) e (further (at + n))

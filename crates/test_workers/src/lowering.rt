@@ -4,7 +4,7 @@ ghost use Rattle.std.specs.Prelude.{◌<◌, ◌≤◌};
 
 use code::code::Code;
 use code::instr::Instr;
-use lower::{LowerFault, Program, lower};
+use lower::{LowerError, Program, lower};
 use lower_parallel::{Watch, lower_parallel};
 use program_check::read_program;
 use region_rules::Checked;
@@ -112,7 +112,7 @@ fn made_by<R: Threads + Sync>(
     functions: usize,
     sum: u64,
     workers: usize,
-) -> Result<bool, LowerFault>
+) -> Result<bool, LowerError>
     requires { (0 < workers) × (workers ≤ 8) }
 {
     let watch = Counted::new();
@@ -129,9 +129,9 @@ fn same_of<R: Threads + Sync>(
     alloc: Global,
     functions: usize,
     sum: u64,
-) -> Result<bool, LowerFault> {
+) -> Result<bool, LowerError> {
     let Ok(checked) = read_program(alloc, text(alloc, functions)?.as_slice()) else {
-        return Err(LowerFault::Memory);
+        return Err(LowerError::Memory);
     };
     Ok(
         made_by(rt, alloc, &checked, functions, sum, 1)?
@@ -156,7 +156,7 @@ fn long_functions_are_refused(rt: HostRuntime) -> Result<(), Fail> {
         return Err(AllocError.into());
     };
     let lowered = lower_parallel(&rt, alloc, &checked, 2, &Counted::new());
-    assert!(rt; matches!(lowered, Err(LowerFault::TooLong)));
+    assert!(rt; matches!(lowered, Err(LowerError::TooLong)));
     Ok(())
 }
 

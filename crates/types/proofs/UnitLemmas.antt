@@ -2,20 +2,20 @@
 use Rattle.std.proofs.Common.{◌≡◌, ◌⊎◌, inl, inr, ℕ, suc, Bool, true, false, List, [], ◌∷◌, ◌++◌, Option, Some, None, refl, ap, subst, ◌∙◌, map, filter, flat_map, slice_get, if◌then◌else◌, arith}
 use Rattle.std.specs.Prelude.{Contains}
 use Rattle.syntax.specs.Tree.{SourceUnit}
-use Rattle.types.specs.declared.fault.TypeFault.{TypeFault}
-use Rattle.types.specs.declared.fault.TypeFault.TheVariants.{Memory, Broken}
+use Rattle.types.specs.declared.fault.TypeError.{TypeError}
+use Rattle.types.specs.declared.fault.TypeError.TheVariants.{Memory, Fault}
 use Rattle.type_rules.specs.SortRules.{SortRule, sort_rules, Place, IsSorted, BreaksSortRule, breaks, broken_at, broken, first_broken, places}
 use Rattle.types.specs.Faults.{Faults, Refuses, IfBroken, first, fault_of, rule_of}
 
 -- ---- units
 
-pub sorted-memory : (unit : SourceUnit) (e : TypeFault) → Refuses e (broken unit) → IsSorted unit → e ≡ Memory
+pub sorted-memory : (unit : SourceUnit) (e : TypeError) → Refuses e (broken unit) → IsSorted unit → e ≡ Memory
 sorted-memory unit Memory h sorted = refl
-sorted-memory unit (Broken f) h sorted = absurd (let k : ◌≡◌ {A = Option (ℕ × SortRule)} None (Some (fault_of f)) = subst (λ xs. first xs ≡ Some (fault_of f)) sorted h in cc)
+sorted-memory unit (Fault f) h sorted = absurd (let k : ◌≡◌ {A = Option (ℕ × SortRule)} None (Some (fault_of f)) = subst (λ xs. first xs ≡ Some (fault_of f)) sorted h in cc)
 
-pub broken-first : (unit : SourceUnit) (e : TypeFault) → Refuses e (broken unit) → IfBroken e (λ f. first_broken unit ≡ Some (fault_of f))
+pub broken-first : (unit : SourceUnit) (e : TypeError) → Refuses e (broken unit) → IfBroken e (λ f. first_broken unit ≡ Some (fault_of f))
 broken-first unit Memory h = tt
-broken-first unit (Broken f) h = at_start (broken unit) h
+broken-first unit (Fault f) h = at_start (broken unit) h
   where
     at_start : (xs : Faults) → first xs ≡ Some (fault_of f) → slice_get xs 0 ≡ Some (fault_of f)
     at_start [] k = absurd cc
@@ -45,8 +45,8 @@ at_place (p ∷ all) f h =
       | inr rest ↦ let further = at_place all f rest in (further.0, (suc (further.1).0, omega (arith, (further.1).1), (further.1).2), further.2, further.3)
     ]
 
-pub earned-unit : (unit : SourceUnit) (e : TypeFault) → Refuses e (broken unit) → IfBroken e (λ f. BreaksSortRule (rule_of f.rule) f.line unit)
+pub earned-unit : (unit : SourceUnit) (e : TypeError) → Refuses e (broken unit) → IfBroken e (λ f. BreaksSortRule (rule_of f.rule) f.line unit)
 earned-unit unit Memory h = tt
-earned-unit unit (Broken f) h = at_place (places unit) (fault_of f) h
+earned-unit unit (Fault f) h = at_place (places unit) (fault_of f) h
 
 pub ruleset unit_rules = (sorted-memory, broken-first)

@@ -3,15 +3,15 @@ use Rattle.std.specs.Prelude.{◌≡◌, ℕ, Bool, true, false, not, ◌||◌, 
 use Rattle.std.specs.Option.{is_some}
 use Rattle.base.specs.Bytes.{Identifier, ByName}
 use Rattle.class_rules.specs.Mangling.{unmangle}
+use Rattle.details.specs.declared.fault.Fault.{Fault as FaultAt}
 use Rattle.syntax.specs.declared.unit.Function.{Function as FunctionInMemory}
 use Rattle.syntax.specs.Parts.{line_of, statements_of, names_declared}
 use Rattle.syntax.specs.Tree.{ResultType, Void, Stmt, If, IfElse, While, Item, StaticItem, FunctionItem}
 use Rattle.syntax.specs.Views.{parameter_type_tree}
-use Rattle.types.specs.declared.fault.Fault.{Fault}
 use Rattle.types.specs.declared.fault.SortRule.{SortRule as RuleInMemory}
 use Rattle.types.specs.declared.fault.SortRule.TheVariants as rules
-use Rattle.types.specs.declared.fault.TypeFault.{TypeFault}
-use Rattle.types.specs.declared.fault.TypeFault.TheVariants.{Memory, Broken}
+use Rattle.types.specs.declared.fault.TypeError.{TypeError}
+use Rattle.types.specs.declared.fault.TypeError.TheVariants.{Memory, Fault}
 use Rattle.type_rules.specs.declared.sort.Sort.{Sort as SortInMemory}
 use Rattle.type_rules.specs.Sorts.{Ref, Global, Scope}
 use Rattle.type_rules.specs.SortViews.{sort_value}
@@ -28,8 +28,12 @@ rule_of rules.ReferenceCopied = ReferenceCopied
 rule_of rules.BadMode = BadMode
 rule_of rules.ReadOnlyWrite = ReadOnlyWrite
 
+-- a rule that is broken, and the line
+abbrev pub TypeFault : Type 0
+TypeFault = FaultAt RuleInMemory ℕ
+
 -- the line and the rule
-abbrev pub fault_of : Fault → ℕ × SortRule
+abbrev pub fault_of : TypeFault → ℕ × SortRule
 fault_of f = (f.line, rule_of f.rule)
 
 -- the names that are known
@@ -48,19 +52,19 @@ first [] = None
 first (f ∷ rest) = Some f
 
 -- memory ran out, or this rule is the first
-abbrev pub Refuses : TypeFault → Faults → Type 0
+abbrev pub Refuses : TypeError → Faults → Type 0
 Refuses Memory broken = Unit {0}
-Refuses (Broken f) broken = first broken ≡ Some (fault_of f)
+Refuses (Fault f) broken = first broken ≡ Some (fault_of f)
 
 -- no rule is broken, or the fault is the first, or memory ran out
-abbrev pub Finds : {A : Type 0} → Result A TypeFault → Faults → Type 0
+abbrev pub Finds : {A : Type 0} → Result A TypeError → Faults → Type 0
 Finds (Ok x) broken = broken ≡ []
 Finds (Err e) broken = Refuses e broken
 
 -- the fact of the broken rule, unless memory ran out
-abbrev pub IfBroken : TypeFault → (Fault → Type 0) → Type 0
+abbrev pub IfBroken : TypeError → (TypeFault → Type 0) → Type 0
 IfBroken Memory P = Unit {0}
-IfBroken (Broken f) P = P f
+IfBroken (Fault f) P = P f
 
 -- ---- what is refused at places
 

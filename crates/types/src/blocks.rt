@@ -6,7 +6,7 @@ ghost use Rattle.syntax.specs.Views.{form_tree, block_tree, result_tree};
 ghost use Rattle.type_rules.specs.SortRules.{places_of, with_declared};
 ghost use Rattle.types.specs.Faults.{Finds, IsAbove, scope_of, found, places_inside};
 
-use crate::fault::TypeFault;
+use crate::fault::TypeError;
 use crate::scope::take;
 use crate::statements::{check_statement, declared};
 use syntax::{Block, Form, Name, ResultType};
@@ -17,7 +17,7 @@ fn declare<'a>(
     known: &mut Known<'a, Sort>,
     taken: &mut Vec<Name>,
     form: &'a Form,
-) -> Result<(), TypeFault>
+) -> Result<(), TypeError>
     ensures finds { Finds result [] }
     ensures scope { OnOk result ((line : ℕ) → scope_of known.new ≡ with_declared (scope_of known.old) (form_tree line form.now)) }
     ensures above { OnOk result (IsAbove known.new known.old) }
@@ -41,7 +41,7 @@ fn check_inside<'a>(
     taken: &mut Vec<Name>,
     returns: ResultType,
     form: &'a Form,
-) -> Result<(), TypeFault>
+) -> Result<(), TypeError>
     ensures finds { (line : ℕ) → Finds result (found (places_inside (result_tree returns) (scope_of known.old) taken.old.items (form_tree line form.now))) }
     ensures scope { OnOk result ((line : ℕ) → scope_of known.new ≡ with_declared (scope_of known.old) (form_tree line form.now)) }
     ensures above { OnOk result (IsAbove known.new known.old) }
@@ -66,7 +66,7 @@ pub(crate) fn check_block<'a>(
     taken: &mut Vec<Name>,
     returns: ResultType,
     block: &'a Block,
-) -> Result<(), TypeFault>
+) -> Result<(), TypeError>
     ensures finds { Finds result (found (places_of (result_tree returns) (scope_of known.old) taken.old.items (block_tree block.now))) }
     ensures restored { OnOk result (known.new ≡ known.old) }
     ensures taken { OnOk result (taken.new.items ≡ taken.old.items ++ names_declared (statements_of (block_tree block.now))) }

@@ -1,11 +1,11 @@
 //! Why a unit is not sorted.
 
 ghost use Rattle.std.specs.Prelude.{◌≡◌};
-ghost use Rattle.types.specs.declared.fault.TypeFault.TheVariants.{Memory};
+ghost use Rattle.types.specs.declared.fault.TypeError.TheVariants.{Memory};
 ghost use Rattle.type_rules.specs.SortRules.{sort_rule_number};
 ghost use Rattle.types.specs.Faults.{rule_of, Finds, broken_if};
 
-use details::{Detail, Line};
+use details::{Detail, Fault, Line};
 use std::alloc::{AllocError, AllocFailed};
 use syntax::Name;
 use thiserror::Error;
@@ -51,43 +51,41 @@ impl SortRule {
 }
 
 /// A rule that is broken, and the line of the first token of the statement or the function, with what was found there.
-#[derive(Debug, Drop)]
-pub struct Fault {
-    pub rule: SortRule,
-    pub line: Line,
-}
+pub type TypeFault = Fault<SortRule, Line>;
 
 /// Why `type_unit` answers no unit.
 #[derive(Debug, Drop, Error)]
-pub enum TypeFault {
+pub enum TypeError {
+    /// Host memory was refused.
     #[error("out of memory")]
     Memory,
+    /// The first fault of the unit.
     #[error("line {}: {:?}", .0.line, .0.rule)]
-    Broken(Fault),
+    Fault(TypeFault),
 }
 
-impl From<AllocError> for TypeFault {
+impl From<AllocError> for TypeError {
     ghost from_gives = { λ _ e. e ≡ Memory };
 
-    fn from(_e: AllocError) -> TypeFault {
-        TypeFault::Memory
+    fn from(_e: AllocError) -> TypeError {
+        TypeError::Memory
     }
 }
 
-impl<T: Drop> From<AllocFailed<T>> for TypeFault {
+impl<T: Drop> From<AllocFailed<T>> for TypeError {
     ghost from_gives = { λ _ e. e ≡ Memory };
 
-    fn from(_e: AllocFailed<T>) -> TypeFault {
-        TypeFault::Memory
+    fn from(_e: AllocFailed<T>) -> TypeError {
+        TypeError::Memory
     }
 }
 
 /// The fault of a rule where it is broken.
-pub(crate) fn refuse_if(broken: bool, rule: SortRule, line: usize) -> Result<(), TypeFault>
+pub(crate) fn refuse_if(broken: bool, rule: SortRule, line: usize) -> Result<(), TypeError>
     ensures { Finds result (broken_if broken (rule_of rule) line) }
 {
     if broken {
-        return Err(TypeFault::Broken(Fault {
+        return Err(TypeError::Fault(Fault {
             rule,
             line: Line::new(line),
         }));
@@ -101,11 +99,11 @@ pub(crate) fn refuse_name_if(
     rule: SortRule,
     line: usize,
     name: &Name,
-) -> Result<(), TypeFault>
+) -> Result<(), TypeError>
     ensures { Finds result (broken_if broken (rule_of rule) line) }
 {
     if broken {
-        return Err(TypeFault::Broken(Fault {
+        return Err(TypeError::Fault(Fault {
             rule,
             line: Line::told(line, Detail::of(name.as_bytes())),
         }));

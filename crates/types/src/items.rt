@@ -8,17 +8,17 @@ ghost use Rattle.type_rules.specs.SortViews.{sort_value};
 ghost use Rattle.types.specs.Faults.{Faults, Refuses, Finds, broken_if, scope_of, found, head_faults, own_places, with_static};
 
 use crate::blocks::check_block;
-use crate::fault::{Fault, SortRule, TypeFault, refuse_if, refuse_name_if};
+use crate::fault::{SortRule, TypeError, refuse_if, refuse_name_if};
 use crate::scope::{enter, has_name, has_repeated};
 use crate::telling::head_detail;
 use class_rules::mangling::is_mangled;
-use details::Line;
+use details::{Fault, Line};
 use std::alloc::{AllocError, Global};
 use syntax::{Function, Item, Name, Static};
 use type_rules::{Known, Sort};
 
 /// The first rule that a function's head breaks after items of these names, where its parameters and the statics have those.
-fn judge_head(names: &[Name], entry: &[Name], f: &Function) -> Result<(), TypeFault>
+fn judge_head(names: &[Name], entry: &[Name], f: &Function) -> Result<(), TypeError>
     ensures { Finds result (head_faults names.now entry.now f.now) }
 {
     refuse_if(
@@ -34,14 +34,14 @@ fn judge_head(names: &[Name], entry: &[Name], f: &Function) -> Result<(), TypeFa
 }
 
 /// A fault of a function's head, with what is told of it.
-fn with_detail(fault: TypeFault, names: &[Name], entry: &[Name], f: &Function) -> TypeFault
-    ensures { (broken : Faults) → Refuses fault broken → Refuses result broken }
+fn with_detail(error: TypeError, names: &[Name], entry: &[Name], f: &Function) -> TypeError
+    ensures { (broken : Faults) → Refuses error broken → Refuses result broken }
 {
-    match fault {
-        TypeFault::Memory => TypeFault::Memory,
-        TypeFault::Broken(fault) => {
+    match error {
+        TypeError::Memory => TypeError::Memory,
+        TypeError::Fault(fault) => {
             let detail = head_detail(names, entry, f, fault.rule);
-            TypeFault::Broken(Fault {
+            TypeError::Fault(Fault {
                 rule: fault.rule,
                 line: Line::told(fault.line.number(), detail),
             })
@@ -50,12 +50,12 @@ fn with_detail(fault: TypeFault, names: &[Name], entry: &[Name], f: &Function) -
 }
 
 /// The head of a function after items of these names, where its parameters and the statics have those.
-fn check_head(names: &[Name], entry: &[Name], f: &Function) -> Result<(), TypeFault>
+fn check_head(names: &[Name], entry: &[Name], f: &Function) -> Result<(), TypeError>
     ensures { Finds result (head_faults names.now entry.now f.now) }
 {
     match judge_head(names, entry, f) {
         Ok(()) => Ok(()),
-        Err(fault) => Err(with_detail(fault, names, entry, f)),
+        Err(error) => Err(with_detail(error, names, entry, f)),
     }
 }
 
@@ -65,7 +65,7 @@ fn check_body<'a>(
     known: &mut Known<'a, Sort>,
     taken: &mut Vec<Name>,
     f: &'a Function,
-) -> Result<(), TypeFault>
+) -> Result<(), TypeError>
     ensures finds { Finds result (head_faults names.now taken.old.items f.now ++ found (places_of (result_tree f.now.result) (scope_of known.old) taken.old.items (block_tree f.now.body))) }
     ensures restored { OnOk result (known.new ≡ known.old) }
 {
@@ -79,14 +79,14 @@ fn check_function<'a>(
     names: &[Name],
     known: &mut Known<'a, Sort>,
     f: &'a Function,
-) -> Result<(), TypeFault>
+) -> Result<(), TypeError>
     ensures finds { Finds result (found (function_places names.now (scope_of known.old) (function_tree f.now))) }
     ensures restored { OnOk result (known.new ≡ known.old) }
 {
     let outside = known.len();
     enter(known, f)?;
     let mut taken = known.names(alloc)?;
-    let checked: Result<(), TypeFault> = check_body(names, known, &mut taken, f);
+    let checked: Result<(), TypeError> = check_body(names, known, &mut taken, f);
     known.leave(outside);
     checked
 }
@@ -105,7 +105,7 @@ fn check_static<'a>(
     names: &mut Vec<Name>,
     statics: &mut Known<'a, Sort>,
     s: &'a Static,
-) -> Result<(), TypeFault>
+) -> Result<(), TypeError>
     ensures finds { Finds result (broken_if (has_name names.old.items s.now.name) DeclaredTwice s.now.line) }
     ensures names { OnOk result (names.new.items ≡ s.now.name ∷ names.old.items) }
     ensures statics { OnOk result (scope_of statics.new ≡ (s.now.name, sort_value Sort.Global) ∷ scope_of statics.old) }
@@ -126,7 +126,7 @@ fn check_named<'a>(
     names: &mut Vec<Name>,
     statics: &mut Known<'a, Sort>,
     f: &'a Function,
-) -> Result<(), TypeFault>
+) -> Result<(), TypeError>
     ensures finds { Finds result (found (function_places names.old.items (scope_of statics.old) (function_tree f.now))) }
     ensures names { OnOk result (names.new.items ≡ f.now.name ∷ names.old.items) }
     ensures statics { OnOk result (statics.new ≡ statics.old) }
@@ -141,7 +141,7 @@ fn check_item<'a>(
     names: &mut Vec<Name>,
     statics: &mut Known<'a, Sort>,
     item: &'a Item,
-) -> Result<(), TypeFault>
+) -> Result<(), TypeError>
     ensures finds { Finds result (found (own_places names.old.items (scope_of statics.old) (item_tree item.now))) }
     ensures names { OnOk result (names.new.items ≡ item_name (item_tree item.now) ∷ names.old.items) }
     ensures statics { OnOk result (scope_of statics.new ≡ with_static (scope_of statics.old) (item_tree item.now)) }
@@ -158,7 +158,7 @@ pub(crate) fn check_items<'a>(
     names: &mut Vec<Name>,
     statics: &mut Known<'a, Sort>,
     items: &'a [Item],
-) -> Result<(), TypeFault>
+) -> Result<(), TypeError>
     ensures { Finds result (found (item_places names.old.items (scope_of statics.old) (map item_tree items.now))) }
 {
     for item in items {

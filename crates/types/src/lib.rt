@@ -12,6 +12,6 @@ mod statements;
 mod telling;
 mod typed;
 
-pub use fault::{Fault, SortRule, TypeFault};
+pub use fault::{SortRule, TypeError, TypeFault};
 pub use type_rules::Typed;
 pub use typed::type_unit;

@@ -21,13 +21,13 @@ use crate::calls::{
     may_be_dropped, may_be_tested,
 };
 use crate::expressions::{has_unknown, is_null, name_sort, sort_of};
-use crate::fault::{Fault, SortRule, TypeFault, refuse_if};
+use crate::fault::{SortRule, TypeError, refuse_if};
 use crate::scope::{has_name, is_unknown, sort_in};
 use crate::sort::{
     has_elements, is_flag, is_index, is_jint, is_read_only, is_ref, is_truth, is_word,
 };
 use crate::telling::statement_detail;
-use details::Line;
+use details::{Fault, Line};
 use jni::{JniFunction, function_named};
 use syntax::{Call, ElementType, Expr, Form, Name, ResultType, RightSide, Stmt, Test};
 use type_rules::{Known, Sort, own_call, variable_sort};
@@ -325,7 +325,7 @@ fn check_uses(
     form: &Form,
     function: Option<JniFunction>,
     line: usize,
-) -> Result<(), TypeFault>
+) -> Result<(), TypeError>
     requires { (line : ℕ) → option_map function_value function ≡ function_in (own_call (form_tree line form.now)) }
     ensures { Finds result (refused_of (result_tree returns) (scope_of known.now) taken.now (form_tree line form.now) line (ReferenceCopied ∷ BadMode ∷ ReadOnlyWrite ∷ [])) }
 {
@@ -347,7 +347,7 @@ fn check_call(
     form: &Form,
     function: Option<JniFunction>,
     line: usize,
-) -> Result<(), TypeFault>
+) -> Result<(), TypeError>
     requires { (line : ℕ) → option_map function_value function ≡ function_in (own_call (form_tree line form.now)) }
     ensures { Finds result (refused_of (result_tree returns) (scope_of known.now) taken.now (form_tree line form.now) line (UnknownFunction ∷ ArgumentCount ∷ ReferenceCopied ∷ BadMode ∷ ReadOnlyWrite ∷ [])) }
 {
@@ -368,7 +368,7 @@ fn judge_form(
     returns: ResultType,
     form: &Form,
     line: usize,
-) -> Result<(), TypeFault>
+) -> Result<(), TypeError>
     ensures { Finds result (refused_of (result_tree returns) (scope_of known.now) taken.now (form_tree line form.now) line sort_rules) }
 {
     let function = function_called(form);
@@ -385,18 +385,18 @@ fn judge_form(
 
 /// A fault of a statement, with what is told of it.
 fn with_detail(
-    fault: TypeFault,
+    error: TypeError,
     known: &Known<'_, Sort>,
     returns: ResultType,
     form: &Form,
-) -> TypeFault
-    ensures { (broken : Faults) → Refuses fault broken → Refuses result broken }
+) -> TypeError
+    ensures { (broken : Faults) → Refuses error broken → Refuses result broken }
 {
-    match fault {
-        TypeFault::Memory => TypeFault::Memory,
-        TypeFault::Broken(fault) => {
+    match error {
+        TypeError::Memory => TypeError::Memory,
+        TypeError::Fault(fault) => {
             let detail = statement_detail(known, returns, form, fault.rule);
-            TypeFault::Broken(Fault {
+            TypeError::Fault(Fault {
                 rule: fault.rule,
                 line: Line::told(fault.line.number(), detail),
             })
@@ -411,12 +411,12 @@ fn check_form(
     returns: ResultType,
     form: &Form,
     line: usize,
-) -> Result<(), TypeFault>
+) -> Result<(), TypeError>
     ensures { Finds result (refused_of (result_tree returns) (scope_of known.now) taken.now (form_tree line form.now) line sort_rules) }
 {
     match judge_form(known, taken, returns, form, line) {
         Ok(()) => Ok(()),
-        Err(fault) => Err(with_detail(fault, known, returns, form)),
+        Err(error) => Err(with_detail(error, known, returns, form)),
     }
 }
 
@@ -426,7 +426,7 @@ pub(crate) fn check_statement(
     taken: &[Name],
     returns: ResultType,
     stmt: &Stmt,
-) -> Result<(), TypeFault>
+) -> Result<(), TypeError>
     ensures { Finds result (broken_at (statement_place (result_tree returns) (scope_of known.now) taken.now (stmt_tree stmt.now))) }
 {
     check_form(known, taken, returns, &stmt.form, stmt.line)

@@ -5,13 +5,13 @@ ghost use Rattle.syntax.specs.Views.{unit_tree};
 ghost use Rattle.type_rules.specs.SortRules.{IsSorted, BreaksSortRule, broken, first_broken};
 ghost use Rattle.types.specs.Faults.{Finds, IfBroken, fault_of, rule_of};
 
-use crate::fault::TypeFault;
+use crate::fault::TypeError;
 use crate::items::check_items;
 use std::alloc::Global;
 use syntax::Unit;
 use type_rules::{Known, Typed};
 
-fn check_unit(alloc: Global, unit: &Unit) -> Result<(), TypeFault>
+fn check_unit(alloc: Global, unit: &Unit) -> Result<(), TypeError>
     ensures { Finds result (broken (unit_tree unit.now)) }
 {
     check_items(&mut Vec::new(alloc), &mut Known::new(alloc), unit.items())
@@ -21,12 +21,12 @@ fn check_unit(alloc: Global, unit: &Unit) -> Result<(), TypeFault>
 /// name is compared with those that are known, which are 512 at most with the statics, and each item's name with those of
 /// the items before it.
 #[tactic(auto, using(crate::proofs::UnitLemmas::unit_rules))]
-pub fn type_unit(alloc: Global, unit: Unit) -> Result<Typed, TypeFault>
+pub fn type_unit(alloc: Global, unit: Unit) -> Result<Typed, TypeError>
     // A unit that is answered is the one given, and it is sorted.
     ensures same { IfOk result (λ t. t ≡ unit) }
     ensures sorted { IfOk result (λ _. IsSorted (unit_tree unit)) }
     // Such a unit is answered, unless memory runs out.
-    ensures only { IsSorted (unit_tree unit) → IsOkUnless result TypeFault.Memory }
+    ensures only { IsSorted (unit_tree unit) → IsOkUnless result TypeError.Memory }
     // The fault is the first in text order, and at one statement the one of the least number.
     ensures first { IfErr result (λ e. IfBroken e (λ f. first_broken (unit_tree unit) ≡ Some (fault_of f))) }
     // Its rule is broken on its line.

@@ -31,10 +31,10 @@ impl Rule {
     ghost use Rattle.world_schedules.specs.Rule.{rule_number};
 
     /// The number under which the rule is reported.
-    pub fn number(self) -> u8
+    pub fn number(self) -> u32
         ensures { result ≡ rule_number self }
     {
-        self as u8
+        self as u32
     }
 }
 

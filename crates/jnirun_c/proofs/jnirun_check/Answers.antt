@@ -1,6 +1,6 @@
 use Rattle.std.proofs.Common.{◌≡◌, Err, refl, subst}
 use Rattle.program_check.specs.Checks.{ChecksText}
-use Rattle.cli_commands.specs.declared.place.Place.TheVariants.{Line}
+use Rattle.places.specs.declared.place.Place.TheVariants.{Line}
 use Rattle.program_check.specs.declared.fault.RunError.TheVariants.{Fault}
 use Rattle.jnirun_c.specs.Answers.{is_accepted, is_refused, lacks_memory}
 use Rattle.jnirun_c.proofs.Places.{in_program}

@@ -11,12 +11,12 @@ returns-in-Ok-replay-clause-replay g c = λ program text is reads meant.
 pub returns-in-Ok-clause-replay : goal.returns-in-Ok-clause-replay
 returns-in-Ok-clause-replay g c = λ program text is reads meant.
     rw c.of_replay.ensures (stopped program text c.args.journal_text.now (g.W.Sink.written c.args.out.now) (unit_tree c.args.checked.now) c.args.world.now c.in-Ok.journal.items
-    is reads (rw c.thread_count-threads.ensures at c.in-Ok.ensures.read) (g.W.Sink.written c.replay.new.out) c.in-Err-replay.fault
+    is reads (rw c.thread_count-threads.ensures at c.in-Ok.ensures.read) (g.W.Sink.written c.replay.new.out) c.in-Err-replay.error
     meant (rw c.thread_count-threads.ensures at c.in-Ok.ensures.means) (rw c.deref.ensures.value at c.in-Err-replay.ensures.err))
 
 pub returns-in-Ok-clause-accepted : goal.returns-in-Ok-clause-accepted
 returns-in-Ok-clause-accepted g c = λ program text reads p same.
-    rw c.of_replay.ensures (from_outside program text c.args.journal_text.now (g.W.Sink.written c.args.out.now) c.in-Err-replay.fault
+    rw c.of_replay.ensures (from_outside program text c.args.journal_text.now (g.W.Sink.written c.args.out.now) c.in-Err-replay.error
     (c.in-Err-replay.ensures.only (rw c.deref.ensures.value (replayable program text c.args.journal_text.now (g.W.Sink.written c.args.out.now) (unit_tree c.args.checked.now) c.args.world.now c.in-Ok.journal.items p
     same reads (rw c.thread_count-threads.ensures at c.in-Ok.ensures.read)))))
 

@@ -10,7 +10,7 @@ returns-in-Err-read_world-clause-run g c = λ program is.
 
 pub returns-in-Err-clause-run : goal.returns-in-Err-clause-run
 returns-in-Err-clause-run g c = λ program is.
-    rw c.of_lower.ensures (refused_length program c.args.world_text.now c.args.schedule_text.now (g.W.Sink.written c.args.out.now) (unit_tree c.args.checked.now) c.in-Err.fault is (λ e. c.in-Err.ensures.too_long (ap Err e)))
+    rw c.of_lower.ensures (refused_length program c.args.world_text.now c.args.schedule_text.now (g.W.Sink.written c.args.out.now) (unit_tree c.args.checked.now) c.in-Err.error is (λ e. c.in-Err.ensures.too_long (ap Err e)))
 
 pub returns-in-Ok-read_world-clause-accepted : goal.returns-in-Ok-read_world-clause-accepted
 returns-in-Ok-read_world-clause-accepted g c = λ program m same.

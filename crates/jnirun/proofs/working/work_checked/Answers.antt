@@ -12,7 +12,7 @@ returns-in-Err-read_world-clause-run g c = λ program is.
 
 pub returns-in-Err-clause-run : goal.returns-in-Err-clause-run
 returns-in-Err-clause-run g c = λ program is.
-    rw c.of_lower.ensures (refused_length program c.args.world_text.now (g.W.Sink.written c.args.out.now) (unit_tree c.args.checked.now) c.in-Err.fault is (λ e. c.in-Err.ensures.too_long (ap Err e)))
+    rw c.of_lower.ensures (refused_length program c.args.world_text.now (g.W.Sink.written c.args.out.now) (unit_tree c.args.checked.now) c.in-Err.error is (λ e. c.in-Err.ensures.too_long (ap Err e)))
 
 pub returns-in-Err-clause-accepted : goal.returns-in-Err-clause-accepted
-returns-in-Err-clause-accepted g c = λ program m same. rw c.of_lower.ensures (lower_fails c.in-Err.fault)
+returns-in-Err-clause-accepted g c = λ program m same. rw c.of_lower.ensures (lower_fails c.in-Err.error)

@@ -1,5 +1,5 @@
 use Rattle.std.proofs.Common.{Result, Ok, subst, ap, sym}
-use Rattle.regions.specs.declared.fault.CheckFault.{CheckFault}
+use Rattle.regions.specs.declared.fault.CheckError.{CheckError}
 use Rattle.regions.specs.declared.joins.Branch.{Branch}
 use Rattle.region_rules.specs.RegionStates.{RegionState}
 use Rattle.region_rules.specs.Regions.{On}
@@ -11,7 +11,7 @@ use Rattle.regions.proofs.joins.one_way.Goals as goal
 pub returns-in-Ok-clause-goes : goal.returns-in-Ok-clause-goes
 returns-in-Ok-clause-goes c = λ expected other is.
     let passed : WayOrFault = Ok (On other) in
-    let first = subst (λ (r : Result Branch CheckFault). Branches r c.args.state.now expected other) c.in-Ok.is is in
+    let first = subst (λ (r : Result Branch CheckError). Branches r c.args.state.now expected other) c.in-Ok.is is in
     Goes-along c.join.result c.join.new.state _ _
     (ap (λ (r : WayOrFault). join_ways c.args.line r passed) first.3)
     (c.join.ensures.goes first.0 passed first.1 first.2 (ap (λ (s : RegionState). Ok (On s)) (sym first.4)))

@@ -9,7 +9,7 @@ use Rattle.syntax.specs.declared.stmt.Form.{Form as FormInMemory, the_lemmas}
 use Rattle.syntax.specs.Tree.{Block, Next}
 use Rattle.syntax.specs.Views.{block_tree, stmt_tree, statements_tree, test_tree, form_tree}
 use Rattle.syntax.proofs.Blocks.{block_is}
-use Rattle.regions.specs.declared.fault.CheckFault.{CheckFault}
+use Rattle.regions.specs.declared.fault.CheckError.{CheckError}
 use Rattle.regions.specs.declared.joins.Branch.{Branch}
 use Rattle.regions.specs.declared.joins.Way.{Way as WayInMemory}
 use Rattle.regions.specs.Findings.{rule_of}
@@ -179,30 +179,30 @@ then_way-returns-in-Err t c = rw c.in-Err.ensures.memory tt
 pub other_way-block_way-second-requires : goal.other_way-block_way-second-requires
 other_way-block_way-second-requires t c = (
   search rules,
-  subst (λ (r : Result Branch CheckFault). IfOk r (λ _. DeclareNew (names_of c.args.state.now) (block_tree c.args.block.now))) c.in-Ok.is c.requires.new,
+  subst (λ (r : Result Branch CheckError). IfOk r (λ _. DeclareNew (names_of c.args.state.now) (block_tree c.args.block.now))) c.in-Ok.is c.requires.new,
 )
 
 pub other_way-join-requires-clause-long : goal.other_way-join-requires-clause-long
 other_way-join-requires-clause-long t c =
-    let first = subst (λ (r : Result Branch CheckFault). Awaits r c.args.state.now) c.in-Ok.is c.requires.saved in
+    let first = subst (λ (r : Result Branch CheckError). Awaits r c.args.state.now) c.in-Ok.is c.requires.saved in
     if_ok_weaker c.block_way-second.result (λ w e. first.1.0 ∙ ap length (first.2 ∙ sym e)) c.block_way-second.ensures.names
 
 pub other_way-join-requires-clause-counted : goal.other_way-join-requires-clause-counted
 other_way-join-requires-clause-counted t c =
-    (subst (λ (r : Result Branch CheckFault). Awaits r c.args.state.now) c.in-Ok.is c.requires.saved).1.2
+    (subst (λ (r : Result Branch CheckError). Awaits r c.args.state.now) c.in-Ok.is c.requires.saved).1.2
 
 pub other_way-returns-in-Ok-clause-names : goal.other_way-returns-in-Ok-clause-names
 other_way-returns-in-Ok-clause-names t c = λ names same.
     let now = c.args.state.now in
-    let first = subst (λ (r : Result Branch CheckFault). Awaits r now) c.in-Ok.is c.requires.saved in
-    let named = subst (λ (r : Result Branch CheckFault). IfOk r (λ _. names_of now ≡ names)) c.in-Ok.is same in
+    let first = subst (λ (r : Result Branch CheckError). Awaits r now) c.in-Ok.is c.requires.saved in
+    let named = subst (λ (r : Result Branch CheckError). IfOk r (λ _. names_of now ≡ names)) c.in-Ok.is same in
     if_ok_weaker c.join.result (λ w e. e ∙ first.2 ∙ named)
     (c.join.ensures.names first.0 first.1 (if_ok_weaker c.block_way-second.result (λ w e. first.2 ∙ sym e) c.block_way-second.ensures.names))
 
 pub other_way-returns-in-Err-clause-goes : goal.other_way-returns-in-Err-clause-goes
 other_way-returns-in-Err-clause-goes t c = λ outer expected other same is.
     first_stops c.args.line expected (way_of_block outer other (block_tree c.args.block.now)) c.in-Err.e
-    (subst (λ (r : Result Branch CheckFault). Branches r c.args.state.now expected other) c.in-Err.is is)
+    (subst (λ (r : Result Branch CheckError). Branches r c.args.state.now expected other) c.in-Err.is is)
 
 pub other_way-returns-in-Err-clause-names : goal.other_way-returns-in-Err-clause-names
 other_way-returns-in-Err-clause-names t c = λ names same. tt
@@ -212,7 +212,7 @@ other_way-returns-in-Ok-clause-goes t c = λ outer expected other same is.
     let now = c.args.state.now in
     let block = block_tree c.args.block.now in
     let second = way_of_block outer other block in
-    let first = subst (λ (r : Result Branch CheckFault). Branches r now expected other) c.in-Ok.is is in
+    let first = subst (λ (r : Result Branch CheckError). Branches r now expected other) c.in-Ok.is is in
     Goes-along c.join.result c.join.new.state _ _
     (ap (λ (r : WayOrFault). join_ways c.args.line r second) first.3)
     (c.join.ensures.goes first.0 second first.1

@@ -5,7 +5,7 @@ use Rattle.syntax.specs.declared.unit.Item.{Item as ItemInMemory}
 use Rattle.syntax.specs.Views.{item_tree}
 use Rattle.regions.specs.Findings.{items_fault}
 use Rattle.region_states.specs.NewNames.{ItemOnce}
-use Rattle.regions.specs.Ways.{Fault}
+use Rattle.regions.specs.Ways.{Found}
 use Rattle.regions.proofs.WayLemmas.{item_next}
 use Rattle.regions.proofs.walk.check_each.Goals as goal
 
@@ -24,6 +24,6 @@ loop-item-preserved c =
     record {
       once = (subst (λ (xs : List ItemInMemory). AllByRecursion ItemOnce (map item_tree xs)) next c.loop-item.invariant.once).1;
       finds =
-          sym (ap (λ (xs : List ItemInMemory). items_fault (map item_tree xs)) next ∙ ap (λ (o : Option Fault). option_or o (items_fault rest)) c.in_ok-check_item.ensures)
+          sym (ap (λ (xs : List ItemInMemory). items_fault (map item_tree xs)) next ∙ ap (λ (o : Option Found). option_or o (items_fault rest)) c.in_ok-check_item.ensures)
           ∙ c.loop-item.invariant.finds;
     }

@@ -7,7 +7,7 @@ use Rattle.region_rules.specs.RegionStates.{RegionState, state_at_entry}
 use Rattle.region_rules.specs.Regions.{Way}
 use Rattle.region_states.specs.StatesInMemory.{names_of}
 use Rattle.regions.specs.Walks.{way_value}
-use Rattle.regions.specs.Ways.{Fault, way_of_block}
+use Rattle.regions.specs.Ways.{Found, way_of_block}
 use Rattle.regions.proofs.WayLemmas.{end_line_is}
 use Rattle.regions.proofs.walk.check_function.Goals as goal
 
@@ -18,4 +18,4 @@ returns-in-On c =
     let way =
     ap (λ (s : RegionState). way_of_block entry s body) (sym c.in_ok-enter.ensures)
     ∙ c.in_ok-block_way.ensures.goes entry (ap names_of (sym c.in_ok-enter.ensures)) ∙ ap (λ (w : WayInMemory). Ok (way_value w c.block_way.new.state)) c.in-On.is in
-    ap (λ (r : Result Way Fault). fault_at_end r (end_line_of body)) way ∙ ap (λ (n : ℕ). Some (n, NoReturn)) (end_line_is c.args.f.now.body ∙ sym c.told.ensures)
+    ap (λ (r : Result Way Found). fault_at_end r (end_line_of body)) way ∙ ap (λ (n : ℕ). Some (n, NoReturn)) (end_line_is c.args.f.now.body ∙ sym c.told.ensures)

@@ -19,14 +19,14 @@ loop-place-init c = rw c.requires.none (record { within = omega arith; line_is =
 pub returns-in-Wrong-clause-only : goal.returns-in-Wrong-clause-only
 returns-in-Wrong-clause-only c = λ tokens spelled.
     let w = c.loop-place.invariant.only tokens spelled in
-    let e = fault_only c.args.text.now c.in-Wrong.fault (front_here c.args.text.now c.loop-place.place _ _ c.front_of.ensures c.in-Wrong.is) w.2 in
+    let e = fault_only c.args.text.now c.in-Wrong.rule (front_here c.args.text.now c.loop-place.place _ _ c.front_of.ensures c.in-Wrong.is) w.2 in
     absurd (omega (arith, e))
 
 pub returns-in-Wrong-clause-fault : goal.returns-in-Wrong-clause-fault
 returns-in-Wrong-clause-fault c =
     let e = front_here c.args.text.now c.loop-place.place _ _ c.front_of.ensures c.in-Wrong.is in
     let l = length-drop c.loop-place.place c.args.text.now in
-    rw c.wrong.ensures (c.loop-place.place, c.loop-place.invariant.filled, fault_here _ c.in-Wrong.fault (omega (arith, l, c.loop-place-test.true)) e, c.loop-place.invariant.line_is)
+    rw c.wrong.ensures (c.loop-place.place, c.loop-place.invariant.filled, fault_here _ c.in-Wrong.rule (omega (arith, l, c.loop-place-test.true)) e, c.loop-place.invariant.line_is)
 
 pub returns-clause-found : goal.returns-clause-found
 returns-clause-found c = subst (λ (l : List Token). Spells c.args.text.now l) (append-nil c.loop-place.tokens.items) (c.loop-place.invariant.back [] (ends (omega (arith, c.loop-place.invariant.within))))

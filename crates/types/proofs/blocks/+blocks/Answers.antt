@@ -7,7 +7,7 @@ use Rattle.syntax.specs.Parts.{statements_of, statements_within, names_declared,
 use Rattle.syntax.specs.Tree.{Test, Block, IfElse}
 use Rattle.syntax.specs.Views.{form_tree, stmt_tree, block_tree, statements_tree, result_tree, test_tree}
 use Rattle.syntax.proofs.Blocks.{block_is}
-use Rattle.types.specs.declared.fault.TypeFault.{TypeFault}
+use Rattle.types.specs.declared.fault.TypeError.{TypeError}
 use Rattle.type_rules.specs.SortRules.{broken_at, places_of, with_declared}
 use Rattle.types.specs.Faults.{Faults, Finds, Refuses, IsAbove, scope_of, found, statement_place, places_inside}
 use Rattle.types.proofs.FindsLemmas.{Refuses-first}
@@ -19,10 +19,10 @@ nothing : (here inside rest : Faults) → here ≡ [] → inside ≡ [] → (her
 nothing here inside rest h k = rw (h, k) refl
 
 -- a fault of the statement itself, and one inside it
-of_statement : {A : Type 0} (r : Result A TypeFault) (e : TypeFault) (all here inside rest : Faults) → r ≡ Err e → all ≡ (here ++ inside) ++ rest → Refuses e here → Finds r all
+of_statement : {A : Type 0} (r : Result A TypeError) (e : TypeError) (all here inside rest : Faults) → r ≡ Err e → all ≡ (here ++ inside) ++ rest → Refuses e here → Finds r all
 of_statement r e all here inside rest was is h = rw (was, is) (Refuses-first e (here ++ inside) rest (Refuses-first e here inside h))
 
-of_inside : {A : Type 0} (r : Result A TypeFault) (e : TypeFault) (all here inside rest : Faults) → r ≡ Err e → all ≡ (here ++ inside) ++ rest → here ≡ [] → Refuses e inside → Finds r all
+of_inside : {A : Type 0} (r : Result A TypeError) (e : TypeError) (all here inside rest : Faults) → r ≡ Err e → all ≡ (here ++ inside) ++ rest → here ≡ [] → Refuses e inside → Finds r all
 of_inside r e all here inside rest was is none h = rw (was, is, none) (Refuses-first e inside rest h)
 
 on_ok : {A E : Type 0} (r : Result A E) (P Q : Type 0) → (P → Q) → OnOk r P → OnOk r Q

@@ -1,11 +1,11 @@
 use Rattle.std.proofs.Common.{◌≡◌, ◌++◌, Result, Err, sym, ap, subst, ◌∙◌}
 use Rattle.std.proofs.lemmas.Result.{err_from_is_err_and}
-use Rattle.types.specs.declared.fault.TypeFault.{TypeFault}
+use Rattle.types.specs.declared.fault.TypeError.{TypeError}
 use Rattle.types.specs.Faults.{Faults, Finds, Refuses, head_faults}
 use Rattle.types.proofs.FindsLemmas.{Finds-later, Refuses-first}
 use Rattle.types.proofs.items.check_body.Goals as goal
 
-of_head : {A : Type 0} (r : Result A TypeFault) (e : TypeFault) (head rest : Faults) → r ≡ Err e → Refuses e head → Finds r (head ++ rest)
+of_head : {A : Type 0} (r : Result A TypeError) (e : TypeError) (head rest : Faults) → r ≡ Err e → Refuses e head → Finds r (head ++ rest)
 of_head r e head rest was h = rw was (Refuses-first e head rest h)
 
 pub returns-in_err-check_head-clause-finds : goal.returns-in_err-check_head-clause-finds

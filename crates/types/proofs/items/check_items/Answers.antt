@@ -2,7 +2,7 @@ use Rattle.std.proofs.Common.{◌≡◌, ◌+◌, ◌∷◌, ◌++◌, Result, E
 use Rattle.std.proofs.lemmas.Result.{err_from_is_err_and}
 use Rattle.syntax.specs.Parts.{item_name}
 use Rattle.syntax.specs.Views.{item_tree}
-use Rattle.types.specs.declared.fault.TypeFault.{TypeFault}
+use Rattle.types.specs.declared.fault.TypeError.{TypeError}
 use Rattle.type_rules.specs.SortRules.{item_places}
 use Rattle.types.specs.Faults.{Faults, Finds, Refuses, found, scope_of, with_static}
 use Rattle.types.proofs.FindsLemmas.{Refuses-first}
@@ -10,7 +10,7 @@ use Rattle.types.proofs.PlaceLemmas.{found-none, past}
 use Rattle.types.proofs.ItemLemmas.{found-item}
 use Rattle.types.proofs.items.check_items.Goals as goal
 
-of_item : {A : Type 0} (r : Result A TypeFault) (e : TypeFault) (all own rest : Faults) → r ≡ Err e → all ≡ own ++ rest → Refuses e own → Finds r all
+of_item : {A : Type 0} (r : Result A TypeError) (e : TypeError) (all own rest : Faults) → r ≡ Err e → all ≡ own ++ rest → Refuses e own → Finds r all
 of_item r e all own rest was is h = rw (was, is) (Refuses-first e own rest h)
 
 pub returns-in_err-check_item : goal.returns-in_err-check_item
