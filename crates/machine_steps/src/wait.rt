@@ -75,7 +75,8 @@ pub fn waits(
     }
 }
 
-/// Whether a call of `MonitorEnter` waits, in the thread of this number. Only where another thread owns the monitor is the call checked.
+/// Whether a call of `MonitorEnter` waits, in the thread of this number. The call is checked only where another thread owns
+/// the monitor.
 #[inline(never)]
 fn waits_to_enter(
     world: &World,
