@@ -13,7 +13,7 @@ pub mod check;
 mod copies;
 mod exceptions;
 mod make;
-pub mod monitor;
+mod monitor;
 pub mod new_object;
 mod operands;
 pub mod references;
