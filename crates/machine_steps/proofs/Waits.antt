@@ -1,7 +1,9 @@
 -- Which steps wait for a monitor.
-use Rattle.std.proofs.Common.{◌≡◌, ◌<◌, ◌≤◌, ℕ, Bool, true, false, not, eqb, List, [], length, Option, Some, None, is_none, refl, sym, ap, ◌∙◌, subst, cond}
+use Rattle.std.proofs.Common.{◌≡◌, ◌<◌, ◌≤◌, ℕ, Bool, true, false, not, eqb, List, [], ◌∷◌, length, Option, Some, None, is_none, refl, sym, ap, ◌∙◌, subst, cond, ⊎_elim}
 use Rattle.std.specs.Prelude.{◌&&◌, nat_lt, slice_get}
 use Rattle.std.specs.List.{AllZip}
+use Rattle.std.specs.Option.{option_map}
+use Rattle.std.proofs.lemmas.Bool.Decides.{eqb_tells}
 use Rattle.std.proofs.lemmas.Option.{slice_get_within}
 use Rattle.class_rules.specs.Class.{Classes}
 use Rattle.heap.specs.Heap.{Space, name_at}
@@ -16,7 +18,9 @@ use Rattle.semantics.specs.Effect.{Effect, Calls, effect_of}
 use Rattle.semantics.specs.Task.{Target, Task}
 use Rattle.semantics.specs.Thread as source
 use Rattle.semantics.specs.Thread.{Shared, sight_of}
+use Rattle.semantics.specs.EventViews.{trap_view}
 use Rattle.semantics.specs.Value.{Trap}
+use Rattle.semantics.specs.declared.trap.Trap.{Trap as TrapInMemory}
 use Rattle.semantics.specs.ThreadStep.{next_effect, waits}
 use Rattle.semantics.specs.World.{World, loaded_objects}
 use Rattle.semantics_safety.specs.Owners.{Owners}
@@ -33,7 +37,7 @@ use Rattle.monitors.specs.declared.monitors.Enter.{Enter}
 use Rattle.monitors.specs.declared.monitors.Enter.TheVariants.{Entered, Limit, Busy}
 use Rattle.monitors.specs.declared.monitors.Monitor.{Monitor}
 use Rattle.monitors.specs.Monitors.{entering, monitor_of}
-use Rattle.machine_monitors.specs.Fit.{MonitorAgrees}
+use Rattle.machine_monitors.specs.Fit.{MonitorAgrees, MonitorsAgree}
 use Rattle.machine_scenes.specs.declared.activation.Activation.{Activation}
 use Rattle.machine_scenes.specs.declared.store.Store.{Store}
 use Rattle.machine_answers.specs.Asked.{references_of}
@@ -81,6 +85,22 @@ unowned_steady classes own shared s h = record {
   declared = h.declared;
   owned = h.owned;
 }
+
+-- a number is itself
+same_number : (n : ℕ) → eqb n n ≡ true
+same_number n = ⊎_elim (λ (t : (eqb n n ≡ true) × (n ≡ n)). t.0) (λ (t : (eqb n n ≡ false) × (n ≡ n → ⊥)). absurd (t.1 refl)) (eqb_tells n n)
+
+-- where the table has no monitor, the source has none
+none_owned : (ms : List Monitor) (qs : List source.Monitor) → MonitorsAgree ms qs → length ms ≡ 0 → qs ≡ []
+none_owned [] [] h is = refl
+none_owned [] (q ∷ qs) h is = absurd (subst (λ (b : Bool). MonitorAgrees None (cond b (Some q) (source.monitor_of qs q.object))) (same_number q.object) (h.at q.object))
+none_owned (m ∷ ms) qs h is = absurd (cc)
+
+-- and nobody waits
+pub none_waits : (classes : Classes) (k : ℕ) (shared : Shared) (s : source.Thread) (ms : List Monitor) → MonitorsAgree ms shared.monitors → length ms ≡ 0 → waits classes k shared s ≡ false
+none_waits classes k shared s ms h is =
+    ap (λ (qs : List source.Monitor). waits_with classes k (record shared { monitors = qs }) s (next_effect shared s s.tasks)) (none_owned ms shared.monitors h is)
+    ∙ nobody_waits classes k shared s (next_effect shared s s.tasks)
 
 -- ---- other steps
 
@@ -225,3 +245,22 @@ module _ (p : Lowered) (w : World) (store : Store) (pending : Option ℕ) (call 
         ∙ ap (λ (m : ℕ). is_owned_by_other k (source.monitor_of shared.monitors m)) (sym given)
         ∙ ap (λ (o : Option Trap). is_none o && is_owned_by_other k (source.monitor_of shared.monitors (object_given it.args 0))) (sym free)
         ∙ waits_as
+
+  -- whatever a check finds
+  by_found : (b : Bool) → ((trap : Trap) → found ≡ Some trap → Waits b) → (found ≡ None → Waits b) → (o : Option Trap) → found ≡ o → Waits b
+  by_found b stops goes (Some trap) is = stops trap is
+  by_found b stops goes None is = goes is
+
+  -- NULL isn't waited for
+  pub no_object : operand_at (references_of store call) (operand_of in_memory.operands.items 0) ≡ None → Waits false
+  no_object none = by_found false stopped (λ free. absurd (not_null free none)) found refl
+
+  -- nor is an object whose monitor no other thread owns
+  pub not_busy : (a n : ℕ) (came : Enter) → operand_at (references_of store call) (operand_of in_memory.operands.items 0) ≡ Some a → name_at store.heap a ≡ Some n → came ≡ entering k (monitor_of store.monitors n) → is_busy came ≡ false → Waits false
+  not_busy a n came at named is idle = by_found false stopped (λ free. subst Waits idle (by_monitor free a n came at named is)) found refl
+
+  -- and where one does, it is by the check
+  pub busy : (a n : ℕ) (came : Enter) → operand_at (references_of store call) (operand_of in_memory.operands.items 0) ≡ Some a → name_at store.heap a ≡ Some n → came ≡ entering k (monitor_of store.monitors n) → is_busy came ≡ true
+      → (o : Option TrapInMemory) → found ≡ option_map trap_view o → Waits (is_none o)
+  busy a n came at named is held (Some trap) stops = stopped (trap_view trap) stops
+  busy a n came at named is held None free = subst Waits held (by_monitor free a n came at named is)

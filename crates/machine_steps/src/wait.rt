@@ -49,6 +49,9 @@ pub fn waits(
         → IsSteady world.now.classes own shared s
         → result ≡ waits world.now.classes number shared s }
 {
+    if store.monitors.len() == 0 {
+        return false;
+    }
     // The proof reads off this call that no object has as many elements as a `jint` can say.
     let _ = store.heap.cells();
     match &thread.call {
@@ -72,7 +75,8 @@ pub fn waits(
     }
 }
 
-/// Whether a call of `MonitorEnter` waits, in the thread of this number.
+/// Whether a call of `MonitorEnter` waits, in the thread of this number. The call is checked only where another thread owns
+/// the monitor.
 #[inline(never)]
 fn waits_to_enter(
     world: &World,
@@ -89,12 +93,12 @@ fn waits_to_enter(
         → result ≡ waits_with world.now.classes thread shared s (effect_of (sight_of shared s) task) }
 {
     let scene = scene_of(world, store, pending, call, thread);
-    match check(&scene, &call.locals, function) {
-        Some(_) => false,
-        None => match argument(scene.heap, &scene.references, function, 0) {
-            Some(addr) => is_busy(store.monitors.entering(store.heap.birth_of(addr), thread)),
-            None => false,
-        },
+    match argument(scene.heap, &scene.references, function, 0) {
+        Some(addr) => {
+            is_busy(store.monitors.entering(store.heap.birth_of(addr), thread))
+                && check(&scene, &call.locals, function).is_none()
+        }
+        None => false,
     }
 }
 

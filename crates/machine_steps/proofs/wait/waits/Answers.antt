@@ -1,4 +1,4 @@
-use Rattle.std.proofs.Common.{◌≡◌, ◌≤◌, List, Option, sym, ap, ◌∙◌, arith}
+use Rattle.std.proofs.Common.{◌≡◌, ◌≤◌, List, length, Option, sym, ap, ◌∙◌, arith}
 use Rattle.code.specs.Call.{Call, call_view}
 use Rattle.code.specs.declared.instr.Instr.TheVariants as instr
 use Rattle.semantics.specs.CallStep.{waits_with}
@@ -8,7 +8,7 @@ use Rattle.code_meaning.specs.Slots.{visible_to}
 use Rattle.machine_steps.specs.Waiting.{store_unowned}
 use Rattle.machine_steps.proofs.Fetched.{Fetched}
 use Rattle.machine_steps.proofs.Threads.{resting}
-use Rattle.machine_steps.proofs.Waits.{function_there, goes_on, may_wait, place_there, value_enters, waits_by, work}
+use Rattle.machine_steps.proofs.Waits.{function_there, goes_on, may_wait, none_waits, place_there, value_enters, waits_by, work}
 use Rattle.machine_steps.proofs.wait.waits.Goals as goal
 use Rattle.machine_steps.proofs.wait.waits.Goals.{After-instr_at-instr}
 
@@ -21,6 +21,11 @@ fetched c = record {
   at = c.instr_at-instr.ensures.instr;
   few = omega (arith, c.cells.ensures.cells, c.cells.ensures.limit);
 }
+
+pub returns-then-len-eq0 : goal.returns-then-len-eq0
+returns-then-len-eq0 c others own shared s shares h steady =
+    let none : length c.args.store.now.monitors ≡ 0 = omega (arith, c.len.ensures.count, c.if-len-eq0.true) in
+    sym (none_waits c.args.world.now.classes c.args.number shared s c.args.store.now.monitors shares.monitors none)
 
 pub code_at-code-requires : goal.code_at-code-requires
 code_at-code-requires c =
