@@ -30,7 +30,7 @@ use Rattle.semantics.proofs.StepLaws.{step-thread}
 use Rattle.semantics.specs.Effect.{Effect, effect_of}
 use Rattle.semantics_safety.specs.Owners.{Owners, AllOwners, no_owner, after_tasks, after_advance, after_turn, after_entry, with_owners, owners_from, owners_after}
 use Rattle.semantics_safety.specs.Points.{Point}
-use Rattle.semantics_safety.specs.Stands.{VariableFits, Stands, Goes, IsSound, AllSound, AreSound}
+use Rattle.semantics_safety.specs.Stands.{VariableFits, Stands, Goes, IsSound}
 use Rattle.semantics_safety.specs.StepSafe.{has_calls, HasCalls, IsSafe}
 use Rattle.semantics_safety.specs.Wanted.{GoesOn}
 use Rattle.semantics_safety.proofs.CallLaws.{each_step_lands}
@@ -40,6 +40,15 @@ use Rattle.semantics_safety.proofs.KeptCalls.{KeepsCalls, calls_kept}
 use Rattle.semantics_safety.proofs.OwnerLaws.{LandsBy, LandsByIfPossible}
 use Rattle.semantics_safety.proofs.RefusedLaws.{marked_step_lands}
 use Rattle.semantics_safety.proofs.StepClauses.{view, return, references, owned, release, declared, free, possible}
+
+-- what holds of threads, where the first of them has this number
+abbrev pub AllSound : SourceUnit → Classes → AllOwners → Statics → ℕ → List Thread → Type 0
+AllSound unit classes owners statics k [] = Unit {0}
+AllSound unit classes owners statics k (t ∷ ts) = IsSound unit classes (owners k) statics t × AllSound unit classes owners statics (k + 1) ts
+
+-- what holds of a state
+abbrev pub AreSound : SourceUnit → Classes → AllOwners → State → Type 0
+AreSound unit classes owners s = AllSound unit classes owners s.shared.statics 1 s.threads
 
 -- ---- statics
 

@@ -1,5 +1,5 @@
 -- What it is for a thread to be at a point: its variables are of their sorts, and hold what is known of them.
-use Rattle.std.specs.Prelude.{◌≡◌, ℕ, ◌+◌, ◌≤◌, ◌==◌, Bool, true, false, ◌⊎◌, ℤ, List, [], ◌∷◌, length, Option, Some, None, IsTrue, filter}
+use Rattle.std.specs.Prelude.{◌≡◌, ℕ, ◌≤◌, ◌==◌, Bool, true, false, ◌⊎◌, ℤ, List, [], ◌∷◌, length, Option, Some, None, IsTrue, filter}
 use Rattle.std.specs.List.{list_all}
 use Rattle.base.specs.Bytes.{Identifier, lookup}
 use Rattle.base.specs.Element.{ElementType}
@@ -12,13 +12,12 @@ use Rattle.type_rules.specs.Sorts as sort
 use Rattle.semantics.specs.Object.{Reference}
 use Rattle.semantics.specs.Load.{call_loads}
 use Rattle.region_rules.specs.RegionStates.{VariableState, BufferState, Free, Untested, Usable, ReferenceAt, BufferIn, state_of}
-use Rattle.semantics.specs.State.{State}
 use Rattle.semantics.specs.Step.{is_unfinished}
 use Rattle.semantics.specs.Task.{Task}
 use Rattle.semantics.specs.Thread.{Thread, Frame}
 use Rattle.semantics.specs.Value.{Value}
 use Rattle.semantics.specs.Variable.{Variable, Scalar, LocalRef, FieldHandle, Elements, LocalArray, Buffer as Buffer_, NoBuffer, Copy, View, StaticReference, Variables, Statics}
-use Rattle.semantics_safety.specs.Owners.{Owners, AllOwners}
+use Rattle.semantics_safety.specs.Owners.{Owners}
 use Rattle.semantics_safety.specs.Points.{Point, AreOnce, value_sort, owners}
 use Rattle.semantics_safety.specs.StepSafe.{references_at, has_calls}
 use Rattle.semantics_safety.specs.Wanted.{Holds, GoesOn}
@@ -92,12 +91,3 @@ Goes own statics t (Some tasks) = (p : Point) × Stands own statics t.variables 
 pub record IsSound (unit : SourceUnit) (classes : Classes) (own : Owners) (statics : Statics) (t : Thread) : Type 0 where
   pub goes : Goes own statics t t.tasks
   pub loads : IsTrue (list_all (call_loads unit classes) t.calls)
-
--- what holds of threads, where the first of them has this number
-abbrev pub AllSound : SourceUnit → Classes → AllOwners → Statics → ℕ → List Thread → Type 0
-AllSound unit classes owners statics k [] = Unit {0}
-AllSound unit classes owners statics k (t ∷ ts) = IsSound unit classes (owners k) statics t × AllSound unit classes owners statics (k + 1) ts
-
--- what holds of a state
-abbrev pub AreSound : SourceUnit → Classes → AllOwners → State → Type 0
-AreSound unit classes owners s = AllSound unit classes owners s.shared.statics 1 s.threads
