@@ -13,7 +13,8 @@ use syntax::{Function, Item, Parameter, ParameterType};
 use world::{entry_detail, journal_detail, read_world, schedule_detail, world_detail};
 use world_values::{Call, World};
 
-/// What was found where a text is refused, by the fault's number and its place, in words that no contract fixes. There are none where memory is refused.
+/// What was found where a text is refused, by the fault's number and its place, in words that no contract fixes.
+/// There are none where memory is refused.
 pub(crate) fn detail_at(alloc: Global, texts: &Texts, number: u32, place: Place) -> Detail {
     if number == FULL {
         return Detail::of(b"at most 1000000 entries");
@@ -71,7 +72,8 @@ fn call_on(world: &World, line: usize) -> Option<&Call> {
     None
 }
 
-/// A call that doesn't go with the program or the classes: its function isn't there, its arguments don't fit, or else its class isn't there.
+/// A call that doesn't go with the program or the classes: its function isn't there, its arguments don't fit, or else its
+/// class isn't there.
 fn detail_of_call(checked: &Checked, call: &Call) -> Detail {
     let Some(function) = function_of(checked, call.function()) else {
         return Detail::of(b"the program has no function ").words(call.function());

@@ -99,7 +99,7 @@ fn region_in(
     }
 }
 
-/// Elements of an object, from a start on, where neither the start nor the count is negative; none where the object hasn't so many.
+/// Elements of an object, from a start on, where neither number is negative; none where the object hasn't so many.
 fn region_within(
     heap: &Heap,
     object: Addr,

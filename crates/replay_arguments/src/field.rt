@@ -88,7 +88,8 @@ fn known_field_place(
     }
 }
 
-/// The place of a field, by comparing it with all fields: for NULL, and for a field of other classes, as in no accepted program.
+/// The place of a field, by comparing it with all fields: for NULL, and for a field of other classes, as in no accepted
+/// program.
 fn searched_field_place(classes: &ClassTable, class: ClassId, field: Option<FieldId<'_>>) -> usize
     ensures { result ≡ place_in (given_field field.entry) (layout classes.now class) }
 {
@@ -124,7 +125,8 @@ fn known_static_place(classes: &ClassTable, field: Option<FieldId<'_>>) -> Optio
     }
 }
 
-/// The place of a static, by comparing it with all statics: for NULL, and for a static of other classes, as in no accepted program.
+/// The place of a static, by comparing it with all statics: for NULL, and for a static of other classes, as in no
+/// accepted program.
 fn searched_static_place(classes: &ClassTable, field: Option<FieldId<'_>>) -> usize
     ensures { result ≡ place_in (given_field field.entry) (own_statics classes.now (given_field field.entry).class) }
 {

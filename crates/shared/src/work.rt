@@ -166,7 +166,8 @@ impl<'a, J: Naming + Send + Sync> Shared<'a, J> {
     }
 }
 
-/// Lets workers run a machine, with a name for what is shared. The machine is dropped where there is no memory for the seats, too.
+/// Lets workers run a machine, with a name for what is shared. The machine is dropped where there is no memory for the
+/// seats, too.
 fn run_named<'a, J: Naming + Send + Sync, G: Gate + Sync, R: Threads + Wait + Sync>(
     rt: &R,
     alloc: Global,
