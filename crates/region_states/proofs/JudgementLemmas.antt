@@ -7,9 +7,9 @@ use Rattle.base.specs.Options.{some_passes}
 use Rattle.syntax.specs.Parts.{assigned_name, call_of_right_side}
 use Rattle.syntax.specs.Tree.{ReferenceVariable, RightSide, Declare, DeclareBuffer, DeclareChars, Assign, Stmt}
 use Rattle.region_states.specs.declared.states.Condition.TheVariants as condition
-use Rattle.region_states.specs.StateEffects.{call_state_effect, got, released, popped}
+use Rattle.region_states.specs.StateEffects.{EffectCall, call_state_effect, got, released, popped}
 use Rattle.region_rules.specs.FirstFaults.{first_broken}
-use Rattle.region_states.specs.Judgements.{judged, first_judged, is_wrong_release, effected, settled, after_judged}
+use Rattle.region_states.specs.Judgements.{judged, first_judged, is_wrong_release, effected, settled}
 use Rattle.region_states.specs.VariableChanges.{set_from}
 use Rattle.region_rules.specs.RegionRules.{RegionRule, CallWhileCritical, ReturnWithBuffer, HeldBuffer, UntestedBuffer, WrongBuffer, ReturnInFrame, PopLastFrame, DeadReference, ArrayInUse, WaysDiffer, WrongLevel, NoReturn, breaks_region_rule, own_rules, is_put_jint, is_array_in_use, is_level, is_reference_now}
 use Rattle.region_rules.specs.RegionStates.{RegionState, VariableState, ReferenceAt, BufferIn, FunctionCall, state_of, function_called, call_of, deleted_name, with_new, with_changed, with_some_changed, after_pop, after_release, after_call, killed, buffer_from, set_to, with_set, state_after}
@@ -18,6 +18,10 @@ use Rattle.region_states.proofs.EffectLemmas.{get_is, release_is, deleted_is, po
 use Rattle.region_states.proofs.StateLemmas.{holder_is}
 use Rattle.type_rules.proofs.UseLemmas.{uses_is}
 use Rattle.region_states.proofs.ReadLemmas.{reads_is}
+
+-- after a statement without blocks
+abbrev pub after_judged : RegionState → Stmt → Option EffectCall → RegionState
+after_judged state s call = settled (effected state call) s call
 
 in_use : (state : RegionState) (o : Option Identifier) → some_passes (is_array_in_use state) o ≡ some_passes (λ x. holds_of x state) o
 in_use state None = refl

@@ -66,7 +66,3 @@ settled state (DeclareBuffer line t x r) call = with_new state x (BufferIn (buff
 settled state (DeclareChars line x r) call = with_new state x (BufferIn (buffer_from (got call)))
 settled state (Assign line x r) call = with_changed state x (set_from (got call))
 settled state s call = state
-
--- after a statement without blocks
-abbrev pub after_judged : RegionState → Stmt → Option EffectCall → RegionState
-after_judged state s call = settled (effected state call) s call

@@ -4,12 +4,12 @@ use Rattle.std.specs.Option.{option_map}
 use Rattle.base.specs.Bytes.{Identifier}
 use Rattle.syntax.specs.Views.{form_tree}
 use Rattle.region_states.specs.StateEffects.{EffectCall, made_value}
-use Rattle.region_states.specs.Judgements.{settled, after_judged}
+use Rattle.region_states.specs.Judgements.{settled}
 use Rattle.region_rules.specs.RegionStates.{RegionState}
 use Rattle.region_states.specs.NewNames.{own_names, AreNew}
 use Rattle.region_states.specs.StatesInMemory.{names_of}
 use Rattle.region_states.proofs.NameLemmas.{effected_names}
-use Rattle.region_states.proofs.JudgementLemmas.{behind_is}
+use Rattle.region_states.proofs.JudgementLemmas.{behind_is, after_judged}
 use Rattle.region_states.proofs.changes.pass.Goals as goal
 
 pub returns : goal.returns
