@@ -19,7 +19,8 @@ use Rattle.semantics.specs.Term as term
 use Rattle.semantics.specs.Term.{Term, Read, term_of}
 use Rattle.code_meaning.specs.Layout.{Slot, Known}
 use Rattle.code_meaning.specs.Fits.{IsVariable, HasElements, NumberFits, TakesLocal, TakesGlobal, NameFits, ReferenceFits, FieldFits, ArrayFits, BufferFits, ArgumentFits, CallFits, ResultFits, CallGives, ValueFits, RightFits, TestFits, ReturnFits}
-use Rattle.lower.proofs.SortFacts.{scope_of, slot_of_name, HasNoTruth, IsFine, elements, indexed, index_is_value, number_fits}
+use Rattle.type_rules.proofs.SortCases.{indexed, index_is_value}
+use Rattle.lower.proofs.SortFacts.{scope_of, slot_of_name, HasNoTruth, IsFine, elements, number_fits}
 use Rattle.lower.proofs.Tests.{and_left, and_right, not_false}
 
 -- ---- sorts by their tests
