@@ -17,6 +17,7 @@ use Rattle.type_rules.specs.Sorts.{Sort, Jint, Array, sort_in, sort_of, is_jint,
 use Rattle.type_rules.specs.SortRules as rules
 use Rattle.type_rules.specs.SortRules.{may_be_dropped, is_droppable, return_fits}
 use Rattle.type_rules.specs.SortGroups.{IsNumberSort}
+use Rattle.type_rules.proofs.SortCases.{indexed, index_is_value, number_is_value}
 use Rattle.region_rules.specs.RegionRules.{CallWhileCritical, ReturnWithBuffer, ReturnInFrame, UntestedBuffer, WrongBuffer, is_return, is_put_jint, is_critical_call, is_dead, is_held, is_free, is_untested, holds_buffer, Obeys}
 use Rattle.region_rules.specs.RegionStates.{VariableState, BufferState, Free, Untested, Usable, BufferIn, state_of, held_by, held_buffers, function_called, after_call}
 use Rattle.semantics.specs.Task.{Target, Dropped, set_task}
@@ -26,7 +27,7 @@ use Rattle.semantics_safety.specs.Points.{Point, HasSort}
 use Rattle.semantics_safety.specs.Wanted.{HasNoView, MayReturnFrom, ReturnedFits, ReturnFits, SetsNumber, MayDrop, RunsPlain, at}
 use Rattle.semantics_safety.proofs.ArgumentFits.{first_read, is_a_jint, is_a_ref}
 use Rattle.semantics_safety.proofs.CallFits.{neither, both_so, second_fails, some_any, unbroken, statement_reads, holds_any}
-use Rattle.semantics_safety.proofs.ExpressionFits.{MayRead, is_live, indexed, index_is_value, number_is_value, elements_fit, expression_fits}
+use Rattle.semantics_safety.proofs.ExpressionFits.{MayRead, is_live, elements_fit, expression_fits}
 use Rattle.semantics_safety.proofs.KnownPoints.{IsKnown, known_more, held_of, is_new, known_named}
 use Rattle.semantics_safety.proofs.StatementCalls.{call_there, known_called, call_runs}
 use Rattle.semantics_safety.proofs.WaysGive.{Gives, covers_front}
