@@ -556,8 +556,21 @@ fn make_room(printed: &mut Vec<Printed>, journal: &mut Vec<Entry>) -> Result<(),
     ensures printed_room { OnOk result (vec_len printed.new < vec_capacity printed.new) }
     ensures journal_room { OnOk result (vec_len journal.new < vec_capacity journal.new) }
 {
-    journal.reserve(1)?;
-    printed.reserve(1)
+    make_room_in(journal)?;
+    make_room_in(printed)
+}
+
+/// Makes room for one more in a list, which is asked for memory only where it is full.
+#[inline(always)]
+fn make_room_in<T>(list: &mut Vec<T>) -> Result<(), AllocError>
+    ensures items { list.new.items ≡ list.old.items }
+    ensures room { OnOk result (vec_len list.new < vec_capacity list.new) }
+{
+    if list.len() < list.capacity() {
+        Ok(())
+    } else {
+        list.reserve(1)
+    }
 }
 
 /// Takes one step of thread `k`, which is at this place, has not ended, and doesn't wait. Where what it makes has no room, which a step is asked for

@@ -7,4 +7,4 @@ pub mod buffers;
 pub mod check;
 pub mod copies;
 mod exceptions;
-mod monitor;
+pub mod monitor;

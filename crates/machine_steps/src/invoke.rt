@@ -1,6 +1,6 @@
 //! Calls of functions of the JNI (JNI Specification, chapter 4).
 
-ghost use Rattle.std.specs.Prelude.{◌≡◌, ◌+◌, ◌<◌, ◌^◌, ◌||◌, nat_le, false, true, List, Option, Some, Ok, slice_get, IfOk, IfErr, OnErr};
+ghost use Rattle.std.specs.Prelude.{◌≡◌, ◌+◌, ◌<◌, ◌^◌, ◌||◌, nat_le, false, true, List, Option, Some, Ok, slice_get, IfOk, IfErr, IfSome, OnErr};
 ghost use Rattle.code.specs.Call.{IsPrepared};
 ghost use Rattle.heap.specs.Heap.{left_of};
 ghost use Rattle.semantics.specs.Effect.{effect_of};
@@ -26,6 +26,7 @@ use code::instr::{Call, Operand};
 use heap::{Addr, Heap};
 use machine_answers::answer::{Answer, work_out};
 use machine_answers::check::check;
+use machine_answers::monitor::answer_at_once;
 use machine_calls::carry_out::{carry_out, has_room};
 use machine_scenes::activation::Activation;
 use machine_scenes::store::Store;
@@ -68,7 +69,7 @@ pub fn invoke(
     ensures pending { OnErr result (pending.new ≡ pending.old) }
     ensures call { OnErr result (call.new ≡ call.old) }
 {
-    match answer_or_trap(world, store, *pending, call, function, thread) {
+    match answer_or_trap(world, store, pending, call, function, thread) {
         Ok(answer) => {
             if goes_ahead(
                 world.classes(),
@@ -103,9 +104,51 @@ fn goes_ahead(
     may_refuse || has_room(classes, texts, heap, answer)
 }
 
-/// What a call of the thread of this number answers, or the trap that stops it.
+/// What a call of the thread of this number answers, or the trap that stops it. Where it is seen at once that no check
+/// stops a function of monitors, none is made.
 #[inline(always)]
 fn answer_or_trap(
+    world: &World,
+    store: &Store,
+    pending: &Option<Addr>,
+    call: &Activation,
+    function: &Call,
+    thread: u8,
+) -> Result<Answer, Trap>
+    requires at_call { (p : Lowered) × (others : Acquired) × (own : Owners) × (shared : Shared) × (s : SourceThread) × (task : Task) × (rest : List Task) × AtCall p world.now store.now pending.now call.now function.now others thread own shared s task rest }
+    requires prepared { IsPrepared function.now }
+    ensures answer { IfOk result (IsAnswered world.now store.now pending.now call.now thread function.now) }
+    ensures runs { IfOk result (λ answer. is_halt answer ≡ false) }
+    ensures trap { IfErr result (IsStopped world.now store.now pending.now call.now thread function.now) }
+{
+    match unchecked_answer(world, store, *pending, call, function, thread) {
+        Some(answer) => Ok(answer),
+        None => checked_answer(world, store, *pending, call, function, thread),
+    }
+}
+
+/// What a call of the thread of this number answers, where it is seen at once that no check stops it. None says nothing
+/// of the call.
+#[inline(always)]
+fn unchecked_answer(
+    world: &World,
+    store: &Store,
+    pending: Option<Addr>,
+    call: &Activation,
+    function: &Call,
+    thread: u8,
+) -> Option<Answer>
+    requires at_call { (p : Lowered) × (others : Acquired) × (own : Owners) × (shared : Shared) × (s : SourceThread) × (task : Task) × (rest : List Task) × AtCall p world.now store.now pending call.now function.now others thread own shared s task rest }
+    ensures answer { IfSome result (IsAnswered world.now store.now pending call.now thread function.now) }
+    ensures runs { IfSome result (λ answer. is_halt answer ≡ false) }
+{
+    let scene = scene_of(world, store, pending, call, thread);
+    answer_at_once(&scene, function)
+}
+
+/// What a call of the thread of this number answers, or the trap that stops it, by all checks.
+#[inline(always)]
+fn checked_answer(
     world: &World,
     store: &Store,
     pending: Option<Addr>,

@@ -19,7 +19,7 @@ use Rattle.machine_steps.specs.Invoked.{trap_at}
 use Rattle.semantics.specs.EventViews.{trap_view}
 use Rattle.machine_answers.specs.WorkedOut.{IsWorkedOut}
 use Rattle.machine_steps.proofs.SeenCalls.{addresses_seen, handles_seen, loaded_seen, passed_seen, trap_seen}
-use Rattle.machine_steps.proofs.invoke.answer_or_trap.Goals as goal
+use Rattle.machine_steps.proofs.invoke.checked_answer.Goals as goal
 
 module _ (w : World) (store : Store) (pending : Option ℕ) (call : Activation) (k : ℕ) (function : Call) (scene : Scene) (same : scene ≡ scene_of w.classes store call k pending) where
   -- the trap that was found is the call's
