@@ -22,27 +22,23 @@ pub(crate) fn detail_at(alloc: Global, texts: &Texts, number: u32, place: Place)
     match place {
         Place::Line(Text::Program, _) => detail_of(alloc, &texts.program),
         Place::Line(Text::World, line) => detail_of_world(alloc, texts, line),
-        Place::Line(Text::Schedule, line) => schedule_detail(
-            alloc,
-            &texts.order,
-            line,
-            threads_of(alloc, &texts.world),
-        ),
-        Place::Line(Text::Journal, line) => journal_detail(
-            alloc,
-            &texts.order,
-            line,
-            threads_of(alloc, &texts.world),
-        ),
+        Place::Line(Text::Schedule, line) => match threads_of(alloc, &texts.world) {
+            Some(threads) => schedule_detail(alloc, &texts.order, line, threads),
+            None => Detail::none(),
+        },
+        Place::Line(Text::Journal, line) => match threads_of(alloc, &texts.world) {
+            Some(threads) => journal_detail(alloc, &texts.order, line, threads),
+            None => Detail::none(),
+        },
         Place::Entry(entry) => entry_detail(&texts.order, entry),
     }
 }
 
-/// How many threads a world has.
-fn threads_of(alloc: Global, text: &[u8]) -> u8 {
+/// How many threads a world has, which was read before. None where memory is refused.
+fn threads_of(alloc: Global, text: &[u8]) -> Option<u8> {
     match read_world(alloc, text) {
-        Ok(world) => thread_count(&world),
-        Err(_) => 0,
+        Ok(world) => Some(thread_count(&world)),
+        Err(_) => None,
     }
 }
 

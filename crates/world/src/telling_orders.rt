@@ -1,7 +1,7 @@
 //! What is told of the first fault of a schedule's or a journal's text, for its reader; no contract says which words these are.
 
 use details::Detail;
-use std::alloc::Global;
+use std::alloc::{AllocError, Global};
 use world_schedules::{ReadError, Rule, Split, read_journal, read_schedule};
 
 /// What a text of words is.
@@ -11,21 +11,26 @@ enum Order {
     Journal,
 }
 
-/// The rule that a word breaks by itself.
-fn rule_of(alloc: Global, order: Order, word: &[u8], threads: u8) -> Option<Rule> {
+/// The rule that a word breaks by itself, if it breaks one.
+fn rule_of(
+    alloc: Global,
+    order: Order,
+    word: &[u8],
+    threads: u8,
+) -> Result<Option<Rule>, AllocError> {
     let error = match order {
         Order::Schedule => match read_schedule(alloc, word, threads) {
-            Ok(_) => return None,
+            Ok(_) => return Ok(None),
             Err(error) => error,
         },
         Order::Journal => match read_journal(alloc, word, threads) {
-            Ok(_) => return None,
+            Ok(_) => return Ok(None),
             Err(error) => error,
         },
     };
     match error {
-        ReadError::Memory => None,
-        ReadError::Fault(fault) => Some(fault.rule),
+        ReadError::Memory => Err(AllocError),
+        ReadError::Fault(fault) => Ok(Some(fault.rule)),
     }
 }
 
@@ -36,32 +41,39 @@ fn first_word<'t>(
     line: &'t [u8],
     threads: u8,
     is_form: bool,
-) -> Option<&'t [u8]> {
+) -> Result<Option<&'t [u8]>, AllocError> {
     for word in Split::new(line, b' ') {
-        let is_broken = match rule_of(alloc, order, word, threads) {
+        let is_broken = match rule_of(alloc, order, word, threads)? {
             None => false,
             Some(Rule::Form) => is_form,
             Some(_) => !is_form,
         };
         if is_broken {
-            return Some(word);
+            return Ok(Some(word));
         }
     }
-    None
+    Ok(None)
 }
 
 /// What is told of a line whose words break a rule by themselves.
-fn line_detail(alloc: Global, order: Order, line: &[u8], threads: u8) -> Option<Detail> {
-    if let Some(word) = first_word(alloc, order, line, threads, true) {
-        return Some(Detail::of(b"found ").quoted(word));
+fn line_detail(
+    alloc: Global,
+    order: Order,
+    line: &[u8],
+    threads: u8,
+) -> Result<Option<Detail>, AllocError> {
+    if let Some(word) = first_word(alloc, order, line, threads, true)? {
+        return Ok(Some(Detail::of(b"found ").quoted(word)));
     }
-    let word = first_word(alloc, order, line, threads, false)?;
-    Some(
-        Detail::of(b"found ")
-            .quoted(word)
-            .words(b", threads are ")
-            .number(usize::from(threads)),
-    )
+    match first_word(alloc, order, line, threads, false)? {
+        Some(word) => Ok(Some(
+            Detail::of(b"found ")
+                .quoted(word)
+                .words(b", threads are ")
+                .number(usize::from(threads)),
+        )),
+        None => Ok(None),
+    }
 }
 
 /// The line of this number, counted from 1.
@@ -77,21 +89,27 @@ fn line_at(text: &[u8], number: usize) -> Option<&[u8]> {
 }
 
 /// What was found on the line of the first fault of a text of words: where each word keeps its own rules, there are too many.
+/// There are no words where memory is refused.
 fn order_detail(alloc: Global, order: Order, text: &[u8], line: usize, threads: u8) -> Detail {
-    if let Some(bytes) = line_at(text, line) {
-        if let Some(detail) = line_detail(alloc, order, bytes, threads) {
-            return detail;
-        }
+    let found = match line_at(text, line) {
+        Some(bytes) => line_detail(alloc, order, bytes, threads),
+        None => Ok(None),
+    };
+    match found {
+        Ok(Some(detail)) => detail,
+        Ok(None) => Detail::of(b"at most 1000000 in all"),
+        Err(_) => Detail::none(),
     }
-    Detail::of(b"at most 1000000 in all")
 }
 
-/// What was found at the first fault of a schedule's text, which is on this line, for a world of this number of threads.
+/// What was found at the first fault of a schedule's text, which is on this line, for a world of this number of threads. There are no
+/// words where memory is refused.
 pub fn schedule_detail(alloc: Global, text: &[u8], line: usize, threads: u8) -> Detail {
     order_detail(alloc, Order::Schedule, text, line, threads)
 }
 
-/// What was found at the first fault of a journal's text, which is on this line, for a world of this number of threads.
+/// What was found at the first fault of a journal's text, which is on this line, for a world of this number of threads. There are no
+/// words where memory is refused.
 pub fn journal_detail(alloc: Global, text: &[u8], line: usize, threads: u8) -> Detail {
     order_detail(alloc, Order::Journal, text, line, threads)
 }
