@@ -120,6 +120,20 @@ def examples():
             yield from all_ways(case) if "schedule" in case.texts else [(case.name, case.texts)]
 
 
+def worked():
+    """The texts of worked.cases, by their names: each program is checked, and run as its case says; one that passes is also run again by its journal, and by workers."""
+    checked = set()
+    for case in run.cases_of(f"{HERE}/worked.cases"):
+        program = case.texts["prog.c"]
+        if program not in checked:
+            checked.add(program)
+            yield f"{case.name}: its check", {"prog.c": program}
+        if "schedule" in case.texts and case.status == 0:
+            yield from all_ways(case)
+        elif "world" in case.texts:
+            yield case.name, case.texts
+
+
 def is_open(texts):
     """Whether the order is open in which the threads step in a run of these texts."""
     return "workers" in texts and len(re.findall(rb"^thread ", texts["world"], re.M)) > 1
