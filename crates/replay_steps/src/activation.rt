@@ -13,11 +13,10 @@ ghost use Rattle.replay_terms.specs.declared.term.Term.TheVariants as term;
 ghost use Rattle.replay_terms.specs.declared.value.Value.TheVariants as value;
 
 use crate::step::step;
-use crate::turn::Turn;
-use replay_arguments::Shared;
-use replay_objects::{Frames, Store};
+use replay_arguments::{Locals, Shared, Turn};
+use replay_objects::Store;
 use replay_tasks::{Choice, End, Outcome, Statements, Task, loop_task, set_variables, task_of};
-use replay_terms::{Statics, Term, Value, Variables};
+use replay_terms::{Statics, Term, Value};
 use semantics::ObjectId;
 use std::alloc::{AllocError, Global};
 use std::mem;
@@ -45,21 +44,6 @@ impl Drop for Work<'_> {
         drop(task);
         drop(rest);
         drop(outer);
-    }
-}
-
-/// The variables of a call in progress, in the order in which they came to be, and its frames of local references.
-pub struct Locals<'a> {
-    pub variables: Variables<'a>,
-    pub frames: Frames,
-}
-
-// Written out, as above.
-impl Drop for Locals<'_> {
-    fn drop(self) {
-        let Locals { variables, frames } = self;
-        drop(variables);
-        drop(frames);
     }
 }
 

@@ -11,7 +11,7 @@ ghost use Rattle.replay_arguments.specs.Actuals.{actual_view};
 ghost use Rattle.replay_calls.specs.Answers.{FitsArrays, FitsFrames, answer_view, trap_in};
 ghost use Rattle.replay_steps.specs.Calls.{HasAnswer, MakesCall, MakesInvocation, ReducesFirst, ReducesOne, lent_outcome, wanted_element};
 ghost use Rattle.replay_tasks.specs.Outcomes.{outcome_for};
-ghost use Rattle.replay_steps.specs.declared.activation.Locals.{Locals as LocalsInMemory};
+ghost use Rattle.replay_arguments.specs.declared.scene.Locals.{Locals as LocalsInMemory};
 ghost use Rattle.replay_steps.specs.Steps.{Does, scene_of};
 ghost use Rattle.replay_arguments.specs.Shares.{shared_view, sight_in};
 ghost use Rattle.replay_tasks.specs.Tasks.{OperandInRange, OperandsInRange, OutcomeInRange, PurposeInRange};
@@ -21,10 +21,8 @@ ghost use Rattle.semantics.specs.CallStep.{tell_copy};
 ghost use Rattle.semantics.specs.Heap.{Heap};
 ghost use Rattle.base.specs.Element.{element_value};
 
-use crate::activation::Locals;
-use crate::turn::Turn;
-use replay_arguments::Shared;
 use replay_arguments::actual::{Actual, actuals, address_given};
+use replay_arguments::{Locals, Scene, Shared, Turn};
 use replay_calls::carry_out::{carry_out, makes_object, put_local, refuse};
 use replay_calls::{Answer, Caller, answer_or_trap, lent_in, tell_copy, trap_in};
 use replay_tasks::{Invocation, Outcome, Purpose, Target, VariableKind, reduced};
@@ -188,16 +186,13 @@ fn call<'a>(
         in_use: turn.in_use,
         element: wanted_element(&locals.variables, i.purpose),
     };
-    let answer = answer_or_trap(
-        turn.classes,
+    let scene = Scene {
+        classes: turn.classes,
         shared,
-        &locals.variables,
-        &locals.frames,
-        *pending,
-        caller,
-        i.function,
-        actuals,
-    );
+        locals,
+        pending: *pending,
+    };
+    let answer = answer_or_trap(scene, caller, i.function, actuals);
     if let Some(trap) = trap_in(answer) {
         return Ok(unless_refused(turn.refused, Outcome::Trapped { trap, line: i.line }));
     }
@@ -263,17 +258,7 @@ fn complete<'a>(
         return lend(locals, i, actuals, buffer);
     }
     let kind = i.function.prototype().result;
-    let given = carry_out(
-        turn.alloc,
-        turn.classes,
-        shared,
-        &mut locals.variables,
-        &mut locals.frames,
-        pending,
-        kind,
-        turn.thread,
-        answer,
-    )?;
+    let given = carry_out(turn, shared, pending, locals, kind, answer)?;
     put_local(&mut locals.frames, kind, given)?;
     Ok(outcome_for(i.line, i.purpose, given))
 }

@@ -12,8 +12,7 @@ ghost use Rattle.report.specs.ThreadStatus.{standing_view};
 
 use crate::thread::{Thread, is_waiting, take_step};
 use functions::Functions;
-use replay_arguments::Shared;
-use replay_steps::Turn;
+use replay_arguments::{Shared, Turn};
 use replay_terms::BuffersInUse;
 use report::ThreadStatus;
 use report_objects::standing_of;

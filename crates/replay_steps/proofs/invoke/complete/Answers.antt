@@ -29,5 +29,5 @@ returns-clause-step c = λ has.
     let turn = c.args.turn in
     let locals = c.args.locals.now in
     call_made_so turn.classes.now (in_use_view turn.in_use) turn.thread (shared_view c.args.shared.now) locals.variables locals.frames c.args.pending.now i.line i.purpose (function_value i.function) (map actual_view c.args.actuals.now) false (answer_view c.args.answer) c.in_ok-given.given (result_value c.prototype.result.now.result)
-    (shared_view c.carry_out.new.shared) c.carry_out.new.variables c.carry_out.new.frames c.put_local.new.frames c.carry_out.new.pending c.outcome_for.result
+    (shared_view c.carry_out.new.shared) c.carry_out.new.locals.variables c.carry_out.new.locals.frames c.put_local.new.frames c.carry_out.new.pending c.outcome_for.result
     refl has c.requires.goes (sym c.lent_in.ensures ∙ c.in_default.is) (ap (λ (x : Facts). x.prototype.result) c.prototype.ensures) c.in_ok-given.ensures.given c.in_ok-given.ensures.shared c.in_ok-given.ensures.variables c.in_ok-given.ensures.frames c.in_ok-put_local.ensures c.in_ok-given.ensures.pending c.outcome_for.ensures.step
