@@ -84,7 +84,25 @@ fn begin_statement<'a>(
     Ok(())
 }
 
+/// Begins the block's next statement, there being none that is begun.
+#[inline(never)]
+fn begin_first<'a>(alloc: Global, work: &mut Work<'a>) -> Result<(), AllocError>
+    requires range { IsInRange work.old }
+    requires task { work.old.task ≡ None }
+    ensures tasks { IfOk result (λ _. tasks_left work.new ≡ tasks_left work.old) }
+    ensures range { IfOk result (λ _. IsInRange work.new) }
+    ensures next { IfOk result (λ _. work.new.task ≡ None → work.new.rest ≡ []) }
+{
+    let Some(first) = work.rest.first() else {
+        return Ok(());
+    };
+    begin_statement(alloc, &mut work.task, first)?;
+    work.rest.skip_first();
+    Ok(())
+}
+
 /// Begins the block's next statement, where none is begun.
+#[inline(always)]
 fn begin<'a>(alloc: Global, work: &mut Work<'a>) -> Result<(), AllocError>
     requires { IsInRange work.old }
     ensures tasks { IfOk result (λ _. tasks_left work.new ≡ tasks_left work.old) }
@@ -94,12 +112,7 @@ fn begin<'a>(alloc: Global, work: &mut Work<'a>) -> Result<(), AllocError>
     if work.task.is_some() {
         return Ok(());
     }
-    let Some(first) = work.rest.first() else {
-        return Ok(());
-    };
-    begin_statement(alloc, &mut work.task, first)?;
-    work.rest.skip_first();
-    Ok(())
+    begin_first(alloc, work)
 }
 
 /// What is to do of a call of a function with this body, whose first statement is begun.
