@@ -1,6 +1,6 @@
 //! What is checked of a call before it does anything, in one order for all functions.
 
-ghost use Rattle.std.specs.Prelude.{◌≡◌, ◌||◌, map, slice_get, zip};
+ghost use Rattle.std.specs.Prelude.{◌≡◌, ◌||◌, is_some, map, slice_get, zip};
 ghost use Rattle.std.specs.List.{list_any};
 ghost use Rattle.std.specs.Option.{option_map};
 ghost use Rattle.class_rules.specs.BuiltIns.{throwable_class};
@@ -15,6 +15,7 @@ ghost use Rattle.semantics.specs.EventViews.{trap_view};
 
 use crate::actual::{Actual, field_given, object_given, reference_given};
 use crate::field::{declaring, is_static, type_of};
+use crate::scene::Scene;
 use class_queries::{class_misfits, holds_number, holds_reference};
 use class_rules::ClassId;
 use classes::built_ins::{THROWABLE, number_array};
@@ -27,18 +28,16 @@ use semantics::{ObjectId, Trap};
 
 /// The trap of a call before it does anything, which may give a buffer of this element type.
 pub fn check(
-    classes: &ClassTable,
-    store: &Store,
-    frames: &Frames,
-    is_pending: bool,
+    scene: Scene<'_, '_>,
     buffer: syntax::ElementType,
     function: JniFunction,
     actuals: &[Actual<'_>],
 ) -> Option<Trap>
-    ensures { option_map trap_view result ≡ trap_found classes.now store.now frames.now is_pending (element_value buffer) (function_value function) (map actual_view actuals.now) }
+    ensures { option_map trap_view result ≡ trap_found scene.entry.classes.now scene.entry.shared.now.store scene.entry.locals.now.frames
+        (is_some scene.entry.pending) (element_value buffer) (function_value function) (map actual_view actuals.now) }
 {
     let asked = function.prototype();
-    if is_pending && !asked.pending {
+    if scene.pending.is_some() && !asked.pending {
         return Some(Trap::ExceptionPending);
     }
     if some_deleted(actuals) {
@@ -47,12 +46,13 @@ pub fn check(
     if some_missing(asked.parameters, actuals) {
         return Some(Trap::NullReference);
     }
+    let (classes, store) = (scene.classes, &scene.shared.store);
     if some_misfit(classes, store, asked.parameters, actuals)
         || !fit_together(classes, store, buffer, function, actuals)
     {
         return Some(Trap::WrongObject);
     }
-    if lacks_room(function, asked.result, frames) {
+    if lacks_room(function, asked.result, &scene.locals.frames) {
         return Some(Trap::NoCapacity);
     }
     None

@@ -42,7 +42,7 @@ use replay_arguments::actual::{
     variable_given,
 };
 use replay_arguments::check::{check, fits_class};
-use replay_arguments::{Shared, field};
+use replay_arguments::{Scene, field};
 use replay_objects::{Frames, New, Store};
 use replay_terms::{BuffersInUse, Given, Lent, Variables, convert};
 use semantics::{ObjectId, Trap};
@@ -194,33 +194,22 @@ fn subject_of(function: JniFunction) -> Subject
 /// What a call does, its arguments being looked up: the run stops by the first check that fails, or else it does what its function
 /// does.
 pub fn answer_or_trap<'a>(
-    classes: &'a ClassTable,
-    shared: &Shared<'_>,
-    variables: &Variables<'_>,
-    frames: &Frames,
-    pending: Option<ObjectId>,
+    scene: Scene<'_, 'a>,
     caller: Caller,
     function: JniFunction,
     actuals: &[Actual<'a>],
 ) -> Answer<'a>
-    requires { IsGrown classes.now }
-    ensures { answer_view result ≡ answer_or_trap (trap_found classes.now shared.now.store frames.now (is_some pending) (element_value caller.element) (function_value function) (map actual_view actuals.now))
-        (worked_out classes.now (in_use_view caller.in_use) caller.thread shared.now.monitors shared.now.store (variables_view variables.now) frames.now pending (map actual_view actuals.now) (function_value function)) }
+    requires { IsGrown scene.classes.now }
+    ensures { answer_view result ≡ answer_or_trap
+        (trap_found scene.entry.classes.now scene.entry.shared.now.store scene.entry.locals.now.frames
+        (is_some scene.entry.pending) (element_value caller.element) (function_value function) (map actual_view actuals.now))
+        (worked_out scene.entry.classes.now (in_use_view caller.in_use) caller.thread scene.entry.shared.now.monitors scene.entry.shared.now.store
+        (variables_view scene.entry.locals.now.variables) scene.entry.locals.now.frames scene.entry.pending
+        (map actual_view actuals.now) (function_value function)) }
 {
-    let is_pending = pending.is_some();
-    match check(
-        classes,
-        &shared.store,
-        frames,
-        is_pending,
-        caller.element,
-        function,
-        actuals,
-    ) {
+    match check(scene, caller.element, function, actuals) {
         Some(trap) => Answer::Halts(trap),
-        None => work_out(
-            classes, shared, variables, frames, pending, caller, function, actuals,
-        ),
+        None => work_out(scene, caller, function, actuals),
     }
 }
 
@@ -246,29 +235,32 @@ pub fn lent_in(answer: Answer<'_>) -> Option<Lent>
 
 /// What a function does, all checks being passed.
 fn work_out<'a>(
-    classes: &'a ClassTable,
-    shared: &Shared<'_>,
-    variables: &Variables<'_>,
-    frames: &Frames,
-    pending: Option<ObjectId>,
+    scene: Scene<'_, 'a>,
     caller: Caller,
     function: JniFunction,
     actuals: &[Actual<'a>],
 ) -> Answer<'a>
-    requires { IsGrown classes.now }
-    ensures { answer_view result ≡ worked_out classes.now (in_use_view caller.in_use) caller.thread shared.now.monitors shared.now.store (variables_view variables.now) frames.now pending (map actual_view actuals.now) (function_value function) }
+    requires { IsGrown scene.classes.now }
+    ensures { answer_view result
+        ≡ worked_out scene.entry.classes.now (in_use_view caller.in_use) caller.thread scene.entry.shared.now.monitors scene.entry.shared.now.store
+        (variables_view scene.entry.locals.now.variables) scene.entry.locals.now.frames scene.entry.pending
+        (map actual_view actuals.now) (function_value function) }
 {
-    let store = &shared.store;
+    let classes = scene.classes;
+    let store = &scene.shared.store;
+    let variables = &scene.locals.variables;
     match subject_of(function) {
         Subject::Classes => class_answer(classes, store, function, actuals),
-        Subject::References => reference_answer(variables, frames, function, actuals),
+        Subject::References => reference_answer(variables, &scene.locals.frames, function, actuals),
         Subject::Fields => field_answer(classes, store, function, actuals),
         Subject::Statics => static_answer(classes, store, function, actuals),
         Subject::Arrays => array_answer(classes, store, function, actuals),
         Subject::Regions => region_answer(store, variables, function, actuals),
         Subject::Buffers => buffer_answer(store, caller.in_use, function, actuals),
-        Subject::Exceptions => exception_answer(pending, function, actuals),
-        Subject::Monitors => { monitor_answer(&shared.monitors, caller.thread, function, actuals) }
+        Subject::Exceptions => exception_answer(scene.pending, function, actuals),
+        Subject::Monitors => {
+            monitor_answer(&scene.shared.monitors, caller.thread, function, actuals)
+        }
     }
 }
 

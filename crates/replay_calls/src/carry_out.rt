@@ -19,33 +19,32 @@ use crate::buffers::copy_back;
 use crate::regions::{get_region, set_region};
 use classes::table::ClassTable;
 use jni::ResultKind;
-use replay_arguments::Shared;
+use replay_arguments::{Locals, Shared, Turn};
 use replay_objects::{Frames, New, make, make_thrown};
 use replay_terms::{Given, StaticReference, Variables};
 use semantics::ObjectId;
-use std::alloc::{AllocError, Global};
+use std::alloc::AllocError;
 
 /// Does what a function of this kind of result answers to a thread's call, where the run goes on, and tells what it gives. It gives
 /// no buffer.
 pub fn carry_out<'a>(
-    alloc: Global,
-    classes: &ClassTable,
+    turn: Turn<'_>,
     shared: &mut Shared<'a>,
-    variables: &mut Variables<'a>,
-    frames: &mut Frames,
     pending: &mut Option<ObjectId>,
+    locals: &mut Locals<'a>,
     kind: ResultKind,
-    thread: u8,
     answer: Answer<'a>,
 ) -> Result<Given<'a>, AllocError>
     requires goes { trap_in (answer_view answer) ≡ None }
     requires unlent { lent_in (answer_view answer) ≡ None }
-    requires fits { FitsFrames frames.old (answer_view answer) }
-    requires arrays { FitsArrays shared.old.store (variables_view variables.old) (answer_view answer) }
-    ensures shared { IfOk result (λ _. shared_view shared.new ≡ shared_after classes.now thread (shared_view shared.old) (variables_view variables.old) (answer_view answer.entry)) }
-    ensures variables { IfOk result (λ _. variables_view variables.new ≡ variables_after shared.old.store (variables_view variables.old) (answer_view answer.entry)) }
-    ensures frames { IfOk result (λ _. frames.new ≡ frames_after frames.old (answer_view answer.entry)) }
-    ensures pending { IfOk result (λ _. pending.new ≡ pending_after classes.now shared.old.store pending.old (answer_view answer.entry)) }
+    requires fits { FitsFrames locals.old.frames (answer_view answer) }
+    requires arrays { FitsArrays shared.old.store (variables_view locals.old.variables) (answer_view answer) }
+    ensures shared { IfOk result (λ _. shared_view shared.new
+        ≡ shared_after turn.entry.classes.now turn.entry.thread (shared_view shared.old) (variables_view locals.old.variables) (answer_view answer.entry)) }
+    ensures variables { IfOk result (λ _. variables_view locals.new.variables
+        ≡ variables_after shared.old.store (variables_view locals.old.variables) (answer_view answer.entry)) }
+    ensures frames { IfOk result (λ _. locals.new.frames ≡ frames_after locals.old.frames (answer_view answer.entry)) }
+    ensures pending { IfOk result (λ _. pending.new ≡ pending_after turn.entry.classes.now shared.old.store pending.old (answer_view answer.entry)) }
     ensures given { IfOk result (λ g. given_view g ≡ given_after shared.old.store (result_value kind) (answer_view answer.entry)) }
 {
     match answer {
@@ -59,16 +58,21 @@ pub fn carry_out<'a>(
             Ok(Given::Nothing)
         }
         Answer::Makes(new) => {
-            let name = make(alloc, classes, &mut shared.store, new)?;
+            let name = make(turn.alloc, turn.classes, &mut shared.store, new)?;
             Ok(Given::Reference(Some(name)))
         }
         Answer::Raises(class) => {
-            let name = make(alloc, classes, &mut shared.store, New::Fresh(class))?;
+            let name = make(
+                turn.alloc,
+                turn.classes,
+                &mut shared.store,
+                New::Fresh(class),
+            )?;
             *pending = Some(name);
             Ok(failed(kind))
         }
         Answer::ThrowsNew { class, text } => {
-            let name = make_thrown(alloc, classes, &mut shared.store, class, text)?;
+            let name = make_thrown(turn.alloc, turn.classes, &mut shared.store, class, text)?;
             *pending = Some(name);
             Ok(Given::Number(0))
         }
@@ -80,14 +84,14 @@ pub fn carry_out<'a>(
             Ok(given)
         }
         Answer::GetsRegion(_) | Answer::SetsRegion(_) | Answer::CopiesBack { .. } => {
-            carry_out_numbers(shared, variables, answer)
+            carry_out_numbers(shared, &mut locals.variables, answer)
         }
         Answer::Frees(buffer) => {
-            variables.free(buffer);
+            locals.variables.free(buffer);
             Ok(Given::Nothing)
         }
         Answer::Halts(_) | Answer::Lends(_) => unreachable!(),
-        _ => carry_out_references(alloc, classes, shared, frames, pending, thread, answer),
+        _ => carry_out_references(turn, shared, pending, &mut locals.frames, answer),
     }
 }
 
@@ -124,20 +128,19 @@ fn carry_out_numbers<'a>(
 /// Does to the references and monitors of all threads and to a call's frames what an answer of references, monitors or frames says.
 #[inline(always)]
 fn carry_out_references<'a>(
-    alloc: Global,
-    classes: &ClassTable,
+    turn: Turn<'_>,
     shared: &mut Shared<'a>,
-    frames: &mut Frames,
     pending: &mut Option<ObjectId>,
-    thread: u8,
+    frames: &mut Frames,
     answer: Answer<'a>,
 ) -> Result<Given<'a>, AllocError>
     requires of_references { is_of_references (answer_view answer) ≡ true }
     requires fits { FitsFrames frames.old (answer_view answer) }
-    ensures shared { IfOk result (λ _. (vs : VariablesOfCall) → shared_view shared.new ≡ shared_after classes.now thread (shared_view shared.old) vs (answer_view answer.entry)) }
+    ensures shared { IfOk result (λ _. (vs : VariablesOfCall) → shared_view shared.new
+        ≡ shared_after turn.entry.classes.now turn.entry.thread (shared_view shared.old) vs (answer_view answer.entry)) }
     ensures variables { (heap : Heap) (vs : VariablesOfCall) → vs ≡ variables_after heap vs (answer_view answer.entry) }
     ensures frames { IfOk result (λ _. frames.new ≡ frames_after frames.old (answer_view answer.entry)) }
-    ensures pending { IfOk result (λ _. (heap : Heap) → pending.new ≡ pending_after classes.now heap pending.old (answer_view answer.entry)) }
+    ensures pending { IfOk result (λ _. (heap : Heap) → pending.new ≡ pending_after turn.entry.classes.now heap pending.old (answer_view answer.entry)) }
     ensures given { IfOk result (λ g. (heap : Heap) (kind : SourceKind) → given_view g ≡ given_after heap kind (answer_view answer.entry)) }
 {
     match answer {
@@ -154,30 +157,29 @@ fn carry_out_references<'a>(
             Ok(Given::Nothing)
         }
         Answer::Owns { object, count } => {
-            shared.monitors.put(object, thread, count)?;
+            shared.monitors.put(object, turn.thread, count)?;
             Ok(Given::Number(0))
         }
         Answer::Disowns(object) => {
             shared.monitors.remove(object);
             Ok(Given::Number(0))
         }
-        _ => carry_out_frames(alloc, classes, frames, pending, answer),
+        _ => carry_out_frames(turn, pending, frames, answer),
     }
 }
 
 /// Does to a call's frames what an answer of frames says.
 #[inline(always)]
 fn carry_out_frames<'a>(
-    alloc: Global,
-    classes: &ClassTable,
-    frames: &mut Frames,
+    turn: Turn<'_>,
     pending: &mut Option<ObjectId>,
+    frames: &mut Frames,
     answer: Answer<'a>,
 ) -> Result<Given<'a>, AllocError>
     requires of_frames { is_of_frames (answer_view answer) ≡ true }
     requires fits { FitsFrames frames.old (answer_view answer) }
     ensures frames { IfOk result (λ _. frames.new ≡ frames_after frames.old (answer_view answer.entry)) }
-    ensures pending { IfOk result (λ _. (heap : Heap) → pending.new ≡ pending_after classes.now heap pending.old (answer_view answer.entry)) }
+    ensures pending { IfOk result (λ _. (heap : Heap) → pending.new ≡ pending_after turn.entry.classes.now heap pending.old (answer_view answer.entry)) }
     ensures given { IfOk result (λ g. (heap : Heap) (kind : SourceKind) → given_view g ≡ given_after heap kind (answer_view answer.entry)) }
 {
     match answer {
@@ -186,11 +188,11 @@ fn carry_out_frames<'a>(
             Ok(Given::Number(0))
         }
         Answer::Pushes(capacity) => {
-            frames.push(alloc, capacity)?;
+            frames.push(turn.alloc, capacity)?;
             Ok(Given::Number(0))
         }
         Answer::RefusesFrames => {
-            run_out(classes, pending);
+            run_out(turn.classes, pending);
             Ok(Given::Number(-4))
         }
         Answer::Pops(reference) => {

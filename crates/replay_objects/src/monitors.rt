@@ -1,6 +1,6 @@
 //! The monitors of objects, which threads own (JNI Specification, chapter 4, "MonitorEnter" and "MonitorExit").
 
-ghost use Rattle.std.specs.Prelude.{◌≡◌, ◌++◌, ◌∷◌, [], ◌==◌, IfOk, find};
+ghost use Rattle.std.specs.Prelude.{◌≡◌, ◌++◌, ◌∷◌, [], ◌==◌, IfOk, find, length};
 ghost use Rattle.std.specs.Option.{option_map};
 ghost use Rattle.semantics.specs.CallEffects.{monitor};
 ghost use Rattle.semantics.specs.Thread.{monitor_of, without_monitor, without_owner};
@@ -54,6 +54,14 @@ impl Monitors {
         Monitors {
             monitors: Vec::new(alloc),
         }
+    }
+
+    /// Whether no thread owns a monitor.
+    #[inline]
+    pub fn is_empty(&self) -> bool
+        ensures { result ≡ (length self.now == 0) }
+    {
+        self.monitors.is_empty()
     }
 
     /// The monitor of an object.

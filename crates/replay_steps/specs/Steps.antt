@@ -10,8 +10,8 @@ use Rattle.semantics.specs.Term.{Done}
 use Rattle.semantics.specs.Value.{Truth}
 use Rattle.semantics.specs.Thread.{Frame, Thread, Shared, BuffersInUse, Quiet, PrintedNumber, Trapped, Advance, Advances, NoAdvance}
 use Rattle.semantics.specs.ThreadStep.{step_within, with_tasks}
-use Rattle.replay_steps.specs.declared.activation.Locals.{Locals}
-use Rattle.replay_steps.specs.declared.turn.Turn.{Turn}
+use Rattle.replay_arguments.specs.declared.scene.Locals.{Locals}
+use Rattle.replay_arguments.specs.declared.scene.Turn.{Turn}
 use Rattle.replay_terms.specs.Views.{in_use_view}
 use Rattle.replay_tasks.specs.declared.outcome.Outcome.{Outcome}
 use Rattle.replay_tasks.specs.declared.outcome.Outcome.TheVariants as outcome

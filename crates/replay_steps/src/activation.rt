@@ -13,11 +13,10 @@ ghost use Rattle.replay_terms.specs.declared.term.Term.TheVariants as term;
 ghost use Rattle.replay_terms.specs.declared.value.Value.TheVariants as value;
 
 use crate::step::step;
-use crate::turn::Turn;
-use replay_arguments::Shared;
-use replay_objects::{Frames, Store};
+use replay_arguments::{Locals, Shared, Turn};
+use replay_objects::Store;
 use replay_tasks::{Choice, End, Outcome, Statements, Task, loop_task, set_variables, task_of};
-use replay_terms::{Statics, Term, Value, Variables};
+use replay_terms::{Statics, Term, Value};
 use semantics::ObjectId;
 use std::alloc::{AllocError, Global};
 use std::mem;
@@ -45,21 +44,6 @@ impl Drop for Work<'_> {
         drop(task);
         drop(rest);
         drop(outer);
-    }
-}
-
-/// The variables of a call in progress, in the order in which they came to be, and its frames of local references.
-pub struct Locals<'a> {
-    pub variables: Variables<'a>,
-    pub frames: Frames,
-}
-
-// Written out, as above.
-impl Drop for Locals<'_> {
-    fn drop(self) {
-        let Locals { variables, frames } = self;
-        drop(variables);
-        drop(frames);
     }
 }
 
@@ -100,7 +84,25 @@ fn begin_statement<'a>(
     Ok(())
 }
 
+/// Begins the block's next statement, there being none that is begun.
+#[inline(never)]
+fn begin_first<'a>(alloc: Global, work: &mut Work<'a>) -> Result<(), AllocError>
+    requires range { IsInRange work.old }
+    requires task { work.old.task ≡ None }
+    ensures tasks { IfOk result (λ _. tasks_left work.new ≡ tasks_left work.old) }
+    ensures range { IfOk result (λ _. IsInRange work.new) }
+    ensures next { IfOk result (λ _. work.new.task ≡ None → work.new.rest ≡ []) }
+{
+    let Some(first) = work.rest.first() else {
+        return Ok(());
+    };
+    begin_statement(alloc, &mut work.task, first)?;
+    work.rest.skip_first();
+    Ok(())
+}
+
 /// Begins the block's next statement, where none is begun.
+#[inline(always)]
 fn begin<'a>(alloc: Global, work: &mut Work<'a>) -> Result<(), AllocError>
     requires { IsInRange work.old }
     ensures tasks { IfOk result (λ _. tasks_left work.new ≡ tasks_left work.old) }
@@ -110,12 +112,7 @@ fn begin<'a>(alloc: Global, work: &mut Work<'a>) -> Result<(), AllocError>
     if work.task.is_some() {
         return Ok(());
     }
-    let Some(first) = work.rest.first() else {
-        return Ok(());
-    };
-    begin_statement(alloc, &mut work.task, first)?;
-    work.rest.skip_first();
-    Ok(())
+    begin_first(alloc, work)
 }
 
 /// What is to do of a call of a function with this body, whose first statement is begun.

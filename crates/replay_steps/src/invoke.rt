@@ -8,10 +8,10 @@ ghost use Rattle.replay_tasks.specs.declared.task.Task.TheVariants as task;
 ghost use Rattle.semantics.specs.Arguments.{Actual as ActualOfCall, address_given};
 ghost use Rattle.semantics.specs.Thread.{Shared as SharedOfThreads};
 ghost use Rattle.replay_arguments.specs.Actuals.{actual_view};
-ghost use Rattle.replay_calls.specs.Answers.{FitsArrays, FitsFrames, answer_view, trap_in};
+ghost use Rattle.replay_calls.specs.Answers.{FitsArrays, FitsFrames, answer_view, lent_in, trap_in};
 ghost use Rattle.replay_steps.specs.Calls.{HasAnswer, MakesCall, MakesInvocation, ReducesFirst, ReducesOne, lent_outcome, wanted_element};
 ghost use Rattle.replay_tasks.specs.Outcomes.{outcome_for};
-ghost use Rattle.replay_steps.specs.declared.activation.Locals.{Locals as LocalsInMemory};
+ghost use Rattle.replay_arguments.specs.declared.scene.Locals.{Locals as LocalsInMemory};
 ghost use Rattle.replay_steps.specs.Steps.{Does, scene_of};
 ghost use Rattle.replay_arguments.specs.Shares.{shared_view, sight_in};
 ghost use Rattle.replay_tasks.specs.Tasks.{OperandInRange, OperandsInRange, OutcomeInRange, PurposeInRange};
@@ -21,10 +21,8 @@ ghost use Rattle.semantics.specs.CallStep.{tell_copy};
 ghost use Rattle.semantics.specs.Heap.{Heap};
 ghost use Rattle.base.specs.Element.{element_value};
 
-use crate::activation::Locals;
-use crate::turn::Turn;
-use replay_arguments::Shared;
 use replay_arguments::actual::{Actual, actuals, address_given};
+use replay_arguments::{Locals, Scene, Shared, Turn};
 use replay_calls::carry_out::{carry_out, makes_object, put_local, refuse};
 use replay_calls::{Answer, Caller, answer_or_trap, lent_in, tell_copy, trap_in};
 use replay_tasks::{Invocation, Outcome, Purpose, Target, VariableKind, reduced};
@@ -188,23 +186,23 @@ fn call<'a>(
         in_use: turn.in_use,
         element: wanted_element(&locals.variables, i.purpose),
     };
-    let answer = answer_or_trap(
-        turn.classes,
+    let scene = Scene {
+        classes: turn.classes,
         shared,
-        &locals.variables,
-        &locals.frames,
-        *pending,
-        caller,
-        i.function,
-        actuals,
-    );
+        locals,
+        pending: *pending,
+    };
+    let answer = answer_or_trap(scene, caller, i.function, actuals);
     if let Some(trap) = trap_in(answer) {
         return Ok(unless_refused(turn.refused, Outcome::Trapped { trap, line: i.line }));
     }
     if turn.refused {
         return Ok(refuse_object(turn, pending, i, answer));
     }
-    complete(turn, shared, pending, locals, i, actuals, answer)
+    if let Some(buffer) = lent_in(answer) {
+        return lend(locals, i, actuals, buffer);
+    }
+    complete(turn, shared, pending, locals, i, answer)
 }
 
 /// The element type of the buffer that a call is to fill; `jint` where there is none.
@@ -239,7 +237,7 @@ fn refuse_object<'a>(
     outcome_for(i.line, i.purpose, given)
 }
 
-/// What a call does by its answer, with no object refused.
+/// What a call does by its answer, which gives no buffer, with no object refused.
 #[inline]
 fn complete<'a>(
     turn: Turn<'a>,
@@ -247,33 +245,21 @@ fn complete<'a>(
     pending: &mut Option<ObjectId>,
     locals: &mut Locals<'a>,
     i: &Invocation<'a>,
-    actuals: &[Actual<'a>],
     answer: Answer<'a>,
 ) -> Result<Outcome<'a>, AllocError>
     requires ways { PurposeInRange i.now.purpose }
     requires goes { trap_in (answer_view answer) ≡ None }
+    requires unlent { lent_in (answer_view answer) ≡ None }
     requires fits { FitsFrames locals.old.frames (answer_view answer) }
     requires arrays { FitsArrays shared.old.store (variables_view locals.old.variables) (answer_view answer) }
-    ensures step { HasAnswer (scene_of turn.entry (shared_view shared.old) locals.old pending.old) i.now.purpose (function_value i.now.function) (map actual_view actuals.entry.now) (answer_view answer.entry)
-        → IfOk result (λ o. MakesCall false (scene_of turn.entry (shared_view shared.old) locals.old pending.old) i.now.line i.now.purpose (function_value i.now.function) (map actual_view actuals.entry.now) o
+    ensures step { (args : List ActualOfCall)
+        → HasAnswer (scene_of turn.entry (shared_view shared.old) locals.old pending.old) i.now.purpose (function_value i.now.function) args (answer_view answer.entry)
+        → IfOk result (λ o. MakesCall false (scene_of turn.entry (shared_view shared.old) locals.old pending.old) i.now.line i.now.purpose (function_value i.now.function) args o
         (scene_of turn.entry (shared_view shared.new) locals.new pending.new)) }
     ensures range { IfOk result OutcomeInRange }
 {
-    if let Some(buffer) = lent_in(answer) {
-        return lend(locals, i, actuals, buffer);
-    }
     let kind = i.function.prototype().result;
-    let given = carry_out(
-        turn.alloc,
-        turn.classes,
-        shared,
-        &mut locals.variables,
-        &mut locals.frames,
-        pending,
-        kind,
-        turn.thread,
-        answer,
-    )?;
+    let given = carry_out(turn, shared, pending, locals, kind, answer)?;
     put_local(&mut locals.frames, kind, given)?;
     Ok(outcome_for(i.line, i.purpose, given))
 }

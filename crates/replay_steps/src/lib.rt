@@ -4,9 +4,7 @@
 mod activation;
 mod invoke;
 mod step;
-mod turn;
 mod wait;
 
-pub use activation::{Activation, Locals, Outer, Work, advance, work_of};
-pub use turn::Turn;
+pub use activation::{Activation, Outer, Work, advance, work_of};
 pub use wait::waits;

@@ -6,10 +6,8 @@ ghost use Rattle.replay_steps.specs.Steps.{Does, scene_of};
 ghost use Rattle.replay_arguments.specs.Shares.{shared_view};
 ghost use Rattle.replay_tasks.specs.Tasks.{TaskInRange, OutcomeInRange};
 
-use crate::activation::Locals;
 use crate::invoke::{invoke, unless_refused};
-use crate::turn::Turn;
-use replay_arguments::Shared;
+use replay_arguments::{Locals, Shared, Turn};
 use replay_tasks::{Outcome, Task, plain_step};
 use semantics::ObjectId;
 use std::alloc::AllocError;

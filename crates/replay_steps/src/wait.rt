@@ -13,13 +13,13 @@ ghost use Rattle.replay_steps.specs.Steps.{scene_with};
 ghost use Rattle.replay_steps.specs.Waits.{WaitsIn, call_waits, is_kept_out, task_waits, waits_to_enter};
 ghost use Rattle.replay_terms.specs.Views.{operand_view};
 
-use crate::activation::{Activation, Locals};
+use crate::activation::Activation;
 use classes::table::ClassTable;
 use jni::{JniFunction, ParameterKind};
-use replay_arguments::Shared;
 use replay_arguments::actual::{Actual, look_up, object_given};
 use replay_arguments::check::check;
-use replay_objects::{Frames, Monitor};
+use replay_arguments::{Scene, Shared};
+use replay_objects::Monitor;
 use replay_tasks::Task;
 use replay_terms::{Operand, Term};
 use semantics::ObjectId;
@@ -56,124 +56,81 @@ fn is_owned_by_other(thread: usize, monitor: Option<Monitor>) -> bool
 }
 
 /// Whether a call of `MonitorEnter` with these arguments passes all checks, and another thread owns its object.
-fn is_kept_out(
-    classes: &ClassTable,
-    thread: usize,
-    shared: &Shared<'_>,
-    pending: Option<ObjectId>,
-    frames: &Frames,
-    actuals: &[Actual<'_>],
-) -> bool
-    ensures { result ≡ is_kept_out classes.now thread (shared_view shared.now) frames.now pending (map actual_view actuals.now) }
+fn is_kept_out(scene: Scene<'_, '_>, thread: usize, actuals: &[Actual<'_>]) -> bool
+    ensures { result ≡ is_kept_out scene.entry.classes.now thread (shared_view scene.entry.shared.now) scene.entry.locals.now.frames
+        scene.entry.pending (map actual_view actuals.now) }
 {
-    let trap = check(
-        classes,
-        &shared.store,
-        frames,
-        pending.is_some(),
-        ElementType::Int,
-        JniFunction::MonitorEnter,
-        actuals,
-    );
-    match trap {
+    match check(scene, ElementType::Int, JniFunction::MonitorEnter, actuals) {
         Some(_) => false,
         None => {
-            let monitor = shared.monitors.of(object_given(actuals, 0));
+            let monitor = scene.shared.monitors.of(object_given(actuals, 0));
             is_owned_by_other(thread, monitor)
         }
     }
 }
 
 /// Whether a call of `MonitorEnter` waits, its numbers being worked out. It takes one argument, which is looked up.
-fn waits_to_enter<'a>(
-    classes: &ClassTable,
-    thread: usize,
-    shared: &Shared<'_>,
-    pending: Option<ObjectId>,
-    locals: &Locals<'a>,
-    operands: &[Operand<'a>],
-) -> bool
-    ensures { result ≡ waits_to_enter classes.now thread (shared_view shared.now) locals.now.variables locals.now.frames pending (map operand_view operands.entry.now) }
+fn waits_to_enter<'a>(scene: Scene<'_, 'a>, thread: usize, operands: &[Operand<'a>]) -> bool
+    ensures { result ≡ waits_to_enter scene.entry.classes.now thread (shared_view scene.entry.shared.now) scene.entry.locals.now.variables
+        scene.entry.locals.now.frames scene.entry.pending (map operand_view operands.entry.now) }
 {
     if !is_ready(operands) {
         return false;
     }
-    let frames = &locals.frames;
     match operands {
-        [] => is_kept_out(classes, thread, shared, pending, frames, &[]),
+        [] => is_kept_out(scene, thread, &[]),
         [operand, ..] => {
-            let object = look_up(shared, &locals.variables, ParameterKind::NonNull, operand);
-            is_kept_out(classes, thread, shared, pending, frames, &[object])
+            let variables = &scene.locals.variables;
+            let object = look_up(scene.shared, variables, ParameterKind::NonNull, operand);
+            is_kept_out(scene, thread, &[object])
         }
     }
 }
 
 /// Whether a call of this function waits.
 fn call_waits<'a>(
-    classes: &ClassTable,
+    scene: Scene<'_, 'a>,
     thread: usize,
-    shared: &Shared<'_>,
-    pending: Option<ObjectId>,
-    locals: &Locals<'a>,
     function: JniFunction,
     operands: &[Operand<'a>],
 ) -> bool
-    ensures { result ≡ call_waits classes.now thread (shared_view shared.now) locals.now.variables locals.now.frames pending (function_value function) (map operand_view operands.now) }
+    ensures { result ≡ call_waits scene.entry.classes.now thread (shared_view scene.entry.shared.now) scene.entry.locals.now.variables
+        scene.entry.locals.now.frames scene.entry.pending (function_value function) (map operand_view operands.now) }
 {
     match function {
-        JniFunction::MonitorEnter => {
-            waits_to_enter(classes, thread, shared, pending, locals, operands)
-        }
+        JniFunction::MonitorEnter => waits_to_enter(scene, thread, operands),
         _ => false,
     }
 }
 
 /// Whether the task that is begun is a call that waits.
 #[inline]
-fn task_waits<'a>(
-    classes: &ClassTable,
-    thread: usize,
-    shared: &Shared<'_>,
-    pending: Option<ObjectId>,
-    locals: &Locals<'a>,
-    task: &Option<Task<'a>>,
-) -> bool
-    ensures { result ≡ task_waits classes.now thread (shared_view shared.now) locals.now.variables locals.now.frames pending task.now }
+fn task_waits<'a>(scene: Scene<'_, 'a>, thread: usize, task: &Option<Task<'a>>) -> bool
+    ensures { result ≡ task_waits scene.entry.classes.now thread (shared_view scene.entry.shared.now) scene.entry.locals.now.variables
+        scene.entry.locals.now.frames scene.entry.pending task.now }
 {
     match task {
-        Some(Task::Invoke(i)) => {
-            call_waits(
-                classes,
-                thread,
-                shared,
-                pending,
-                locals,
-                i.function,
-                &i.operands,
-            )
-        }
+        Some(Task::Invoke(i)) => call_waits(scene, thread, i.function, &i.operands),
         _ => false,
     }
 }
 
 /// Whether the thread of this number, counted from 1, waits for a monitor: its next step is a call of `MonitorEnter` that all checks
 /// let through, on an object that another thread owns.
-pub fn waits(
-    classes: &ClassTable,
+pub fn waits<'a>(
+    classes: &'a ClassTable,
     thread: usize,
-    shared: &Shared<'_>,
+    shared: &Shared<'a>,
     pending: Option<ObjectId>,
-    activation: &Activation<'_>,
+    activation: &Activation<'a>,
 ) -> bool
     ensures { (in_use : BuffersInUse) → WaitsIn (scene_with classes.now in_use thread (shared_view shared.now) activation.now.locals.variables activation.now.locals.frames pending) activation.now.work result }
 {
-    let locals = &activation.locals;
-    task_waits(
+    let scene = Scene {
         classes,
-        thread,
         shared,
+        locals: &activation.locals,
         pending,
-        locals,
-        &activation.work.task,
-    )
+    };
+    task_waits(scene, thread, &activation.work.task)
 }

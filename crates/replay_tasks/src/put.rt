@@ -151,25 +151,20 @@ fn buffer_type(content: &Content<'_>) -> Option<ElementType>
     }
 }
 
-/// Declares a variable with a buffer that is lent.
-fn declare_lent<'a>(
+/// What a variable holds that is declared with a buffer that is lent, where there are this many frames.
+fn declared<'a>(
     alloc: Global,
     store: &Store,
     frames: usize,
-    variables: &mut Variables<'a>,
-    declared: VariableKind,
-    name: &'a Name,
+    kind: VariableKind,
     buffer: Lent,
-) -> Result<(), AllocError>
-    ensures { IfOk result (λ _. variables_view variables.new ≡ assign name.entry.now (filled (blank (kind_view declared) frames) (BufferResult (lent_view store.now buffer))) (variables_view variables.old)) }
+) -> Result<Content<'a>, AllocError>
+    ensures { IfOk result (λ c. content_view c ≡ filled (blank (kind_view kind) frames) (BufferResult (lent_view store.now buffer))) }
 {
-    match declared {
-        VariableKind::Buffer(kind) => {
-            let content = lent(alloc, store, kind, buffer)?;
-            variables.set(name, content)
-        }
+    match kind {
+        VariableKind::Buffer(element) => lent(alloc, store, element, buffer),
         VariableKind::Number | VariableKind::Reference | VariableKind::Field => {
-            variables.set(name, blank(declared, frames))
+            Ok(blank(kind, frames))
         }
     }
 }
@@ -188,7 +183,8 @@ fn lend<'a>(
 {
     match target {
         Target::Declared(kind, name) => {
-            declare_lent(alloc, store, frames, variables, kind, name, buffer)
+            let content = declared(alloc, store, frames, kind, buffer)?;
+            variables.set(name, content)
         }
         Target::Assigned(name) => match variables.content_of(name) {
             Some(content) => match buffer_type(content) {

@@ -1,6 +1,7 @@
 -- What an entry does to the state that a state in memory stands for.
 use Rattle.std.proofs.Common.{◌≡◌, ℕ, zero, suc, ◌+◌, ◌<◌, ◌≤◌, Bool, true, false, cond, List, [], ◌∷◌, ◌++◌, length, map, take, Option, Some, None, refl, sym, ap, ◌∙◌, subst, arith}
-use Rattle.std.specs.Prelude.{slice_get, slice_set, sum_by, flat_map, ◌&&◌, not, is_none}
+use Rattle.std.specs.Prelude.{slice_get, slice_set, sum_by, flat_map, ◌&&◌, ◌==◌, not, is_none}
+use Rattle.std.proofs.lemmas.Bool.{eqb-true}
 use Rattle.std.proofs.lemmas.List.{length-set}
 use Rattle.std.proofs.lemmas.List.Concat.{flat_map-cons}
 use Rattle.std.proofs.lemmas.List.Sums.{sum_by-cons}
@@ -26,8 +27,11 @@ use Rattle.semantics.specs.ReportOf.{report, standing_at, standing_of}
 use Rattle.replay_arguments.specs.Shares.{shared_view}
 use Rattle.semantics.specs.State.{State, thread_at, set_thread, copied, in_use, with_event, advanced}
 use Rattle.semantics.specs.Step.{world_step, can_step, step_of, is_blocked, is_live, is_unfinished, is_waiting}
-use Rattle.semantics.specs.Thread.{BuffersInUse, copied_by, viewed_by, Ending, Thread, Shared, Unfinished, Ended, Uncaught, Quiet, PrintedNumber, Trapped}
-use Rattle.semantics.specs.ThreadStep.{thread_step, waits}
+use Rattle.jni.specs.JniFunction.{MonitorEnter}
+use Rattle.semantics.specs.CallStep.{trap_of_call, waits_with}
+use Rattle.semantics.specs.Effect.{Effect, Calls}
+use Rattle.semantics.specs.Thread.{BuffersInUse, copied_by, viewed_by, Ending, Monitor, Thread, Shared, Unfinished, Ended, Uncaught, Quiet, PrintedNumber, Trapped}
+use Rattle.semantics.specs.ThreadStep.{next_effect, thread_step, waits}
 use Rattle.semantics.proofs.StepLaws.{Steps, steps, step-thread}
 use Rattle.replay_threads.specs.declared.state.State.{State as StateInMemory}
 use Rattle.replay_threads.specs.declared.thread.Thread.{Thread as ThreadInMemory}
@@ -38,6 +42,28 @@ use Rattle.semantics.specs.EventViews.{ending_view, printed_after, stop_after, s
 use Rattle.replay_threads.specs.States.{ThreadsStand, AreInRange, Stands, variables_of, copied_in, viewed_in, in_use_by, Leads, standing_in, standings_of, EachInRange}
 use Rattle.replay_threads.specs.Threads.{ThreadStands, ThreadWaits, WorkInRange, WorkStands, StepIs, TakesStep}
 use Rattle.replay_threads.proofs.StandingLemmas.{numbered_at, taken_more}
+
+-- ---- where nobody owns a monitor
+
+and_false : (b : Bool) → (b && false) ≡ false
+and_false true = refl
+and_false false = refl
+
+-- no call waits
+call_goes : (classes : Classes) (k : ℕ) (shared : Shared) (t : Thread) (e : Effect) → waits_with classes k (record shared { monitors = [] }) t e ≡ false
+call_goes classes k shared t (Calls line target MonitorEnter args) = and_false (is_none (trap_of_call classes (record shared { monitors = [] }) t target MonitorEnter args))
+call_goes classes k shared t e = refl
+
+-- and no thread
+thread_goes : (classes : Classes) (k : ℕ) (shared : Shared) (o : Option Thread) → shared.monitors ≡ [] → is_waiting classes k shared o ≡ false
+thread_goes classes k shared None none = refl
+thread_goes classes k shared (Some t) none =
+    ap (λ (ms : List Monitor). waits_with classes k (record shared { monitors = ms }) t (next_effect shared t t.tasks)) none
+    ∙ call_goes classes k shared t (next_effect shared t t.tasks)
+
+none_in : {A : Type 0} (l : List A) → length l ≡ 0 → l ≡ []
+none_in [] is = refl
+none_in (x ∷ l) is = absurd (cc)
 
 -- ---- one thread of several
 
@@ -193,6 +219,10 @@ module _ (unit : SourceUnit) (w : World) (m : StateInMemory) (s : State) (h : St
   unfolding world_step
   waiting k refused waits =
       none_else (can_step w.classes s k) (step_of unit w.classes s k refused (thread_at s k)) (last_fails (is_none s.stop) (is_live (thread_at s k)) (is_blocked w.classes s k) waits)
+
+  -- where nobody owns a monitor no thread waits
+  pub free_unowned : (k : ℕ) → (length m.shared.monitors == 0) ≡ true → false ≡ is_blocked w.classes s k
+  free_unowned k none = sym (thread_goes w.classes k s.shared (thread_at s k) (ap (λ (x : Shared). x.monitors) h.shared ∙ none_in m.shared.monitors (eqb-true (length m.shared.monitors) 0 none)))
 
   -- a thread that isn't there doesn't wait
   pub free_nobody : (k : ℕ) → k ≡ 0 → false ≡ is_blocked w.classes s k

@@ -19,7 +19,7 @@ use Rattle.replay_tasks.specs.declared.outcome.Outcome.{Outcome}
 use Rattle.replay_tasks.specs.declared.outcome.Outcome.TheVariants as outcome
 use Rattle.replay_threads.specs.declared.thread.Thread.{Thread as ThreadInMemory}
 use Rattle.replay_steps.specs.Activations.{tasks_left, IsAtStatement}
-use Rattle.replay_steps.specs.declared.turn.Turn.{Turn}
+use Rattle.replay_arguments.specs.declared.scene.Turn.{Turn}
 use Rattle.replay_terms.specs.Views.{in_use_view}
 use Rattle.semantics.specs.declared.event.Event.{Event as EventInMemory}
 use Rattle.semantics.specs.declared.event.Event.TheVariants as event

@@ -12,8 +12,7 @@ ghost use Rattle.report.specs.ThreadStatus.{standing_view};
 
 use crate::thread::{Thread, is_waiting, take_step};
 use functions::Functions;
-use replay_arguments::Shared;
-use replay_steps::Turn;
+use replay_arguments::{Shared, Turn};
 use replay_terms::BuffersInUse;
 use report::ThreadStatus;
 use report_objects::standing_of;
@@ -69,7 +68,19 @@ fn note(state: &mut State<'_>, k: u8, took: Option<Event>) -> Result<bool, Alloc
 }
 
 /// Whether thread `k`, counted from 1, is there and waits for a monitor that another one owns.
+#[inline]
 fn waits(state: &State<'_>, k: usize) -> bool
+    ensures { Waits state.now k result }
+{
+    if state.shared.monitors.is_empty() {
+        return false;
+    }
+    waits_for_owner(state, k)
+}
+
+/// The same, found by what the thread does next.
+#[inline(never)]
+fn waits_for_owner(state: &State<'_>, k: usize) -> bool
     ensures { Waits state.now k result }
 {
     if k == 0 {

@@ -20,9 +20,9 @@ use class_queries::native_class;
 use class_rules::ClassId;
 use classes::table::ClassTable;
 use functions::Functions;
-use replay_arguments::Shared;
+use replay_arguments::{Locals, Shared, Turn};
 use replay_objects::{Frames, Names, Store};
-use replay_steps::{Activation, Locals, Turn, advance, waits, work_of};
+use replay_steps::{Activation, advance, waits, work_of};
 use replay_tasks::Outcome;
 use replay_terms::{Content, Value, Variables};
 use semantics::{Ending, Event, ObjectId};
@@ -305,11 +305,11 @@ fn end_step(
 
 /// Whether thread `k`, counted from 1, waits for a monitor that another thread owns.
 #[inline]
-pub(crate) fn is_waiting(
-    classes: &ClassTable,
+pub(crate) fn is_waiting<'a>(
+    classes: &'a ClassTable,
     k: usize,
-    shared: &Shared<'_>,
-    thread: &Thread<'_>,
+    shared: &Shared<'a>,
+    thread: &Thread<'a>,
 ) -> bool
     ensures { ThreadWaits classes.now k (shared_view shared.now) thread.now result }
 {

@@ -1,4 +1,4 @@
-use Rattle.std.proofs.Common.{◌≡◌, ℕ, List, IfOk, is_some, sym, ap, ◌∙◌, subst, map}
+use Rattle.std.proofs.Common.{◌≡◌, ℕ, Result, Ok, Err, List, IfOk, is_some, sym, ap, ◌∙◌, subst, map}
 use Rattle.std.specs.Option.{option_map}
 use Rattle.jni.specs.Table.{function_value}
 use Rattle.replay_arguments.specs.Actuals.{actual_view}
@@ -19,7 +19,7 @@ use Rattle.replay_terms.specs.Views.{in_use_view, variables_view}
 use Rattle.replay_steps.specs.Calls.{MakesCall, wanted_element}
 use Rattle.replay_steps.specs.Steps.{Scene, scene_of}
 use Rattle.replay_calls.proofs.FittingFrames.{told_copies, told_fits}
-use Rattle.replay_steps.proofs.CallLemmas.{call_stopped}
+use Rattle.replay_steps.proofs.CallLemmas.{buffer_lent, call_stopped}
 use Rattle.replay_steps.proofs.invoke.call.Goals as goal
 
 -- the answer, by the element type that is wanted
@@ -27,6 +27,11 @@ answer_for : (a : Answer) (classes : Classes) (in_use : BuffersInUse) (k : ℕ) 
     → a ≡ answer_or_trap (trap_found classes heap frames (is_some pending) T f args) (worked_out classes in_use k monitors heap vs frames pending args f)
     → a ≡ answer_or_trap (trap_found classes heap frames (is_some pending) U f args) (worked_out classes in_use k monitors heap vs frames pending args f)
 answer_for a classes in_use k monitors heap vs frames pending f args T U same is = is ∙ ap (λ (V : ElementType). answer_or_trap (trap_found classes heap frames (is_some pending) V f args) (worked_out classes in_use k monitors heap vs frames pending args f)) same
+
+-- what holds of an answer, by two things that do
+both_ok : {A E : Type 0} {P Q R : A → Type 0} → (r : Result A E) → ((a : A) → P a → Q a → R a) → IfOk r P → IfOk r Q → IfOk r R
+both_ok (Ok a) f h k = f a h k
+both_ok (Err e) f h k = tt
 
 pub complete-requires-clause-fits : goal.complete-requires-clause-fits
 complete-requires-clause-fits c =
@@ -81,6 +86,24 @@ returns-then-turn-clause-step c =
     subst (λ b. MakesCall b before i.line i.purpose f args c.refuse_object.result after) (sym c.if-turn.true)
     (c.refuse_object.ensures.step s locals args (answer_for (answer_view c.answer_or_trap-answer.result) turn.classes.now (in_use_view turn.in_use) turn.thread s.monitors s.heap (variables_view locals.variables) locals.frames c.args.pending.now f args (element_value c.wanted_element.result) (wanted_element locals.variables i.purpose) c.wanted_element.ensures c.answer_or_trap-answer.ensures))
 
+pub returns-in-Some-lent_in-clause-step : goal.returns-in-Some-lent_in-clause-step
+returns-in-Some-lent_in-clause-step c =
+    let i = c.args.i.now in
+    let turn = c.args.turn in
+    let s = shared_view c.args.shared.now in
+    let locals = c.args.locals.now in
+    let f = function_value i.function in
+    let args = map actual_view c.args.actuals.now in
+    let a = answer_view c.answer_or_trap-answer.result in
+    let before : Scene = scene_of turn s locals c.args.pending.now in
+    let after : Scene = scene_of turn s c.lend.new.locals c.args.pending.now in
+    let has = answer_for a turn.classes.now (in_use_view turn.in_use) turn.thread s.monitors s.heap (variables_view locals.variables) locals.frames c.args.pending.now f args (element_value c.wanted_element.result) (wanted_element locals.variables i.purpose) c.wanted_element.ensures c.answer_or_trap-answer.ensures in
+    subst (λ b. IfOk c.lend.result (λ o. MakesCall b before i.line i.purpose f args o after)) (sym c.if-turn.false)
+    (both_ok c.lend.result (λ o varied is_for.
+    buffer_lent turn.classes.now (in_use_view turn.in_use) turn.thread s locals.variables locals.frames c.args.pending.now i.line i.purpose f args
+    a c.in-Some-lent_in.buffer c.lend.new.locals.variables c.lend.new.locals.frames o has (sym c.lent_in.ensures ∙ c.in-Some-lent_in.is) (varied s.heap) c.lend.ensures.frames is_for)
+    c.lend.ensures.variables c.lend.ensures.outcome)
+
 pub returns-clause-step : goal.returns-clause-step
 returns-clause-step c =
     let i = c.args.i.now in
@@ -92,7 +115,7 @@ returns-clause-step c =
     let before : Scene = scene_of turn s locals c.args.pending.now in
     let after : Scene = scene_of turn (shared_view c.complete.new.shared) c.complete.new.locals c.complete.new.pending in
     subst (λ b. IfOk c.complete.result (λ o. MakesCall b before i.line i.purpose f args o after)) (sym c.if-turn.false)
-    (c.complete.ensures.step (answer_for (answer_view c.answer_or_trap-answer.result) turn.classes.now (in_use_view turn.in_use) turn.thread s.monitors s.heap (variables_view locals.variables) locals.frames c.args.pending.now f args (element_value c.wanted_element.result) (wanted_element locals.variables i.purpose) c.wanted_element.ensures c.answer_or_trap-answer.ensures))
+    (c.complete.ensures.step args (answer_for (answer_view c.answer_or_trap-answer.result) turn.classes.now (in_use_view turn.in_use) turn.thread s.monitors s.heap (variables_view locals.variables) locals.frames c.args.pending.now f args (element_value c.wanted_element.result) (wanted_element locals.variables i.purpose) c.wanted_element.ensures c.answer_or_trap-answer.ensures))
 
 pub answer_or_trap-answer-requires : goal.answer_or_trap-answer-requires
 answer_or_trap-answer-requires c = c.requires.grown
