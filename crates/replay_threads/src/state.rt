@@ -78,7 +78,7 @@ fn waits(state: &State<'_>, k: usize) -> bool
     waits_for_owner(state, k)
 }
 
-/// The same, found by what the thread does next.
+/// Whether thread `k` waits, found by what it does next.
 #[inline(never)]
 fn waits_for_owner(state: &State<'_>, k: usize) -> bool
     ensures { Waits state.now k result }
