@@ -34,8 +34,11 @@ pub(crate) fn answer_at_once(
     thread: u8,
 ) -> Option<Answer>
     requires objects { AreAddresses store.now.heap (references_of store.now call.now) function.now.operands.items }
-    ensures free { IfSome result (λ answer. (classes : Classes) (room : Bool) (wanted : ElementType) → trap_found (scene_of classes store.now call.now thread pending) room wanted (function_value function.now.function) function.now.operands.items ≡ None) }
-    ensures works { IfSome result (λ answer. (classes : Classes) → IsWorkedOut (scene_of classes store.now call.now thread pending) (call_view function.now) (function_value function.now.function) answer) }
+    ensures free { IfSome result (λ answer. (classes : Classes) (room : Bool) (wanted : ElementType)
+        → trap_found (scene_of classes store.now call.now thread pending) room wanted (function_value function.now.function)
+        function.now.operands.items ≡ None) }
+    ensures works { IfSome result (λ answer. (classes : Classes)
+        → IsWorkedOut (scene_of classes store.now call.now thread pending) (call_view function.now) (function_value function.now.function) answer) }
     ensures changes { IfSome result (λ answer. changes_monitor answer ≡ true) }
 {
     match function.function {
@@ -67,7 +70,8 @@ fn object_at_once(
 ) -> Option<Object>
     requires objects { AreAddresses store.now.heap (references_of store.now call.now) function.now.operands.items }
     ensures pending { IfSome result (λ object. pending ≡ None) }
-    ensures only { IfSome result (λ object. (slot : ℕ) × (function.now.operands.items ≡ Operand.Local slot ∷ []) × (operand_at (references_of store.now call.now) (Operand.Local slot) ≡ Some object.address)) }
+    ensures only { IfSome result (λ object. (slot : ℕ) × (function.now.operands.items ≡ Operand.Local slot ∷ [])
+        × (operand_at (references_of store.now call.now) (Operand.Local slot) ≡ Some object.address)) }
     ensures named { IfSome result (λ object. name_at store.now.heap object.address ≡ Some object.name) }
 {
     if pending.is_some() {
@@ -85,7 +89,8 @@ fn object_at_once(
 /// The address that the only operand gives, where it is a local reference.
 #[inline(always)]
 fn only_local(keys: &[Option<Local>], locals: &Locals, operands: &[Operand]) -> Option<Addr>
-    ensures { IfSome result (λ a. (slot : ℕ) × (operands.now ≡ Operand.Local slot ∷ []) × (address_of locals.now (held_in (slice_get keys.now slot)) ≡ Some a)) }
+    ensures { IfSome result (λ a. (slot : ℕ) × (operands.now ≡ Operand.Local slot ∷ [])
+        × (address_of locals.now (held_in (slice_get keys.now slot)) ≡ Some a)) }
 {
     match operands {
         [Operand::Local(slot)] => address_in(keys, locals, *slot),
