@@ -30,6 +30,7 @@ pub mod CarriedSlots
 pub mod AnsweredCalls
 pub mod GivenBuffers
 pub mod CallInstructions
+pub mod MonitorCalls
 pub mod EntryKeys
 pub mod Threads
 pub mod Entries

@@ -4,5 +4,6 @@ pub mod BufferElements
 pub mod Executes
 pub mod Received
 pub mod Invoked
+pub mod MonitorCalls
 pub mod Advances
 pub mod Waiting

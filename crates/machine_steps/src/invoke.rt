@@ -1,6 +1,6 @@
 //! Calls of functions of the JNI (JNI Specification, chapter 4).
 
-ghost use Rattle.std.specs.Prelude.{◌≡◌, ◌+◌, ◌<◌, ◌^◌, ◌||◌, nat_le, false, true, List, Option, Some, Ok, slice_get, IfOk, IfErr, OnErr};
+ghost use Rattle.std.specs.Prelude.{◌≡◌, ◌+◌, ◌<◌, ◌^◌, ◌||◌, nat_le, false, true, List, Option, Some, Ok, slice_get, IfOk, IfErr, IfSome, OnOk, OnErr};
 ghost use Rattle.code.specs.Call.{IsPrepared};
 ghost use Rattle.heap.specs.Heap.{left_of};
 ghost use Rattle.semantics.specs.Effect.{effect_of};
@@ -16,10 +16,12 @@ ghost use Rattle.machine_calls.specs.Made.{cells_of};
 ghost use Rattle.machine_scenes.specs.NewObjects.{texts_in};
 ghost use Rattle.machine_answers.specs.Answers.{is_halt};
 ghost use Rattle.machine_steps.specs.Received.{told_slot};
+ghost use Rattle.machine_steps.specs.MonitorCalls.{changes_monitor};
 ghost use Rattle.machine_steps.specs.Invoked.{AtCall, IsAnswered, IsStopped, done_or_refused, executed_as};
 
 use crate::fault::StepFault;
-use crate::receive::receive;
+use crate::monitor::{answer_at_once, change_monitor};
+use crate::receive::{receive, receive_number};
 use crate::scene::scene_of;
 use classes::table::ClassTable;
 use code::instr::{Call, Operand};
@@ -44,9 +46,64 @@ pub enum Invoked {
 
 /// The instruction that calls a function, in the thread of this number. Only a new frame, a new global reference, a copy of elements
 /// and a monitor that is entered take host memory. Where what is made has no room, the call is refused if it may be, and else the
-/// fault says so.
-#[inline(never)]
+/// fault says so. A call that only enters or leaves a monitor goes a shorter way.
+#[inline(always)]
 pub fn invoke(
+    world: &World,
+    store: &mut Store,
+    pending: &mut Option<Addr>,
+    call: &mut Activation,
+    function: &Call,
+    thread: u8,
+    may_refuse: bool,
+) -> Result<Invoked, StepFault>
+    requires at_call { (p : Lowered) × (others : Acquired) × (own : Owners) × (shared : Shared) × (s : SourceThread) × (task : Task) × (rest : List Task) × AtCall p world.now store.old pending.old call.old function.now others thread own shared s task rest }
+    requires place { call.old.place + 1 < 2 ^ 64 }
+    requires few { store.old.births + 2 < 2 ^ 32 }
+    requires prepared { IsPrepared function.now }
+    ensures done { IfOk result (λ done. (p : Lowered) (others : Acquired) (own : Owners) (shared : Shared) (s : SourceThread) (task : Task) (rest : List Task) → AtCall p world.now store.old pending.old call.old function.now others thread own shared s task rest
+        → Executes p world.now store.old store.new others thread own shared s rest call.new pending.new (effect_of (sight_of shared s) task) (executed_as function.now.line done)) }
+    ensures hindered { IfErr result (λ fault. (p : Lowered) (others : Acquired) (own : Owners) (shared : Shared) (s : SourceThread) (task : Task) (rest : List Task) → AtCall p world.now store.old pending.old call.old function.now others thread own shared s task rest
+        → IsHindered (left_of store.old.heap) (cells_made shared (after_effect world.now.classes (in_use_with others s) thread shared s rest (effect_of (sight_of shared s) task))) may_refuse fault) }
+    ensures refuses { result ≡ Ok Invoked.Refused → may_refuse ≡ true }
+    ensures store { OnErr result (store.new ≡ store.old) }
+    ensures pending { OnErr result (pending.new ≡ pending.old) }
+    ensures call { OnErr result (call.new ≡ call.old) }
+{
+    match unchecked_answer(world, store, *pending, call, function, thread) {
+        Some(answer) => {
+            match finish_monitor(world, store, pending, call, function, thread, answer) {
+                Ok(()) => Ok(Invoked::Done),
+                Err(_) => Err(StepFault::Memory),
+            }
+        }
+        None => invoke_checked(world, store, pending, call, function, thread, may_refuse),
+    }
+}
+
+/// What a call of the thread of this number answers, where it is seen at once that it enters or leaves a monitor and that no check
+/// stops it. None says nothing of the call.
+#[inline(always)]
+fn unchecked_answer(
+    world: &World,
+    store: &Store,
+    pending: Option<Addr>,
+    call: &Activation,
+    function: &Call,
+    thread: u8,
+) -> Option<Answer>
+    requires at_call { (p : Lowered) × (others : Acquired) × (own : Owners) × (shared : Shared) × (s : SourceThread) × (task : Task) × (rest : List Task) × AtCall p world.now store.now pending call.now function.now others thread own shared s task rest }
+    ensures answer { IfSome result (IsAnswered world.now store.now pending call.now thread function.now) }
+    ensures changes { IfSome result (λ answer. changes_monitor answer ≡ true) }
+{
+    // Here the proof takes up what is known of a world.
+    let _ = world.classes();
+    answer_at_once(store, pending, call, function, thread)
+}
+
+/// The same for any function, after all checks.
+#[inline(never)]
+fn invoke_checked(
     world: &World,
     store: &mut Store,
     pending: &mut Option<Addr>,
@@ -188,6 +245,34 @@ fn finish(
         &carried.given,
     );
     Ok(done_or_refused(carried.refused))
+}
+
+/// Enters or leaves a monitor, as a call answers, and puts 0 where it goes.
+#[inline(always)]
+fn finish_monitor(
+    world: &World,
+    store: &mut Store,
+    pending: &Option<Addr>,
+    call: &mut Activation,
+    function: &Call,
+    thread: u8,
+    answer: Answer,
+) -> Result<(), AllocError>
+    requires at_call { (p : Lowered) × (others : Acquired) × (own : Owners) × (shared : Shared) × (s : SourceThread) × (task : Task) × (rest : List Task) × AtCall p world.now store.old pending.now call.old function.now others thread own shared s task rest }
+    requires place { call.old.place + 1 < 2 ^ 64 }
+    requires answered { IsAnswered world.now store.old pending.now call.old thread function.now answer }
+    requires changes { changes_monitor answer ≡ true }
+    ensures done { OnOk result ((p : Lowered) (others : Acquired) (own : Owners) (shared : Shared) (s : SourceThread) (task : Task) (rest : List Task) → AtCall p world.now store.old pending.now call.old function.now others thread own shared s task rest
+        → Executes p world.now store.old store.new others thread own shared s rest call.new pending.now (effect_of (sight_of shared s) task) (executed_as function.now.line Invoked.Done)) }
+    ensures store { OnErr result (store.new ≡ store.old) }
+    ensures call { OnErr result (call.new ≡ call.old) }
+{
+    let _ = world;
+    change_monitor(&mut store.monitors, thread, answer)?;
+    // Here the proof takes up what is known of a table.
+    let _ = call.locals.frames();
+    receive_number(call, function.target, 0);
+    Ok(())
 }
 
 /// The slot of the flag that is given for `isCopy`, if there is one.

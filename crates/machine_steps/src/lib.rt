@@ -7,6 +7,7 @@ mod buffer_elements;
 pub mod execute;
 pub mod fault;
 mod invoke;
+mod monitor;
 mod receive;
 mod scene;
 mod variable;

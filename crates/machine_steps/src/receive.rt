@@ -1,7 +1,8 @@
 //! Where what a function gives goes.
 
-ghost use Rattle.std.specs.Prelude.{◌≡◌, ◌<◌, ◌^◌, ◌+◌, [], length};
+ghost use Rattle.std.specs.Prelude.{◌≡◌, ℕ, Option, ◌<◌, ◌^◌, ◌+◌, [], length};
 ghost use Rattle.base.specs.declared.element.ElementType.{ElementType};
+ghost use Rattle.jni.specs.Prototype.{ResultKind as SourceKind};
 ghost use Rattle.jni.specs.Table.{result_value};
 ghost use Rattle.machine_steps.specs.Received.{HasTarget, HasTold, HasRoom, MakesLocal, Receives, stack_with, numbers_with, told_with, fields_with, buffers_with, statics_with, HasStatic};
 
@@ -46,6 +47,23 @@ pub fn receive(
         Target::Buffer(_, slot) => put_buffer(&mut call.slots.buffers, slot, given),
         Target::Static(slot) => put_static(statics, slot, given),
         Target::Test => put_test(&mut call.stack, given),
+    }
+}
+
+/// Puts a number that a function gives into its target, and goes on after the instruction. It takes no host memory.
+#[inline(always)]
+pub fn receive_number(call: &mut Activation, target: Target, word: u32)
+    requires place { call.old.place + 1 < 2 ^ 64 }
+    requires target { HasTarget target call.old }
+    ensures { (kind : SourceKind) (told : Option ℕ) → Receives target kind told (Given.Number word) call.old call.new }
+{
+    call.stack.clear();
+    call.place += 1;
+    match target {
+        Target::Number(slot) => call.slots.numbers[slot as usize] = word,
+        Target::Local(slot) => call.slots.references[slot as usize] = None,
+        Target::Test => call.stack.push(u32::from(word == 0)),
+        Target::Dropped | Target::FieldId(_) | Target::Buffer(_, _) | Target::Static(_) => {}
     }
 }
 

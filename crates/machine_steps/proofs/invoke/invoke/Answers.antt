@@ -1,47 +1,11 @@
-use Rattle.std.specs.Global.{Vec}
-use Rattle.std.proofs.Common.{◌≡◌, ℕ, List, ◌<◌, ◌||◌, Bool, true, false, Some, ⊎_elim, refl, sym, ap, ◌∙◌, arith}
-use Rattle.std.specs.Prelude.{nat_le}
-use Rattle.std.proofs.lemmas.Bool.{leb-false}
-use Rattle.class_rules.specs.Class.{Classes}
-use Rattle.heap.specs.Heap.{left_of}
+use Rattle.std.proofs.Common.{◌∙◌}
 use Rattle.jni.specs.Table.{result_value}
-use Rattle.machine_answers.specs.declared.answer.Answer.{Answer}
-use Rattle.machine_answers.specs.declared.answer.Answer.TheVariants as answer
-use Rattle.semantics.specs.EventViews.{trap_view}
-use Rattle.machine_steps.specs.Invoked.{IsAnswered, trap_at}
-use Rattle.machine_calls.specs.Made.{cells_of}
 use Rattle.machine_scenes.specs.NewObjects.{texts_in}
-use Rattle.machine_calls.proofs.CellsMade.{memory_free}
-use Rattle.machine_steps.proofs.AnsweredCalls.{cells_asked, halts}
-use Rattle.machine_steps.proofs.AskedCalls.{found_trap, traps, trap_is}
+use Rattle.machine_steps.proofs.AnsweredCalls.{cells_asked}
+use Rattle.machine_steps.proofs.MonitorCalls.{makes_nothing}
 use Rattle.machine_steps.proofs.invoke.invoke.Goals as goal
 
-pub returns-in-Err-clause-done : goal.returns-in-Err-clause-done
-returns-in-Err-clause-done c p others own shared s task rest h =
-    let w = c.args.world.now in
-    let store = c.args.store.now in
-    let pending = c.args.pending.now in
-    let call = c.args.call.now in
-    let function = c.args.function.now in
-    let trap = c.in-Err.trap in
-    traps p w store pending call function others c.args.thread own shared s task rest h trap function.line refl
-    (⊎_elim
-    (λ (found : trap_at w store pending call c.args.thread function ≡ Some (trap_view trap)). found_trap p w store pending call function others c.args.thread own shared s task rest h trap (sym (trap_is p w store pending call function others c.args.thread own shared s task rest h) ∙ found))
-    (λ (halted : IsAnswered w store pending call c.args.thread function (answer.Halts trap)). halts p w store pending call function others c.args.thread own shared s task rest h trap halted)
-    c.in-Err.ensures.trap)
-
--- what may not be refused is not carried out where it has no room
-held_back : (goes may_refuse : Bool) (table classes : Classes) (texts : List (List ℕ)) (answer : Answer) (left cells : ℕ) → goes ≡ (may_refuse || nat_le (cells_of table texts answer) left) → goes ≡ false → table ≡ classes → cells ≡ cells_of classes texts answer → (may_refuse ≡ false) × (left < cells)
-held_back goes true table classes texts answer left cells is stays same asked = absurd (let clash : true ≡ false = sym is ∙ stays in cc)
-held_back goes false table classes texts answer left cells is stays same asked = (refl, omega (arith, leb-false (cells_of table texts answer) left (sym is ∙ stays), ap (λ (t : Classes). cells_of t texts answer) same))
-
-pub returns-else-goes_ahead-clause-hindered : goal.returns-else-goes_ahead-clause-hindered
-returns-else-goes_ahead-clause-hindered c p others own shared s task rest h =
-    held_back c.goes_ahead.result c.args.may_refuse c.classes.result.now c.args.world.now.classes (texts_in c.deref.result.now) c.in-Ok.answer (left_of c.args.store.now.heap) _ c.goes_ahead.ensures c.if-goes_ahead.false c.classes.ensures.classes
-    (cells_asked p c.args.world.now c.args.store.now c.args.pending.now c.args.call.now c.args.function.now others c.args.thread own shared s task rest h c.in-Ok.answer c.in-Ok.ensures.answer (result_value c.args.function.now.result) c.requires.prepared.result
-    ∙ ap (λ (l : List (Vec ℕ)). cells_of c.args.world.now.classes (texts_in l) c.in-Ok.answer) (sym c.deref.ensures.value))
-
-pub returns-in-Err-finish-clause-hindered : goal.returns-in-Err-finish-clause-hindered
-returns-in-Err-finish-clause-hindered c p others own shared s task rest h =
-    cells_asked p c.args.world.now c.args.store.now c.args.pending.now c.args.call.now c.args.function.now others c.args.thread own shared s task rest h c.in-Ok.answer c.in-Ok.ensures.answer (result_value c.args.function.now.result) c.requires.prepared.result
-    ∙ memory_free c.args.world.now.classes (texts_in c.args.function.now.texts.items) c.in-Ok.answer c.in-Err-finish.ensures.memory
+pub returns-in-Err-clause-hindered : goal.returns-in-Err-clause-hindered
+returns-in-Err-clause-hindered c p others own shared s task rest h =
+    cells_asked p c.args.world.now c.args.store.now c.args.pending.now c.args.call.now c.args.function.now others c.args.thread own shared s task rest h c.in-Some.answer c.in-Some.ensures.answer (result_value c.args.function.now.result) c.requires.prepared.result
+    ∙ makes_nothing c.args.world.now.classes (texts_in c.args.function.now.texts.items) c.in-Some.answer c.in-Some.ensures.changes

@@ -1,0 +1,41 @@
+use Rattle.std.specs.Prelude.{IfSome}
+use Rattle.std.proofs.Common.{◌≡◌, Bool, Option, Some, None, refl}
+use Rattle.base.specs.Element.{ElementType}
+use Rattle.class_rules.specs.Class.{Classes}
+use Rattle.code.specs.Call.{call_view}
+use Rattle.jni.specs.Table.{function_value}
+use Rattle.tables.specs.Locals.{has_room}
+use Rattle.machine_answers.specs.Asked.{scene_of}
+use Rattle.machine_answers.specs.declared.answer.Answer.{Answer}
+use Rattle.machine_answers.specs.Checked.{element_wanted, trap_found}
+use Rattle.machine_answers.specs.WorkedOut.{IsWorkedOut}
+use Rattle.machine_scenes.specs.Locals.{locals_after}
+use Rattle.machine_steps.proofs.SeenCalls.{addresses_seen}
+use Rattle.machine_steps.proofs.invoke.unchecked_answer.Goals as goal
+
+-- what is known of an answer by two clauses
+known : (P Q R : Answer → Type 0) (o : Option Answer) → ((x : Answer) → P x → Q x → R x) → IfSome o P → IfSome o Q → IfSome o R
+known P Q R (Some x) f p q = f x p q
+known P Q R None f p q = tt
+
+pub answer_at_once-requires : goal.answer_at_once-requires
+answer_at_once-requires c =
+    let a = c.requires.at_call in
+    record { objects = addresses_seen a.0 c.args.world.now c.args.store.now c.args.pending c.args.call.now c.args.function.now a.1 c.args.thread a.2 a.3 a.4 a.5 a.6 a.7 c.args.store.now.monitors (scene_of c.args.world.now.classes c.args.store.now c.args.call.now c.args.thread c.args.pending) refl }
+
+pub returns-clause-answer : goal.returns-clause-answer
+returns-clause-answer c =
+    let function = c.args.function.now in
+    let w = c.args.world.now in
+    known
+    (λ (x : Answer). (classes : Classes) (room : Bool) (wanted : ElementType) → trap_found (scene_of classes c.args.store.now c.args.call.now c.args.thread c.args.pending) room wanted (function_value function.function) function.operands.items ≡ None)
+    (λ (x : Answer). (classes : Classes) → IsWorkedOut (scene_of classes c.args.store.now c.args.call.now c.args.thread c.args.pending) (call_view function) (function_value function.function) x)
+    _ c.answer_at_once.result
+    (λ (x : Answer) free works.
+    record {
+      sound = c.classes.ensures.sound;
+      free = free w.classes (has_room (locals_after (function_value function.function) c.args.call.now.locals)) (element_wanted function.target);
+      works = works w.classes;
+    })
+    c.answer_at_once.ensures.free
+    c.answer_at_once.ensures.works

@@ -1,0 +1,144 @@
+//! Functions of monitors that no check stops (JNI Specification, chapter 4, "Monitor Operations").
+
+ghost use Rattle.std.specs.Prelude.{◌≡◌, ℕ, Bool, true, [], ◌∷◌, None, Some, slice_get, IfSome, OnOk, OnErr};
+ghost use Rattle.base.specs.Element.{ElementType};
+ghost use Rattle.class_rules.specs.Class.{Classes};
+ghost use Rattle.code.specs.Call.{call_view};
+ghost use Rattle.heap.specs.Heap.{name_at};
+ghost use Rattle.jni.specs.Table.{function_value};
+ghost use Rattle.machine_answers.specs.Asked.{references_of, scene_of};
+ghost use Rattle.machine_answers.specs.Checked.{trap_found};
+ghost use Rattle.machine_answers.specs.WorkedOut.{IsWorkedOut};
+ghost use Rattle.machine_scenes.specs.Given.{AreAddresses, held_in, operand_at};
+ghost use Rattle.machine_scenes.specs.Locals.{address_of};
+ghost use Rattle.machine_steps.specs.MonitorCalls.{Changes, changes_monitor};
+
+use code::instr::{Call, Operand};
+use heap::Addr;
+use jni::JniFunction;
+use machine_answers::answer::Answer;
+use machine_scenes::activation::Activation;
+use machine_scenes::store::Store;
+use monitors::{Enter, Exit, Monitors, Object};
+use std::alloc::AllocError;
+use tables::{Local, Locals};
+
+/// What a call of the thread of this number answers, where it is seen at once that it enters or leaves a monitor and that no check
+/// stops it: no exception is pending, and its argument is a local reference to an object. None says nothing of the call.
+#[inline(always)]
+pub(crate) fn answer_at_once(
+    store: &Store,
+    pending: Option<Addr>,
+    call: &Activation,
+    function: &Call,
+    thread: u8,
+) -> Option<Answer>
+    requires objects { AreAddresses store.now.heap (references_of store.now call.now) function.now.operands.items }
+    ensures free { IfSome result (λ answer. (classes : Classes) (room : Bool) (wanted : ElementType)
+        → trap_found (scene_of classes store.now call.now thread pending) room wanted (function_value function.now.function)
+        function.now.operands.items ≡ None) }
+    ensures works { IfSome result (λ answer. (classes : Classes)
+        → IsWorkedOut (scene_of classes store.now call.now thread pending) (call_view function.now) (function_value function.now.function) answer) }
+    ensures changes { IfSome result (λ answer. changes_monitor answer ≡ true) }
+{
+    match function.function {
+        JniFunction::MonitorEnter => match object_at_once(store, pending, call, function) {
+            Some(object) => match store.monitors.entering(object.name, thread) {
+                Enter::Entered => Some(Answer::Enters(object)),
+                Enter::Limit | Enter::Busy => None,
+            },
+            None => None,
+        },
+        JniFunction::MonitorExit => match object_at_once(store, pending, call, function) {
+            Some(object) => match store.monitors.leaving(object.name, thread) {
+                Exit::Left => Some(Answer::Exits(object.name)),
+                Exit::NotOwner => None,
+            },
+            None => None,
+        },
+        _ => None,
+    }
+}
+
+/// The object of a call's only argument, where that is a local reference to one and no exception is pending.
+#[inline(always)]
+fn object_at_once(
+    store: &Store,
+    pending: Option<Addr>,
+    call: &Activation,
+    function: &Call,
+) -> Option<Object>
+    requires objects { AreAddresses store.now.heap (references_of store.now call.now) function.now.operands.items }
+    ensures pending { IfSome result (λ object. pending ≡ None) }
+    ensures only { IfSome result (λ object. (slot : ℕ) × (function.now.operands.items ≡ Operand.Local slot ∷ [])
+        × (operand_at (references_of store.now call.now) (Operand.Local slot) ≡ Some object.address)) }
+    ensures named { IfSome result (λ object. name_at store.now.heap object.address ≡ Some object.name) }
+{
+    if pending.is_some() {
+        return None;
+    }
+    match only_local(&call.slots.references, &call.locals, &function.operands) {
+        Some(address) => {
+            let name = store.heap.birth_of(address);
+            Some(Object { name, address })
+        }
+        None => None,
+    }
+}
+
+/// The address that the only operand gives, where it is a local reference.
+#[inline(always)]
+fn only_local(keys: &[Option<Local>], locals: &Locals, operands: &[Operand]) -> Option<Addr>
+    ensures { IfSome result (λ a. (slot : ℕ) × (operands.now ≡ Operand.Local slot ∷ [])
+        × (address_of locals.now (held_in (slice_get keys.now slot)) ≡ Some a)) }
+{
+    match operands {
+        [Operand::Local(slot)] => address_in(keys, locals, *slot),
+        _ => None,
+    }
+}
+
+/// The address that the slot of a local reference gives.
+#[inline(always)]
+fn address_in(keys: &[Option<Local>], locals: &Locals, slot: u32) -> Option<Addr>
+    ensures { result ≡ address_of locals.now (held_in (slice_get keys.now slot)) }
+{
+    match key_in(keys, slot) {
+        Some(key) => locals.get(key).ok(),
+        None => None,
+    }
+}
+
+/// The key in the slot of a local reference.
+#[inline(always)]
+fn key_in(keys: &[Option<Local>], slot: u32) -> Option<Local>
+    ensures { result ≡ held_in (slice_get keys.now slot) }
+{
+    keys.get(slot as usize).copied().unwrap_or(None)
+}
+
+/// Enters or leaves a monitor, as an answer says.
+///
+/// An error says that host memory for it was refused; then all is as before.
+#[inline(always)]
+pub(crate) fn change_monitor(
+    monitors: &mut Monitors,
+    thread: u8,
+    answer: Answer,
+) -> Result<(), AllocError>
+    requires changes { changes_monitor answer ≡ true }
+    ensures changed { OnOk result (Changes thread answer monitors.old monitors.new) }
+    ensures err { OnErr result (monitors.new ≡ monitors.old) }
+{
+    match answer {
+        Answer::Enters(object) => {
+            monitors.enter(object, thread)?;
+            Ok(())
+        }
+        Answer::Exits(name) => {
+            monitors.exit(name, thread);
+            Ok(())
+        }
+        _ => unreachable!(),
+    }
+}
