@@ -234,7 +234,7 @@ impl Model for BoxedCall {
 }
 
 impl BoxedCall {
-    /// The same call.
+    /// Puts a call into memory of its own.
     pub fn of(alloc: Global, call: Call) -> Result<BoxedCall, AllocError>
         requires { IsPrepared call }
         ensures { IfOk result (λ boxed. boxed ≡ call_view call) }

@@ -101,7 +101,7 @@ fn unchecked_answer(
     answer_at_once(store, pending, call, function, thread)
 }
 
-/// The same for any function, after all checks.
+/// The instruction that calls a function, after all checks.
 #[inline(never)]
 fn invoke_checked(
     world: &World,

@@ -118,7 +118,7 @@ fn with_null<'a>(left: &'a Expr, right: &Expr, equal: bool) -> Option<NullTest<'
     }
 }
 
-/// The same of any operator.
+/// The test of a name against NULL that this operator makes of its operands, if it makes one.
 fn comparison<'a>(op: BinaryOp, left: &'a Expr, right: &Expr) -> Option<NullTest<'a>>
     ensures { option_map null_test_value result ≡ null_test_of (Binary (binary_tree op) (expr_tree left.now) (expr_tree right.now)) }
 {
