@@ -29,7 +29,7 @@ pub block_way-loop-stmt-init : goal.block_way-loop-stmt-init
 block_way-loop-stmt-init t c =
     let block = block_is c.args.block.now ∙ ap (λ (items : List StmtInMemory). statements_tree items (out-Block c.args.block.now).end_line) (sym c.deref-stmt-items.ensures.value) in
     record {
-      count = c.count-count.ensures;
+      count = c.len-count.ensures;
       grows = ([], sym (append-nil (names_of c.args.state.now)));
       fresh = subst (λ (b : Block). DeclareNew (names_of c.args.state.now) b) block c.requires;
       goes = λ outer same. ap (λ (b : Block). way_of_block outer c.args.state.now b) block;
