@@ -7,8 +7,8 @@ use Rattle.syntax.specs.declared.stmt.Stmt.{Stmt as StmtInMemory}
 use Rattle.syntax.specs.declared.stmt.Block.{out-Block}
 use Rattle.syntax.specs.declared.stmt.Form.{Form as FormInMemory, the_lemmas}
 use Rattle.syntax.specs.Tree.{Block, Next}
-use Rattle.syntax.specs.Views.{block_tree, stmt_tree, statements_tree, test_tree, form_tree}
-use Rattle.syntax.proofs.Blocks.{block_is}
+use Rattle.syntax.specs.Views.{block_tree, stmt_tree, test_tree, form_tree}
+use Rattle.syntax.proofs.Blocks.{block_is, statements_tree}
 use Rattle.regions.specs.declared.fault.CheckError.{CheckError}
 use Rattle.regions.specs.declared.joins.Branch.{Branch}
 use Rattle.regions.specs.declared.joins.Way.{Way as WayInMemory}
