@@ -3,7 +3,8 @@ use Rattle.std.proofs.Common.{◌≡◌, ℕ, zero, suc, ◌-◌, ◌<◌, ◌�
 use Rattle.scan.specs.declared.token.Mark.TheVariants as marks
 use Rattle.syntax.specs.Tree.{Block, End, Next}
 use Rattle.syntax.specs.declared.stmt.Stmt.{Stmt as StmtInMemory}
-use Rattle.syntax.specs.Views.{stmt_tree, statements_tree}
+use Rattle.syntax.specs.Views.{stmt_tree}
+use Rattle.syntax.proofs.Blocks.{statements_tree}
 use Rattle.parse_lexemes.specs.declared.fault.ParseRule.TheVariants.{NoForm}
 use Rattle.parse_lexemes.specs.declared.fault.ParseError.{ParseError}
 use Rattle.parse_lexemes.specs.declared.fault.ParseError.TheVariants.{Memory, Fault}

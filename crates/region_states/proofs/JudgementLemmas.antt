@@ -1,5 +1,5 @@
 -- The rules and the state after a statement, by what its call does, are those of the definitions.
-use Rattle.std.proofs.Common.{◌≡◌, ◌-◌, Bool, true, false, not, ◌&&◌, ◌||◌, List, [], ◌∷◌, Option, Some, refl, ap, ap₂, ◌∙◌, if◌then◌else◌, find, is_some, nat_le, bytes_eq, None}
+use Rattle.std.proofs.Common.{◌≡◌, ◌-◌, Bool, not, ◌&&◌, ◌||◌, List, [], ◌∷◌, Option, Some, refl, ap, ap₂, ◌∙◌, if◌then◌else◌, find, is_some, nat_le, bytes_eq, None}
 use Rattle.std.specs.Option.{option_map}
 use Rattle.base.specs.Bytes.{Identifier}
 use Rattle.jni.specs.Access.{is_critical}
@@ -76,11 +76,3 @@ settled_is state s = refl
 
 pub behind_is : (state : RegionState) (s : Stmt) → state_after state s ≡ after_judged state s (option_map call_state_effect (function_called s))
 behind_is state s = ap (λ after. with_set after s) (effected_is state (function_called s)) ∙ settled_is (effected state (option_map call_state_effect (function_called s))) s
-
--- ---- the rules one after the other
-
-pub skip : (p : RegionRule → Bool) (rule : RegionRule) (rules : List RegionRule) → false ≡ p rule → find p rules ≡ find p (rule ∷ rules)
-skip p rule rules h = ap (λ b. if b then Some rule else find p rules) h
-
-pub hit : (p : RegionRule → Bool) (rule : RegionRule) (rules : List RegionRule) → true ≡ p rule → Some rule ≡ find p (rule ∷ rules)
-hit p rule rules h = ap (λ b. if b then Some rule else find p rules) h

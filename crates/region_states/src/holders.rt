@@ -4,7 +4,7 @@ ghost use Rattle.std.specs.Prelude.{◌≡◌, ◌+◌, ◌<◌, ◌≤◌, ◌^
 ghost use Rattle.base.specs.Bytes.{Identifier};
 ghost use Rattle.region_states.specs.StatesInMemory.{variable_state, one_of, holders, count_of, HasOneMore, CountsMore, IsCounted};
 
-use crate::states::{VariableState, held_of};
+use crate::states::VariableState;
 use indexmap::IndexMap;
 use std::alloc::{AllocError, Global};
 use std::marker::Model;
@@ -87,7 +87,7 @@ impl<'a> Holders<'a> {
         ensures ok { OnOk result (CountsMore (variable_state known.entry) self.old self.new) }
         ensures err { OnErr result (self.new ≡ self.old) }
     {
-        match held_of(known) {
+        match known.held() {
             Some((_, array)) => self.add(array),
             None => Ok(()),
         }
@@ -98,7 +98,7 @@ impl<'a> Holders<'a> {
         requires { (x : Identifier) → one_of x (variable_state known) ≤ count_of self.old x }
         ensures { CountsMore (variable_state known.entry) self.new self.old }
     {
-        match held_of(known) {
+        match known.held() {
             Some((_, array)) => self.remove(array),
             None => {}
         }
@@ -113,19 +113,19 @@ impl<'a> Holders<'a> {
             self.forget(*v);
         }
     }
-}
 
-/// What these hold.
-pub fn counted<'a>(
-    alloc: Global,
-    variables: &[VariableState<'a>],
-) -> Result<Holders<'a>, AllocError>
-    requires { length variables.now < 2 ^ 63 }
-    ensures { IfOk result (λ counts. IsCounted counts (map variable_state variables.now)) }
-{
-    let mut counts = Holders::new(alloc);
-    for v in variables {
-        counts.note(*v)?;
+    /// What these hold.
+    pub fn counted(
+        alloc: Global,
+        variables: &[VariableState<'a>],
+    ) -> Result<Holders<'a>, AllocError>
+        requires { length variables.now < 2 ^ 63 }
+        ensures { IfOk result (λ counts. IsCounted counts (map variable_state variables.now)) }
+    {
+        let mut counts = Holders::new(alloc);
+        for v in variables {
+            counts.note(*v)?;
+        }
+        Ok(counts)
     }
-    Ok(counts)
 }

@@ -6,18 +6,18 @@ ghost use Rattle.region_states.specs.StatesInMemory.{asks};
 ghost use Rattle.type_rules.specs.Uses.{expr_uses, argument_uses, call_uses, right_uses, test_uses, uses};
 ghost use Rattle.region_states.specs.Reads.{expr_reads, argument_reads, call_reads, right_reads, test_reads, reads};
 
-use crate::states::{Condition, StaticState, is_any, meets};
+use crate::states::{Condition, FlowState};
 use syntax::{Argument, Call, Expr, Form, RightSide, Test};
 
 /// Whether some name of an expression meets the condition.
-fn expr_uses(state: &StaticState, condition: Condition, e: &Expr) -> bool
+fn expr_uses(state: &FlowState, condition: Condition, e: &Expr) -> bool
     ensures { result ≡ expr_uses (asks condition state.now) (expr_tree e.now) }
 {
     match e {
         Expr::Number { .. } | Expr::Named(_) => false,
-        Expr::Variable(x) => meets(state, condition, x.as_bytes()),
+        Expr::Variable(x) => state.meets(condition, x.as_bytes()),
         Expr::Element(x, i) => {
-            meets(state, condition, x.as_bytes()) || expr_uses(state, condition, i)
+            state.meets(condition, x.as_bytes()) || expr_uses(state, condition, i)
         }
         Expr::Prefix(_, a) | Expr::Paren(a) => expr_uses(state, condition, a),
         Expr::Binary(_, operands) => {
@@ -27,18 +27,18 @@ fn expr_uses(state: &StaticState, condition: Condition, e: &Expr) -> bool
 }
 
 /// Whether an argument uses a name that meets the condition.
-fn argument_uses(state: &StaticState, condition: Condition, argument: &Argument) -> bool
+fn argument_uses(state: &FlowState, condition: Condition, argument: &Argument) -> bool
     ensures { result ≡ argument_uses (asks condition state.now) (argument_tree argument.now) }
 {
     match argument {
         Argument::Value(e) => expr_uses(state, condition, e),
         Argument::Text(_) => false,
-        Argument::AddressOf(x) => meets(state, condition, x.as_bytes()),
+        Argument::AddressOf(x) => state.meets(condition, x.as_bytes()),
     }
 }
 
 /// Whether an argument of a call uses a name that meets the condition.
-fn call_uses(state: &StaticState, condition: Condition, call: &Call) -> bool
+fn call_uses(state: &FlowState, condition: Condition, call: &Call) -> bool
     ensures { result ≡ call_uses (asks condition state.now) (call_tree call.now) }
 {
     for argument in &call.arguments {
@@ -49,7 +49,7 @@ fn call_uses(state: &StaticState, condition: Condition, call: &Call) -> bool
     false
 }
 
-fn right_uses(state: &StaticState, condition: Condition, right: &RightSide) -> bool
+fn right_uses(state: &FlowState, condition: Condition, right: &RightSide) -> bool
     ensures { result ≡ right_uses (asks condition state.now) (right_side_tree right.now) }
 {
     match right {
@@ -58,7 +58,7 @@ fn right_uses(state: &StaticState, condition: Condition, right: &RightSide) -> b
     }
 }
 
-fn test_uses(state: &StaticState, condition: Condition, test: &Test) -> bool
+fn test_uses(state: &FlowState, condition: Condition, test: &Test) -> bool
     ensures { result ≡ test_uses (asks condition state.now) (test_tree test.now) }
 {
     match test {
@@ -68,7 +68,7 @@ fn test_uses(state: &StaticState, condition: Condition, test: &Test) -> bool
 }
 
 /// Whether some name that a statement uses meets the condition. The statements of its blocks aren't looked at.
-fn form_uses(state: &StaticState, condition: Condition, form: &Form) -> bool
+fn form_uses(state: &FlowState, condition: Condition, form: &Form) -> bool
     ensures { (line : ℕ) → result ≡ uses (asks condition state.now) (form_tree line form.now) }
 {
     match form {
@@ -78,7 +78,7 @@ fn form_uses(state: &StaticState, condition: Condition, form: &Form) -> bool
         Form::DeclareArray(..) => false,
         Form::Assign(_, r) => right_uses(state, condition, r),
         Form::AssignElement(x, i, e) => {
-            meets(state, condition, x.as_bytes())
+            state.meets(condition, x.as_bytes())
                 || expr_uses(state, condition, i)
                 || expr_uses(state, condition, e)
         }
@@ -93,13 +93,13 @@ fn form_uses(state: &StaticState, condition: Condition, form: &Form) -> bool
 }
 
 /// Whether an expression reads an element of a name that meets the condition.
-fn expr_reads(state: &StaticState, condition: Condition, e: &Expr) -> bool
+fn expr_reads(state: &FlowState, condition: Condition, e: &Expr) -> bool
     ensures { result ≡ expr_reads (asks condition state.now) (expr_tree e.now) }
 {
     match e {
         Expr::Number { .. } | Expr::Named(_) | Expr::Variable(_) => false,
         Expr::Element(x, i) => {
-            meets(state, condition, x.as_bytes()) || expr_reads(state, condition, i)
+            state.meets(condition, x.as_bytes()) || expr_reads(state, condition, i)
         }
         Expr::Prefix(_, a) | Expr::Paren(a) => expr_reads(state, condition, a),
         Expr::Binary(_, operands) => {
@@ -108,7 +108,7 @@ fn expr_reads(state: &StaticState, condition: Condition, e: &Expr) -> bool
     }
 }
 
-fn argument_reads(state: &StaticState, condition: Condition, argument: &Argument) -> bool
+fn argument_reads(state: &FlowState, condition: Condition, argument: &Argument) -> bool
     ensures { result ≡ argument_reads (asks condition state.now) (argument_tree argument.now) }
 {
     match argument {
@@ -118,7 +118,7 @@ fn argument_reads(state: &StaticState, condition: Condition, argument: &Argument
     }
 }
 
-fn call_reads(state: &StaticState, condition: Condition, call: &Call) -> bool
+fn call_reads(state: &FlowState, condition: Condition, call: &Call) -> bool
     ensures { result ≡ call_reads (asks condition state.now) (call_tree call.now) }
 {
     for argument in &call.arguments {
@@ -129,7 +129,7 @@ fn call_reads(state: &StaticState, condition: Condition, call: &Call) -> bool
     false
 }
 
-fn right_reads(state: &StaticState, condition: Condition, right: &RightSide) -> bool
+fn right_reads(state: &FlowState, condition: Condition, right: &RightSide) -> bool
     ensures { result ≡ right_reads (asks condition state.now) (right_side_tree right.now) }
 {
     match right {
@@ -138,7 +138,7 @@ fn right_reads(state: &StaticState, condition: Condition, right: &RightSide) -> 
     }
 }
 
-fn test_reads(state: &StaticState, condition: Condition, test: &Test) -> bool
+fn test_reads(state: &FlowState, condition: Condition, test: &Test) -> bool
     ensures { result ≡ test_reads (asks condition state.now) (test_tree test.now) }
 {
     match test {
@@ -149,7 +149,7 @@ fn test_reads(state: &StaticState, condition: Condition, test: &Test) -> bool
 
 /// Whether a statement reads or writes an element of a name that meets the condition. The statements of its blocks aren't looked
 /// at.
-fn form_reads(state: &StaticState, condition: Condition, form: &Form) -> bool
+fn form_reads(state: &FlowState, condition: Condition, form: &Form) -> bool
     ensures { (line : ℕ) → result ≡ reads (asks condition state.now) (form_tree line form.now) }
 {
     match form {
@@ -161,7 +161,7 @@ fn form_reads(state: &StaticState, condition: Condition, form: &Form) -> bool
         Form::AssignElement(x, i, e) => {
             expr_reads(state, condition, i)
                 || expr_reads(state, condition, e)
-                || meets(state, condition, x.as_bytes())
+                || state.meets(condition, x.as_bytes())
         }
         Form::Perform(c) => call_reads(state, condition, c),
         Form::PutJint(e) => expr_reads(state, condition, e),
@@ -176,17 +176,17 @@ fn form_reads(state: &StaticState, condition: Condition, form: &Form) -> bool
 /// Whether a statement uses a name that meets the condition. A name that it declares or sets is not used.
 /// Where no name meets it, the statement isn't looked at.
 #[tactic(auto, using(crate::proofs::NoneLemmas::none_uses))]
-pub fn uses(state: &StaticState, condition: Condition, form: &Form) -> bool
+pub fn uses(state: &FlowState, condition: Condition, form: &Form) -> bool
     ensures { (line : ℕ) → result ≡ uses (asks condition state.now) (form_tree line form.now) }
 {
-    is_any(state, condition) && form_uses(state, condition, form)
+    state.is_any(condition) && form_uses(state, condition, form)
 }
 
 /// Whether a statement reads or writes an element of a name that meets the condition.
 /// Where no name meets it, the statement isn't looked at.
 #[tactic(auto, using(crate::proofs::NoneLemmas::none_reads))]
-pub fn reads(state: &StaticState, condition: Condition, form: &Form) -> bool
+pub fn reads(state: &FlowState, condition: Condition, form: &Form) -> bool
     ensures { (line : ℕ) → result ≡ reads (asks condition state.now) (form_tree line form.now) }
 {
-    is_any(state, condition) && form_reads(state, condition, form)
+    state.is_any(condition) && form_reads(state, condition, form)
 }

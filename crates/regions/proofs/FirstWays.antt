@@ -11,7 +11,8 @@ use Rattle.region_states.specs.SameStates.{same_state}
 use Rattle.regions.specs.Ways.{Found, own_way, way_after, way_if, returned_before, join_ways, turn_way, way_of, way_of_block}
 use Rattle.region_states.proofs.Same.{state_decides}
 use Rattle.regions.proofs.Ways.{ok_is, obeys, unbroken, keeps, keeps_block, answers, answers_block}
-use Rattle.regions.proofs.BrokenWays.{ok_err', err_is, if_err, own_err, join_err, turn_err, after_err, returned_err, not_false, one_end, on_returned, end_line_of}
+use Rattle.regions.specs.Findings.{end_line_of}
+use Rattle.regions.proofs.FaultLemmas.{ok_err', err_is, if_err, own_err, join_err, turn_err, after_err, returned_err, not_false, one_end, on_returned, end-line}
 
 -- ---- the first fault is the answer
 
@@ -202,7 +203,7 @@ first_or_accepted f = case (way_of_block (state_at_entry f) (state_at_entry f) f
     case : (r : Result Way Found) → way_of_block (state_at_entry f) (state_at_entry f) f.body ≡ r → AcceptedFunction f ⊎ ((rule : RegionRule) × (l : ℕ) × FirstInFunction rule l f)
     case (Err fault) h = inr (fault.1, fault.0, inl (firsts_block (state_at_entry f) (state_at_entry f) f.body fault h))
     case (Ok Returned) h = inl (keeps_block (state_at_entry f) (state_at_entry f) f.body Returned h)
-    case (Ok (On end)) h = inr (NoReturn, (end_line_of f.body).0, inr (refl, (end_line_of f.body).1, (end, keeps_block (state_at_entry f) (state_at_entry f) f.body (On end) h)))
+    case (Ok (On end)) h = inr (NoReturn, end_line_of f.body, inr (refl, end-line f.body, (end, keeps_block (state_at_entry f) (state_at_entry f) f.body (On end) h)))
 
 pub accepted_or_first : (functions : List Function) → AllByRecursion AcceptedFunction functions ⊎ ((rule : RegionRule) × (l : ℕ) × FirstInFunctions rule l functions)
 accepted_or_first [] = inl tt

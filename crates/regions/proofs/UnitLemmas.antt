@@ -4,17 +4,18 @@ use Rattle.std.specs.Prelude.{Contains}
 use Rattle.std.specs.List.{AllByRecursion}
 use Rattle.std.specs.Option.{option_or}
 use Rattle.syntax.specs.Parts.{functions_of}
-use Rattle.syntax.specs.Tree.{Block, End, Next, Function, Item, StaticItem, FunctionItem}
+use Rattle.syntax.specs.Tree.{Function, Item, StaticItem, FunctionItem}
 use Rattle.regions.specs.declared.fault.CheckError.{CheckError}
 use Rattle.regions.specs.declared.fault.CheckError.TheVariants.{Memory, Fault}
 use Rattle.regions.specs.Findings.{Finds, Refuses, IfBroken, rule_of, fault_of, end_line_of, fault_at_end, function_fault, items_fault, first_fault}
 use Rattle.region_rules.specs.FirstFaults.{FirstInFunction, FirstInFunctions}
 use Rattle.region_rules.specs.RegionRules.{RegionRule, NoReturn}
 use Rattle.region_rules.specs.RegionStates.{state_at_entry}
-use Rattle.region_rules.specs.Regions.{Way, On, Returned, AcceptedFunction, EndLine, BreaksFunction, BreaksRegionRule}
+use Rattle.region_rules.specs.Regions.{Way, On, Returned, AcceptedFunction, BreaksFunction, BreaksRegionRule}
 use Rattle.regions.specs.Ways.{Found, way_of_block}
 use Rattle.regions.proofs.Ways.{keeps_block, answers_block}
-use Rattle.regions.proofs.BrokenWays.{faults_block, end_is}
+use Rattle.regions.proofs.BrokenWays.{function_broken}
+use Rattle.regions.proofs.FaultLemmas.{end_is, end-line}
 use Rattle.regions.proofs.FirstWays.{firsts_block, first_block_is, no_first_in}
 
 -- ---- faults one after another
@@ -39,10 +40,6 @@ and_true true b h k = k
 and_true false b h k = h
 
 -- ---- functions
-
-end-line : (b : Block) → EndLine b (end_line_of b)
-end-line (End line) = refl
-end-line (Next s rest) = end-line rest
 
 accepted : (f : Function) (r : Result Way Found) → way_of_block (state_at_entry f) (state_at_entry f) f.body ≡ r → fault_at_end r (end_line_of f.body) ≡ None → AcceptedFunction f
 accepted f (Err e) h none = absurd cc
@@ -111,13 +108,6 @@ one_first_of functions rule rule' l l' h k =
     (ap (λ (f : Found). f.0) e, ap (λ (f : Found). f.1) e)
 
 -- ---- a first fault is of a rule that is broken
-
-function_broken : (f : Function) (rule : RegionRule) (l : ℕ) → FirstInFunction rule l f → BreaksFunction rule l f
-function_broken f rule l b =
-    elim b [
-      | inl inner ↦ inl (faults_block (state_at_entry f) (state_at_entry f) f.body (l, rule) (first_block_is (state_at_entry f) (state_at_entry f) f.body rule l inner))
-      | inr open' ↦ inr open'
-    ]
 
 pub first_broken_in : (functions : List Function) (rule : RegionRule) (l : ℕ) → FirstInFunctions rule l functions → (f : Function) × Contains functions f × BreaksFunction rule l f
 first_broken_in [] rule l b = absurd b

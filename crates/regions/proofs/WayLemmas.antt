@@ -7,8 +7,8 @@ use Rattle.syntax.specs.declared.stmt.Stmt.{Stmt as StmtInMemory}
 use Rattle.syntax.specs.declared.stmt.Block.{Block as BlockInMemory, out-Block}
 use Rattle.syntax.specs.Parts.{line_of}
 use Rattle.syntax.specs.Tree.{Stmt, If, IfElse, While, Return, ReturnValue, Test, Block, End, Next}
-use Rattle.syntax.specs.Views.{form_tree, stmt_tree, statements_tree, block_tree}
-use Rattle.syntax.proofs.Blocks.{block_is}
+use Rattle.syntax.specs.Views.{form_tree, stmt_tree, block_tree}
+use Rattle.syntax.proofs.Blocks.{block_is, statements_tree}
 use Rattle.regions.specs.declared.fault.CheckError.{CheckError}
 use Rattle.regions.specs.declared.fault.CheckError.TheVariants.{Memory, Fault}
 use Rattle.regions.specs.declared.joins.Way.{Way as WayInMemory}

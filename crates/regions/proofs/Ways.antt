@@ -1,6 +1,6 @@
 -- A way is kept just where it is the answer.
-use Rattle.std.proofs.Common.{◌≡◌, ℕ, Bool, true, false, not, ◌&&◌, ◌⊎◌, List, [], ◌∷◌, Option, Some, None, Result, Ok, Err, refl, sym, ap, ◌∙◌, subst, inl, inr, find, cond, true≢false}
-use Rattle.std.specs.List.{list_all}
+use Rattle.std.proofs.Common.{◌≡◌, ℕ, zero, suc, Bool, true, false, not, ◌&&◌, ◌⊎◌, List, [], ◌∷◌, Option, Some, None, Result, Ok, Err, refl, sym, ap, ◌∙◌, subst, inl, inr, find, cond, true≢false}
+use Rattle.std.specs.List.{AllByRecursion, list_all, slice_get}
 use Rattle.syntax.specs.Tree.{Stmt, Declare, DeclareBuffer, DeclareChars, DeclareArray, Assign, AssignElement, Perform, PutJint, If, IfElse, While, Return, ReturnValue, Block, End, Next}
 use Rattle.region_rules.specs.FirstFaults.{first_broken}
 use Rattle.region_rules.specs.RegionRules.{RegionRule, HeldBuffer, WaysDiffer, breaks_region_rule, own_rules, Obeys}
@@ -26,6 +26,21 @@ find_some p (x ∷ xs) y e = elim (p x) as (λ b. p x ≡ b → cond b (Some x) 
   where
     some_is : {B : Type 0} (a b : B) → Some a ≡ Some b → b ≡ a
     some_is a b h = cc
+
+-- at this place of a list is the first of which p holds
+abbrev pub IsFirst : {A : Type 0} → (A → Bool) → ℕ → List A → Type 0
+IsFirst p n [] = ⊥
+IsFirst p zero (x ∷ xs) = true ≡ p x
+IsFirst p (suc n) (x ∷ xs) = (false ≡ p x) × IsFirst p n xs
+
+pub first_at : {A : Type 0} (p : A → Bool) (n : ℕ) (xs : List A) → IsFirst p n xs → slice_get xs n ≡ find p xs
+first_at p n [] h = absurd h
+first_at p zero (x ∷ xs) h = ap (λ b. cond b (Some x) (find p xs)) h
+first_at p (suc n) (x ∷ xs) h = first_at p n xs h.1 ∙ ap (λ b. cond b (Some x) (find p xs)) h.0
+
+pub none_first : {A : Type 0} (p : A → Bool) (xs : List A) → AllByRecursion (λ x. false ≡ p x) xs → None ≡ find p xs
+none_first p [] h = refl
+none_first p (x ∷ xs) h = none_first p xs h.1 ∙ ap (λ b. cond b (Some x) (find p xs)) h.0
 
 -- ---- a way is kept just where it is the answer
 

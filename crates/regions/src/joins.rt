@@ -14,8 +14,7 @@ ghost use Rattle.regions.specs.Walks.{WayOrFault, way_value, Goes, Branches, Awa
 use crate::fault::{CheckError, RegionRule};
 use crate::telling::ways_detail;
 use details::{Detail, Fault, Line};
-use region_states::changes::{take_false, take_true};
-use region_states::states::{Facts, StaticState, exchange, is_as_saved, save};
+use region_states::states::{Facts, FlowState};
 use std::alloc::Global;
 use syntax::Test;
 
@@ -46,7 +45,7 @@ pub(crate) fn refuse(rule: RegionRule, line: usize, detail: Detail) -> Result<Wa
 
 /// Two ways become one: the first, after which this is known, and the second, which came to this state.
 fn join_ways<'a>(
-    state: &mut StaticState<'a>,
+    state: &mut FlowState<'a>,
     line: usize,
     first: Way,
     known: &mut Facts<'a>,
@@ -61,11 +60,11 @@ fn join_ways<'a>(
         Way::Returned => Ok(second),
         Way::On => match second {
             Way::Returned => {
-                exchange(state, known);
+                state.exchange(known);
                 Ok(Way::On)
             }
             Way::On => {
-                if is_as_saved(known, state) {
+                if state.is_as_saved(known) {
                     return Ok(Way::On);
                 }
                 refuse(RegionRule::WaysDiffer, line, ways_detail(known, state))
@@ -76,7 +75,7 @@ fn join_ways<'a>(
 
 /// The way after both branches, of which the second came to this state.
 pub(crate) fn join<'a>(
-    state: &mut StaticState<'a>,
+    state: &mut FlowState<'a>,
     line: usize,
     first: Branch<'a>,
     second: Result<Way, CheckError>,
@@ -96,7 +95,7 @@ pub(crate) fn join<'a>(
 /// The way after a branch and no other.
 #[inline]
 pub(crate) fn one_way<'a>(
-    state: &mut StaticState<'a>,
+    state: &mut FlowState<'a>,
     line: usize,
     first: Result<Branch<'a>, CheckError>,
 ) -> Result<Way, CheckError>
@@ -112,10 +111,10 @@ pub(crate) fn one_way<'a>(
 
 /// The way after none of a loop's turns, which is one of its two ways.
 #[inline]
-pub(crate) fn no_turn<'a>(alloc: Global, state: &StaticState<'a>) -> Result<Branch<'a>, CheckError>
+pub(crate) fn no_turn<'a>(alloc: Global, state: &FlowState<'a>) -> Result<Branch<'a>, CheckError>
     ensures { Branches result state.now (Ok (On state.now)) state.now }
 {
-    let known = save(alloc, state)?;
+    let known = state.save(alloc)?;
     Ok(Branch {
         way: Way::On,
         known,
@@ -125,21 +124,21 @@ pub(crate) fn no_turn<'a>(alloc: Global, state: &StaticState<'a>) -> Result<Bran
 /// The beginning of the branch where a test holds. What was known before the test is answered.
 pub(crate) fn take_then<'a>(
     alloc: Global,
-    state: &mut StaticState<'a>,
+    state: &mut FlowState<'a>,
     test: &'a Test,
 ) -> Result<Facts<'a>, CheckError>
     ensures before { IfOk result (λ known. IsSaved known state.old) }
     ensures after { OnOk result (state.new ≡ where_true state.old (test_tree test.now)) }
     ensures memory { IfErr result (λ e. e ≡ Memory) }
 {
-    let known = save(alloc, state)?;
-    take_true(state, test)?;
+    let known = state.save(alloc)?;
+    state.take_true(test)?;
     Ok(known)
 }
 
 /// The end of that branch, with this answer, and the beginning of the other, where before the test this was known.
 pub(crate) fn take_else<'a>(
-    state: &mut StaticState<'a>,
+    state: &mut FlowState<'a>,
     test: &'a Test,
     first: Result<Way, CheckError>,
     before: Facts<'a>,
@@ -150,7 +149,7 @@ pub(crate) fn take_else<'a>(
 {
     let way = first?;
     let mut known = before;
-    exchange(state, &mut known);
-    take_false(state, test);
+    state.exchange(&mut known);
+    state.take_false(test);
     Ok(Branch { way, known })
 }

@@ -18,10 +18,7 @@ use region_states::calls::{
     MadeCall, Release, called, deleted, got, is_forbidden, popped, released,
 };
 use region_states::names_used::{reads, uses};
-use region_states::states::{
-    Condition, StaticState, VariableState, frames, has_young_array, holds_buffer, holds_critical,
-    is_level, is_same, is_some_in_use, known_of, meets, some_meets,
-};
+use region_states::states::{Condition, FlowState, VariableState, is_level};
 use syntax::Form;
 
 /// Whether a statement returns.
@@ -87,16 +84,16 @@ pub(crate) fn assigned_name(form: &Form) -> Option<&[u8]>
     }
 }
 
-fn breaks_critical(state: &StaticState, form: &Form, call: Option<MadeCall>) -> bool
+fn breaks_critical(state: &FlowState, form: &Form, call: Option<MadeCall>) -> bool
     ensures { (line : ℕ) → result ≡ judged CallWhileCritical state.now (form_tree line form.now) (option_map made_value call.entry) }
 {
-    holds_critical(state) && (is_put_jint(form) || is_forbidden(call))
+    state.holds_critical() && (is_put_jint(form) || is_forbidden(call))
 }
 
-fn breaks_return(state: &StaticState, form: &Form, call: Option<MadeCall>) -> bool
+fn breaks_return(state: &FlowState, form: &Form, call: Option<MadeCall>) -> bool
     ensures { (line : ℕ) → result ≡ judged ReturnWithBuffer state.now (form_tree line form.now) (option_map made_value call.entry) }
 {
-    is_return(form) && holds_buffer(state)
+    is_return(form) && state.holds_buffer()
 }
 
 /// Whether a call is a Get.
@@ -109,23 +106,23 @@ fn gets(call: Option<MadeCall>) -> bool
     }
 }
 
-fn breaks_held(state: &StaticState, form: &Form, call: Option<MadeCall>) -> bool
+fn breaks_held(state: &FlowState, form: &Form, call: Option<MadeCall>) -> bool
     ensures { (line : ℕ) → result ≡ judged HeldBuffer state.now (form_tree line form.now) (option_map made_value call.entry) }
 {
-    gets(call) && some_meets(state, Condition::Held, assigned_name(form))
+    gets(call) && state.some_meets(Condition::Held, assigned_name(form))
 }
 
 /// Whether an untested buffer is released.
-fn releases_untested(state: &StaticState, release: Option<Release>) -> bool
+fn releases_untested(state: &FlowState, release: Option<Release>) -> bool
     ensures { result ≡ some_passes (λ release. some_passes (asks Condition.Untested state.now) release.buffer) (option_map release_value release.entry) }
 {
     match release {
-        Some(r) => some_meets(state, Condition::Untested, r.buffer),
+        Some(r) => state.some_meets(Condition::Untested, r.buffer),
         None => false,
     }
 }
 
-fn breaks_untested(state: &StaticState, form: &Form, call: Option<MadeCall>) -> bool
+fn breaks_untested(state: &FlowState, form: &Form, call: Option<MadeCall>) -> bool
     ensures { (line : ℕ) → result ≡ judged UntestedBuffer state.now (form_tree line form.now) (option_map made_value call.entry) }
 {
     reads(state, Condition::Untested, form) || releases_untested(state, released(call))
@@ -136,7 +133,7 @@ fn is_name(name: &[u8], other: Option<&[u8]>) -> bool
     ensures { result ≡ some_passes (bytes_eq name.now) (option_map (λ x. x.now) other.entry) }
 {
     match other {
-        Some(x) => is_same(name, x),
+        Some(x) => name == x,
         None => false,
     }
 }
@@ -146,35 +143,35 @@ fn is_mismatched(release: Release, known: Option<VariableState>) -> bool
     ensures { result ≡ is_mismatched (release_value release.entry) (option_map variable_state known.entry) }
 {
     match known {
-        Some(VariableState::Untested(access, array)) => {
+        Some(VariableState::Untested { access, array }) => {
             !(release.access.is_same(access) && is_name(array, release.object))
         }
-        Some(VariableState::Usable(access, array)) => {
+        Some(VariableState::Usable { access, array }) => {
             !(release.access.is_same(access) && is_name(array, release.object))
         }
-        Some(VariableState::Reference(..)) => false,
+        Some(VariableState::Reference { .. }) => false,
         Some(VariableState::Free) => false,
         None => false,
     }
 }
 
 /// Whether the variable that is released wants another release.
-pub(crate) fn mismatches(state: &StaticState, release: Release) -> bool
+pub(crate) fn mismatches(state: &FlowState, release: Release) -> bool
     ensures { result ≡ some_passes (λ x. is_mismatched (release_value release.entry) (state_of state.now x)) (option_map (λ x. x.now) release.entry.buffer) }
 {
     match release.buffer {
-        Some(x) => is_mismatched(release, known_of(state, x)),
+        Some(x) => is_mismatched(release, state.known_of(x)),
         None => false,
     }
 }
 
-fn is_wrong_release(state: &StaticState, release: Release) -> bool
+fn is_wrong_release(state: &FlowState, release: Release) -> bool
     ensures { result ≡ is_wrong_release state.now (release_value release.entry) }
 {
     (release.commits && release.access.is_critical()) || mismatches(state, release)
 }
 
-fn releases_wrongly(state: &StaticState, release: Option<Release>) -> bool
+fn releases_wrongly(state: &FlowState, release: Option<Release>) -> bool
     ensures { result ≡ some_passes (is_wrong_release state.now) (option_map release_value release.entry) }
 {
     match release {
@@ -183,74 +180,74 @@ fn releases_wrongly(state: &StaticState, release: Option<Release>) -> bool
     }
 }
 
-fn breaks_wrong(state: &StaticState, form: &Form, call: Option<MadeCall>) -> bool
+fn breaks_wrong(state: &FlowState, form: &Form, call: Option<MadeCall>) -> bool
     ensures { (line : ℕ) → result ≡ judged WrongBuffer state.now (form_tree line form.now) (option_map made_value call.entry) }
 {
     uses(state, Condition::Free, form) || releases_wrongly(state, released(call))
 }
 
-fn breaks_frame(state: &StaticState, form: &Form, call: Option<MadeCall>) -> bool
+fn breaks_frame(state: &FlowState, form: &Form, call: Option<MadeCall>) -> bool
     ensures { (line : ℕ) → result ≡ judged ReturnInFrame state.now (form_tree line form.now) (option_map made_value call.entry) }
 {
-    is_return(form) && frames(state) > 1
+    is_return(form) && state.frames() > 1
 }
 
-fn breaks_pop(state: &StaticState, form: &Form, call: Option<MadeCall>) -> bool
+fn breaks_pop(state: &FlowState, form: &Form, call: Option<MadeCall>) -> bool
     ensures { (line : ℕ) → result ≡ judged PopLastFrame state.now (form_tree line form.now) (option_map made_value call.entry) }
 {
-    popped(call) && frames(state) <= 1
+    popped(call) && state.frames() <= 1
 }
 
-fn breaks_dead(state: &StaticState, form: &Form, call: Option<MadeCall>) -> bool
+fn breaks_dead(state: &FlowState, form: &Form, call: Option<MadeCall>) -> bool
     ensures { (line : ℕ) → result ≡ judged DeadReference state.now (form_tree line form.now) (option_map made_value call.entry) }
 {
     uses(state, Condition::Dead, form)
 }
 
-fn pops_array(state: &StaticState, call: Option<MadeCall>) -> bool
+fn pops_array(state: &FlowState, call: Option<MadeCall>) -> bool
     ensures { result ≡ pops_array state.now (option_map made_value call.entry) }
 {
-    popped(call) && has_young_array(state)
+    popped(call) && state.has_young_array()
 }
 
 /// Whether a Get is of something else than a local variable.
-pub(crate) fn gets_elsewhere(state: &StaticState, call: Option<MadeCall>) -> bool
+pub(crate) fn gets_elsewhere(state: &FlowState, call: Option<MadeCall>) -> bool
     ensures { result ≡ gets_elsewhere state.now (option_map made_value call.entry) }
 {
     match got(call) {
-        Some((_, array)) => !some_meets(state, Condition::Reference, array),
+        Some((_, array)) => !state.some_meets(Condition::Reference, array),
         None => false,
     }
 }
 
-fn breaks_array(state: &StaticState, form: &Form, call: Option<MadeCall>) -> bool
+fn breaks_array(state: &FlowState, form: &Form, call: Option<MadeCall>) -> bool
     ensures { (line : ℕ) → result ≡ judged ArrayInUse state.now (form_tree line form.now) (option_map made_value call.entry) }
 {
-    is_some_in_use(state, assigned_name(form))
-        || is_some_in_use(state, deleted(call))
+    state.is_some_in_use(assigned_name(form))
+        || state.is_some_in_use(deleted(call))
         || pops_array(state, call)
         || gets_elsewhere(state, call)
 }
 
 /// The number of frames after a call.
-pub(crate) fn frames_after(state: &StaticState, call: Option<MadeCall>) -> usize
+pub(crate) fn frames_after(state: &FlowState, call: Option<MadeCall>) -> usize
     ensures { result ≡ frames_after state.now (option_map made_value call.entry) }
 {
     if popped(call) {
-        frames(state).saturating_sub(1)
+        state.frames().saturating_sub(1)
     } else {
-        frames(state)
+        state.frames()
     }
 }
 
 /// Whether a variable is a reference of another level.
-fn is_other_level(state: &StaticState, frames: usize, name: &[u8]) -> bool
+fn is_other_level(state: &FlowState, frames: usize, name: &[u8]) -> bool
     ensures { result ≡ is_other_level frames (state_of state.now name.now) }
 {
-    meets(state, Condition::Reference, name) && !is_level(frames, known_of(state, name))
+    state.meets(Condition::Reference, name) && !is_level(frames, state.known_of(name))
 }
 
-fn breaks_level(state: &StaticState, form: &Form, call: Option<MadeCall>) -> bool
+fn breaks_level(state: &FlowState, form: &Form, call: Option<MadeCall>) -> bool
     ensures { (line : ℕ) → result ≡ judged WrongLevel state.now (form_tree line form.now) (option_map made_value call.entry) }
 {
     match assigned_name(form) {
@@ -261,7 +258,7 @@ fn breaks_level(state: &StaticState, form: &Form, call: Option<MadeCall>) -> boo
 
 /// The rule of least number that a statement with this call breaks by itself.
 pub(crate) fn first_judged(
-    state: &StaticState,
+    state: &FlowState,
     form: &Form,
     call: Option<MadeCall>,
 ) -> Option<RegionRule>
@@ -301,7 +298,7 @@ pub(crate) fn first_judged(
 }
 
 /// The rule of least number that a statement breaks by itself.
-pub(crate) fn first_broken(state: &StaticState, form: &Form) -> Option<RegionRule>
+pub(crate) fn first_broken(state: &FlowState, form: &Form) -> Option<RegionRule>
     ensures { (line : ℕ) → option_map rule_of result ≡ first_broken state.now (form_tree line form.now) }
 {
     first_judged(state, form, called(form))

@@ -5,16 +5,14 @@ use crate::rules::{assigned_name, frames_after, gets_elsewhere, mismatches};
 use details::{Detail, Question, first_name};
 use jni::JniFunction;
 use region_states::calls::{MadeCall, called, deleted, got, released};
-use region_states::found::{Sought, first_difference, first_sought};
-use region_states::states::{
-    Condition, Facts, StaticState, VariableState, frames, held_of, is_array_in_use, known_of, meets,
-};
+use region_states::found::Sought;
+use region_states::states::{Condition, Facts, FlowState, VariableState};
 use syntax::{Form, Name};
 
 /// Whether a variable meets a condition; an untested buffer only where an element of it is read or written.
 #[derive(Clone, Copy)]
 struct Meets<'s, 'a> {
-    state: &'s StaticState<'a>,
+    state: &'s FlowState<'a>,
     condition: Condition,
 }
 
@@ -24,12 +22,12 @@ impl Question for Meets<'_, '_> {
             Condition::Untested => has_index,
             _ => true,
         };
-        is_asked && meets(self.state, self.condition, name.as_bytes())
+        is_asked && self.state.meets(self.condition, name.as_bytes())
     }
 }
 
 /// The first variable that a statement uses which meets a condition.
-fn used<'f>(state: &StaticState<'_>, condition: Condition, form: &'f Form) -> Option<&'f [u8]> {
+fn used<'f>(state: &FlowState<'_>, condition: Condition, form: &'f Form) -> Option<&'f [u8]> {
     let question = Meets { state, condition };
     match first_name(form, &question) {
         Some(name) => Some(name.as_bytes()),
@@ -46,13 +44,13 @@ fn of_variable(kind: &[u8], name: Option<&[u8]>, words: &[u8]) -> Detail {
 }
 
 /// A buffer that isn't released, of those from this number on.
-pub(crate) fn held_detail(state: &StaticState<'_>, from: usize) -> Detail {
-    let held = first_sought(state, from, Sought::Meeting(Condition::Held));
+pub(crate) fn held_detail(state: &FlowState<'_>, from: usize) -> Detail {
+    let held = state.first_sought(from, Sought::Meeting(Condition::Held));
     of_variable(b"buffer ", held, b" isn't released")
 }
 
 /// An untested buffer that is used or released.
-fn untested_detail(state: &StaticState<'_>, form: &Form, call: Option<MadeCall<'_>>) -> Detail {
+fn untested_detail(state: &FlowState<'_>, form: &Form, call: Option<MadeCall<'_>>) -> Detail {
     let name = match used(state, Condition::Untested, form) {
         Some(name) => Some(name),
         None => match released(call) {
@@ -66,7 +64,7 @@ fn untested_detail(state: &StaticState<'_>, form: &Form, call: Option<MadeCall<'
 /// How a held buffer was acquired.
 fn acquired(name: &[u8], known: Option<VariableState<'_>>) -> Detail {
     let held = match known {
-        Some(known) => held_of(known),
+        Some(known) => known.held(),
         None => None,
     };
     match held {
@@ -81,7 +79,7 @@ fn acquired(name: &[u8], known: Option<VariableState<'_>>) -> Detail {
 }
 
 /// A buffer that is released wrongly.
-fn released_wrongly(state: &StaticState<'_>, call: Option<MadeCall<'_>>) -> Detail {
+fn released_wrongly(state: &FlowState<'_>, call: Option<MadeCall<'_>>) -> Detail {
     let Some(release) = released(call) else {
         return Detail::none();
     };
@@ -89,7 +87,7 @@ fn released_wrongly(state: &StaticState<'_>, call: Option<MadeCall<'_>>) -> Deta
         return Detail::none();
     };
     if mismatches(state, release) {
-        return acquired(name, known_of(state, name));
+        return acquired(name, state.known_of(name));
     }
     of_variable(
         b"JNI_COMMIT doesn't release the critical buffer ",
@@ -99,7 +97,7 @@ fn released_wrongly(state: &StaticState<'_>, call: Option<MadeCall<'_>>) -> Deta
 }
 
 /// A buffer that is used without being held, or one that is released wrongly.
-fn wrong_detail(state: &StaticState<'_>, form: &Form, call: Option<MadeCall<'_>>) -> Detail {
+fn wrong_detail(state: &FlowState<'_>, form: &Form, call: Option<MadeCall<'_>>) -> Detail {
     match used(state, Condition::Free, form) {
         Some(name) => of_variable(b"buffer ", Some(name), b" isn't acquired"),
         None => released_wrongly(state, call),
@@ -107,14 +105,18 @@ fn wrong_detail(state: &StaticState<'_>, form: &Form, call: Option<MadeCall<'_>>
 }
 
 /// A dead reference that is used.
-fn dead_detail(state: &StaticState<'_>, form: &Form) -> Detail {
+fn dead_detail(state: &FlowState<'_>, form: &Form) -> Detail {
     let name = used(state, Condition::Dead, form);
     let known = match name {
-        Some(name) => known_of(state, name),
+        Some(name) => state.known_of(name),
         None => None,
     };
     match known {
-        Some(VariableState::Reference(1, _)) => of_variable(b"reference ", name, b" was deleted"),
+        Some(VariableState::Reference { level: 1, .. }) => of_variable(
+            b"reference ",
+            name,
+            b" was deleted",
+        ),
         _ => of_variable(
             b"reference ",
             name,
@@ -124,9 +126,9 @@ fn dead_detail(state: &StaticState<'_>, form: &Form) -> Detail {
 }
 
 /// The variable of the array of a held buffer, if this is one.
-fn in_use<'n>(state: &StaticState<'_>, name: Option<&'n [u8]>) -> Option<&'n [u8]> {
+fn in_use<'n>(state: &FlowState<'_>, name: Option<&'n [u8]>) -> Option<&'n [u8]> {
     let array = name?;
-    if is_array_in_use(state, array) {
+    if state.is_array_in_use(array) {
         Some(array)
     } else {
         None
@@ -134,8 +136,8 @@ fn in_use<'n>(state: &StaticState<'_>, name: Option<&'n [u8]>) -> Option<&'n [u8
 }
 
 /// An array of a held buffer that would change.
-fn array_of(state: &StaticState<'_>, array: &[u8]) -> Detail {
-    let holder = first_sought(state, 0, Sought::HoldingOf(array));
+fn array_of(state: &FlowState<'_>, array: &[u8]) -> Detail {
+    let holder = state.first_sought(0, Sought::HoldingOf(array));
     of_variable(b"buffer ", holder, b" isn't released, and its array is ").words(array)
 }
 
@@ -150,7 +152,7 @@ fn elsewhere_detail(call: Option<MadeCall<'_>>) -> Detail {
 }
 
 /// What is told where the array of a held buffer would change, or isn't a local variable.
-fn array_detail(state: &StaticState<'_>, form: &Form, call: Option<MadeCall<'_>>) -> Detail {
+fn array_detail(state: &FlowState<'_>, form: &Form, call: Option<MadeCall<'_>>) -> Detail {
     if let Some(array) = in_use(state, assigned_name(form)) {
         return array_of(state, array);
     }
@@ -160,7 +162,7 @@ fn array_detail(state: &StaticState<'_>, form: &Form, call: Option<MadeCall<'_>>
     if gets_elsewhere(state, call) {
         return elsewhere_detail(call);
     }
-    let young = first_sought(state, 0, Sought::OfYoungArray);
+    let young = state.first_sought(0, Sought::OfYoungArray);
     of_variable(
         b"buffer ",
         young,
@@ -169,12 +171,12 @@ fn array_detail(state: &StaticState<'_>, form: &Form, call: Option<MadeCall<'_>>
 }
 
 /// A reference that is set in another frame than its own.
-fn level_detail(state: &StaticState<'_>, form: &Form, call: Option<MadeCall<'_>>) -> Detail {
+fn level_detail(state: &FlowState<'_>, form: &Form, call: Option<MadeCall<'_>>) -> Detail {
     let Some(name) = assigned_name(form) else {
         return Detail::none();
     };
-    match known_of(state, name) {
-        Some(VariableState::Reference(own, _)) => Detail::of(b"reference ")
+    match state.known_of(name) {
+        Some(VariableState::Reference { level: own, .. }) => Detail::of(b"reference ")
             .words(name)
             .words(b" is of frame ")
             .number(own)
@@ -185,11 +187,11 @@ fn level_detail(state: &StaticState<'_>, form: &Form, call: Option<MadeCall<'_>>
 }
 
 /// What is told of a rule that a statement breaks by itself.
-pub(crate) fn statement_detail(state: &StaticState<'_>, form: &Form, rule: RegionRule) -> Detail {
+pub(crate) fn statement_detail(state: &FlowState<'_>, form: &Form, rule: RegionRule) -> Detail {
     let call = called(form);
     match rule {
         RegionRule::CallWhileCritical => {
-            let critical = first_sought(state, 0, Sought::Critical);
+            let critical = state.first_sought(0, Sought::Critical);
             of_variable(b"buffer ", critical, b" is critical")
         }
         RegionRule::ReturnWithBuffer => held_detail(state, 0),
@@ -198,9 +200,9 @@ pub(crate) fn statement_detail(state: &StaticState<'_>, form: &Form, rule: Regio
         }
         RegionRule::UntestedBuffer => untested_detail(state, form, call),
         RegionRule::WrongBuffer => wrong_detail(state, form, call),
-        RegionRule::ReturnInFrame => Detail::of(b"frames that aren't popped: ").number(frames(
-            state,
-        ).saturating_sub(1)),
+        RegionRule::ReturnInFrame => Detail::of(b"frames that aren't popped: ").number(
+            state.frames().saturating_sub(1),
+        ),
         RegionRule::PopLastFrame => Detail::of(b"no frame is pushed here"),
         RegionRule::DeadReference => dead_detail(state, form),
         RegionRule::ArrayInUse => array_detail(state, form, call),
@@ -222,25 +224,26 @@ pub(crate) fn end_detail(function: &Name) -> Detail {
 /// Puts what is known of a variable.
 fn with_known(detail: Detail, known: VariableState<'_>) -> Detail {
     match known {
-        VariableState::Reference(_, true) => detail.words(b"live"),
-        VariableState::Reference(_, false) => detail.words(b"deleted"),
+        VariableState::Reference { live: true, .. } => detail.words(b"live"),
+        VariableState::Reference { live: false, .. } => detail.words(b"deleted"),
         VariableState::Free => detail.words(b"not acquired"),
-        VariableState::Untested(..) => detail.words(b"not tested"),
-        VariableState::Usable(..) => detail.words(b"acquired"),
+        VariableState::Untested { .. } => detail.words(b"not tested"),
+        VariableState::Usable { .. } => detail.words(b"acquired"),
     }
 }
 
 /// Whether a variable is a reference or a buffer.
 fn kind_of(known: VariableState<'_>) -> &'static [u8] {
     match known {
-        VariableState::Reference(..) => b"reference ",
-        VariableState::Free | VariableState::Untested(..) | VariableState::Usable(..) => b"buffer ",
+        VariableState::Reference { .. } => b"reference ",
+        VariableState::Free | VariableState::Untested { .. } | VariableState::Usable { .. } =>
+            b"buffer ",
     }
 }
 
 /// What is known otherwise after the first of two ways, which these facts are of, than after the second.
-pub(crate) fn ways_detail(first: &Facts<'_>, state: &StaticState<'_>) -> Detail {
-    match first_difference(first, state) {
+pub(crate) fn ways_detail(first: &Facts<'_>, state: &FlowState<'_>) -> Detail {
+    match state.first_difference(first) {
         Some(difference) => {
             let detail = Detail::of(kind_of(difference.first))
                 .words(difference.name)
@@ -251,7 +254,7 @@ pub(crate) fn ways_detail(first: &Facts<'_>, state: &StaticState<'_>) -> Detail 
         None => Detail::of(b"frames: ")
             .number(first.frames)
             .words(b" on one way, ")
-            .number(frames(state))
+            .number(state.frames())
             .words(b" on the other"),
     }
 }

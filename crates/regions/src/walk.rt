@@ -18,36 +18,33 @@ use crate::joins::{Branch, Way, join, no_turn, one_way, refuse, take_else, take_
 use crate::rules::{first_broken, is_return};
 use crate::telling::{end_detail, held_detail, statement_detail, unreached_detail};
 use details::{Fault, Line};
-use region_states::changes::pass;
-use region_states::states::{
-    StaticState, VariableState, add, clear, count, holds_own, leave, nothing,
-};
+use region_states::states::{FlowState, VariableState};
 use std::alloc::{AllocError, Global};
 use syntax::{Block, Form, Function, Item, ParameterType, Stmt, Test};
 
 /// A block's end on this line, where the block began with this many variables and its way so far is this one.
-fn end(state: &mut StaticState, count: usize, way: Way, line: usize) -> Result<Way, CheckError>
+fn end(state: &mut FlowState, count: usize, way: Way, line: usize) -> Result<Way, CheckError>
     requires { count ≤ length (names_of state.old) }
     ensures goes { (outer : RegionState) → count ≡ length (names_of outer) → Grows outer state.old → Goes result state.new (go_on outer (way_value way state.old) (End line)) }
     ensures names { (outer : RegionState) → count ≡ length (names_of outer) → Grows outer state.old → IfOk result (λ _. names_of state.new ≡ names_of outer) }
 {
     match way {
         Way::On => {
-            if holds_own(state, count) {
+            if state.holds_own(count) {
                 return refuse(RegionRule::HeldBuffer, line, held_detail(state, count));
             }
-            leave(state, count);
+            state.truncate(count);
             Ok(Way::On)
         }
         Way::Returned => {
-            leave(state, count);
+            state.truncate(count);
             Ok(Way::Returned)
         }
     }
 }
 
 /// The way after a statement without blocks.
-fn plain_way<'a>(state: &mut StaticState<'a>, form: &'a Form) -> Result<Way, CheckError>
+fn plain_way<'a>(state: &mut FlowState<'a>, form: &'a Form) -> Result<Way, CheckError>
     requires { (line : ℕ) → AreNew (names_of state.old) (own_names (form_tree line form.now)) }
     ensures goes { (line : ℕ) → Goes result state.new (plain_way state.old (form_tree line form.now)) }
     ensures names { (line : ℕ) → IfOk result (λ _. names_of state.new ≡ names_of state.old ++ own_names (form_tree line form.now)) }
@@ -55,7 +52,7 @@ fn plain_way<'a>(state: &mut StaticState<'a>, form: &'a Form) -> Result<Way, Che
     if is_return(form) {
         return Ok(Way::Returned);
     }
-    pass(state, form)?;
+    state.pass(form)?;
     Ok(Way::On)
 }
 
@@ -63,7 +60,7 @@ fn plain_way<'a>(state: &mut StaticState<'a>, form: &'a Form) -> Result<Way, Che
 #[cycle(walk)]
 fn then_way<'a>(
     alloc: Global,
-    state: &mut StaticState<'a>,
+    state: &mut FlowState<'a>,
     test: &'a Test,
     then: &'a Block,
 ) -> Result<Branch<'a>, CheckError>
@@ -83,7 +80,7 @@ fn then_way<'a>(
 #[cycle(walk)]
 fn other_way<'a>(
     alloc: Global,
-    state: &mut StaticState<'a>,
+    state: &mut FlowState<'a>,
     line: usize,
     first: Result<Branch<'a>, CheckError>,
     block: &'a Block,
@@ -106,7 +103,7 @@ fn other_way<'a>(
 #[cycle(walk)]
 fn inner_way<'a>(
     alloc: Global,
-    state: &mut StaticState<'a>,
+    state: &mut FlowState<'a>,
     line: usize,
     form: &'a Form,
 ) -> Result<Way, CheckError>
@@ -133,11 +130,7 @@ fn inner_way<'a>(
 
 /// The way after a statement.
 #[cycle(walk)]
-fn stmt_way<'a>(
-    alloc: Global,
-    state: &mut StaticState<'a>,
-    stmt: &'a Stmt,
-) -> Result<Way, CheckError>
+fn stmt_way<'a>(alloc: Global, state: &mut FlowState<'a>, stmt: &'a Stmt) -> Result<Way, CheckError>
     requires { DeclaresNew (names_of state.old) (stmt_tree stmt.now) }
     ensures goes { Goes result state.new (way_of state.old (stmt_tree stmt.now)) }
     ensures names { IfOk result (λ _. names_of state.new ≡ names_of state.old ++ own_names (stmt_tree stmt.now)) }
@@ -152,14 +145,14 @@ fn stmt_way<'a>(
 #[cycle(walk)]
 fn block_way<'a>(
     alloc: Global,
-    state: &mut StaticState<'a>,
+    state: &mut FlowState<'a>,
     block: &'a Block,
 ) -> Result<Way, CheckError>
     requires { DeclareNew (names_of state.old) (block_tree block.now) }
     ensures goes { (outer : RegionState) → names_of outer ≡ names_of state.old → Goes result state.new (way_of_block outer state.old (block_tree block.now)) }
     ensures names { IfOk result (λ _. names_of state.new ≡ names_of state.old) }
 {
-    let count = count(state);
+    let count = state.len();
     let mut way = Way::On;
     for stmt in &block.statements {
         match way {
@@ -171,27 +164,30 @@ fn block_way<'a>(
 }
 
 /// What is known at a function's beginning: the class and its references are live, in one frame.
-fn enter<'a>(state: &mut StaticState<'a>, f: &'a Function) -> Result<(), AllocError>
+fn enter<'a>(state: &mut FlowState<'a>, f: &'a Function) -> Result<(), AllocError>
     requires { DeclaresOnce (function_tree f.now) }
     ensures { OnOk result (state.new ≡ state_at_entry (function_tree f.now)) }
 {
-    clear(state);
-    let known = VariableState::Reference(1, true);
+    state.clear();
+    let known = VariableState::Reference {
+        level: 1,
+        live: true,
+    };
     let mut left = f.parameters.len();
     while left > 0 {
         left -= 1;
         let p = &f.parameters[left];
         if let ParameterType::Reference(_) = p.kind {
-            add(state, p.name.as_bytes(), known)?;
+            state.add(p.name.as_bytes(), known)?;
         }
     }
-    add(state, f.class_name.as_bytes(), known)
+    state.add(f.class_name.as_bytes(), known)
 }
 
 /// The ways through a function. What the state was before is forgotten.
 fn check_function<'a>(
     alloc: Global,
-    state: &mut StaticState<'a>,
+    state: &mut FlowState<'a>,
     f: &'a Function,
 ) -> Result<(), CheckError>
     requires { DeclaresOnce (function_tree f.now) }
@@ -210,7 +206,7 @@ fn check_function<'a>(
 /// The ways through an item.
 fn check_item<'a>(
     alloc: Global,
-    state: &mut StaticState<'a>,
+    state: &mut FlowState<'a>,
     item: &'a Item,
 ) -> Result<(), CheckError>
     requires { ItemOnce (item_tree item.now) }
@@ -226,7 +222,7 @@ fn check_item<'a>(
 #[tactic(auto, using(crate::proofs::UnitLemmas::finds_rules))]
 fn check_each<'a>(
     alloc: Global,
-    state: &mut StaticState<'a>,
+    state: &mut FlowState<'a>,
     items: &'a [Item],
 ) -> Result<(), CheckError>
     requires { AllByRecursion ItemOnce (map item_tree items.now) }
@@ -243,6 +239,6 @@ pub(crate) fn check_items<'a>(alloc: Global, items: &'a [Item]) -> Result<(), Ch
     requires { AllByRecursion ItemOnce (map item_tree items.now) }
     ensures { Finds result (items_fault (map item_tree items.now)) }
 {
-    let mut state = nothing(alloc);
+    let mut state = FlowState::new(alloc);
     check_each(alloc, &mut state, items)
 }

@@ -36,7 +36,7 @@ use Rattle.replay_tasks.specs.declared.outcome.Purpose.TheVariants as purposes
 use Rattle.replay_tasks.specs.declared.outcome.Target.TheVariants as target
 use Rattle.replay_tasks.specs.declared.task.Task.{Task as TaskInMemory}
 use Rattle.semantics.specs.declared.trap.Trap.{Trap as TrapInMemory}
-use Rattle.replay_calls.specs.Answers.{Answer, Gives, Writes, Makes, Raises, ThrowsNew, Ensures, Pushes, RefusesFrames, Pops, DeletesLocal, MakesGlobal, DeletesGlobal, Pends, Region, GetsRegion, SetsRegion, Lends, CopiesBack, Frees, Owns, Disowns, Halts, answer_or_trap, effect_as, frames_after, frames_with, given_after, lent_in, makes_object, pending_after, shared_after, trap_in, variables_after, variables_freed, variables_with, with_disowned, with_owned, without_global, zero_result}
+use Rattle.replay_calls.specs.Answers.{Answer, Gives, Writes, Makes, Raises, ThrowsNew, Ensures, Pushes, RefusesFrames, Pops, DeletesLocal, MakesGlobal, DeletesGlobal, Pends, Region, GetsRegion, SetsRegion, Lends, CopiesBack, Frees, Owns, Disowns, Halts, answer_or_trap, frames_after, frames_with, given_after, lent_in, makes_object, pending_after, shared_after, trap_in, variables_after, variables_freed, variables_with, with_disowned, with_owned, without_global, zero_result}
 use Rattle.semantics.specs.EventViews.{trap_view}
 use Rattle.replay_terms.specs.Views.{given_view, lent_view, Contents, variables_view}
 use Rattle.replay_steps.specs.Calls.{MakesCall, lent_outcome, wanted_element}
@@ -47,6 +47,7 @@ use Rattle.replay_tasks.specs.Outcomes.{outcome_for, purpose_view}
 use Rattle.replay_steps.specs.Steps.{Scene, Sees, left_by, scene_with}
 use Rattle.replay_tasks.specs.Tasks.{task_view}
 use Rattle.replay_calls.specs.WorkedOut.{element_given, element_set, ensured, fits_element, found_class, found_field, global_deleted, index_within, local_deleted, made_global, monitor_entered, monitor_left, new_array, new_object_array, pushed, lent_by, region_got, region_set, region_within, released, worked_out}
+use Rattle.replay_steps.proofs.AnswerEffects.{effect_as}
 use Rattle.replay_steps.proofs.TaskLemmas.{same_thread}
 
 -- ---- checks

@@ -1,4 +1,5 @@
 pub mod TaskLemmas
+mod AnswerEffects
 mod CallLemmas
 mod Invocations
 mod ActivationLemmas

@@ -19,8 +19,8 @@ use Rattle.syntax.specs.Tree as tree
 use Rattle.syntax.specs.Tree.{Argument, Declare, DeclareBuffer, DeclareChars, DeclareArray, Assign, AssignElement, Perform, PutJint, If, IfElse, While, Return, ReturnValue}
 use Rattle.syntax.specs.Limits.{IsTree, numbers_in_range}
 use Rattle.syntax.specs.Parts.{argument_expressions, functions_of, statements_of, statements_within}
-use Rattle.syntax.specs.Views.{argument_tree, stmt_tree, block_tree, statements_tree, function_tree, unit_tree}
-use Rattle.syntax.proofs.Blocks.{block_is}
+use Rattle.syntax.specs.Views.{argument_tree, stmt_tree, block_tree, function_tree, unit_tree}
+use Rattle.syntax.proofs.Blocks.{block_is, statements_tree}
 use Rattle.type_rules.specs.SortRules.{IsSorted}
 use Rattle.semantics.specs.Activation.{function_at}
 use Rattle.semantics.specs.Task.{Task, operand, task_of, tasks_of}

@@ -1,5 +1,5 @@
 -- What a comparison of a bare name with NULL begins as.
-use Rattle.std.proofs.Common.{◌≡◌, Option, Some, None, refl, sym, ap, ◌∙◌}
+use Rattle.std.proofs.Common.{◌≡◌, Option, Some, None, sym, ap, ◌∙◌}
 use Rattle.std.specs.Option.{option_map}
 use Rattle.base.specs.Bytes.{Identifier}
 use Rattle.syntax.specs.NullTests.{NullTest, null_test_of}

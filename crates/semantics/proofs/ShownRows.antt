@@ -15,7 +15,7 @@ use Rattle.semantics.specs.Report.{ShownRow}
 use Rattle.semantics.specs.World.{World, class_object, class_objects, fresh_object, made_before, loaded_objects}
 use Rattle.semantics.specs.Heap.{Heap, object_at}
 use Rattle.semantics.specs.Reachable.{from_one, is_in, reachable, loaded_count, FromRoot}
-use Rattle.semantics.specs.ReportOf.{shown, shown_value, shown_row, object_row, loaded_rows}
+use Rattle.semantics.specs.ReportOf.{row, shown, shown_value, shown_row}
 use Rattle.semantics.specs.State.{State}
 use Rattle.semantics.proofs.ReachableLemmas.{reachable_lists}
 
@@ -130,6 +130,14 @@ get_after (x ∷ first) o rest = get_after first o rest
 
 object_after : (first : Heap) (o : Object) (rest : Heap) → object_at (first ++ o ∷ rest) (length first + 1) ≡ Some o
 object_after first o rest = let e : length first + 1 ≡ suc (length first) = omega arith in ap (object_at (first ++ o ∷ rest)) e ∙ get_after first o rest
+
+-- the row of an object with its name
+abbrev object_row : Classes → ℕ × Object → ShownRow
+object_row classes (name, o) = row classes name o.class o.values
+
+-- the rows of the world's objects, which are made after the class objects and the OutOfMemoryError object
+abbrev loaded_rows : World → List ShownRow
+loaded_rows w = map (object_row w.classes) (enumerate_from (length w.classes + 2) w.objects)
 
 one_row : (classes : Classes) (heap : Heap) (n : ℕ) (o : Object) → object_at heap n ≡ Some o → shown_row classes heap n ≡ object_row classes (n, o)
 one_row classes heap n o at =

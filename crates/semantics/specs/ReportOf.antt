@@ -2,7 +2,7 @@
 use Rattle.std.specs.Prelude.{ℕ, ◌+◌, ◌==◌, nat_le, nat_lt, Bool, true, false, if◌then◌else◌, List, length, filter, map, Option, Some, None}
 use Rattle.std.specs.List.{enumerate_from}
 use Rattle.class_rules.specs.Class.{Classes, class_name}
-use Rattle.semantics.specs.Object.{ObjectValue, Number, Refers, Object}
+use Rattle.semantics.specs.Object.{ObjectValue, Number, Refers}
 use Rattle.semantics.specs.Report.{ThreadStanding, HasTrapped, HasEnded, IsUncaught, IsBlocked, IsRunning, ShownValue, ShownNumber, ShownNull, ShownClass, ShownObject, ShownRow, Report}
 use Rattle.semantics.specs.World.{World}
 use Rattle.semantics.specs.Heap.{Heap, class_of, values_of}
@@ -54,13 +54,3 @@ report w s = record {
   standings = map (λ (t : ℕ × Thread). standing_of w.classes s t.0 t.1 s.stop) (enumerate_from 1 s.threads);
   objects = map (shown_row w.classes s.shared.heap) (shown w s);
 }
-
--- ---- where the heap is as it was made at load
-
--- the row of an object with its name
-abbrev pub object_row : Classes → ℕ × Object → ShownRow
-object_row classes (name, o) = row classes name o.class o.values
-
--- the rows of the world's objects, which are made after the class objects and the OutOfMemoryError object
-abbrev pub loaded_rows : World → List ShownRow
-loaded_rows w = map (object_row w.classes) (enumerate_from (length w.classes + 2) w.objects)

@@ -1,11 +1,16 @@
 -- A block's tree is that of the list of its statements.
-use Rattle.std.proofs.Common.{◌≡◌, ℕ, List, refl, ap, ◌∙◌}
-use Rattle.syntax.specs.Tree.{Block, Next}
+use Rattle.std.proofs.Common.{◌≡◌, ℕ, List, [], ◌∷◌, refl, ap, ◌∙◌}
+use Rattle.syntax.specs.Tree.{Block, End, Next}
 use Rattle.syntax.specs.declared.stmt.Stmt.{Stmt as StmtInMemory}
 use Rattle.syntax.specs.declared.stmt.Block.{Block as BlockInMemory, Block-F, Row_of-Stmt, end_of-Stmt, more_of-Stmt, out-Block, roll-Block, rolls-Block', is-Block', items-the_row-Stmt, items_hidden-the_row-Stmt-0}
 use Rattle.syntax.specs.declared.stmt.Form.{Form}
 use Rattle.syntax.specs.declared.stmt.Form.TheBlock.{hidden-the_row-Stmt-0}
-use Rattle.syntax.specs.Views.{form_tree, block_tree, row_tree, statements_tree}
+use Rattle.syntax.specs.Views.{form_tree, block_tree, row_tree, stmt_tree}
+
+-- statements, and the line of the brace after them
+abbrev pub statements_tree : List StmtInMemory → ℕ → Block
+statements_tree [] end_line = End end_line
+statements_tree (s ∷ rest) end_line = Next (stmt_tree s) (statements_tree rest end_line)
 
 row_is : {count : _} (row : Row_of-Stmt count) (end_line : ℕ) → row_tree row end_line ≡ statements_tree (items-the_row-Stmt count row) end_line
 row_is end_of-Stmt end_line = refl

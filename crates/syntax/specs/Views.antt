@@ -1,5 +1,5 @@
 -- The trees that lie in memory, as trees of the language.
-use Rattle.std.specs.Prelude.{ℕ, List, [], ◌∷◌, map, Option, Some, None}
+use Rattle.std.specs.Prelude.{ℕ, List, map, Option, Some, None}
 use Rattle.base.specs.Element.{element_value}
 use Rattle.syntax.specs.declared.expr.Expr.{Expr as ExprInMemory}
 use Rattle.syntax.specs.declared.expr.Expr.TheVariants as expr
@@ -147,11 +147,6 @@ abbrev mutual
 
 abbrev pub stmt_tree : StmtInMemory → Stmt
 stmt_tree s = form_tree s.line s.form
-
--- statements, and the line of the brace after them; `block_is` says that a block's tree is that of its statements
-abbrev pub statements_tree : List StmtInMemory → ℕ → Block
-statements_tree [] end_line = End end_line
-statements_tree (s ∷ rest) end_line = Next (stmt_tree s) (statements_tree rest end_line)
 
 abbrev pub result_tree : ResultInMemory → ResultType
 result_tree results.Void = Void

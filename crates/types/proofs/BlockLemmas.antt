@@ -11,7 +11,8 @@ use Rattle.syntax.specs.declared.stmt.Form.TheVariants as form
 use Rattle.syntax.specs.declared.stmt.Stmt.{Stmt as StmtInMemory}
 use Rattle.syntax.specs.Parts.{statements_of, statements_within, names_declared, declared_name}
 use Rattle.syntax.specs.Tree.{ResultType}
-use Rattle.syntax.specs.Views.{form_tree, stmt_tree, statements_tree}
+use Rattle.syntax.specs.Views.{form_tree, stmt_tree}
+use Rattle.syntax.proofs.Blocks.{statements_tree}
 use Rattle.type_rules.specs.declared.sort.Sort.{Sort as SortInMemory}
 use Rattle.type_rules.specs.Sorts.{Scope}
 use Rattle.type_rules.specs.SortRules.{broken_at, places_of, with_declared}

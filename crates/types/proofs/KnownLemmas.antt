@@ -11,6 +11,7 @@ use Rattle.syntax.specs.Tree.{Expr, Number, Named, Variable, Element, Prefix, Bi
 use Rattle.type_rules.specs.Sorts.{Scope, Sort, Word, Jint, Flag, Truth, Ref, Global, FieldId, Buffer, Array, sort_of, sort_in, prefix_sort, binary_sort, OperatorGroup, Logic, Equality, Order, OnWords, group, null_test_sort, has_elements, is_index, is_word, is_jint, is_flag, is_truth, is_ref, is_null, name_sort, is_nullable, is_unknown}
 use Rattle.type_rules.specs.SortRules.{SortMisfit, UnknownName, is_formed, variable_sort, value_sets, return_fits, statement_fits, breaks_sort_rule}
 use Rattle.type_rules.specs.Uses.{expr_uses, uses}
+use Rattle.type_rules.proofs.SortCases.{none_right}
 use Rattle.types.proofs.StatementLemmas.{unknown_names}
 
 -- ---- operators
@@ -29,19 +30,9 @@ binary_left Equality None r h = absurd cc
 binary_left Order None r h = absurd cc
 binary_left OnWords None r h = absurd cc
 
-no_right : (g : OperatorGroup) (o : Option Sort) → binary_sort g o None ≡ None
-no_right Logic (Some Truth) = refl
-no_right Equality (Some Word) = refl
-no_right Equality (Some Jint) = refl
-no_right Equality (Some Flag) = refl
-no_right Order (Some Word) = refl
-no_right Order (Some Jint) = refl
-no_right OnWords (Some Word) = refl
-no_right g o = refl
-
 binary_right : (g : OperatorGroup) (o r : Option Sort) → is_some (binary_sort g o r) ≡ true → is_some r ≡ true
 binary_right g o (Some s) h = refl
-binary_right g o None h = let f : true ≡ false = sym h ∙ ap is_some (no_right g o) in absurd cc
+binary_right g o None h = let f : true ≡ false = sym h ∙ ap is_some (none_right g o) in absurd cc
 
 -- no null test, or one of a name
 null_cases : (op : BinaryOp) (a b : Expr) → (null_tested (Binary op a b) ≡ None) ⊎ ((x : Identifier) × (a ≡ Variable x) × (b ≡ Named Null) × (null_tested (Binary op a b) ≡ Some x))

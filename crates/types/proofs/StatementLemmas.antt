@@ -1,16 +1,15 @@
 -- What is refused at a statement, rule by rule.
-use Rattle.std.proofs.Common.{◌≡◌, ℕ, Bool, true, false, not, ◌||◌, List, [], Option, Some, None, refl, ap₂, ◌∙◌}
+use Rattle.std.proofs.Common.{◌≡◌, ℕ, Bool, true, false, ◌||◌, List, [], Option, Some, None, refl, ap₂, ◌∙◌}
 use Rattle.std.specs.List.{list_any}
-use Rattle.std.specs.Option.{is_none, option_to_list}
+use Rattle.std.specs.Option.{option_to_list}
 use Rattle.std.proofs.lemmas.List.Folds.{list_any-append}
 use Rattle.base.specs.Bytes.{Identifier}
 use Rattle.base.specs.Options.{some_passes}
 use Rattle.syntax.specs.declared.stmt.Form.{Form as FormInMemory}
 use Rattle.syntax.specs.declared.stmt.Form.TheVariants as form
-use Rattle.syntax.specs.Parts.{line_of, own_call, used_names, assigned_name}
-use Rattle.syntax.specs.Tree.{Call, ResultType, Void, Stmt}
+use Rattle.syntax.specs.Parts.{line_of, used_names, assigned_name}
+use Rattle.syntax.specs.Tree.{ResultType, Void, Stmt}
 use Rattle.syntax.specs.Views.{form_tree}
-use Rattle.jni.specs.JniFunction.{function_named}
 use Rattle.type_rules.specs.Sorts.{Scope, is_unknown}
 use Rattle.type_rules.specs.SortRules.{UnknownName, sort_rules, breaks_sort_rule, broken_at}
 use Rattle.types.specs.Faults.{statement_place, refused_of}

@@ -3,7 +3,7 @@
 ghost use Rattle.std.specs.Prelude.{◌≡◌};
 ghost use Rattle.types.specs.declared.fault.TypeError.TheVariants.{Memory};
 ghost use Rattle.type_rules.specs.SortRules.{sort_rule_number};
-ghost use Rattle.types.specs.Faults.{rule_of, Finds, broken_if};
+ghost use Rattle.types.specs.Faults.{Faults, Refuses, rule_of, Finds, broken_if};
 
 use details::{Detail, Fault, Line};
 use std::alloc::{AllocError, AllocFailed};
@@ -109,4 +109,14 @@ pub(crate) fn refuse_name_if(
         }));
     }
     Ok(())
+}
+
+/// A fault, with what is told of it.
+pub(crate) fn told(fault: TypeFault, detail: Detail) -> TypeError
+    ensures { (broken : Faults) → Refuses (TypeError.Fault fault) broken → Refuses result broken }
+{
+    TypeError::Fault(Fault {
+        rule: fault.rule,
+        line: Line::told(fault.line.number(), detail),
+    })
 }

@@ -8,11 +8,10 @@ ghost use Rattle.type_rules.specs.SortViews.{sort_value};
 ghost use Rattle.types.specs.Faults.{Faults, Refuses, Finds, broken_if, scope_of, found, head_faults, own_places, with_static};
 
 use crate::blocks::check_block;
-use crate::fault::{SortRule, TypeError, refuse_if, refuse_name_if};
+use crate::fault::{SortRule, TypeError, refuse_if, refuse_name_if, told};
 use crate::scope::{enter, has_name, has_repeated};
 use crate::telling::head_detail;
 use class_rules::mangling::is_mangled;
-use details::{Fault, Line};
 use std::alloc::{AllocError, Global};
 use syntax::{Function, Item, Name, Static};
 use type_rules::{Known, Sort};
@@ -41,10 +40,7 @@ fn with_detail(error: TypeError, names: &[Name], entry: &[Name], f: &Function) -
         TypeError::Memory => TypeError::Memory,
         TypeError::Fault(fault) => {
             let detail = head_detail(names, entry, f, fault.rule);
-            TypeError::Fault(Fault {
-                rule: fault.rule,
-                line: Line::told(fault.line.number(), detail),
-            })
+            told(fault, detail)
         }
     }
 }

@@ -21,13 +21,12 @@ use crate::calls::{
     may_be_dropped, may_be_tested,
 };
 use crate::expressions::{has_unknown, is_null, name_sort, sort_of};
-use crate::fault::{SortRule, TypeError, refuse_if};
+use crate::fault::{SortRule, TypeError, refuse_if, told};
 use crate::scope::{has_name, is_unknown, sort_in};
 use crate::sort::{
     has_elements, is_flag, is_index, is_jint, is_read_only, is_ref, is_truth, is_word,
 };
 use crate::telling::statement_detail;
-use details::{Fault, Line};
 use jni::{JniFunction, function_named};
 use syntax::{Call, ElementType, Expr, Form, Name, ResultType, RightSide, Stmt, Test};
 use type_rules::{Known, Sort, own_call, variable_sort};
@@ -396,10 +395,7 @@ fn with_detail(
         TypeError::Memory => TypeError::Memory,
         TypeError::Fault(fault) => {
             let detail = statement_detail(known, returns, form, fault.rule);
-            TypeError::Fault(Fault {
-                rule: fault.rule,
-                line: Line::told(fault.line.number(), detail),
-            })
+            told(fault, detail)
         }
     }
 }

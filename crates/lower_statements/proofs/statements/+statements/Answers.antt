@@ -6,8 +6,8 @@ use Rattle.syntax.specs.declared.stmt.Stmt.{Stmt as StmtInMemory}
 use Rattle.syntax.specs.declared.stmt.Form.{Form as FormInMemory}
 use Rattle.syntax.specs.declared.stmt.Block.{out-Block}
 use Rattle.syntax.specs.Tree.{Block, Next}
-use Rattle.syntax.specs.Views.{form_tree, block_tree, statements_tree}
-use Rattle.syntax.proofs.Blocks.{block_is}
+use Rattle.syntax.specs.Views.{form_tree, block_tree}
+use Rattle.syntax.proofs.Blocks.{block_is, statements_tree}
 use Rattle.code.specs.declared.instr.Instr.{Instr}
 use Rattle.code.specs.declared.instr.Instr.TheVariants as instr
 use Rattle.code_meaning.specs.Layout.{Layout, layout_after, block_layout}

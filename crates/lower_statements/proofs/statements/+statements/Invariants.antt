@@ -1,6 +1,7 @@
 use Rattle.std.proofs.Common.{◌≡◌, ◌++◌, drop}
 use Rattle.syntax.specs.declared.stmt.Block.{out-Block}
-use Rattle.syntax.specs.Views.{block_tree, statements_tree}
+use Rattle.syntax.specs.Views.{block_tree}
+use Rattle.syntax.proofs.Blocks.{statements_tree}
 use Rattle.code_meaning.specs.Layout.{block_layout}
 use Rattle.code_meaning.specs.Coding.{block_code}
 use Rattle.lower_statements.proofs.statements.+statements.Given as goal

@@ -7,8 +7,8 @@ use Rattle.syntax.specs.declared.stmt.Stmt.{Stmt as StmtInMemory}
 use Rattle.syntax.specs.declared.stmt.Block.{out-Block}
 use Rattle.syntax.specs.declared.stmt.Form.{Form as FormInMemory, the_lemmas}
 use Rattle.syntax.specs.Tree.{Block, Next}
-use Rattle.syntax.specs.Views.{block_tree, stmt_tree, statements_tree, test_tree, form_tree}
-use Rattle.syntax.proofs.Blocks.{block_is}
+use Rattle.syntax.specs.Views.{block_tree, stmt_tree, test_tree, form_tree}
+use Rattle.syntax.proofs.Blocks.{block_is, statements_tree}
 use Rattle.regions.specs.declared.fault.CheckError.{CheckError}
 use Rattle.regions.specs.declared.joins.Branch.{Branch}
 use Rattle.regions.specs.declared.joins.Way.{Way as WayInMemory}
@@ -29,7 +29,7 @@ pub block_way-loop-stmt-init : goal.block_way-loop-stmt-init
 block_way-loop-stmt-init t c =
     let block = block_is c.args.block.now ∙ ap (λ (items : List StmtInMemory). statements_tree items (out-Block c.args.block.now).end_line) (sym c.deref-stmt-items.ensures.value) in
     record {
-      count = c.count-count.ensures;
+      count = c.len-count.ensures;
       grows = ([], sym (append-nil (names_of c.args.state.now)));
       fresh = subst (λ (b : Block). DeclareNew (names_of c.args.state.now) b) block c.requires;
       goes = λ outer same. ap (λ (b : Block). way_of_block outer c.args.state.now b) block;

@@ -2,7 +2,8 @@ use Rattle.std.proofs.Common.{◌≡◌, ◌+◌, ◌*◌, drop, length}
 use Rattle.syntax.specs.declared.stmt.Stmt.{size-Stmt}
 use Rattle.syntax.specs.declared.stmt.Form.{size-Form}
 use Rattle.syntax.specs.declared.stmt.Block.{out-Block, size-Block}
-use Rattle.syntax.specs.Views.{block_tree, statements_tree}
+use Rattle.syntax.specs.Views.{block_tree}
+use Rattle.syntax.proofs.Blocks.{statements_tree}
 use Rattle.region_rules.specs.RegionStates.{RegionState}
 use Rattle.region_states.specs.StatesInMemory.{names_of, Grows}
 use Rattle.region_states.specs.NewNames.{DeclareNew}

@@ -19,4 +19,4 @@ returns-else-holds_own-clause-goes c = λ outer is grows.
     let now = c.args.state.now in
     ap (λ (w : WayInMemory). go_on outer (way_value w now) (End c.args.line)) c.in-On.is
     ∙ end_left outer now c.args.line (c.if-holds_own.ensures outer is grows)
-    ∙ ap (λ (s : RegionState). Ok (On s)) (sym (c.leave.ensures.left outer is grows))
+    ∙ ap (λ (s : RegionState). Ok (On s)) (sym (c.truncate.ensures.left outer is grows))

@@ -1,10 +1,10 @@
 use Rattle.std.proofs.Common.{◌≡◌, ℕ, suc, ◌+◌, ◌<◌, List, ◌∷◌, length, get_or, drop, ap, ◌∙◌, sym, arith, add-one, drop-cons}
 use Rattle.std.proofs.Math.ListN.{drop_of_length-le}
 use Rattle.syntax.specs.Tree.{Block, ResultType}
-use Rattle.syntax.specs.Views.{stmt_tree, statements_tree, result_tree}
+use Rattle.syntax.specs.Views.{stmt_tree, result_tree}
 use Rattle.syntax.specs.declared.stmt.Stmt.{Stmt as StmtInMemory}
 use Rattle.syntax.specs.declared.stmt.Block.{out-Block}
-use Rattle.syntax.proofs.Blocks.{block_is}
+use Rattle.syntax.proofs.Blocks.{block_is, statements_tree}
 use Rattle.code_meaning.specs.Length.{block_steps, stmt_steps}
 use Rattle.step_counts.proofs.Left.{some_by, none_by}
 use Rattle.step_counts.proofs.length.+statements.Goals as goal

@@ -1,6 +1,7 @@
 use Rattle.std.proofs.Common.{◌≡◌, ◌+◌, drop}
 use Rattle.syntax.specs.declared.stmt.Block.{out-Block}
-use Rattle.syntax.specs.Views.{block_tree, statements_tree, result_tree}
+use Rattle.syntax.specs.Views.{block_tree, result_tree}
+use Rattle.syntax.proofs.Blocks.{statements_tree}
 use Rattle.code_meaning.specs.Length.{block_steps}
 use Rattle.step_counts.proofs.length.+statements.Given as goal
 

@@ -5,8 +5,8 @@ use Rattle.base.specs.Bytes.{Identifier}
 use Rattle.syntax.specs.declared.stmt.Block.{out-Block}
 use Rattle.syntax.specs.Parts.{statements_of, statements_within, names_declared, declared_name}
 use Rattle.syntax.specs.Tree.{Test, Block, IfElse}
-use Rattle.syntax.specs.Views.{form_tree, stmt_tree, block_tree, statements_tree, result_tree, test_tree}
-use Rattle.syntax.proofs.Blocks.{block_is}
+use Rattle.syntax.specs.Views.{form_tree, stmt_tree, block_tree, result_tree, test_tree}
+use Rattle.syntax.proofs.Blocks.{block_is, statements_tree}
 use Rattle.types.specs.declared.fault.TypeError.{TypeError}
 use Rattle.type_rules.specs.SortRules.{broken_at, places_of, with_declared}
 use Rattle.types.specs.Faults.{Faults, Finds, Refuses, IsAbove, scope_of, found, statement_place, places_inside}

@@ -2,7 +2,6 @@ use Rattle.std.proofs.Common.{sym, ap, ap₂, ◌∙◌}
 use Rattle.std.specs.Option.{is_some}
 use Rattle.syntax.specs.declared.expr.Expr.{Expr as ExprInMemory}
 use Rattle.syntax.specs.Parts.{null_tested}
-use Rattle.syntax.specs.Tree.{Binary}
 use Rattle.syntax.specs.Views.{expr_tree, binary_tree}
 use Rattle.type_rules.specs.Sorts.{sort_of, binary_sort, group, null_test_sort}
 use Rattle.types.specs.Faults.{scope_of}

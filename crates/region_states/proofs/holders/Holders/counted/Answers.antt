@@ -1,0 +1,6 @@
+use Rattle.std.proofs.Common.{arith}
+use Rattle.region_states.proofs.HolderLemmas.{few_held}
+use Rattle.region_states.proofs.holders.Holders.counted.Goals as goal
+
+pub note-requires : goal.note-requires
+note-requires c = λ x. omega (arith, few_held x c.args.variables.now, c.loop-v.invariant x, c.requires)
