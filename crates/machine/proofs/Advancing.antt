@@ -20,7 +20,7 @@ use Rattle.semantics.specs.declared.event.Ending.TheVariants.{Unfinished}
 use Rattle.machine_threads.specs.declared.thread.Thread.{Thread}
 use Rattle.machine_steps.specs.Executes.{IsHindered, IsSteady}
 use Rattle.machine_threads.specs.ThreadAgrees.{ThreadAgrees}
-use Rattle.machine.specs.Moving.{AreCollected, moved_thread}
+use Rattle.machine_collections.specs.Moving.{AreCollected, moved_thread}
 use Rattle.machine_steps.specs.declared.advance.Advanced.{Advanced}
 use Rattle.machine.specs.Run.{AdvancesFrom, CanAdvance, MakesObjects, acquired}
 use Rattle.machine.proofs.Collected.{corresponds_collected}

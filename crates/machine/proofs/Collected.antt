@@ -29,18 +29,18 @@ use Rattle.machine_steps.specs.declared.advance.Advanced.{Advanced}
 use Rattle.machine_steps.specs.declared.advance.Advanced.TheVariants as advanced
 use Rattle.machine_threads.specs.declared.thread.Thread.{Thread}
 use Rattle.semantics.specs.declared.event.Stop.{Stop}
-use Rattle.machine.specs.Moving.{AreCollected, AreReferred, moved_thread}
-use Rattle.machine.specs.Roots.{ThreadsAreStacked, root_places, slots_of}
+use Rattle.machine_collections.specs.Moving.{AreCollected, AreReferred, moved_thread}
+use Rattle.machine_collections.specs.Roots.{ThreadsAreStacked, root_places, slots_of}
 use Rattle.machine.specs.Run.{Run, Corresponds, IsBetween, IsCollected, replay_of}
 use Rattle.machine.proofs.CollectedRuns.{corresponds_moved}
-use Rattle.machine.proofs.Collections.{name_moved}
-use Rattle.machine.proofs.GatheredRoots.{gathered, in_place, places_are, thread_addresses}
-use Rattle.machine.proofs.OwnedMonitors.{monitor_addresses}
-use Rattle.machine.proofs.KeptCells.{live_is}
-use Rattle.machine.proofs.KeptNames.{kept_reachable, referred_name}
-use Rattle.machine.proofs.KeptReferences.{AreKept, CallIsKept, IsClosedUnder, ThreadsAreKept, ValueIsKept, ValuesAreKept}
-use Rattle.machine.proofs.LiveBlocks.{births}
-use Rattle.machine.proofs.ReachableNames.{times_in}
+use Rattle.machine_collections.proofs.Collections.{name_moved}
+use Rattle.machine_collections.proofs.GatheredRoots.{gathered, in_place, places_are, thread_addresses}
+use Rattle.machine_collections.proofs.OwnedMonitors.{monitor_addresses}
+use Rattle.machine_collections.proofs.KeptCells.{live_is}
+use Rattle.machine_collections.proofs.KeptNames.{kept_reachable, referred_name}
+use Rattle.machine_collections.proofs.KeptReferences.{AreKept, CallIsKept, IsClosedUnder, ThreadsAreKept, ValueIsKept, ValuesAreKept}
+use Rattle.machine_collections.proofs.LiveBlocks.{births}
+use Rattle.machine_collections.proofs.ReachableNames.{times_in}
 use Rattle.machine.proofs.Reports.{gathered_name, reachable_there, view_root}
 
 -- ---- blocks

@@ -1,5 +1,5 @@
 -- A collection leaves the run as it was.
-use Rattle.std.proofs.Common.{◌≡◌, ℕ, zero, suc, ◌+◌, ◌*◌, ◌<◌, ◌≤◌, List, [], ◌∷◌, ◌++◌, length, map, take, drop, Option, Some, None, refl, sym, ap, ◌∙◌, subst, arith, IsSome}
+use Rattle.std.proofs.Common.{◌≡◌, ℕ, zero, suc, ◌+◌, ◌*◌, ◌<◌, ◌≤◌, List, [], ◌∷◌, length, map, take, drop, Option, Some, None, refl, sym, ap, ◌∙◌, subst, arith, IsSome}
 use Rattle.std.specs.Prelude.{flat_map, slice_get, reverse}
 use Rattle.std.specs.Option.{option_map}
 use Rattle.std.proofs.lemmas.List.{length-map}
@@ -23,7 +23,7 @@ use Rattle.machine_scenes.specs.declared.activation.Activation.{Activation}
 use Rattle.machine_scenes.specs.declared.buffer.Buffer.{Buffer}
 use Rattle.machine_scenes.specs.declared.buffer.Buffer.TheVariants as buffer
 use Rattle.machine_scenes.specs.declared.store.Store.{Store}
-use Rattle.machine_scenes.specs.Buffers.{Acquired, AreViewed, BufferAgrees, IsTaken, viewed_in}
+use Rattle.machine_scenes.specs.Buffers.{Acquired, AreViewed, IsTaken, viewed_in}
 use Rattle.machine_scenes.specs.declared.references.Held.{Held}
 use Rattle.machine_scenes.specs.declared.statics.StaticReference.{StaticReference}
 use Rattle.machine_scenes.specs.declared.statics.StaticReference.TheVariants as static
@@ -35,18 +35,18 @@ use Rattle.machine_threads.specs.InProgress.{CallStands, WorkAgrees}
 use Rattle.machine_threads.specs.ThreadAgrees.{ThreadsAgree, buffers_of}
 use Rattle.semantics.specs.declared.event.Stop.{Stop}
 use Rattle.compact.specs.Same.{MovesBy}
-use Rattle.machine.specs.Moving.{IsMoved, moved_call, moved_monitors, moved_slots, moved_thread}
-use Rattle.machine.proofs.KeptReferences.{AllHeldAreKept, AreKept, CallIsKept, HeldIsKept, IsClosedUnder, ThreadsAreKept, moved_held}
+use Rattle.machine_collections.specs.Moving.{IsMoved, moved_call, moved_monitors, moved_slots, moved_thread}
+use Rattle.machine_collections.proofs.KeptReferences.{AllHeldAreKept, AreKept, CallIsKept, HeldIsKept, IsClosedUnder, ThreadsAreKept, moved_held}
 use Rattle.machine.specs.Run.{Corresponds, acquired}
-use Rattle.machine.proofs.Collections.{FramesKept, address_moved, buffers_moved, heap_moved, kept_at, keys_moved, locals_moved, name_moved, reference_moved, slots_moved, statics_moved, table_moved, taken_moved}
+use Rattle.machine_collections.proofs.Collections.{FramesKept, address_moved, buffers_moved, heap_moved, kept_at, keys_moved, locals_moved, name_moved, reference_moved, slots_moved, statics_moved, table_moved, taken_moved}
 use Rattle.machine_monitors.specs.Fit.{AreThere, MonitorsAgree}
 use Rattle.machine_monitors.proofs.Moves.{moved}
 use Rattle.monitors.specs.declared.monitors.Monitor.{Monitor}
-use Rattle.machine.proofs.OwnedMonitors.{addresses_moved, held_moved, monitor_addresses}
+use Rattle.machine_collections.proofs.OwnedMonitors.{addresses_moved, held_moved, monitor_addresses}
 use Rattle.monitors.specs.Monitors.{addresses}
-use Rattle.machine.proofs.HeldViews.{AgreeInSlots, slots_agree, view_at, viewed_same}
-use Rattle.machine.proofs.ReachableNames.{in_times}
-use Rattle.machine.proofs.RootNames.{times_append}
+use Rattle.machine_collections.proofs.HeldViews.{AgreeInSlots, slots_agree, view_at, viewed_same}
+use Rattle.machine_collections.proofs.ReachableNames.{in_times}
+use Rattle.machine_collections.proofs.RootNames.{times_append}
 
 -- ---- what is kept, frame by frame
 

@@ -1,5 +1,5 @@
 -- What a step of one thread leaves as it was for the others.
-use Rattle.std.proofs.Common.{◌≡◌, ◌≢◌, ℕ, zero, suc, ◌+◌, ◌<◌, ◌≤◌, List, [], ◌∷◌, Option, Some, None, sym, ap, ◌∙◌, subst, arith}
+use Rattle.std.proofs.Common.{◌≡◌, ◌≢◌, ℕ, zero, suc, ◌+◌, ◌<◌, ◌≤◌, List, [], ◌∷◌, Option, Some, None, sym, subst, arith}
 use Rattle.std.specs.Prelude.{slice_set}
 use Rattle.std.specs.List.{AllZip}
 use Rattle.class_rules.specs.Class.{Classes}
@@ -17,7 +17,7 @@ use Rattle.machine_scenes.specs.declared.buffer.Buffer.{Buffer}
 use Rattle.machine_scenes.specs.declared.buffer.Buffer.TheVariants as held
 use Rattle.semantics_safety.specs.Owners.{Owners, AllOwners}
 use Rattle.machine_threads.specs.declared.thread.Thread.{Thread}
-use Rattle.machine_scenes.specs.Buffers.{BufferAgrees, BuffersAgree, KeepsCopies, viewed_in}
+use Rattle.machine_scenes.specs.Buffers.{BufferAgrees, KeepsCopies}
 use Rattle.machine_scenes.specs.HeapAgrees.{times}
 use Rattle.machine_scenes.specs.StoreAgrees.{Keeps}
 use Rattle.machine_threads.specs.InProgress.{CallStands, WorkAgrees}
@@ -25,7 +25,7 @@ use Rattle.machine_threads.specs.SlotsHold.{slots_of}
 use Rattle.machine_threads.specs.ThreadAgrees.{ThreadAgrees, ThreadsAgree, buffers_of}
 use Rattle.machine_scenes.proofs.Keeping.{reference_stays, keys_stay, frames_stay}
 use Rattle.machine_steps.proofs.StillShown.{shows_stay}
-use Rattle.machine.proofs.HeldViews.{slots_agree, viewed_same}
+use Rattle.machine_collections.proofs.HeldViews.{slots_agree, viewed_same}
 
 module _ (p : Lowered) (classes : Classes) (made k : ℕ) (space space' : Space) (copies copies' : List (Option OwnedNumbers)) (shared shared' : Shared) (keeps : Keeps space shared space' shared') (keeps_copies : KeepsCopies k copies copies') where
   -- ---- buffers of another thread

@@ -1,6 +1,6 @@
 -- The report of the state that a machine's journal leads to.
-use Rattle.std.proofs.Common.{append-nil, append_assoc, ⊎_elim, ◌≡◌, ℕ, zero, suc, ◌+◌, ◌<◌, Bool, false, List, [], ◌∷◌, ◌++◌, length, map, Option, Some, None, Result, refl, sym, ap, ◌∙◌, subst, arith}
-use Rattle.std.specs.Prelude.{slice_get, flat_map, is_some, ◌||◌}
+use Rattle.std.proofs.Common.{append_assoc, ⊎_elim, ◌≡◌, ℕ, suc, Bool, List, [], ◌∷◌, ◌++◌, length, map, Option, Some, None, Result, refl, sym, ap, ◌∙◌, subst, arith}
+use Rattle.std.specs.Prelude.{flat_map, is_some, ◌||◌}
 use Rattle.std.specs.List.{AllZip}
 use Rattle.std.specs.Option.{option_map, option_map_or}
 use Rattle.syntax.specs.Views.{unit_tree}
@@ -27,21 +27,21 @@ use Rattle.semantics.proofs.ShownRows.{length-loaded}
 use Rattle.semantics.specs.Thread as source
 use Rattle.semantics.specs.Thread.{Shared}
 use Rattle.heap.specs.Heap.{Block, Space, block_at, left_of, name_at, pins_at}
-use Rattle.code_meaning.specs.Lowered.{Lowered, IsLowered}
+use Rattle.code_meaning.specs.Lowered.{Lowered}
 use Rattle.code_meaning.specs.Slots.{Visible, visible_to}
 use Rattle.report_objects.specs.Rows.{AreReported}
 use Rattle.machine_scenes.specs.declared.activation.Activation.{Activation}
 use Rattle.machine_threads.specs.declared.thread.Thread.{Thread}
 use Rattle.semantics.specs.declared.event.Stop.{Stop}
-use Rattle.machine_threads.specs.ThreadAgrees.{ThreadAgrees, ThreadsAgree}
+use Rattle.machine_threads.specs.ThreadAgrees.{ThreadsAgree}
 use Rattle.machine_threads.specs.InProgress.{WorkAgrees}
 use Rattle.tables.specs.Elements.{OwnedNumbers}
 use Rattle.machine_scenes.specs.HeapAgrees.{IsNamed}
 use Rattle.machine.specs.Rows.{AreSeen}
-use Rattle.machine.proofs.HeldViews.{name_pinned, pinned_block}
+use Rattle.machine_collections.proofs.HeldViews.{name_pinned, pinned_block}
 use Rattle.compact.proofs.Tight.{get_map}
 use Rattle.heap.proofs.Lookups.{block_at-place}
-use Rattle.machine.proofs.ReachableNames.{in_times, reachable_named, times_in}
+use Rattle.machine_collections.proofs.ReachableNames.{in_times, reachable_named, times_in}
 use Rattle.semantics.proofs.ReachableLemmas.{In, contains_in, in_append_cases, in_append_left, in_append_right, to_contains}
 use Rattle.semantics_safety.specs.Owners.{AllOwners, owners_after}
 use Rattle.semantics.specs.EventViews.{stop_view}
@@ -49,14 +49,14 @@ use Rattle.machine.specs.Run as run
 use Rattle.semantics.specs.Run.{MarkedAreFair, UnmarkedFit}
 use Rattle.machine_scenes.specs.declared.store.Store.{Store}
 use Rattle.machine.specs.Run.{Run, Corresponds, WritesRun, AllRest, AreShown, ShowsObjects, ShowsStandings, IsFinished, standings_in}
-use Rattle.machine.specs.Roots.{AreAddresses, name_of, pinned_names, root_places, ThreadsAreStacked}
+use Rattle.machine_collections.specs.Roots.{AreAddresses, name_of, pinned_names, root_places, ThreadsAreStacked}
 use Rattle.std.specs.Prelude.{Contains}
 use Rattle.compact.proofs.Blocks.{Contains-from_get}
 use Rattle.machine_scenes.proofs.BlocksOfNames.{is_address}
 use Rattle.tables.specs.References.{references_in}
-use Rattle.machine.proofs.GatheredRoots.{gathered_roots, in_map, in_place, map_in, names_gathered, place_in, places_are, roots_gathered}
-use Rattle.machine.proofs.OwnedMonitors.{monitor_names}
-use Rattle.machine.proofs.RootNames.{CallFrames, HasRootsOf}
+use Rattle.machine_collections.proofs.GatheredRoots.{gathered_roots, in_map, in_place, map_in, names_gathered, place_in, places_are, roots_gathered}
+use Rattle.machine_collections.proofs.OwnedMonitors.{monitor_names}
+use Rattle.machine_collections.proofs.RootNames.{CallFrames, HasRootsOf}
 
 -- ---- the report
 

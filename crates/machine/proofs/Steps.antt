@@ -27,7 +27,7 @@ use Rattle.semantics.specs.Start.{start}
 use Rattle.semantics.proofs.StepLaws.{Steps, steps, step-thread}
 use Rattle.heap.specs.Heap.{left_of}
 use Rattle.heap.proofs.Layouts.{ends_within}
-use Rattle.machine.proofs.LiveBlocks.{live_below}
+use Rattle.machine_collections.proofs.LiveBlocks.{live_below}
 use Rattle.code_meaning.specs.Lowered.{Lowered}
 use Rattle.semantics.specs.declared.event.Ending.{Ending}
 use Rattle.semantics.specs.declared.event.Ending.TheVariants.{Unfinished, Ended, Uncaught}

@@ -8,7 +8,7 @@ use Rattle.semantics.specs.Thread.{BuffersInUse, Thread, copied_by, viewed_by}
 use Rattle.semantics.specs.World.{Invocation}
 use Rattle.machine_scenes.specs.Buffers.{Acquired, SameAcquired, acquired_by, beside, in_use_of}
 use Rattle.machine_scenes.specs.HeapAgrees.{times}
-use Rattle.machine.proofs.RootNames.{times_append}
+use Rattle.machine_collections.proofs.RootNames.{times_append}
 use Rattle.std.proofs.Common.{map}
 
 -- what the buffers of these threads take

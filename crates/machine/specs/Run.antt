@@ -51,7 +51,7 @@ use Rattle.machine_scenes.specs.StoreAgrees.{StoreAgrees}
 use Rattle.machine_steps.specs.Advances.{AdvancesBy}
 use Rattle.machine_steps.specs.Executes.{IsSteady, cells_made, in_use_with}
 use Rattle.machine_threads.specs.ThreadAgrees.{ThreadAgrees, ThreadsAgree}
-use Rattle.machine.specs.Moving.{AreCollected}
+use Rattle.machine_collections.specs.Moving.{AreCollected}
 use Rattle.semantics.specs.EventViews.{stop_view}
 
 -- a program's items, the world, the steps taken, and the cells after the heap's highest block

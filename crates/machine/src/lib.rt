@@ -1,10 +1,8 @@
 //! The machine, which runs lowered programs on their worlds.
 #![tactic(auto)]
 
-mod collecting;
 mod fault;
 mod machine;
-mod roots;
 mod rows;
 mod turn;
 

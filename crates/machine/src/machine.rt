@@ -22,14 +22,14 @@ ghost use Rattle.machine_threads.specs.ThreadAgrees.{ThreadAgrees};
 ghost use Rattle.semantics.specs.declared.journal.Entry.TheVariants.{Step};
 ghost use Rattle.machine.specs.Run.{replay_of, AdvancesFrom, CanAdvance, CanGoOn, WentOn, Corresponds, EndsAt, IsCollected, IsUnstarted, CouldStep, TurnHolds, RunsAlong, RunsInto, PrintedBy, IsFinished, AllRest, Waits, ReportsRun, AreShown, ShowsObjects, ShowsStandings, GivesNoStep, MakesObjects, StoppedBy, event_of, is_refused, turn_after, turn_at_rest};
 
-use crate::collecting::collect_blocks;
 use crate::fault::{ReportFault, RunFault};
-use crate::roots::{gather, push_viewed, root_names};
 use crate::rows::{NamedBlocks, named_blocks};
 use crate::turn::Turn;
 use arrayvec::ArrayVec;
 use base::limits::MOST_ENTRIES;
 use code_meaning::Program;
+use machine_collections::collecting::collect_blocks;
+use machine_collections::roots::{gather, push_viewed, root_names};
 use machine_scenes::store::Store;
 use machine_steps::advance::{Advanced, advance, advance_plainly};
 use machine_steps::fault::StepFault;

@@ -1,12 +1,13 @@
 // What lies under the lock.
-ghost use Rattle.std.specs.Prelude.{◌≡◌, ◌+◌, ◌<◌, ◌≤◌, length, IfOk, OnOk, OnErr, IsSome, All, vec_len, vec_capacity};
+ghost use Rattle.std.specs.Prelude.{◌≡◌, ◌+◌, IfOk, OnOk, OnErr, IsSome, All};
 ghost use Rattle.machine.specs.Run.{IsCollected, TurnHolds, replay_of};
-ghost use Rattle.shared.specs.Accounts.{account_of, kept_after, Agrees, more_of, number_at, taken, EndsSo};
+ghost use Rattle.shared_accounts.specs.Accounts.{account_of, kept_after, Agrees, taken, EndsSo};
 
-use crate::seat::{Seat, kept_after};
-use crate::tokens::{Cell, Naming, Pass, settle};
+use crate::seat::Seat;
 use machine::{Machine, Turn};
-use semantics::Printed;
+use shared_accounts::kept::kept_after;
+use shared_accounts::lines::step_with_lines;
+use shared_passes::tokens::{Cell, Naming, Pass, settle};
 use std::alloc::AllocError;
 use std::marker::{Brand, Model, PhantomData};
 use std::sync::Wait;
@@ -25,8 +26,8 @@ impl<'a, J: Naming> Model for Desk<'a, J> {
     ghost use Rattle.syntax.specs.contracts.unit.Item as item;
     ghost use Rattle.machine.specs.Run.{Run};
     ghost use Rattle.crossbeam_utils.specs.Seq.{cell_view};
-    ghost use Rattle.shared.specs.Accounts.{known_of};
-    ghost use Rattle.shared.specs.Tokens.{knower};
+    ghost use Rattle.shared_accounts.specs.Accounts.{known_of};
+    ghost use Rattle.shared_passes.specs.Tokens.{knower};
 
     ghost Value = { Run };
 
@@ -60,7 +61,7 @@ impl<'a, J: Naming> Desk<'a, J> {
     {
         let answer = step_with_lines(&mut self.machine, &mut seat.lines, seat.thread);
         let kept = kept_after(seat.kept, &answer);
-        settle::<Brand, R>(
+        settle::<Brand, Machine<'a>, R>(
             rt,
             cell,
             &mut self.keeper,
@@ -112,35 +113,5 @@ impl<'a, J: Naming> Desk<'a, J> {
     {
         let _ = self.machine.journal();
         self.machine
-    }
-}
-
-/// Lets thread `k` take one step, and puts what it prints behind its lines.
-fn step_with_lines(
-    machine: &mut Machine<'_>,
-    lines: &mut Vec<i32>,
-    k: u8,
-) -> Result<Turn, AllocError>
-    requires counted { 0 < k }
-    requires is_thread { k ≤ length machine.old.world.threads }
-    ensures turn { IfOk result (TurnHolds machine.old k machine.new) }
-    ensures err { OnErr result (machine.new ≡ machine.old) }
-    ensures runs { IsSome (replay_of machine.new) }
-    ensures lines { (account_of machine.old k).printed ≡ lines.old.items → (account_of machine.new k).printed ≡ lines.new.items }
-{
-    let before = machine.lines().len();
-    lines.reserve(1)?;
-    let turn = machine.step(k)?;
-    add_line(lines, machine.lines(), before);
-    Ok(turn)
-}
-
-/// Puts the number at a place behind the lines, where there is one.
-fn add_line(lines: &mut Vec<i32>, printed: &[Printed], place: usize)
-    requires { vec_len lines.old < vec_capacity lines.old }
-    ensures { lines.new.items ≡ more_of lines.old.items (number_at printed.now place) }
-{
-    if let Some(line) = printed.get(place) {
-        lines.push_reserved(line.number);
     }
 }

@@ -2,13 +2,13 @@
 ghost use Rattle.std.specs.Prelude.{◌≡◌, [], true, false, length, IfOk, IfErr, IsSome, All};
 ghost use Rattle.crossbeam_utils.specs.Seq.{cell_view};
 ghost use Rattle.machine.specs.Run.{replay_of};
-ghost use Rattle.shared.specs.Tokens.{knower, unknown};
-ghost use Rattle.shared.specs.Accounts.{Agrees, is_one_each, seats_of, SeatTurn};
+ghost use Rattle.shared_passes.specs.Tokens.{knower, unknown};
+ghost use Rattle.shared_accounts.specs.Accounts.{Agrees, is_one_each, seats_of, SeatTurn};
 
 use crate::desk::Desk;
 use crate::seat::{Seat, give_all, one_each};
-use crate::tokens::{Cell, Naming, Pass, open};
 use machine::{Machine, Turn};
+use shared_passes::tokens::{Cell, Naming, Pass, open};
 use std::alloc::{AllocError, Global};
 use std::marker::{Brand, PhantomData};
 use std::sync::{Mutex, Wait};
@@ -40,7 +40,7 @@ impl<'a, J: Naming> Shared<'a, J> {
         ensures err { IfErr result (λ m. m ≡ machine.entry) }
     {
         let threads = machine.threads();
-        open::<Brand>(&cell, &mut keeper, &machine);
+        open::<Brand, Machine<'a>>(&cell, &mut keeper, &machine);
         match give_all(alloc, &cell, &mut keeper, threads, machine.lines()) {
             Ok(seats) => {
                 let desk = Mutex::new(Desk {

@@ -3,13 +3,13 @@ ghost use Rattle.std.specs.Prelude.{◌≡◌, ◌==◌, ◌+◌, ◌<◌, ◌�
 ghost use Rattle.std.specs.List.{list_any};
 ghost use Rattle.std.specs.Option.{unwrap_or};
 ghost use Rattle.crossbeam_utils.specs.Seq.{cell_view};
-ghost use Rattle.shared.specs.Tokens.{knower, Right, nothing};
-ghost use Rattle.shared.specs.Accounts.{kept_after, is_one_each, seat_in, seats_in, numbers_of};
+ghost use Rattle.shared_passes.specs.Tokens.{knower, Right, nothing};
+ghost use Rattle.shared_accounts.specs.Accounts.{is_one_each, seat_in, seats_in, numbers_of};
 
-use crate::tokens::{Cell, Gives, Naming, Pass, check};
-use crate::view::Fate;
-use machine::Turn;
 use semantics::Printed;
+use shared_accounts::lines::numbers_of;
+use shared_passes::tokens::{Cell, Gives, Naming, Pass, check};
+use shared_passes::view::Fate;
 use std::alloc::{AllocError, Global};
 use std::marker::{Model, PhantomData};
 use std::sync::Wait;
@@ -19,34 +19,6 @@ const NOTHING: Fate = Fate {
     waits: false,
     full: false,
 };
-
-/// What a seat keeps of an answer.
-pub(crate) fn kept_after(kept: Fate, answer: &Result<Turn, AllocError>) -> Fate
-    ensures { result ≡ kept_after kept answer.now }
-{
-    match answer {
-        Ok(Turn::Stopped) => Fate {
-            stopped: true,
-            waits: kept.waits,
-            full: kept.full,
-        },
-        Ok(Turn::Blocked(true)) => Fate {
-            stopped: kept.stopped,
-            waits: true,
-            full: kept.full,
-        },
-        Ok(Turn::Full) => Fate {
-            stopped: kept.stopped,
-            waits: kept.waits,
-            full: true,
-        },
-        Ok(Turn::Blocked(false)) => kept,
-        Ok(Turn::Ended) => kept,
-        Ok(Turn::Short) => kept,
-        Ok(Turn::Stepped) => kept,
-        Err(_) => kept,
-    }
-}
 
 /// The seat of a thread. It knows the thread's account in the journal of the machine that is shared.
 #[derive(Drop)]
@@ -61,8 +33,8 @@ pub struct Seat<J: Naming> {
 impl<J: Naming> Model for Seat<J> {
     ghost use Rattle.std.specs.Prelude.{◌≡◌, ◌<◌, ◌≤◌, length};
     ghost use Rattle.crossbeam_utils.specs.Seq.{cell_view};
-    ghost use Rattle.shared.specs.Accounts.{Sat};
-    ghost use Rattle.shared.specs.Tokens.{sitting};
+    ghost use Rattle.shared_accounts.specs.Accounts.{Sat};
+    ghost use Rattle.shared_passes.specs.Tokens.{sitting};
 
     ghost Value = { Sat };
 
@@ -102,19 +74,6 @@ impl<J: Naming> Seat<J> {
     {
         check(rt, cell, keeper, &mut self.pass);
     }
-}
-
-/// The numbers of a thread among those that were printed.
-fn numbers_of(alloc: Global, printed: &[Printed], k: u8) -> Result<Vec<i32>, AllocError>
-    ensures { IfOk result (λ numbers. numbers.items ≡ numbers_of printed.now k) }
-{
-    let mut numbers = Vec::new(alloc);
-    for line in printed {
-        if line.thread == k {
-            numbers.push(line.number)?;
-        }
-    }
-    Ok(numbers)
 }
 
 /// Gives the seat of the next thread, which has printed these lines.

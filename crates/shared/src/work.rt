@@ -2,15 +2,15 @@
 ghost use Rattle.std.specs.Prelude.{◌≡◌, ◌<◌, ◌≤◌, true, false, IfOk, IsSome, length};
 ghost use Rattle.machine.specs.Run.{replay_of};
 ghost use Rattle.crossbeam_utils.specs.Seq.{cell_view};
-ghost use Rattle.shared.specs.Accounts.{is_one_each};
-ghost use Rattle.shared.specs.Tokens.{knower, unknown};
+ghost use Rattle.shared_accounts.specs.Accounts.{is_one_each};
+ghost use Rattle.shared_passes.specs.Tokens.{knower, unknown};
 ghost use Rattle.shared.specs.Work.{VerdictHolds};
 
 use crate::lock::Shared;
 use crate::seat::Seat;
-use crate::tokens::{Cell, Naming, Pass, new_cell};
 use base::limits::MOST_ENTRIES;
 use machine::{Machine, Turn};
+use shared_passes::tokens::{Cell, Naming, Pass, new_cell};
 use std::alloc::{AllocError, Global};
 use std::marker::Brand;
 use std::sync::Wait;

@@ -2,7 +2,7 @@
 
 ghost use Rattle.std.specs.Prelude.{◌≡◌};
 ghost use Rattle.crossbeam_utils.specs.Seq.{cell_view};
-ghost use Rattle.shared.specs.Tokens.{knower, unknown};
+ghost use Rattle.shared_passes.specs.Tokens.{knower, unknown};
 
 use lower::lower;
 use machine::{Machine, Turn};

@@ -1,7 +1,7 @@
 use Rattle.std.proofs.Common.{rules, ◌≡◌, List, OnOk, OnErr, sym, subst}
 use Rattle.std.proofs.lemmas.List.{with_items_is, places}
 use Rattle.machine_threads.specs.declared.thread.Thread.{Thread}
-use Rattle.machine.specs.Moving.{AreCollected, AreReferred}
+use Rattle.machine_collections.specs.Moving.{AreCollected, AreReferred}
 use Rattle.machine.specs.Run.{Corresponds}
 use Rattle.machine.proofs.Collected.{are_referred, run_after, stands_after}
 use Rattle.machine.proofs.machine.Machine.collect.Goals as goal

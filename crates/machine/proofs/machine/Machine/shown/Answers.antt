@@ -1,7 +1,7 @@
 use Rattle.std.proofs.Common.{ℕ, List, ◌++◌, map, subst, sym, ap, ◌∙◌}
 use Rattle.machine_threads.specs.declared.thread.Thread.{Thread}
 use Rattle.tables.specs.References.{references_in}
-use Rattle.machine.specs.Roots.{name_of, root_places, pinned_names, AreAddresses, ThreadsAreStacked}
+use Rattle.machine_collections.specs.Roots.{name_of, root_places, pinned_names, AreAddresses, ThreadsAreStacked}
 use Rattle.machine.proofs.Reports.{are_shown, places_there}
 use Rattle.machine.proofs.machine.Machine.shown.Goals as goal
 

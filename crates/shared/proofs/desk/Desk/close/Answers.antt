@@ -2,10 +2,10 @@ use Rattle.std.proofs.Common.{length, refl, append-nil, arith, ◌≤◌, slice_
 use Rattle.std.proofs.lemmas.List.{append_assoc}
 use Rattle.std.proofs.lemmas.List.Elements.{All-cons}
 use Rattle.semantics.specs.World.{World}
-use Rattle.shared.specs.declared.view.View.{View}
-use Rattle.shared.specs.Tokens.{IsWithin}
-use Rattle.shared.specs.Accounts.{Agrees}
-use Rattle.shared.proofs.Tables.{accounts_get, some_same}
+use Rattle.shared_passes.specs.declared.view.View.{View}
+use Rattle.shared_passes.specs.Tokens.{IsWithin}
+use Rattle.shared_accounts.specs.Accounts.{Agrees}
+use Rattle.shared_accounts.proofs.Tables.{accounts_get, some_same}
 use Rattle.shared.proofs.desk.Desk.close.Goals as goal
 
 pub loop-seat-preserved : goal.loop-seat-preserved

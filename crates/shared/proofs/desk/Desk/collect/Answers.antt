@@ -1,7 +1,7 @@
 use Rattle.std.proofs.Common.{◌≡◌, ◌+◌, Result, Ok, Err, OnOk, OnErr, sym, ap, ◌∙◌, length}
 use Rattle.machine.specs.Run.{Run, IsCollected}
-use Rattle.shared.specs.Tokens.{knower}
-use Rattle.shared.specs.Accounts.{known_of}
+use Rattle.shared_passes.specs.Tokens.{knower}
+use Rattle.shared_accounts.specs.Accounts.{known_of}
 use Rattle.shared.proofs.desk.Desk.collect.Goals as goal
 
 -- a collection changes nothing that is known

@@ -1,14 +1,14 @@
 use Rattle.std.proofs.Common.{length, ◌≡◌, ◌≤◌, ◌+◌, IfOk, slice_get, sym, ap, ◌∙◌, subst}
 use Rattle.crossbeam_utils.specs.Seq.{cell_view}
 use Rattle.semantics.specs.World.{World}
-use Rattle.shared.specs.declared.view.View.{View}
-use Rattle.shared.specs.declared.view.Fate.{Fate}
-use Rattle.shared.specs.declared.view.Known.{Known}
-use Rattle.shared.specs.declared.view.Account.{Account}
-use Rattle.shared.specs.Tokens.{IsWithin, sitting}
-use Rattle.shared.specs.Accounts.{Sat, account_of, accounts_of, fate_of, taken, EndsSo}
-use Rattle.shared.proofs.Machines.{change, same_world, others, kept_on, kept_now, entries_turn, ended_turn}
-use Rattle.shared.proofs.Tables.{accounts_same, accounts_get, some_same}
+use Rattle.shared_passes.specs.declared.view.View.{View}
+use Rattle.shared_passes.specs.declared.view.Fate.{Fate}
+use Rattle.shared_passes.specs.declared.view.Known.{Known}
+use Rattle.shared_passes.specs.declared.view.Account.{Account}
+use Rattle.shared_passes.specs.Tokens.{IsWithin, sitting}
+use Rattle.shared_accounts.specs.Accounts.{Sat, account_of, accounts_of, fate_of, taken, EndsSo}
+use Rattle.shared_accounts.proofs.Machines.{change, same_world, others, kept_on, kept_now, entries_turn, ended_turn}
+use Rattle.shared_accounts.proofs.Tables.{accounts_same, accounts_get, some_same}
 use Rattle.shared.proofs.desk.Desk.turn.Goals as goal
 
 pub step_with_lines-answer-requires-clause-is_thread : goal.step_with_lines-answer-requires-clause-is_thread

@@ -2,12 +2,12 @@ use Rattle.std.proofs.Common.{◌≤◌, ◌+◌, length, sym, ap, ◌∙◌, ar
 use Rattle.std.specs.Prelude.{slice_get, Option}
 use Rattle.std.specs.Option.{unwrap_or}
 use Rattle.semantics.specs.World.{World}
-use Rattle.shared.specs.declared.view.View.{View}
-use Rattle.shared.specs.declared.view.Account.{Account}
-use Rattle.shared.specs.Tokens.{nothing}
-use Rattle.shared.specs.Accounts.{seats_in, numbers_of, is_one_each}
-use Rattle.shared.proofs.Machines.{printed_in}
-use Rattle.shared.proofs.Tables.{table_of_all, seats_same, accounts_get, given_one_each}
+use Rattle.shared_passes.specs.declared.view.View.{View}
+use Rattle.shared_passes.specs.declared.view.Account.{Account}
+use Rattle.shared_passes.specs.Tokens.{nothing}
+use Rattle.shared_accounts.specs.Accounts.{seats_in, numbers_of, is_one_each}
+use Rattle.shared_accounts.proofs.Machines.{printed_in}
+use Rattle.shared_accounts.proofs.Tables.{table_of_all, seats_same, accounts_get, given_one_each}
 use Rattle.shared.proofs.lock.Shared.new.Goals as goal
 
 pub give_all-requires-clause-known : goal.give_all-requires-clause-known

@@ -1,8 +1,0 @@
-use Rattle.std.proofs.Common.{◌≡◌, ℕ}
-use Rattle.std.specs.Option.{option_map}
-use Rattle.compact.proofs.Fronts.{front}
-use Rattle.machine.specs.Moving.{AreMovedAt}
-use Rattle.machine.proofs.roots.put_globals.Given as goal
-
-abbrev pub invariant-loop-place : goal.invariant-loop-place
-invariant-loop-place l = (to : ℕ → ℕ) → AreMovedAt to l.fn.globals l.roots.places.items l.from → l.globals ≡ front (option_map to) l.place l.fn.globals

@@ -1,0 +1,11 @@
+pub mod RootNames
+pub mod OwnedMonitors
+pub mod ReachableNames
+pub mod GatheredRoots
+pub mod MovedRoots
+pub mod HeldViews
+pub mod KeptReferences
+pub mod LiveBlocks
+pub mod KeptCells
+pub mod KeptNames
+pub mod Collections

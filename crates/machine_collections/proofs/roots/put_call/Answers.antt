@@ -1,0 +1,12 @@
+use Rattle.std.proofs.Common.{Option, Some, sym, ap, ◌∙◌, subst}
+use Rattle.std.specs.Option.{option_map}
+use Rattle.tables.specs.Locals.{LocalTable}
+use Rattle.machine_scenes.specs.declared.activation.Activation.{Activation}
+use Rattle.machine_collections.specs.Moving.{AreMovedAt, moved_call}
+use Rattle.machine_collections.specs.Roots.{slots_of}
+use Rattle.machine_collections.proofs.roots.put_call.Goals as goal
+
+pub returns-in-Some-clause-moved : goal.returns-in-Some-clause-moved
+returns-in-Some-clause-moved c = λ to h.
+    let locals = c.put_locals.ensures.moved to (subst (λ (o : Option Activation). AreMovedAt to (slots_of o) c.args.roots.now.places.items c.args.from) c.in-Some.is h) in
+    ap (λ (l : LocalTable). let call : Activation = record c.in-Some.call { locals = l } in Some call) locals ∙ sym (ap (option_map (moved_call to)) c.in-Some.is)

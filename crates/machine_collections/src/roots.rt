@@ -1,0 +1,272 @@
+//! The roots: what refers to objects from outside of the heap. A report begins with them, a collection keeps what they name, and
+//! moves them along. Views are no roots of a collection: what they are of is pinned, so it stays, and slots have its address yet. A report
+//! begins with them too.
+//!
+//! A kind of root has a line in `gather`, one in `put_back` and one in `root_places`, at the same place of each, and no other.
+
+ghost use Rattle.std.specs.Prelude.{◌≡◌, ℕ, ◌+◌, ◌++◌, IfOk, OnOk, flat_map, length, map};
+ghost use Rattle.std.specs.Option.{option_map};
+ghost use Rattle.tables.specs.Locals.{AreStacked};
+ghost use Rattle.tables.specs.References.{references_in};
+ghost use Rattle.monitors.specs.Monitors.{addresses};
+ghost use Rattle.machine_collections.specs.Moving.{AreMoved, AreMovedAt, moved_call, moved_locals, moved_monitors, moved_slots, moved_thread};
+ghost use Rattle.machine_collections.specs.Roots.{AreAddresses, CallIsStacked, ReferenceIsThere, ThreadsAreStacked, loaded_places, name_of, pinned_names, reference_names, root_places, slots_of, thread_places};
+
+use compact::Roots;
+use heap::{Addr, Heap};
+use machine_scenes::activation::Activation;
+use machine_scenes::store::Store;
+use machine_threads::thread::Thread;
+use monitors::Monitors;
+use semantics::ObjectId;
+use std::alloc::{AllocError, Global};
+use tables::{Globals, Locals};
+
+/// The roots, place by place: each with the address of an object, or none.
+#[derive(Drop)]
+pub struct RootPlaces {
+    pub places: Vec<Option<Addr>>,
+}
+
+impl Roots for RootPlaces {
+    ghost roots = { λ roots. roots.places.items };
+
+    fn len(&self) -> usize {
+        self.places.len()
+    }
+
+    fn root(&self, place: usize) -> Option<Addr> {
+        self.places[place]
+    }
+
+    fn set_root(&mut self, place: usize, address: Addr) {
+        self.places[place] = Some(address);
+    }
+}
+
+/// The roots: the objects made at load, the global references, of each thread its local references and its pending exception, and the
+/// objects whose monitors are owned, by the places in their tables.
+pub fn gather(alloc: Global, store: &Store, threads: &[Thread]) -> Result<RootPlaces, AllocError>
+    ensures places { IfOk result (λ roots. roots.places.items ≡ root_places store.now threads.now) }
+    ensures stacked { IfOk result (λ _. ThreadsAreStacked threads.now) }
+{
+    let mut places = Vec::new(alloc);
+    push_loaded(&mut places, &store.loaded)?;
+    push_globals(&mut places, &store.globals)?;
+    push_threads(&mut places, threads)?;
+    push_monitors(&mut places, &store.monitors)?;
+    Ok(RootPlaces { places })
+}
+
+/// Puts the roots back, where a collection has moved what they name.
+pub(crate) fn put_back(roots: &RootPlaces, store: &mut Store, threads: &mut [Thread])
+    requires { (to : ℕ → ℕ) × (roots.now.places.items ≡ moved_slots to (root_places store.old threads.old)) }
+    ensures { (to : ℕ → ℕ) → roots.now.places.items ≡ moved_slots to (root_places store.old threads.old) → AreMoved to store.old threads.old store.new threads.new }
+{
+    let next = put_loaded(&mut store.loaded, roots);
+    let next = put_globals(&mut store.globals, roots, next);
+    let next = put_threads(threads, roots, next);
+    put_monitors(&mut store.monitors, roots, next);
+}
+
+/// The names of the objects that roots name, by their places.
+pub fn root_names(
+    alloc: Global,
+    heap: &Heap,
+    roots: &RootPlaces,
+) -> Result<Vec<ObjectId>, AllocError>
+    requires { AreAddresses heap.now (references_in roots.now.places.items) }
+    ensures { IfOk result (λ names. names.items ≡ map (name_of heap.now) (references_in roots.now.places.items)) }
+{
+    let mut names = Vec::new(alloc);
+    for place in 0..roots.len() {
+        push_name(&mut names, heap, roots.root(place))?;
+    }
+    Ok(names)
+}
+
+/// Adds the names of the objects that are viewed, whose blocks are pinned.
+pub fn push_viewed(names: &mut Vec<ObjectId>, heap: &Heap) -> Result<(), AllocError>
+    ensures { OnOk result (names.new.items ≡ names.old.items ++ pinned_names heap.now.blocks) }
+{
+    for place in 0..heap.count() {
+        let viewed = heap.address(place);
+        if heap.pins(viewed) > 0 {
+            names.push(heap.birth_of(viewed) as usize)?;
+        }
+    }
+    Ok(())
+}
+
+/// Adds the name of a root's object, if there is one.
+fn push_name(
+    names: &mut Vec<ObjectId>,
+    heap: &Heap,
+    reference: Option<Addr>,
+) -> Result<(), AllocError>
+    requires { ReferenceIsThere heap.now reference }
+    ensures { OnOk result (names.new.items ≡ names.old.items ++ reference_names heap.now reference) }
+{
+    match reference {
+        None => Ok(()),
+        Some(addr) => {
+            names.push(heap.birth_of(addr) as usize)?;
+            Ok(())
+        }
+    }
+}
+
+/// Adds the objects made at load.
+fn push_loaded(places: &mut Vec<Option<Addr>>, loaded: &[Addr]) -> Result<(), AllocError>
+    ensures { OnOk result (places.new.items ≡ places.old.items ++ loaded_places loaded.now) }
+{
+    for addr in loaded {
+        places.push(Some(*addr))?;
+    }
+    Ok(())
+}
+
+/// Adds the global references.
+fn push_globals(places: &mut Vec<Option<Addr>>, globals: &Globals) -> Result<(), AllocError>
+    ensures { OnOk result (places.new.items ≡ places.old.items ++ globals.now) }
+{
+    for place in 0..globals.len() {
+        places.push(globals.root(place))?;
+    }
+    Ok(())
+}
+
+/// Adds what threads refer to.
+fn push_threads(places: &mut Vec<Option<Addr>>, threads: &[Thread]) -> Result<(), AllocError>
+    ensures places { OnOk result (places.new.items ≡ places.old.items ++ flat_map thread_places threads.now) }
+    ensures stacked { OnOk result (ThreadsAreStacked threads.now) }
+{
+    for thread in threads {
+        push_call(places, &thread.call)?;
+        places.push(thread.pending)?;
+    }
+    Ok(())
+}
+
+/// Adds the local references of a call in progress.
+fn push_call(places: &mut Vec<Option<Addr>>, call: &Option<Activation>) -> Result<(), AllocError>
+    ensures places { OnOk result (places.new.items ≡ places.old.items ++ slots_of call.now) }
+    ensures stacked { OnOk result (CallIsStacked call.now) }
+{
+    match call {
+        None => Ok(()),
+        Some(call) => push_locals(places, &call.locals),
+    }
+}
+
+/// Adds local references.
+fn push_locals(places: &mut Vec<Option<Addr>>, locals: &Locals) -> Result<(), AllocError>
+    ensures places { OnOk result (places.new.items ≡ places.old.items ++ locals.now.slots) }
+    ensures stacked { OnOk result (AreStacked locals.now) }
+{
+    let _frames = locals.frames();
+    for place in 0..locals.len() {
+        places.push(locals.root(place))?;
+    }
+    Ok(())
+}
+
+/// Adds the objects whose monitors are owned.
+fn push_monitors(places: &mut Vec<Option<Addr>>, monitors: &Monitors) -> Result<(), AllocError>
+    ensures { OnOk result (places.new.items ≡ places.old.items ++ addresses monitors.now) }
+{
+    for place in 0..monitors.len() {
+        places.push(monitors.root(place))?;
+    }
+    Ok(())
+}
+
+/// Puts back the objects made at load, and tells the next place.
+fn put_loaded(loaded: &mut [Addr], roots: &RootPlaces) -> usize
+    requires { (to : ℕ → ℕ) × AreMovedAt to (loaded_places loaded.old) roots.now.places.items 0 }
+    ensures moved { (to : ℕ → ℕ) → AreMovedAt to (loaded_places loaded.old) roots.now.places.items 0 → loaded.new ≡ map to loaded.old }
+    ensures next { result ≡ length loaded.old }
+{
+    for place in 0..loaded.len() {
+        if let Some(addr) = roots.root(place) {
+            loaded[place] = addr;
+        }
+    }
+    loaded.len()
+}
+
+/// Puts back the global references, from a place on, and tells the next one.
+fn put_globals(globals: &mut Globals, roots: &RootPlaces, from: usize) -> usize
+    requires { (to : ℕ → ℕ) × AreMovedAt to globals.old roots.now.places.items from }
+    ensures moved { (to : ℕ → ℕ) → AreMovedAt to globals.old roots.now.places.items from → globals.new ≡ moved_slots to globals.old }
+    ensures next { result ≡ from + length globals.old }
+{
+    for place in 0..globals.len() {
+        if let Some(addr) = roots.root(from + place) {
+            globals.set_root(place, addr);
+        }
+    }
+    from + globals.len()
+}
+
+/// Puts back what threads refer to, from a place on, and tells the next one.
+fn put_threads(threads: &mut [Thread], roots: &RootPlaces, from: usize) -> usize
+    requires { (to : ℕ → ℕ) × AreMovedAt to (flat_map thread_places threads.old) roots.now.places.items from }
+    ensures moved { (to : ℕ → ℕ) → AreMovedAt to (flat_map thread_places threads.old) roots.now.places.items from → threads.new ≡ map (moved_thread to) threads.old }
+    ensures next { result ≡ from + length (flat_map thread_places threads.old) }
+{
+    let mut next = from;
+    for index in 0..threads.len() {
+        next = put_thread(&mut threads[index], roots, next);
+    }
+    next
+}
+
+/// Puts back what a thread refers to, from a place on, and tells the next one.
+fn put_thread(thread: &mut Thread, roots: &RootPlaces, from: usize) -> usize
+    requires { (to : ℕ → ℕ) × AreMovedAt to (thread_places thread.old) roots.now.places.items from }
+    ensures moved { (to : ℕ → ℕ) → AreMovedAt to (thread_places thread.old) roots.now.places.items from → thread.new ≡ moved_thread to thread.old }
+    ensures next { result ≡ from + length (thread_places thread.old) }
+{
+    let next = put_call(&mut thread.call, roots, from);
+    thread.pending = roots.root(next);
+    next + 1
+}
+
+/// Puts back the local references of a call in progress, from a place on, and tells the next one.
+fn put_call(call: &mut Option<Activation>, roots: &RootPlaces, from: usize) -> usize
+    requires { (to : ℕ → ℕ) × AreMovedAt to (slots_of call.old) roots.now.places.items from }
+    ensures moved { (to : ℕ → ℕ) → AreMovedAt to (slots_of call.old) roots.now.places.items from → call.new ≡ option_map (moved_call to) call.old }
+    ensures next { result ≡ from + length (slots_of call.old) }
+{
+    match call {
+        None => from,
+        Some(call) => put_locals(&mut call.locals, roots, from),
+    }
+}
+
+/// Puts back local references, from a place on, and tells the next one.
+fn put_locals(locals: &mut Locals, roots: &RootPlaces, from: usize) -> usize
+    requires { (to : ℕ → ℕ) × AreMovedAt to locals.old.slots roots.now.places.items from }
+    ensures moved { (to : ℕ → ℕ) → AreMovedAt to locals.old.slots roots.now.places.items from → locals.new ≡ moved_locals to locals.old }
+    ensures next { result ≡ from + length locals.old.slots }
+{
+    for place in 0..locals.len() {
+        if let Some(addr) = roots.root(from + place) {
+            locals.set_root(place, addr);
+        }
+    }
+    from + locals.len()
+}
+
+/// Puts back the objects whose monitors are owned, from a place on.
+fn put_monitors(monitors: &mut Monitors, roots: &RootPlaces, from: usize)
+    requires { (to : ℕ → ℕ) × AreMovedAt to (addresses monitors.old) roots.now.places.items from }
+    ensures { (to : ℕ → ℕ) → AreMovedAt to (addresses monitors.old) roots.now.places.items from → monitors.new ≡ moved_monitors to monitors.old }
+{
+    for place in 0..monitors.len() {
+        if let Some(addr) = roots.root(from + place) {
+            monitors.set_root(place, addr);
+        }
+    }
+}
