@@ -11,4 +11,4 @@ pub use command::Command;
 pub use files::{FileFault, FileSystem, Files, MOST_BYTES, Texts, read_texts};
 pub use saying::{fail, say, say_fault};
 pub use status::{COMMAND_LINE, DONE, FAILED, REFUSED};
-pub use telling::tell;
+pub use telling::{Reason, Source, tell};

@@ -125,26 +125,42 @@ fn put_detail<E: Sink>(err: &mut E, detail: &[u8]) -> Result<(), SinkFailed>
     }
 }
 
+/// A file that a command names, and its text.
+#[derive(Clone, Copy)]
+pub struct Source<'a> {
+    pub name: &'a [u8],
+    pub text: &'a [u8],
+}
+
+/// Why a text is refused, or why its run stopped.
+#[derive(Clone, Copy)]
+pub struct Reason<'a> {
+    /// `error` or `trap`.
+    pub kind: &'a [u8],
+    pub number: u32,
+    /// What this number means, in a few words.
+    pub words: &'a [u8],
+    /// What was found there; empty where that isn't told.
+    pub detail: &'a [u8],
+}
+
 /// Tells a fault or a trap: the name of the file, the place, the kind and the number, the words, and what was found there, if
 /// that is told; and below them the line of the text.
 pub fn tell<E: Sink>(
     err: &mut E,
-    kind: &[u8],
-    name: &[u8],
-    text: &[u8],
-    number: u32,
+    source: Source<'_>,
     place: Place,
-    words: &[u8],
-    detail: &[u8],
+    reason: Reason<'_>,
 ) -> Result<(), SinkFailed>
     requires { CanFail (E.written err.old) }
-    ensures text { Writes (E.written err.old) (E.written err.new) result (told kind.now name.now text.now number place words.now detail.now) }
+    ensures text { Writes (E.written err.old) (E.written err.new) result
+        (told reason.entry.kind.now source.entry.name.now source.entry.text.now reason.entry.number place reason.entry.words.now reason.entry.detail.now) }
     ensures none_waits { OnOk result ((E.written err.new).waiting ≡ 0) }
 {
-    put_all(err, name)?;
+    put_all(err, source.name)?;
     put_place(err, place)?;
-    put_reason(err, kind, number, words)?;
-    put_detail(err, detail)?;
-    put_excerpt(err, text, place)?;
+    put_reason(err, reason.kind, reason.number, reason.words)?;
+    put_detail(err, reason.detail)?;
+    put_excerpt(err, source.text, place)?;
     err.flush()
 }

@@ -11,7 +11,8 @@ use crate::run::run_text;
 use crate::telling::detail_at;
 use crate::working::work_text;
 use cli_commands::{
-    Command, DONE, FileFault, Files, REFUSED, Texts, fail, read_texts, say, say_fault, tell,
+    Command, DONE, FileFault, Files, REFUSED, Reason, Source, Texts, fail, read_texts, say,
+    say_fault, tell,
 };
 use places::{Place, Text};
 use program_check::{RunError, check_text};
@@ -81,16 +82,17 @@ fn tell_trap<E: Sink>(command: Command<'_>, program: &[u8], trap: Option<TrapAt>
     let Some(trap) = trap else {
         return;
     };
-    let _ = tell(
-        err,
-        b"trap",
-        command.name_of(Text::Program).as_bytes(),
-        program,
-        u32::from(trap.number),
-        Place::Line(Text::Program, trap.line),
-        words_of_trap(trap.number),
-        b"",
-    );
+    let source = Source {
+        name: command.name_of(Text::Program).as_bytes(),
+        text: program,
+    };
+    let reason = Reason {
+        kind: b"trap",
+        number: u32::from(trap.number),
+        words: words_of_trap(trap.number),
+        detail: b"",
+    };
+    let _ = tell(err, source, Place::Line(Text::Program, trap.line), reason);
 }
 
 /// What a fault is, in a few words.
@@ -122,18 +124,18 @@ fn refuse<O: Sink, E: Sink>(
     match say_fault(out, number, place) {
         Ok(()) => {
             let text = place.text();
-            let name = command.name_of(text).as_bytes();
+            let source = Source {
+                name: command.name_of(text).as_bytes(),
+                text: texts.of(text),
+            };
             let detail = detail_at(alloc, texts, number, place);
-            let _ = tell(
-                err,
-                b"error",
-                name,
-                texts.of(text),
+            let reason = Reason {
+                kind: b"error",
                 number,
-                place,
-                words_of(number),
-                detail.as_bytes(),
-            );
+                words: words_of(number),
+                detail: detail.as_bytes(),
+            };
+            let _ = tell(err, source, place, reason);
             REFUSED
         }
         Err(_) => fail(err, b"writer\n"),
