@@ -155,7 +155,8 @@ fn take_in(cell: &Cell, keeper: &mut Pass, seat: &mut Pass)
     requires keeper { cell_view keeper.old ≡ knower (cell_view keeper.old).table (cell_view keeper.old).next }
     requires seat { cell_view seat.old ≡ sitting (cell_view seat.old).thread (cell_view seat.old).account }
     ensures own { keeper.new.table_id ≡ keeper.old.table_id }
-    ensures hosts { cell_view keeper.new ≡ hosting (cell_view keeper.old).table (cell_view keeper.old).next (cell_view seat.old).thread (cell_view seat.old).account }
+    ensures hosts { cell_view keeper.new
+        ≡ hosting (cell_view keeper.old).table (cell_view keeper.old).next (cell_view seat.old).thread (cell_view seat.old).account }
 {
     let pass = cell.split_pass::<Leaves>(seat);
     cell.join_pass::<Takes>(keeper, pass);
@@ -164,8 +165,10 @@ fn take_in(cell: &Cell, keeper: &mut Pass, seat: &mut Pass)
 /// The keeper learns that the account of the seat that it has taken in is right, and what it is now.
 fn hear<E: Becomes, R: Wait>(rt: &R, cell: &Cell, keeper: &mut Pass)
     requires own { keeper.old.table_id ≡ cell.now.table.shared.table_id }
-    requires hosts { cell_view keeper.old ≡ hosting (cell_view keeper.old).table (cell_view keeper.old).next (cell_view keeper.old).thread (cell_view keeper.old).account }
-    requires here { Right (cell_view keeper.old).table (cell_view keeper.old).thread (cell_view keeper.old).account → Right E.table (cell_view keeper.old).thread E.account }
+    requires hosts { cell_view keeper.old
+        ≡ hosting (cell_view keeper.old).table (cell_view keeper.old).next (cell_view keeper.old).thread (cell_view keeper.old).account }
+    requires here { Right (cell_view keeper.old).table (cell_view keeper.old).thread (cell_view keeper.old).account
+        → Right E.table (cell_view keeper.old).thread E.account }
     requires others { (j : ℕ) (c : Claim) → j ≢ (cell_view keeper.old).thread → Right (cell_view keeper.old).table j c → Right E.table j c }
     ensures own { keeper.new.table_id ≡ keeper.old.table_id }
     ensures was { Right (cell_view keeper.old).table (cell_view keeper.old).thread (cell_view keeper.old).account }
@@ -177,7 +180,8 @@ fn hear<E: Becomes, R: Wait>(rt: &R, cell: &Cell, keeper: &mut Pass)
 /// The pass of the seat that the keeper has taken in.
 fn let_go(cell: &Cell, keeper: &mut Pass) -> Pass
     requires own { keeper.old.table_id ≡ cell.now.table.shared.table_id }
-    requires hosts { cell_view keeper.old ≡ hosting (cell_view keeper.old).table (cell_view keeper.old).next (cell_view keeper.old).thread (cell_view keeper.old).account }
+    requires hosts { cell_view keeper.old
+        ≡ hosting (cell_view keeper.old).table (cell_view keeper.old).next (cell_view keeper.old).thread (cell_view keeper.old).account }
     ensures keeper { (keeper.new.table_id ≡ keeper.old.table_id) × (cell_view keeper.new ≡ knower (cell_view keeper.old).table (cell_view keeper.old).next) }
     ensures seat { (result.table_id ≡ keeper.old.table_id) × (cell_view result ≡ sitting (cell_view keeper.old).thread (cell_view keeper.old).account) }
 {
