@@ -21,11 +21,13 @@ ghost use Rattle.machine_answers.specs.declared.answer.Given.TheVariants.{Number
 
 use crate::make::{can_raise, make, raise};
 use classes::table::ClassTable;
+use code::instr::Call;
 use heap::{Addr, Heap};
 use jni::ResultKind;
 use machine_answers::answer::{Answer, Given};
 use machine_answers::buffers::{acquire_copy, acquire_view, release};
 use machine_answers::copies::{copy_in, copy_out};
+use machine_scenes::activation::Activation;
 use machine_scenes::buffer::Buffer;
 use machine_scenes::new_object::New;
 use machine_scenes::statics::{StaticReference, delete_global, make_global};
@@ -53,43 +55,51 @@ pub fn has_room(classes: &ClassTable, texts: &[Vec<u8>], heap: &Heap, answer: &A
     }
 }
 
-/// Does to the store and to a call's frames and slots what a function of this kind of result answers, whose call has these texts, in a thread
-/// of this number. An object or an exception is refused exactly where it has no room in the heap: then the OutOfMemoryError object is
-/// pending, and the call fails. Local arrays are in the number slots.
+/// Does to the store and to an activation's frames and slots what this call of a function answers, in a thread of this number. An object
+/// or an exception is refused exactly where it has no room in the heap: then the OutOfMemoryError object is pending, and the call fails.
+/// Local arrays are in the number slots.
 ///
 /// An error says that host memory for a frame, a global reference or a copy of elements was refused; then all is as before.
 pub fn carry_out(
     world: &World,
     store: &mut Store,
     pending: &mut Option<Addr>,
-    locals: &mut Locals,
-    numbers: &mut [u32],
-    buffers: &mut [Buffer],
+    call: &mut Activation,
+    function: &Call,
     thread: u8,
-    kind: ResultKind,
-    texts: &[Vec<u8>],
     answer: Answer,
 ) -> Result<Carried, AllocError>
-    requires possible { (p : Lowered) × (array : Option (Identifier × LocalArray)) × (others : Acquired) × (shared : Shared) × (s : SourceThread) × (effect : CallEffect) × IsPossible p world.now store.old pending.old locals.old others shared s
-        × IsAnswer world.now.classes (bringing (texts_in texts.now) numbers.old (holding buffers.old store.old.elements thread) (in_use_of (beside others (acquired_by s))) array) store.old.heap locals.old (result_value kind) shared s answer effect }
+    requires possible { (p : Lowered) × (array : Option (Identifier × LocalArray)) × (others : Acquired)
+        × (shared : Shared) × (s : SourceThread) × (effect : CallEffect)
+        × IsPossible p world.now store.old pending.old call.old.locals others shared s
+        × IsAnswer world.now.classes (bringing (texts_in function.now.texts.items) call.old.slots.numbers.items
+        (holding call.old.slots.buffers.items store.old.elements thread) (in_use_of (beside others (acquired_by s))) array)
+        store.old.heap call.old.locals (result_value function.now.result) shared s answer effect }
     requires few { store.old.births + 2 < 2 ^ 32 }
     requires runs { is_halt answer ≡ false }
-    ensures carried { IfOk result (λ carried. (p : Lowered) (array : Option (Identifier × LocalArray)) (others : Acquired) (shared : Shared) (s : SourceThread) (effect : CallEffect) → IsPossible p world.now store.old pending.old locals.old others shared s
-        → IsAnswer world.now.classes (bringing (texts_in texts.now) numbers.old (holding buffers.old store.old.elements thread) (in_use_of (beside others (acquired_by s))) array) store.old.heap locals.old (result_value kind) shared s answer effect
-        → CarriesOut p world.now store.old.heap locals.old answer (result_value kind) others thread shared s effect carried.refused store.new pending.new locals.new carried.given) }
-    ensures slots { IfOk result (λ carried. numbers.new ≡ slots_after store.old.heap answer numbers.old) }
-    ensures buffer_slots { IfOk result (λ carried. buffers.new ≡ buffers_after answer buffers.old) }
+    ensures carried { IfOk result (λ carried. (p : Lowered) (array : Option (Identifier × LocalArray)) (others : Acquired)
+        (shared : Shared) (s : SourceThread) (effect : CallEffect)
+        → IsPossible p world.now store.old pending.old call.old.locals others shared s
+        → IsAnswer world.now.classes (bringing (texts_in function.now.texts.items) call.old.slots.numbers.items
+        (holding call.old.slots.buffers.items store.old.elements thread) (in_use_of (beside others (acquired_by s))) array)
+        store.old.heap call.old.locals (result_value function.now.result) shared s answer effect
+        → CarriesOut p world.now store.old.heap call.old.locals answer (result_value function.now.result) others thread shared s effect
+        carried.refused store.new pending.new call.new.locals carried.given) }
+    ensures slots { IfOk result (λ carried. call.new.slots.numbers.items ≡ slots_after store.old.heap answer call.old.slots.numbers.items) }
+    ensures buffer_slots { IfOk result (λ carried. call.new.slots.buffers.items ≡ buffers_after answer call.old.slots.buffers.items) }
+    ensures stays { IfOk result (λ carried. call.new
+        ≡ record call.old { locals = call.new.locals; slots = record call.old.slots { numbers = call.new.slots.numbers; buffers = call.new.slots.buffers } }) }
     ensures copies { IfOk result (λ carried. CopiesStay answer store.old.elements store.new.elements) }
     ensures new_copy { IfOk result (λ carried. IsNewCopy store.old.elements carried.given) }
     ensures store { OnErr result (store.new ≡ store.old) }
     ensures pending { OnErr result (pending.new ≡ pending.old) }
-    ensures locals { OnErr result (locals.new ≡ locals.old) }
-    ensures numbers { OnErr result (numbers.new ≡ numbers.old) }
-    ensures buffers { OnErr result (buffers.new ≡ buffers.old) }
+    ensures call { OnErr result (call.new ≡ call.old) }
     ensures memory { OnErr result (takes_memory answer ≡ true) }
 {
     // Here the proof takes up what is known of a world.
     let _ = world.threads();
+    let kind = function.result;
+    let texts: &[Vec<u8>] = &function.texts;
     match answer {
         Answer::Gives(given) => Ok(Carried {
             given,
@@ -136,14 +146,14 @@ pub fn carry_out(
             }
         }
         Answer::CopiesOut(region) => {
-            copy_out(&store.heap, numbers, &region);
+            copy_out(&store.heap, &mut call.slots.numbers, &region);
             Ok(Carried {
                 given: Given::Nothing,
                 refused: false,
             })
         }
         Answer::CopiesIn(region) => {
-            copy_in(&mut store.heap, numbers, &region);
+            copy_in(&mut store.heap, &call.slots.numbers, &region);
             Ok(Carried {
                 given: Given::Nothing,
                 refused: false,
@@ -156,7 +166,15 @@ pub fn carry_out(
                 refused: false,
             })
         }
-        _ => carry_out_buffers(world, store, pending, locals, buffers, thread, answer),
+        _ => carry_out_buffers(
+            world,
+            store,
+            pending,
+            &mut call.locals,
+            &mut call.slots.buffers,
+            thread,
+            answer,
+        ),
     }
 }
 

@@ -221,30 +221,22 @@ fn finish(
     ensures pending { OnErr result (pending.new ≡ pending.old) }
     ensures call { OnErr result (call.new ≡ call.old) }
 {
-    let kind = function.result;
-    let carried = carry_out(
-        world,
-        store,
-        pending,
-        &mut call.locals,
-        &mut call.slots.numbers,
-        &mut call.slots.buffers,
-        thread,
-        kind,
-        &function.texts,
-        answer,
-    )?;
-    // Here the proof takes up what is known of a table.
-    let _ = call.locals.frames();
-    receive(
-        call,
-        &mut store.statics,
-        function.target,
-        kind,
-        told_slot(function),
-        &carried.given,
-    );
-    Ok(done_or_refused(carried.refused))
+    match carry_out(world, store, pending, call, function, thread, answer) {
+        Ok(carried) => {
+            // Here the proof takes up what is known of a table.
+            let _ = call.locals.frames();
+            receive(
+                call,
+                &mut store.statics,
+                function.target,
+                function.result,
+                told_slot(function),
+                &carried.given,
+            );
+            Ok(done_or_refused(carried.refused))
+        }
+        Err(fault) => Err(fault),
+    }
 }
 
 /// Enters or leaves a monitor, as a call answers, and puts 0 where it goes.

@@ -1,11 +1,7 @@
-use mathlib.Core.HLevel.{is_prop→PathP}
-use native.Mathlib.Nat.{ℕ_set}
-use native.Mathlib.Bridge.{le_prop}
-use Rattle.std.specs.Global.{Vec}
 use Rattle.std.specs.Vec.{with_items}
-use Rattle.std.specs.Prelude.{OnErr, slice_get, slice_set, if◌then◌else◌}
+use Rattle.std.specs.Prelude.{slice_get, slice_set, if◌then◌else◌}
 use Rattle.std.proofs.lemmas.List.{with_items_is, places, length-set}
-use Rattle.std.proofs.Common.{rules, ◌≡◌, ℕ, Bool, true, false, List, Option, Result, Ok, Err, length, ◌≤◌, refl, sym, ap, ◌∙◌, subst, arith}
+use Rattle.std.proofs.Common.{rules, ◌≡◌, ℕ, Bool, true, false, List, Option, length, refl, sym, ap, ◌∙◌, subst, arith}
 use Rattle.base.specs.Bytes.{Identifier}
 use Rattle.code.specs.Call.{call_view}
 use Rattle.code.specs.declared.instr.Call.{Call}
@@ -24,11 +20,10 @@ use Rattle.semantics.specs.Thread.{Shared, Thread, sight_of}
 use Rattle.semantics.specs.World.{World}
 use Rattle.semantics_safety.specs.Owners.{Owners}
 use Rattle.tables.specs.Locals.{LocalTable}
-use Rattle.machine_answers.specs.Answers.{IsAnswer, array_given, bringing}
-use Rattle.machine_scenes.specs.Buffers.{Acquired, acquired_by, beside, gives_up, holding, in_use_of}
+use Rattle.machine_answers.specs.Answers.{IsAnswer, array_given}
+use Rattle.machine_scenes.specs.Buffers.{Acquired, gives_up}
 use Rattle.machine_calls.specs.CarriedOut.{CarriesOut, GoesByRoom, buffers_after, made_by, shared_after, slots_after}
 use Rattle.machine_answers.specs.Copies.{words_of}
-use Rattle.machine_scenes.specs.NewObjects.{texts_in}
 use Rattle.machine_scenes.specs.declared.activation.Activation.{Activation}
 use Rattle.machine_answers.specs.declared.answer.Answer.{Answer}
 use Rattle.machine_answers.specs.declared.answer.Answer.TheVariants as answers
@@ -63,15 +58,6 @@ module _ (p : Lowered) (w : World) (store : Store) (pending : Option ℕ) (call 
     abbrev named : Option (Identifier × LocalArray)
     named = array_given (call_view function).operands (it p w store pending call function others k own shared s task rest h answer given).args
 
-    -- the same answer, of slices
-    answered_by : (texts : List (Vec ℕ)) (numbers : List ℕ) (buffers : List Buffer) → texts ≡ function.texts.items → numbers ≡ call.slots.numbers.items → buffers ≡ call.slots.buffers.items
-        → IsAnswer w.classes (bringing (texts_in texts) numbers (holding buffers store.elements k) (in_use_of (beside others (acquired_by s))) named) store.heap call.locals kind shared s answer effect
-    answered_by texts numbers buffers are same_numbers same_buffers =
-        subst (λ (l : List (Vec ℕ)). IsAnswer w.classes (bringing (texts_in l) numbers (holding buffers store.elements k) (in_use_of (beside others (acquired_by s))) named) store.heap call.locals kind shared s answer effect) (sym are)
-        (subst (λ (l : List ℕ). IsAnswer w.classes (bringing (texts_in function.texts.items) l (holding buffers store.elements k) (in_use_of (beside others (acquired_by s))) named) store.heap call.locals kind shared s answer effect) (sym same_numbers)
-        (subst (λ (l : List Buffer). IsAnswer w.classes (bringing (texts_in function.texts.items) call.slots.numbers.items (holding l store.elements k) (in_use_of (beside others (acquired_by s))) named) store.heap call.locals kind shared s answer effect) (sym same_buffers)
-        (answered p w store pending call function others k own shared s task rest h answer given kind same)))
-
     -- what was carried out
     module _ (refused : Bool) (after : Store) (exception : Option ℕ) (locals : LocalTable) (g : Given) (carried : CarriesOut p w store.heap call.locals answer kind others k shared s effect refused after exception locals g) where
       static_there : (statics : List StaticReference) → statics ≡ after.statics.items → HasStatic function.target (length statics)
@@ -99,16 +85,6 @@ buffers_long (answers.Releases r) buffers = by_mode (gives_up r.mode)
     by_mode false = refl
 buffers_long answer buffers = refl
 
--- where nothing was done the slots are as they were
-on_err : {A E : Type 0} (P : Type 0) (r : Result A E) → P → OnErr r P
-on_err P (Ok x) h = tt
-on_err P (Err e) h = h
-
-same_vec : {A : Type 0} (v : Vec A) (l : List A) → l ≡ v.items → length l ≡ v.len → with_items v l ≡ v
-same_vec v l same long =
-    let e : (with_items v l).items ≡ v.items = with_items_is v l long ∙ same in
-    λ i. record v { items = e i; ok = is_prop→PathP (λ j. (v.len ≡ length (e j)) × (v.len ≤ v.cap)) (λ j x y n. (ℕ_set _ _ x.0 y.0 n, le_prop x.1 y.1 n)) (with_items v l).ok v.ok i }
-
 pub carry_out-requires-clause-possible : goal.carry_out-requires-clause-possible
 carry_out-requires-clause-possible c =
     let a = c.requires.at_call in
@@ -121,38 +97,33 @@ carry_out-requires-clause-possible c =
       a.4,
       effect a.0 w c.args.store.now c.args.pending.now c.args.call.now c.args.function.now a.1 c.args.thread a.2 a.3 a.4 a.5 a.6 a.7 c.args.answer c.requires.answered,
       can_carry a.0 w c.args.store.now c.args.pending.now c.args.call.now c.args.function.now a.1 c.args.thread a.2 a.3 a.4 a.5 a.6 a.7 c.args.answer c.requires.answered kind c.requires.prepared.result,
-      answered_by a.0 w c.args.store.now c.args.pending.now c.args.call.now c.args.function.now a.1 c.args.thread a.2 a.3 a.4 a.5 a.6 a.7 c.args.answer c.requires.answered kind c.requires.prepared.result c.deref.result.now c.deref_mut.result.now c.deref_mut-2.result.now c.deref.ensures.value c.deref_mut.ensures.value c.deref_mut-2.ensures.value,
+      answered a.0 w c.args.store.now c.args.pending.now c.args.call.now c.args.function.now a.1 c.args.thread a.2 a.3 a.4 a.5 a.6 a.7 c.args.answer c.requires.answered kind c.requires.prepared.result,
     )
 
--- what carrying out the answer left
-numbers_left : (space : Space) (answer : Answer) (v : Vec ℕ) (old new : List ℕ) → old ≡ v.items → length old ≡ v.len → new ≡ slots_after space answer old → length new ≡ v.len
-numbers_left space answer v old new same long is = ap length is ∙ numbers_long space answer old ∙ long
-
-buffers_left : (answer : Answer) (v : Vec Buffer) (old new : List Buffer) → length old ≡ v.len → new ≡ buffers_after answer old → length new ≡ v.len
-buffers_left answer v old new long is = ap length is ∙ buffers_long answer old ∙ long
-
-target_left : (target : Target) (numbers references fields buffers numbers' buffers' : ℕ) → numbers' ≡ numbers → buffers' ≡ buffers → HasNumber target numbers × HasReference target references × HasField target fields × HasBuffer target buffers → HasNumber target numbers' × HasReference target references × HasField target fields × HasBuffer target buffers'
-target_left target numbers references fields buffers numbers' buffers' same_numbers same_buffers h = (subst (HasNumber target) (sym same_numbers) h.0, h.1, h.2, subst (HasBuffer target) (sym same_buffers) h.3)
+target_left : (target : Target) (numbers references fields buffers numbers' references' fields' buffers' : ℕ) → numbers' ≡ numbers → references' ≡ references → fields' ≡ fields → buffers' ≡ buffers
+    → HasNumber target numbers × HasReference target references × HasField target fields × HasBuffer target buffers → HasNumber target numbers' × HasReference target references' × HasField target fields' × HasBuffer target buffers'
+target_left target numbers references fields buffers numbers' references' fields' buffers' same_numbers same_references same_fields same_buffers h =
+    (subst (HasNumber target) (sym same_numbers) h.0, subst (HasReference target) (sym same_references) h.1, subst (HasField target) (sym same_fields) h.2, subst (HasBuffer target) (sym same_buffers) h.3)
 
 pub receive-requires-clause-target : goal.receive-requires-clause-target
 receive-requires-clause-target c =
     let a = c.requires.at_call in
     let call = c.args.call.now in
-    let numbers = numbers_left c.args.store.now.heap c.args.answer call.slots.numbers c.deref_mut.result.now c.carry_out.new.numbers c.deref_mut.ensures.value c.deref_mut.ensures.len c.in_ok-carried.ensures.slots in
-    let buffers = buffers_left c.args.answer call.slots.buffers c.deref_mut-2.result.now c.carry_out.new.buffers c.deref_mut-2.ensures.len c.in_ok-carried.ensures.buffer_slots in
-    target_left c.args.function.now.target (length call.slots.numbers.items) (length call.slots.references.items) (length call.slots.fields.items) (length call.slots.buffers.items) _ _
-    (ap length (with_items_is call.slots.numbers c.carry_out.new.numbers numbers) ∙ numbers ∙ sym c.deref_mut.ensures.len ∙ ap length c.deref_mut.ensures.value)
-    (ap length (with_items_is call.slots.buffers c.carry_out.new.buffers buffers) ∙ buffers ∙ sym c.deref_mut-2.ensures.len ∙ ap length c.deref_mut-2.ensures.value)
+    let told = c.in-Ok.ensures in
+    target_left c.args.function.now.target (length call.slots.numbers.items) (length call.slots.references.items) (length call.slots.fields.items) (length call.slots.buffers.items) _ _ _ _
+    (ap length told.slots ∙ numbers_long c.args.store.now.heap c.args.answer call.slots.numbers.items)
+    (ap (λ (t : Activation). length t.slots.references.items) told.stays)
+    (ap (λ (t : Activation). length t.slots.fields.items) told.stays)
+    (ap length told.buffer_slots ∙ buffers_long c.args.answer call.slots.buffers.items)
     (has_target a.0 c.args.world.now c.args.store.now c.args.pending.now call c.args.function.now a.1 c.args.thread a.2 a.3 a.4 a.5 a.6 a.7)
 
 pub receive-requires-clause-told : goal.receive-requires-clause-told
 receive-requires-clause-told c =
     let a = c.requires.at_call in
     let call = c.args.call.now in
-    let numbers = numbers_left c.args.store.now.heap c.args.answer call.slots.numbers c.deref_mut.result.now c.carry_out.new.numbers c.deref_mut.ensures.value c.deref_mut.ensures.len c.in_ok-carried.ensures.slots in
-    subst (λ (o : Option ℕ). HasTold o (length (with_items call.slots.numbers c.carry_out.new.numbers).items)) (sym c.told_slot.ensures)
+    subst (λ (o : Option ℕ). HasTold o (length c.carry_out.new.call.slots.numbers.items)) (sym c.told_slot.ensures)
     (subst (HasTold (told_slot (slice_get c.args.function.now.operands.items 1)))
-    (sym (ap length (with_items_is call.slots.numbers c.carry_out.new.numbers numbers) ∙ numbers ∙ sym c.deref_mut.ensures.len ∙ ap length c.deref_mut.ensures.value))
+    (sym (ap length c.in-Ok.ensures.slots ∙ numbers_long c.args.store.now.heap c.args.answer call.slots.numbers.items))
     (has_told a.0 c.args.world.now c.args.store.now c.args.pending.now call c.args.function.now a.1 c.args.thread a.2 a.3 a.4 a.5 a.6 a.7))
 
 pub receive-requires-clause-static_target : goal.receive-requires-clause-static_target
@@ -161,10 +132,10 @@ receive-requires-clause-static_target c =
     let w = c.args.world.now in
     let kind = result_value c.args.function.now.result in
     let same = c.requires.prepared.result in
-    static_there a.0 w c.args.store.now c.args.pending.now c.args.call.now c.args.function.now a.1 c.args.thread a.2 a.3 a.4 a.5 a.6 a.7 c.args.answer c.requires.answered kind same c.in_ok-carried.carried.refused c.carry_out.new.store c.carry_out.new.pending c.carry_out.new.locals c.in_ok-carried.carried.given
-    (c.in_ok-carried.ensures.carried a.0 (named a.0 w c.args.store.now c.args.pending.now c.args.call.now c.args.function.now a.1 c.args.thread a.2 a.3 a.4 a.5 a.6 a.7 c.args.answer c.requires.answered kind same) a.1 a.3 a.4 _ (can_carry a.0 w c.args.store.now c.args.pending.now c.args.call.now c.args.function.now a.1 c.args.thread a.2 a.3 a.4 a.5 a.6 a.7 c.args.answer c.requires.answered kind same)
-    (answered_by a.0 w c.args.store.now c.args.pending.now c.args.call.now c.args.function.now a.1 c.args.thread a.2 a.3 a.4 a.5 a.6 a.7 c.args.answer c.requires.answered kind same c.deref.result.now c.deref_mut.result.now c.deref_mut-2.result.now c.deref.ensures.value c.deref_mut.ensures.value c.deref_mut-2.ensures.value))
-    c.deref_mut-3.result.now c.deref_mut-3.ensures.value
+    static_there a.0 w c.args.store.now c.args.pending.now c.args.call.now c.args.function.now a.1 c.args.thread a.2 a.3 a.4 a.5 a.6 a.7 c.args.answer c.requires.answered kind same c.in-Ok.carried.refused c.carry_out.new.store c.carry_out.new.pending c.carry_out.new.call.locals c.in-Ok.carried.given
+    (c.in-Ok.ensures.carried a.0 (named a.0 w c.args.store.now c.args.pending.now c.args.call.now c.args.function.now a.1 c.args.thread a.2 a.3 a.4 a.5 a.6 a.7 c.args.answer c.requires.answered kind same) a.1 a.3 a.4 _ (can_carry a.0 w c.args.store.now c.args.pending.now c.args.call.now c.args.function.now a.1 c.args.thread a.2 a.3 a.4 a.5 a.6 a.7 c.args.answer c.requires.answered kind same)
+    (answered a.0 w c.args.store.now c.args.pending.now c.args.call.now c.args.function.now a.1 c.args.thread a.2 a.3 a.4 a.5 a.6 a.7 c.args.answer c.requires.answered kind same))
+    c.deref_mut.result.now c.deref_mut.ensures.value
 
 pub receive-requires-clause-room : goal.receive-requires-clause-room
 receive-requires-clause-room c =
@@ -172,17 +143,17 @@ receive-requires-clause-room c =
     let w = c.args.world.now in
     let kind = result_value c.args.function.now.result in
     let same = c.requires.prepared.result in
-    room_there a.0 w c.args.store.now c.args.pending.now c.args.call.now c.args.function.now a.1 c.args.thread a.2 a.3 a.4 a.5 a.6 a.7 c.args.answer c.requires.answered kind same c.in_ok-carried.carried.refused c.carry_out.new.store c.carry_out.new.pending c.carry_out.new.locals c.in_ok-carried.carried.given
-    (c.in_ok-carried.ensures.carried a.0 (named a.0 w c.args.store.now c.args.pending.now c.args.call.now c.args.function.now a.1 c.args.thread a.2 a.3 a.4 a.5 a.6 a.7 c.args.answer c.requires.answered kind same) a.1 a.3 a.4 _ (can_carry a.0 w c.args.store.now c.args.pending.now c.args.call.now c.args.function.now a.1 c.args.thread a.2 a.3 a.4 a.5 a.6 a.7 c.args.answer c.requires.answered kind same)
-    (answered_by a.0 w c.args.store.now c.args.pending.now c.args.call.now c.args.function.now a.1 c.args.thread a.2 a.3 a.4 a.5 a.6 a.7 c.args.answer c.requires.answered kind same c.deref.result.now c.deref_mut.result.now c.deref_mut-2.result.now c.deref.ensures.value c.deref_mut.ensures.value c.deref_mut-2.ensures.value))
+    room_there a.0 w c.args.store.now c.args.pending.now c.args.call.now c.args.function.now a.1 c.args.thread a.2 a.3 a.4 a.5 a.6 a.7 c.args.answer c.requires.answered kind same c.in-Ok.carried.refused c.carry_out.new.store c.carry_out.new.pending c.carry_out.new.call.locals c.in-Ok.carried.given
+    (c.in-Ok.ensures.carried a.0 (named a.0 w c.args.store.now c.args.pending.now c.args.call.now c.args.function.now a.1 c.args.thread a.2 a.3 a.4 a.5 a.6 a.7 c.args.answer c.requires.answered kind same) a.1 a.3 a.4 _ (can_carry a.0 w c.args.store.now c.args.pending.now c.args.call.now c.args.function.now a.1 c.args.thread a.2 a.3 a.4 a.5 a.6 a.7 c.args.answer c.requires.answered kind same)
+    (answered a.0 w c.args.store.now c.args.pending.now c.args.call.now c.args.function.now a.1 c.args.thread a.2 a.3 a.4 a.5 a.6 a.7 c.args.answer c.requires.answered kind same))
 
 -- it was refused
 was_refused : (refused : Bool) (x : Invoked) → x ≡ done_or_refused refused → x ≡ invoked.Refused → refused ≡ true
 was_refused true x told is = refl
 was_refused false x told is = absurd (let clash : invoked.Done ≡ invoked.Refused = sym told ∙ is in cc)
 
-pub returns-clause-refused : goal.returns-clause-refused
-returns-clause-refused c is =
+pub returns-in-Ok-clause-refused : goal.returns-in-Ok-clause-refused
+returns-in-Ok-clause-refused c is =
     let a = c.requires.at_call in
     let w = c.args.world.now in
     let store = c.args.store.now in
@@ -190,18 +161,10 @@ returns-clause-refused c is =
     let same = c.requires.prepared.result in
     let does = effect a.0 w store c.args.pending.now c.args.call.now c.args.function.now a.1 c.args.thread a.2 a.3 a.4 a.5 a.6 a.7 c.args.answer c.requires.answered in
     let answer = answered a.0 w store c.args.pending.now c.args.call.now c.args.function.now a.1 c.args.thread a.2 a.3 a.4 a.5 a.6 a.7 c.args.answer c.requires.answered kind same in
-    let carried = c.in_ok-carried.ensures.carried a.0 (named a.0 w store c.args.pending.now c.args.call.now c.args.function.now a.1 c.args.thread a.2 a.3 a.4 a.5 a.6 a.7 c.args.answer c.requires.answered kind same) a.1 a.3 a.4 does (can_carry a.0 w store c.args.pending.now c.args.call.now c.args.function.now a.1 c.args.thread a.2 a.3 a.4 a.5 a.6 a.7 c.args.answer c.requires.answered kind same)
-    (answered_by a.0 w store c.args.pending.now c.args.call.now c.args.function.now a.1 c.args.thread a.2 a.3 a.4 a.5 a.6 a.7 c.args.answer c.requires.answered kind same c.deref.result.now c.deref_mut.result.now c.deref_mut-2.result.now c.deref.ensures.value c.deref_mut.ensures.value c.deref_mut-2.ensures.value) in
-    let refused = was_refused c.in_ok-carried.carried.refused c.done_or_refused.result c.done_or_refused.ensures (cc (is)) in
+    let carried = c.in-Ok.ensures.carried a.0 (named a.0 w store c.args.pending.now c.args.call.now c.args.function.now a.1 c.args.thread a.2 a.3 a.4 a.5 a.6 a.7 c.args.answer c.requires.answered kind same) a.1 a.3 a.4 does (can_carry a.0 w store c.args.pending.now c.args.call.now c.args.function.now a.1 c.args.thread a.2 a.3 a.4 a.5 a.6 a.7 c.args.answer c.requires.answered kind same) answer in
+    let refused = was_refused c.in-Ok.carried.refused c.done_or_refused.result c.done_or_refused.ensures (cc (is)) in
     let short = subst (λ (b : Bool). GoesByRoom b (sizes (made_by w.classes does)) store.heap c.carry_out.new.store.heap) refused carried.room in
     omega (arith, short.0, cells_made w.classes (brings a.0 w store c.args.pending.now c.args.call.now c.args.function.now a.1 c.args.thread a.2 a.3 a.4 a.5 a.6 a.7 c.args.answer c.requires.answered) store.heap c.args.call.now.locals kind a.3 a.4 c.args.answer does answer)
-
-pub returns-in_err-carried-clause-call : goal.returns-in_err-carried-clause-call
-returns-in_err-carried-clause-call c =
-    let call = c.args.call.now in
-    let numbers = same_vec call.slots.numbers c.carry_out.new.numbers (c.in_err-carried.ensures.numbers ∙ c.deref_mut.ensures.value) (ap length c.in_err-carried.ensures.numbers ∙ c.deref_mut.ensures.len) in
-    let buffers = same_vec call.slots.buffers c.carry_out.new.buffers (c.in_err-carried.ensures.buffers ∙ c.deref_mut-2.ensures.value) (ap length c.in_err-carried.ensures.buffers ∙ c.deref_mut-2.ensures.len) in
-    on_err _ c.from_residual.result (λ i. record call { slots = record call.slots { numbers = numbers i; buffers = buffers i }; locals = c.in_err-carried.ensures.locals i })
 
 -- what a call came to, by whether its allocation was refused
 executes : (p : Lowered) (w : World) (old store : Store) (others : Acquired) (k : ℕ) (own : Owners) (shared : Shared) (s : Thread) (rest : List Task) (call : Activation) (pending : Option ℕ) (e : Effect) (line : ℕ) (refused : Bool)
@@ -209,8 +172,8 @@ executes : (p : Lowered) (w : World) (old store : Store) (others : Acquired) (k 
 executes p w old store others k own shared s rest call pending e line true h = h
 executes p w old store others k own shared s rest call pending e line false h = h
 
-pub returns-clause-done : goal.returns-clause-done
-returns-clause-done c p others own shared s task rest h =
+pub returns-in-Ok-clause-done : goal.returns-in-Ok-clause-done
+returns-in-Ok-clause-done c p others own shared s task rest h =
     let w = c.args.world.now in
     let store = c.args.store.now in
     let pending = c.args.pending.now in
@@ -219,21 +182,13 @@ returns-clause-done c p others own shared s task rest h =
     let k = c.args.thread in
     let kind = result_value function.result in
     let same = c.requires.prepared.result in
-    let refused = c.in_ok-carried.carried.refused in
-    let g = c.in_ok-carried.carried.given in
+    let refused = c.in-Ok.carried.refused in
+    let g = c.in-Ok.carried.given in
     let is = kind_is p w store pending call function others k own shared s task rest h c.args.answer c.requires.answered kind same in
     let does = effect p w store pending call function others k own shared s task rest h c.args.answer c.requires.answered in
     let answer = answered p w store pending call function others k own shared s task rest h c.args.answer c.requires.answered kind same in
-    let carried = c.in_ok-carried.ensures.carried p (named p w store pending call function others k own shared s task rest h c.args.answer c.requires.answered kind same) others shared s does (can_carry p w store pending call function others k own shared s task rest h c.args.answer c.requires.answered kind same)
-    (answered_by p w store pending call function others k own shared s task rest h c.args.answer c.requires.answered kind same c.deref.result.now c.deref_mut.result.now c.deref_mut-2.result.now c.deref.ensures.value c.deref_mut.ensures.value c.deref_mut-2.ensures.value) in
-    let numbers = with_items call.slots.numbers c.carry_out.new.numbers in
-    let slots = with_items call.slots.buffers c.carry_out.new.buffers in
-    let numbers_are : numbers.items ≡ slots_after store.heap c.args.answer call.slots.numbers.items =
-    with_items_is call.slots.numbers c.carry_out.new.numbers (numbers_left store.heap c.args.answer call.slots.numbers c.deref_mut.result.now c.carry_out.new.numbers c.deref_mut.ensures.value c.deref_mut.ensures.len c.in_ok-carried.ensures.slots)
-    ∙ c.in_ok-carried.ensures.slots ∙ ap (slots_after store.heap c.args.answer) c.deref_mut.ensures.value in
-    let slots_are : slots.items ≡ buffers_after c.args.answer call.slots.buffers.items =
-    with_items_is call.slots.buffers c.carry_out.new.buffers (buffers_left c.args.answer call.slots.buffers c.deref_mut-2.result.now c.carry_out.new.buffers c.deref_mut-2.ensures.len c.in_ok-carried.ensures.buffer_slots)
-    ∙ c.in_ok-carried.ensures.buffer_slots ∙ ap (buffers_after c.args.answer) c.deref_mut-2.ensures.value in
+    let carried = c.in-Ok.ensures.carried p (named p w store pending call function others k own shared s task rest h c.args.answer c.requires.answered kind same) others shared s does (can_carry p w store pending call function others k own shared s task rest h c.args.answer c.requires.answered kind same) answer in
+    let left = c.carry_out.new.call in
     let after = with_items c.carry_out.new.store.statics c.receive.new.statics in
     let final : Store = record c.carry_out.new.store { statics = after } in
     subst (λ (done : Executed). Executes p w store final others k own shared s rest c.receive.new.call c.carry_out.new.pending (effect_of (sight_of shared s) task) done) (ap (executed_as function.line) (sym c.done_or_refused.ensures))
@@ -241,10 +196,11 @@ returns-clause-done c p others own shared s task rest h =
     (goes_on p w store pending call function others k own shared s task rest h c.args.answer (worked p w store pending call function others k own shared s task rest h c.args.answer c.requires.answered) c.requires.answered.sound c.requires.runs
     (free p w store pending call function others k own shared s task rest h c.args.answer c.requires.answered)
     (subst (λ (x : ResultKind). IsAnswer w.classes (brings p w store pending call function others k own shared s task rest h c.args.answer c.requires.answered) store.heap call.locals x shared s c.args.answer does) is answer)
-    refused c.carry_out.new.store c.carry_out.new.pending c.carry_out.new.locals g
-    (carried_as p w store pending call function others k own shared s task rest h c.args.answer c.requires.answered kind same refused c.carry_out.new.store c.carry_out.new.pending c.carry_out.new.locals g carried)
-    c.frames.ensures.stacked c.in_ok-carried.ensures.copies c.in_ok-carried.ensures.new_copy
-    numbers slots numbers_are slots_are c.receive.new.call after
-    (subst (λ (x : ResultKind). Receives function.target x (told_slot (slice_get (call_view function).operands 1)) g (record call { locals = c.carry_out.new.locals; slots = record call.slots { numbers = numbers; buffers = slots } }) c.receive.new.call) is
-    (subst (λ (o : Option ℕ). Receives function.target kind o g (record call { locals = c.carry_out.new.locals; slots = record call.slots { numbers = numbers; buffers = slots } }) c.receive.new.call) c.told_slot.ensures c.receive.ensures.call))
-    (with_items_is c.carry_out.new.store.statics c.receive.new.statics (search (rules, places)) ∙ c.receive.ensures.statics ∙ ap (λ (l : List StaticReference). statics_with function.target g l) c.deref_mut-3.ensures.value)))
+    refused c.carry_out.new.store c.carry_out.new.pending c.carry_out.new.call.locals g
+    (carried_as p w store pending call function others k own shared s task rest h c.args.answer c.requires.answered kind same refused c.carry_out.new.store c.carry_out.new.pending c.carry_out.new.call.locals g carried)
+    c.frames.ensures.stacked c.in-Ok.ensures.copies c.in-Ok.ensures.new_copy
+    left.slots.numbers left.slots.buffers c.in-Ok.ensures.slots c.in-Ok.ensures.buffer_slots c.receive.new.call after
+    (subst (λ (x : ResultKind). Receives function.target x (told_slot (slice_get (call_view function).operands 1)) g (record call { locals = left.locals; slots = record call.slots { numbers = left.slots.numbers; buffers = left.slots.buffers } }) c.receive.new.call) is
+    (subst (λ (t : Activation). Receives function.target kind (told_slot (slice_get (call_view function).operands 1)) g t c.receive.new.call) c.in-Ok.ensures.stays
+    (subst (λ (o : Option ℕ). Receives function.target kind o g left c.receive.new.call) c.told_slot.ensures c.receive.ensures.call)))
+    (with_items_is c.carry_out.new.store.statics c.receive.new.statics (search (rules, places)) ∙ c.receive.ensures.statics ∙ ap (λ (l : List StaticReference). statics_with function.target g l) c.deref_mut.ensures.value)))
