@@ -1,11 +1,10 @@
-use Rattle.std.proofs.Common.{◌≡◌, ℕ, suc, ◌+◌, true, false, Ok, inl, refl, sym, ap, subst, arith}
+use Rattle.std.proofs.Common.{◌≡◌, ℕ, true, false, Ok, inl, refl, sym, ap, subst}
 use Rattle.std.specs.Prelude.{slice_index_or}
 use Rattle.semantics.specs.ThreadStep.{waits}
 use Rattle.semantics.specs.World.{loaded_objects}
-use Rattle.machine_scenes.specs.declared.store.Store.{Store}
 use Rattle.machine_threads.specs.ThreadAgrees.{ThreadAgrees}
 use Rattle.machine.specs.Run.{AdvancesAlways}
-use Rattle.machine.proofs.Advancing.{can_there, found, from_there, is_ready, is_steady, lives_there, makes_something, makes_there, numbered, own, rest, shared_there, there}
+use Rattle.machine.proofs.Advancing.{can_there, found, is_ready, is_steady, lives_there, makes_something, makes_there, numbered, own, rest, shared_there, there}
 use Rattle.std.proofs.Common.{length}
 use Rattle.machine.proofs.machine.advance_or_collect.Goals as goal
 

@@ -1,4 +1,4 @@
-use Rattle.std.proofs.Common.{◌≡◌, ℕ, suc, ◌-◌, Some, sym, ◌∙◌, subst}
+use Rattle.std.proofs.Common.{◌≡◌, suc, ◌-◌, Some, sym, ◌∙◌, subst}
 use Rattle.std.specs.Prelude.{slice_get}
 use Rattle.machine.specs.Run.{Run, Waits}
 use Rattle.machine.proofs.Steps.{counted_from, owners, rest, shared_agrees, steady, the_thread, thread_there, threads_of, waits_here}
