@@ -8,18 +8,20 @@ ghost use Rattle.class_rules.specs.Class.{Classes};
 ghost use Rattle.base.specs.Element.{element_value};
 ghost use Rattle.classes.specs.Views.{field_type_view};
 ghost use Rattle.heap.specs.Heap.{IsAddress};
-ghost use Rattle.code.specs.Call.{IsPrepared};
+ghost use Rattle.code.specs.Call.{call_view, IsPrepared};
 ghost use Rattle.jni.specs.JniFunction.{is_allowed_pending, prototype};
 ghost use Rattle.jni.specs.Table.{function_value, parameter_value, result_value};
-ghost use Rattle.machine_scenes.specs.Given.{field_at, field_there, name_there, operand_at, operand_of, AreAddresses, AreHandles};
+ghost use Rattle.machine_scenes.specs.Given.{field_there, operand_at, AreAddresses, AreHandles};
 ghost use Rattle.machine_scenes.specs.Locals.{locals_after};
 ghost use Rattle.tables.specs.Locals.{has_room};
 ghost use Rattle.machine_answers.specs.Checked.{arguments_asked, arguments_fit, element_wanted, has_field, has_static, gives_null, gives_deleted, may_be_null, some_missing, misfits, some_misfit, fits_type_there, puts_local, trap_found};
+ghost use Rattle.machine_answers.specs.WorkedOut.{handle};
 ghost use Rattle.machine_scenes.specs.Scenes.{scene_view};
 ghost use Rattle.semantics.specs.EventViews.{trap_view};
 ghost use Rattle.semantics.specs.Checks.{first_trap};
 ghost use Rattle.semantics.specs.Value.{Trap as SourceTrap};
 
+use crate::answer::{handle_of, name_of, reference_of};
 use class_queries::{class_misfits, holds_number, holds_reference};
 use classes::built_ins::{THROWABLE, number_array};
 use classes::class::{ElementType, FieldType};
@@ -28,8 +30,7 @@ use code::instr::{Call, Operand, Target};
 use heap::Addr;
 use jni::{Access, JniFunction, ParameterKind, ResultKind};
 use machine_scenes::operands::{
-    class_of_given, declaring, field_in, fits_there, handle_at, is_static, name_there,
-    reference_at, reference_in, type_of,
+    class_of_given, declaring, field_in, fits_there, is_static, reference_in, type_of,
 };
 use machine_scenes::references::{Held, References};
 use machine_scenes::scene::Scene;
@@ -153,106 +154,82 @@ fn fits_type(scene: &Scene<'_>, reference: Option<Addr>, field_type: FieldType) 
     }
 }
 
-/// The reference of the operand at a place.
-fn given(scene: &Scene<'_>, operands: &[Operand], place: usize) -> Option<Addr>
-    requires { AreAddresses scene.now.heap.now scene.now.references operands.now }
-    ensures reference { result ≡ operand_at scene.now.references (operand_of operands.now place) }
-    ensures there { (a : ℕ) → result ≡ Some a → IsAddress scene.now.heap.now a }
-{
-    reference_at(scene.heap, &scene.references, operands, place)
-}
-
-/// The name of its object, and 0 for NULL.
-fn named(scene: &Scene<'_>, operands: &[Operand], place: usize) -> usize
-    requires { AreAddresses scene.now.heap.now scene.now.references operands.now }
-    ensures { result ≡ name_there scene.now.heap.now (operand_at scene.now.references (operand_of operands.now place)) }
-{
-    name_there(scene.heap, given(scene, operands, place))
-}
-
 /// What the field or static of operand 1 holds, and numbers for NULL.
-fn asked_type(scene: &Scene<'_>, operands: &[Operand]) -> FieldType
-    requires { AreHandles scene.now.classes.now scene.now.fields.now operands.now }
-    ensures { field_type_view result ≡ (field_there scene.now.classes.now (field_at scene.now.fields.now (operand_of operands.now 1))).field.type }
+fn asked_type(scene: &Scene<'_>, function: &Call) -> FieldType
+    requires { AreHandles scene.now.classes.now scene.now.fields.now function.now.operands.items }
+    ensures { field_type_view result ≡ (field_there scene.now.classes.now (handle (scene_view scene.now) (call_view function.now))).field.type }
 {
-    type_of(
-        scene.classes,
-        handle_at(scene.classes, scene.fields, operands, 1),
-    )
+    type_of(scene.classes, handle_of(scene, function))
 }
 
 /// Whether operand 0 is an object that has the field of operand 1.
-fn has_field(scene: &Scene<'_>, operands: &[Operand]) -> bool
-    requires objects { AreAddresses scene.now.heap.now scene.now.references operands.now }
-    requires handles { AreHandles scene.now.classes.now scene.now.fields.now operands.now }
-    ensures { result ≡ has_field scene.now.classes.now scene.now.heap.now scene.now.references scene.now.fields.now operands.now }
+fn has_field(scene: &Scene<'_>, function: &Call) -> bool
+    requires objects { AreAddresses scene.now.heap.now scene.now.references function.now.operands.items }
+    requires handles { AreHandles scene.now.classes.now scene.now.fields.now function.now.operands.items }
+    ensures { result ≡ has_field scene.now.classes.now scene.now.heap.now scene.now.references scene.now.fields.now function.now.operands.items }
 {
-    let field = handle_at(scene.classes, scene.fields, operands, 1);
-    let class = class_of_given(scene.heap, given(scene, operands, 0));
-    !is_static(scene.classes, field)
-        && scene
-            .classes
-            .assignable(class, declaring(scene.classes, field))
+    let classes = scene.classes;
+    let field = handle_of(scene, function);
+    let class = class_of_given(scene.heap, reference_of(scene, function, 0));
+    !is_static(classes, field) && classes.assignable(class, declaring(classes, field))
 }
 
 /// Whether operand 0 is a class that has the static of operand 1.
-fn has_static(scene: &Scene<'_>, operands: &[Operand]) -> bool
-    requires objects { AreAddresses scene.now.heap.now scene.now.references operands.now }
-    requires handles { AreHandles scene.now.classes.now scene.now.fields.now operands.now }
-    ensures { result ≡ has_static scene.now.classes.now scene.now.heap.now scene.now.references scene.now.fields.now operands.now }
+fn has_static(scene: &Scene<'_>, function: &Call) -> bool
+    requires objects { AreAddresses scene.now.heap.now scene.now.references function.now.operands.items }
+    requires handles { AreHandles scene.now.classes.now scene.now.fields.now function.now.operands.items }
+    ensures { result ≡ has_static scene.now.classes.now scene.now.heap.now scene.now.references scene.now.fields.now function.now.operands.items }
 {
-    let field = handle_at(scene.classes, scene.fields, operands, 1);
-    let class = name_there(scene.heap, given(scene, operands, 0));
-    is_static(scene.classes, field)
-        && scene
-            .classes
-            .assignable(class, declaring(scene.classes, field))
+    let classes = scene.classes;
+    let field = handle_of(scene, function);
+    let class = name_of(scene, function, 0);
+    is_static(classes, field) && classes.assignable(class, declaring(classes, field))
 }
 
 /// Whether the arguments of a function, each of its kind, go together.
 fn fit_together(scene: &Scene<'_>, function: &Call) -> bool
     requires objects { AreAddresses scene.now.heap.now scene.now.references function.now.operands.items }
     requires handles { AreHandles scene.now.classes.now scene.now.fields.now function.now.operands.items }
-    ensures { result ≡ arguments_fit (scene_view scene.now) function.now.operands.items (element_wanted function.now.target) (function_value function.now.function) }
+    ensures { result ≡ arguments_fit (scene_view scene.now) function.now.operands.items
+        (element_wanted function.now.target) (function_value function.now.function) }
 {
     let classes = scene.classes;
-    let operands = &function.operands;
     match function.function {
-        JniFunction::AllocObject => !classes.has_own_making(named(scene, operands, 0)),
+        JniFunction::AllocObject => !classes.has_own_making(name_of(scene, function, 0)),
         JniFunction::GetField(element) | JniFunction::SetField(element) => {
-            has_field(scene, operands) && holds_number(element, asked_type(scene, operands))
+            has_field(scene, function) && holds_number(element, asked_type(scene, function))
         }
         JniFunction::GetObjectField => {
-            has_field(scene, operands) && holds_reference(asked_type(scene, operands))
+            has_field(scene, function) && holds_reference(asked_type(scene, function))
         }
         JniFunction::SetObjectField => {
-            let value = given(scene, operands, 2);
-            has_field(scene, operands) && fits_type(scene, value, asked_type(scene, operands))
+            let value = reference_of(scene, function, 2);
+            has_field(scene, function) && fits_type(scene, value, asked_type(scene, function))
         }
         JniFunction::GetStaticField(element) | JniFunction::SetStaticField(element) => {
-            has_static(scene, operands) && holds_number(element, asked_type(scene, operands))
+            has_static(scene, function) && holds_number(element, asked_type(scene, function))
         }
         JniFunction::GetStaticObjectField => {
-            has_static(scene, operands) && holds_reference(asked_type(scene, operands))
+            has_static(scene, function) && holds_reference(asked_type(scene, function))
         }
         JniFunction::SetStaticObjectField => {
-            let value = given(scene, operands, 2);
-            has_static(scene, operands) && fits_type(scene, value, asked_type(scene, operands))
+            let value = reference_of(scene, function, 2);
+            has_static(scene, function) && fits_type(scene, value, asked_type(scene, function))
         }
         JniFunction::NewObjectArray => {
-            let class = named(scene, operands, 1);
-            let element = given(scene, operands, 2);
+            let class = name_of(scene, function, 1);
+            let element = reference_of(scene, function, 2);
             !classes.is_array(class) && fits_there(classes, scene.heap, element, class)
         }
         JniFunction::GetBuffer(Access::ArrayView) => {
-            let class = class_of_given(scene.heap, given(scene, operands, 0));
+            let class = class_of_given(scene.heap, reference_of(scene, function, 0));
             class == number_array(element_wanted(function.target))
         }
         JniFunction::Throw => {
-            let class = class_of_given(scene.heap, given(scene, operands, 0));
+            let class = class_of_given(scene.heap, reference_of(scene, function, 0));
             classes.assignable(class, THROWABLE)
         }
-        JniFunction::ThrowNew => classes.assignable(named(scene, operands, 0), THROWABLE),
+        JniFunction::ThrowNew => classes.assignable(name_of(scene, function, 0), THROWABLE),
         _ => true,
     }
 }
@@ -272,8 +249,12 @@ fn element_wanted(target: Target) -> ElementType
 fn check_arguments(scene: &Scene<'_>, function: &Call) -> Option<Trap>
     requires objects { AreAddresses scene.now.heap.now scene.now.references function.now.operands.items }
     requires handles { AreHandles scene.now.classes.now scene.now.fields.now function.now.operands.items }
-    ensures some { IfSome result (λ t. (rest : List (Bool × SourceTrap)) → first_trap (arguments_asked scene.now.classes.now scene.now.heap.now scene.now.references scene.now.fields.now (element_wanted function.now.target) (function_value function.now.function) function.now.operands.items ++ rest) ≡ Some (trap_view t)) }
-    ensures none { IfNone result ((rest : List (Bool × SourceTrap)) → first_trap (arguments_asked scene.now.classes.now scene.now.heap.now scene.now.references scene.now.fields.now (element_wanted function.now.target) (function_value function.now.function) function.now.operands.items ++ rest) ≡ first_trap rest) }
+    ensures some { IfSome result (λ t. (rest : List (Bool × SourceTrap)) → first_trap (arguments_asked scene.now.classes.now scene.now.heap.now
+        scene.now.references scene.now.fields.now (element_wanted function.now.target) (function_value function.now.function)
+        function.now.operands.items ++ rest) ≡ Some (trap_view t)) }
+    ensures none { IfNone result ((rest : List (Bool × SourceTrap)) → first_trap (arguments_asked scene.now.classes.now scene.now.heap.now
+        scene.now.references scene.now.fields.now (element_wanted function.now.target) (function_value function.now.function)
+        function.now.operands.items ++ rest) ≡ first_trap rest) }
 {
     let operands = &function.operands;
     let parameters = function.function.prototype().parameters;
@@ -295,8 +276,12 @@ fn argument_trap(scene: &Scene<'_>, function: &Call) -> Option<Trap>
     requires prepared { IsPrepared function.now }
     requires objects { AreAddresses scene.now.heap.now scene.now.references function.now.operands.items }
     requires handles { AreHandles scene.now.classes.now scene.now.fields.now function.now.operands.items }
-    ensures some { IfSome result (λ t. (rest : List (Bool × SourceTrap)) → first_trap (arguments_asked scene.now.classes.now scene.now.heap.now scene.now.references scene.now.fields.now (element_wanted function.now.target) (function_value function.now.function) function.now.operands.items ++ rest) ≡ Some (trap_view t)) }
-    ensures none { IfNone result ((rest : List (Bool × SourceTrap)) → first_trap (arguments_asked scene.now.classes.now scene.now.heap.now scene.now.references scene.now.fields.now (element_wanted function.now.target) (function_value function.now.function) function.now.operands.items ++ rest) ≡ first_trap rest) }
+    ensures some { IfSome result (λ t. (rest : List (Bool × SourceTrap)) → first_trap (arguments_asked scene.now.classes.now scene.now.heap.now
+        scene.now.references scene.now.fields.now (element_wanted function.now.target) (function_value function.now.function)
+        function.now.operands.items ++ rest) ≡ Some (trap_view t)) }
+    ensures none { IfNone result ((rest : List (Bool × SourceTrap)) → first_trap (arguments_asked scene.now.classes.now scene.now.heap.now
+        scene.now.references scene.now.fields.now (element_wanted function.now.target) (function_value function.now.function)
+        function.now.operands.items ++ rest) ≡ first_trap rest) }
 {
     if function.asks {
         check_arguments(scene, function)
