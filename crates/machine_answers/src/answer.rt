@@ -11,9 +11,9 @@ ghost use Rattle.heap.specs.Heap.{IsAddress};
 ghost use Rattle.jni.specs.Table.{function_value};
 ghost use Rattle.machine_answers.specs.CallGroups.{is_further, is_of_objects};
 ghost use Rattle.machine_answers.specs.Checked.{arguments_fit, element_wanted};
-ghost use Rattle.machine_scenes.specs.Given.{class_of_given, field_at, field_there, name_there, operand_at, operand_of, AreAddresses, AreHandles};
+ghost use Rattle.machine_scenes.specs.Given.{field_there, name_there, operand_at, operand_of, AreAddresses, AreHandles};
 ghost use Rattle.machine_scenes.specs.Scenes.{scene_view};
-ghost use Rattle.machine_answers.specs.WorkedOut.{address_in, class_object, count_there, deletes, deletes_global, found_class, frame_for, held_reference, place_there, room_for, top_word, value_there, word_in, writes_there, IsFoundField, IsWorkedOut};
+ghost use Rattle.machine_answers.specs.WorkedOut.{address_in, class_object, count_there, declaring, deletes, deletes_global, found_class, frame_for, handle, held_reference, place, place_of_static, place_there, reference, room_for, top_word, value_there, word_in, writes_there, IsFoundField, IsWorkedOut};
 ghost use Rattle.base.specs.Element.{element_value};
 
 use crate::arrays::{stack_number, work_out_array};
@@ -132,28 +132,24 @@ pub fn work_out(scene: &Scene<'_>, function: &Call) -> Answer
         JniFunction::GetSuperclass => {
             gives_class(
                 scene.loaded,
-                scene
-                    .classes
-                    .superclass(name_of(scene.heap, &scene.references, function, 0)),
+                scene.classes.superclass(name_of(scene, function, 0)),
             )
         }
         JniFunction::GetObjectClass => {
-            let first = argument(scene.heap, &scene.references, function, 0);
+            let first = reference_of(scene, function, 0);
             gives_class(scene.loaded, Some(class_of_given(scene.heap, first)))
         }
         JniFunction::IsInstanceOf => {
-            let first = argument(scene.heap, &scene.references, function, 0);
-            let class = name_of(scene.heap, &scene.references, function, 1);
+            let first = reference_of(scene, function, 0);
+            let class = name_of(scene, function, 1);
             gives_truth(fits_there(scene.classes, scene.heap, first, class))
         }
         JniFunction::IsAssignableFrom => {
-            let below = name_of(scene.heap, &scene.references, function, 0);
-            let above = name_of(scene.heap, &scene.references, function, 1);
+            let below = name_of(scene, function, 0);
+            let above = name_of(scene, function, 1);
             gives_truth(scene.classes.assignable(below, above))
         }
-        JniFunction::AllocObject => {
-            Answer::Makes(New::Fresh(name_of(scene.heap, &scene.references, function, 0)))
-        }
+        JniFunction::AllocObject => { Answer::Makes(New::Fresh(name_of(scene, function, 0))) }
         JniFunction::Throw | JniFunction::ThrowNew | JniFunction::FatalError => {
             work_out_exception(scene, function)
         }
@@ -179,21 +175,16 @@ fn work_out_further(scene: &Scene<'_>, function: &Call) -> Answer
 {
     match function.function {
         JniFunction::NewLocalRef => {
-            Answer::Gives(Given::Reference(argument(scene.heap, &scene.references, function, 0)))
+            Answer::Gives(Given::Reference(reference_of(scene, function, 0)))
         }
-        JniFunction::NewGlobalRef => Answer::MakesGlobal(argument(
-            scene.heap,
-            &scene.references,
-            function,
-            0,
-        )),
+        JniFunction::NewGlobalRef => Answer::MakesGlobal(reference_of(scene, function, 0)),
         JniFunction::DeleteGlobalRef => {
-            let first = argument(scene.heap, &scene.references, function, 0);
+            let first = reference_of(scene, function, 0);
             deletes_global(first, operand_of(&function.operands, 0))
         }
         JniFunction::IsSameObject => {
-            let first = name_of(scene.heap, &scene.references, function, 0);
-            let second = name_of(scene.heap, &scene.references, function, 1);
+            let first = name_of(scene, function, 0);
+            let second = name_of(scene, function, 1);
             gives_truth(first == second)
         }
         JniFunction::DeleteLocalRef => {
@@ -201,12 +192,7 @@ fn work_out_further(scene: &Scene<'_>, function: &Call) -> Answer
         }
         JniFunction::EnsureLocalCapacity => room_for(stack_number(scene.stack)),
         JniFunction::PushLocalFrame => frame_for(stack_number(scene.stack)),
-        JniFunction::PopLocalFrame => Answer::Pops(argument(
-            scene.heap,
-            &scene.references,
-            function,
-            0,
-        )),
+        JniFunction::PopLocalFrame => Answer::Pops(reference_of(scene, function, 0)),
         _ => { work_out_field(scene, function) }
     }
 }
@@ -224,96 +210,44 @@ fn work_out_field(scene: &Scene<'_>, function: &Call) -> Answer
 {
     match function.function {
         JniFunction::GetFieldID => {
-            let class = name_of(scene.heap, &scene.references, function, 0);
+            let class = name_of(scene, function, 0);
             find_field(scene.classes, class, &function.texts, false)
         }
         JniFunction::GetStaticFieldID => {
-            let class = name_of(scene.heap, &scene.references, function, 0);
+            let class = name_of(scene, function, 0);
             find_field(scene.classes, class, &function.texts, true)
         }
         JniFunction::GetField(_) => {
-            let value = value_of_field(
-                scene.classes,
-                scene.heap,
-                &scene.references,
-                scene.fields,
-                function,
-            );
+            let value = value_of_field(scene, function);
             Answer::Gives(Given::Number(word_in(value)))
         }
         JniFunction::SetField(element) => {
             let value = stored(element, scene.stack);
-            writes_field(
-                scene.classes,
-                scene.heap,
-                &scene.references,
-                scene.fields,
-                function,
-                value,
-            )
+            writes_field(scene, function, value)
         }
         JniFunction::GetObjectField => {
-            let value = value_of_field(
-                scene.classes,
-                scene.heap,
-                &scene.references,
-                scene.fields,
-                function,
-            );
+            let value = value_of_field(scene, function);
             Answer::Gives(Given::Reference(address_in(value)))
         }
         JniFunction::SetObjectField => {
-            let value = held_reference(argument(scene.heap, &scene.references, function, 2));
-            writes_field(
-                scene.classes,
-                scene.heap,
-                &scene.references,
-                scene.fields,
-                function,
-                value,
-            )
+            let value = held_reference(reference_of(scene, function, 2));
+            writes_field(scene, function, value)
         }
         JniFunction::GetStaticField(_) => {
-            let value = value_of_static(
-                scene.classes,
-                scene.heap,
-                scene.loaded,
-                scene.fields,
-                function,
-            );
+            let value = value_of_static(scene, function);
             Answer::Gives(Given::Number(word_in(value)))
         }
         JniFunction::SetStaticField(element) => {
             let value = stored(element, scene.stack);
-            writes_static(
-                scene.classes,
-                scene.heap,
-                scene.loaded,
-                scene.fields,
-                function,
-                value,
-            )
+            writes_static(scene, function, value)
         }
         JniFunction::GetStaticObjectField => {
-            let value = value_of_static(
-                scene.classes,
-                scene.heap,
-                scene.loaded,
-                scene.fields,
-                function,
-            );
+            let value = value_of_static(scene, function);
             Answer::Gives(Given::Reference(address_in(value)))
         }
         JniFunction::SetStaticObjectField => {
-            let value = held_reference(argument(scene.heap, &scene.references, function, 2));
-            writes_static(
-                scene.classes,
-                scene.heap,
-                scene.loaded,
-                scene.fields,
-                function,
-                value,
-            )
+            let value = held_reference(reference_of(scene, function, 2));
+            writes_static(scene, function, value)
         }
         _ => work_out_array(scene, function),
     }
@@ -334,18 +268,33 @@ pub fn argument(
     reference_at(heap, references, &function.operands, place)
 }
 
+/// The reference of the operand at a place, of a call that sees this.
+#[inline(always)]
+pub(crate) fn reference_of(scene: &Scene<'_>, function: &Call, place: usize) -> Option<Addr>
+    requires { AreAddresses scene.now.heap.now scene.now.references function.now.operands.items }
+    ensures reference { result ≡ reference (scene_view scene.now) (call_view function.now) place }
+    ensures there { (a : ℕ) → result ≡ Some a → IsAddress scene.now.heap.now a }
+{
+    argument(scene.heap, &scene.references, function, place)
+}
+
 /// The name of its object, and 0 for NULL.
 #[inline(always)]
-pub(crate) fn name_of(
-    heap: &Heap,
-    references: &References<'_>,
-    function: &Call,
-    place: usize,
-) -> usize
-    requires { AreAddresses heap.now references.now function.now.operands.items }
-    ensures { result ≡ name_there heap.now (operand_at references.now (operand_of function.now.operands.items place)) }
+pub(crate) fn name_of(scene: &Scene<'_>, function: &Call, place: usize) -> usize
+    requires { AreAddresses scene.now.heap.now scene.now.references function.now.operands.items }
+    ensures { result ≡ name_there scene.now.heap.now (reference (scene_view scene.now) (call_view function.now) place) }
 {
-    name_there(heap, argument(heap, references, function, place))
+    name_there(scene.heap, reference_of(scene, function, place))
+}
+
+/// The field ID of operand 1, which is NULL or that of a field.
+#[inline(always)]
+pub(crate) fn handle_of(scene: &Scene<'_>, function: &Call) -> Option<FieldHandle>
+    requires { AreHandles scene.now.classes.now scene.now.fields.now function.now.operands.items }
+    ensures field { result ≡ handle (scene_view scene.now) (call_view function.now) }
+    ensures there { (h : FieldHandle) → result ≡ Some h → IsSome (field_of scene.now.classes.now h) }
+{
+    handle_at(scene.classes, scene.fields, &function.operands, 1)
 }
 
 /// A class object is given, or NULL.
@@ -443,124 +392,87 @@ pub(crate) fn count_there(heap: &Heap, reference: Option<Addr>) -> u32
 // ---- fields
 
 /// The place of the field of operand 1 among the values of operand 0.
-fn place_of_field(
-    classes: &ClassTable,
-    heap: &Heap,
-    references: &References<'_>,
-    fields: &[Option<FieldHandle>],
-    operands: &[Operand],
-) -> usize
-    requires grown { IsGrown classes.now }
-    requires objects { AreAddresses heap.now references.now operands.now }
-    requires handles { AreHandles classes.now fields.now operands.now }
-    ensures { (field_there classes.now (field_at fields.now (operand_of operands.now 1))).is_static ≡ false
-        → result ≡ place_there classes.now (field_at fields.now (operand_of operands.now 1)) (layout classes.now (class_of_given heap.now (operand_at references.now (operand_of operands.now 0)))) }
+fn place_of_field(scene: &Scene<'_>, function: &Call) -> usize
+    requires grown { IsGrown scene.now.classes.now }
+    requires objects { AreAddresses scene.now.heap.now scene.now.references function.now.operands.items }
+    requires handles { AreHandles scene.now.classes.now scene.now.fields.now function.now.operands.items }
+    ensures { (field_there scene.now.classes.now (handle (scene_view scene.now) (call_view function.now))).is_static ≡ false
+        → result ≡ place (scene_view scene.now) (call_view function.now) }
 {
-    let class = class_of_given(heap, reference_at(heap, references, operands, 0));
-    field_place(classes, class, handle_at(classes, fields, operands, 1))
+    let class = class_of_given(scene.heap, reference_of(scene, function, 0));
+    field_place(scene.classes, class, handle_of(scene, function))
 }
 
 /// The class object that holds the static of operand 1.
-fn holder_of_static(
-    classes: &ClassTable,
-    loaded: &[Addr],
-    fields: &[Option<FieldHandle>],
-    operands: &[Operand],
-) -> Option<Addr>
-    requires { AreHandles classes.now fields.now operands.now }
-    ensures { result ≡ class_object loaded.now (Some (field_there classes.now (field_at fields.now (operand_of operands.now 1))).class) }
+fn holder_of_static(scene: &Scene<'_>, function: &Call) -> Option<Addr>
+    requires { AreHandles scene.now.classes.now scene.now.fields.now function.now.operands.items }
+    ensures { result ≡ declaring (scene_view scene.now) (call_view function.now) }
 {
-    let class = declaring(classes, handle_at(classes, fields, operands, 1));
-    class_object(loaded, Some(class))
+    let class = declaring(scene.classes, handle_of(scene, function));
+    class_object(scene.loaded, Some(class))
 }
 
 /// The place of the static of operand 1 among the values of its class object.
-fn place_of_static(
-    classes: &ClassTable,
-    fields: &[Option<FieldHandle>],
-    operands: &[Operand],
-) -> usize
-    requires { AreHandles classes.now fields.now operands.now }
-    ensures { (field_there classes.now (field_at fields.now (operand_of operands.now 1))).is_static ≡ true
-        → result ≡ place_there classes.now (field_at fields.now (operand_of operands.now 1)) (own_statics classes.now (field_there classes.now (field_at fields.now (operand_of operands.now 1))).class) }
+fn place_of_static(scene: &Scene<'_>, function: &Call) -> usize
+    requires { AreHandles scene.now.classes.now scene.now.fields.now function.now.operands.items }
+    ensures { (field_there scene.now.classes.now (handle (scene_view scene.now) (call_view function.now))).is_static ≡ true
+        → result ≡ place_of_static (scene_view scene.now) (call_view function.now) }
 {
-    static_place(classes, handle_at(classes, fields, operands, 1))
+    static_place(scene.classes, handle_of(scene, function))
 }
 
 /// The value of the field of operand 1 in operand 0.
 #[inline(always)]
-fn value_of_field(
-    classes: &ClassTable,
-    heap: &Heap,
-    references: &References<'_>,
-    fields: &[Option<FieldHandle>],
-    function: &Call,
-) -> Option<Value>
-    requires grown { IsGrown classes.now }
-    requires objects { AreAddresses heap.now references.now function.now.operands.items }
-    requires handles { AreHandles classes.now fields.now function.now.operands.items }
-    ensures { (field_there classes.now (field_at fields.now (operand_of function.now.operands.items 1))).is_static ≡ false → result ≡ value_there heap.now (operand_at references.now (operand_of function.now.operands.items 0)) (place_there classes.now (field_at fields.now (operand_of function.now.operands.items 1)) (layout classes.now (class_of_given heap.now (operand_at references.now (operand_of function.now.operands.items 0))))) }
+fn value_of_field(scene: &Scene<'_>, function: &Call) -> Option<Value>
+    requires grown { IsGrown scene.now.classes.now }
+    requires objects { AreAddresses scene.now.heap.now scene.now.references function.now.operands.items }
+    requires handles { AreHandles scene.now.classes.now scene.now.fields.now function.now.operands.items }
+    ensures { (field_there scene.now.classes.now (handle (scene_view scene.now) (call_view function.now))).is_static ≡ false
+        → result ≡ value_there scene.now.heap.now (reference (scene_view scene.now) (call_view function.now) 0)
+        (place (scene_view scene.now) (call_view function.now)) }
 {
-    let first = argument(heap, references, function, 0);
-    let place = place_of_field(classes, heap, references, fields, &function.operands);
-    value_there(heap, first, place)
+    let first = reference_of(scene, function, 0);
+    value_there(scene.heap, first, place_of_field(scene, function))
 }
 
 /// The field of operand 1 in operand 0 changes to this value.
 #[inline(always)]
-fn writes_field(
-    classes: &ClassTable,
-    heap: &Heap,
-    references: &References<'_>,
-    fields: &[Option<FieldHandle>],
-    function: &Call,
-    value: Value,
-) -> Answer
-    requires grown { IsGrown classes.now }
-    requires objects { AreAddresses heap.now references.now function.now.operands.items }
-    requires handles { AreHandles classes.now fields.now function.now.operands.items }
-    ensures { (field_there classes.now (field_at fields.now (operand_of function.now.operands.items 1))).is_static ≡ false → result ≡ writes_there heap.now (operand_at references.now (operand_of function.now.operands.items 0)) (place_there classes.now (field_at fields.now (operand_of function.now.operands.items 1)) (layout classes.now (class_of_given heap.now (operand_at references.now (operand_of function.now.operands.items 0))))) value }
+fn writes_field(scene: &Scene<'_>, function: &Call, value: Value) -> Answer
+    requires grown { IsGrown scene.now.classes.now }
+    requires objects { AreAddresses scene.now.heap.now scene.now.references function.now.operands.items }
+    requires handles { AreHandles scene.now.classes.now scene.now.fields.now function.now.operands.items }
+    ensures { (field_there scene.now.classes.now (handle (scene_view scene.now) (call_view function.now))).is_static ≡ false
+        → result ≡ writes_there scene.now.heap.now (reference (scene_view scene.now) (call_view function.now) 0)
+        (place (scene_view scene.now) (call_view function.now)) value }
 {
-    let first = argument(heap, references, function, 0);
-    let place = place_of_field(classes, heap, references, fields, &function.operands);
-    writes_there(heap, first, place, value)
+    let first = reference_of(scene, function, 0);
+    writes_there(scene.heap, first, place_of_field(scene, function), value)
 }
 
 /// The value of the static of operand 1.
 #[inline(always)]
-fn value_of_static(
-    classes: &ClassTable,
-    heap: &Heap,
-    loaded: &[Addr],
-    fields: &[Option<FieldHandle>],
-    function: &Call,
-) -> Option<Value>
-    requires loaded { (i a : ℕ) → slice_get loaded.now i ≡ Some a → IsAddress heap.now a }
-    requires handles { AreHandles classes.now fields.now function.now.operands.items }
-    ensures { (field_there classes.now (field_at fields.now (operand_of function.now.operands.items 1))).is_static ≡ true → result ≡ value_there heap.now (class_object loaded.now (Some (field_there classes.now (field_at fields.now (operand_of function.now.operands.items 1))).class)) (place_there classes.now (field_at fields.now (operand_of function.now.operands.items 1)) (own_statics classes.now (field_there classes.now (field_at fields.now (operand_of function.now.operands.items 1))).class)) }
+fn value_of_static(scene: &Scene<'_>, function: &Call) -> Option<Value>
+    requires loaded { (i a : ℕ) → slice_get scene.now.loaded.now i ≡ Some a → IsAddress scene.now.heap.now a }
+    requires handles { AreHandles scene.now.classes.now scene.now.fields.now function.now.operands.items }
+    ensures { (field_there scene.now.classes.now (handle (scene_view scene.now) (call_view function.now))).is_static ≡ true
+        → result ≡ value_there scene.now.heap.now (declaring (scene_view scene.now) (call_view function.now))
+        (place_of_static (scene_view scene.now) (call_view function.now)) }
 {
-    let holder = holder_of_static(classes, loaded, fields, &function.operands);
-    let place = place_of_static(classes, fields, &function.operands);
-    value_there(heap, holder, place)
+    let holder = holder_of_static(scene, function);
+    value_there(scene.heap, holder, place_of_static(scene, function))
 }
 
 /// The static of operand 1 changes to this value.
 #[inline(always)]
-fn writes_static(
-    classes: &ClassTable,
-    heap: &Heap,
-    loaded: &[Addr],
-    fields: &[Option<FieldHandle>],
-    function: &Call,
-    value: Value,
-) -> Answer
-    requires loaded { (i a : ℕ) → slice_get loaded.now i ≡ Some a → IsAddress heap.now a }
-    requires handles { AreHandles classes.now fields.now function.now.operands.items }
-    ensures { (field_there classes.now (field_at fields.now (operand_of function.now.operands.items 1))).is_static ≡ true → result ≡ writes_there heap.now (class_object loaded.now (Some (field_there classes.now (field_at fields.now (operand_of function.now.operands.items 1))).class)) (place_there classes.now (field_at fields.now (operand_of function.now.operands.items 1)) (own_statics classes.now (field_there classes.now (field_at fields.now (operand_of function.now.operands.items 1))).class)) value }
+fn writes_static(scene: &Scene<'_>, function: &Call, value: Value) -> Answer
+    requires loaded { (i a : ℕ) → slice_get scene.now.loaded.now i ≡ Some a → IsAddress scene.now.heap.now a }
+    requires handles { AreHandles scene.now.classes.now scene.now.fields.now function.now.operands.items }
+    ensures { (field_there scene.now.classes.now (handle (scene_view scene.now) (call_view function.now))).is_static ≡ true
+        → result ≡ writes_there scene.now.heap.now (declaring (scene_view scene.now) (call_view function.now))
+        (place_of_static (scene_view scene.now) (call_view function.now)) value }
 {
-    let holder = holder_of_static(classes, loaded, fields, &function.operands);
-    let place = place_of_static(classes, fields, &function.operands);
-    writes_there(heap, holder, place, value)
+    let holder = holder_of_static(scene, function);
+    writes_there(scene.heap, holder, place_of_static(scene, function), value)
 }
 
 /// The place of the field of a handle among those of a class, and 0 for NULL.

@@ -10,7 +10,7 @@ ghost use Rattle.machine_scenes.specs.Scenes.{scene_view};
 ghost use Rattle.machine_answers.specs.WorkedOut.{element_there, fits_element, index_there, new_array, stack_number, stores_there, IsWorkedOut};
 
 use crate::answer::{
-    Answer, Given, address_in, argument, count_there, held_reference, name_of, top_word,
+    Answer, Given, address_in, count_there, held_reference, name_of, reference_of, top_word,
     value_there, writes_there,
 };
 use crate::buffers::work_out_buffer;
@@ -38,7 +38,7 @@ pub(crate) fn work_out_array(scene: &Scene<'_>, function: &Call) -> Answer
 {
     match function.function {
         JniFunction::GetArrayLength | JniFunction::GetStringLength => {
-            let first = argument(scene.heap, &scene.references, function, 0);
+            let first = reference_of(scene, function, 0);
             Answer::Gives(Given::Number(count_there(scene.heap, first)))
         }
         JniFunction::NewArray(element) => {
@@ -46,21 +46,18 @@ pub(crate) fn work_out_array(scene: &Scene<'_>, function: &Call) -> Answer
             new_array(class, stack_number(scene.stack), Value::Number(0))
         }
         JniFunction::NewObjectArray => {
-            let class = array_class_of(
-                scene.classes,
-                name_of(scene.heap, &scene.references, function, 1),
-            );
-            let element = held_reference(argument(scene.heap, &scene.references, function, 2));
+            let class = array_class_of(scene.classes, name_of(scene, function, 1));
+            let element = held_reference(reference_of(scene, function, 2));
             new_array(class.unwrap_or(0), stack_number(scene.stack), element)
         }
         JniFunction::GetObjectArrayElement => {
-            let array = argument(scene.heap, &scene.references, function, 0);
+            let array = reference_of(scene, function, 0);
             element_there(scene.heap, array, stack_number(scene.stack))
         }
         JniFunction::SetObjectArrayElement => {
             let fits = fits_element(scene, function);
-            let element = held_reference(argument(scene.heap, &scene.references, function, 2));
-            let array = argument(scene.heap, &scene.references, function, 0);
+            let element = held_reference(reference_of(scene, function, 2));
+            let array = reference_of(scene, function, 0);
             stores_there(scene.heap, array, fits, stack_number(scene.stack), element)
         }
         JniFunction::NewStringUTF => Answer::Makes(New::Text(0)),
@@ -98,9 +95,9 @@ fn fits_element(scene: &Scene<'_>, function: &Call) -> bool
     requires { AreAddresses scene.now.heap.now scene.now.references function.now.operands.items }
     ensures { result ≡ fits_element (scene_view scene.now) (call_view function.now) }
 {
-    let array = argument(scene.heap, &scene.references, function, 0);
+    let array = reference_of(scene, function, 0);
     let class = element_class(scene.classes, class_of_given(scene.heap, array));
-    let element = argument(scene.heap, &scene.references, function, 2);
+    let element = reference_of(scene, function, 2);
     fits_there(scene.classes, scene.heap, element, class)
 }
 

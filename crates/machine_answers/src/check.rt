@@ -8,29 +8,29 @@ ghost use Rattle.class_rules.specs.Class.{Classes};
 ghost use Rattle.base.specs.Element.{element_value};
 ghost use Rattle.classes.specs.Views.{field_type_view};
 ghost use Rattle.heap.specs.Heap.{IsAddress};
-ghost use Rattle.code.specs.Call.{IsPrepared};
+ghost use Rattle.code.specs.Call.{call_view, IsPrepared};
 ghost use Rattle.jni.specs.JniFunction.{is_allowed_pending, prototype};
 ghost use Rattle.jni.specs.Table.{function_value, parameter_value, result_value};
-ghost use Rattle.machine_scenes.specs.Given.{field_at, field_there, operand_at, operand_of, AreAddresses, AreHandles};
+ghost use Rattle.machine_scenes.specs.Given.{field_there, operand_at, AreAddresses, AreHandles};
 ghost use Rattle.machine_scenes.specs.Locals.{locals_after};
 ghost use Rattle.tables.specs.Locals.{has_room};
-ghost use Rattle.machine_answers.specs.Checked.{arguments_asked, element_wanted, has_field, has_static, gives_null, gives_deleted, may_be_null, some_missing, misfits, some_misfit, fits_type_there, fit_together, puts_local, trap_found};
+ghost use Rattle.machine_answers.specs.Checked.{arguments_asked, arguments_fit, element_wanted, has_field, has_static, gives_null, gives_deleted, may_be_null, some_missing, misfits, some_misfit, fits_type_there, puts_local, trap_found};
+ghost use Rattle.machine_answers.specs.WorkedOut.{handle};
 ghost use Rattle.machine_scenes.specs.Scenes.{scene_view};
 ghost use Rattle.semantics.specs.EventViews.{trap_view};
 ghost use Rattle.semantics.specs.Checks.{first_trap};
 ghost use Rattle.semantics.specs.Value.{Trap as SourceTrap};
 
+use crate::answer::{handle_of, name_of, reference_of};
 use class_queries::{class_misfits, holds_number, holds_reference};
 use classes::built_ins::{THROWABLE, number_array};
-use classes::class::{ElementType, FieldHandle, FieldType};
-use classes::table::ClassTable;
+use classes::class::{ElementType, FieldType};
 use code::instr;
 use code::instr::{Call, Operand, Target};
-use heap::{Addr, Heap};
+use heap::Addr;
 use jni::{Access, JniFunction, ParameterKind, ResultKind};
 use machine_scenes::operands::{
-    class_of_given, declaring, field_in, fits_there, handle_at, is_static, name_there,
-    reference_at, reference_in, type_of,
+    class_of_given, declaring, field_in, fits_there, is_static, reference_in, type_of,
 };
 use machine_scenes::references::{Held, References};
 use machine_scenes::scene::Scene;
@@ -38,14 +38,14 @@ use semantics::Trap;
 use tables::Locals;
 
 /// Whether an operand gives NULL.
-fn gives_null(references: &References<'_>, fields: &[Option<FieldHandle>], operand: Operand) -> bool
-    ensures { result ≡ gives_null references.now fields.now operand }
+fn gives_null(scene: &Scene<'_>, operand: Operand) -> bool
+    ensures { result ≡ gives_null scene.now.references scene.now.fields.now operand }
 {
     match operand {
         Operand::Null => true,
-        Operand::Local(_) => reference_in(references, operand).is_none(),
-        Operand::Static(slot) => matches!(references.held(slot), Held::Empty),
-        Operand::FieldId(_) => field_in(fields, operand).is_none(),
+        Operand::Local(_) => reference_in(&scene.references, operand).is_none(),
+        Operand::Static(slot) => matches!(scene.references.held(slot), Held::Empty),
+        Operand::FieldId(_) => field_in(scene.fields, operand).is_none(),
         Operand::Number | Operand::Text | Operand::Mode(_) => false,
         Operand::Array(_) | Operand::Buffer(_) | Operand::IsCopy(_) => false,
     }
@@ -84,19 +84,14 @@ fn may_be_null(parameter: ParameterKind) -> bool
 }
 
 /// Whether some operand gives NULL where that isn't allowed.
-fn some_missing(
-    references: &References<'_>,
-    fields: &[Option<FieldHandle>],
-    parameters: &[ParameterKind],
-    operands: &[Operand],
-) -> bool
-    ensures { result ≡ some_missing references.now fields.now (map parameter_value parameters.now) operands.now }
+fn some_missing(scene: &Scene<'_>, parameters: &[ParameterKind], operands: &[Operand]) -> bool
+    ensures { result ≡ some_missing scene.now.references scene.now.fields.now (map parameter_value parameters.now) operands.now }
 {
     match parameters {
         [parameter, parameters @ ..] => match operands {
             [operand, operands @ ..] => {
-                !may_be_null(*parameter) && gives_null(references, fields, *operand)
-                    || some_missing(references, fields, parameters, operands)
+                !may_be_null(*parameter) && gives_null(scene, *operand)
+                    || some_missing(scene, parameters, operands)
             }
             [] => false,
         },
@@ -119,41 +114,28 @@ fn asks_kind(parameter: ParameterKind) -> bool
 }
 
 /// Whether an operand gives an object of another kind than the parameter.
-fn misfits(
-    classes: &ClassTable,
-    heap: &Heap,
-    references: &References<'_>,
-    parameter: ParameterKind,
-    operand: Operand,
-) -> bool
-    requires { (a : ℕ) → operand_at references.now operand ≡ Some a → IsAddress heap.now a }
-    ensures { result ≡ misfits classes.now heap.now (parameter_value parameter) (operand_at references.now operand) }
+fn misfits(scene: &Scene<'_>, parameter: ParameterKind, operand: Operand) -> bool
+    requires { (a : ℕ) → operand_at scene.now.references operand ≡ Some a → IsAddress scene.now.heap.now a }
+    ensures { result ≡ misfits scene.now.classes.now scene.now.heap.now (parameter_value parameter) (operand_at scene.now.references operand) }
 {
     if !asks_kind(parameter) {
         return false;
     }
-    match reference_in(references, operand) {
-        Some(addr) => class_misfits(classes, parameter, heap.class_of(addr) as usize),
+    match reference_in(&scene.references, operand) {
+        Some(addr) => class_misfits(scene.classes, parameter, scene.heap.class_of(addr) as usize),
         None => false,
     }
 }
 
 /// Whether some operand gives an object of another kind than its parameter.
-fn some_misfit(
-    classes: &ClassTable,
-    heap: &Heap,
-    references: &References<'_>,
-    parameters: &[ParameterKind],
-    operands: &[Operand],
-) -> bool
-    requires { AreAddresses heap.now references.now operands.now }
-    ensures { result ≡ some_misfit classes.now heap.now references.now (map parameter_value parameters.now) operands.now }
+fn some_misfit(scene: &Scene<'_>, parameters: &[ParameterKind], operands: &[Operand]) -> bool
+    requires { AreAddresses scene.now.heap.now scene.now.references operands.now }
+    ensures { result ≡ some_misfit scene.now.classes.now scene.now.heap.now scene.now.references (map parameter_value parameters.now) operands.now }
 {
     match parameters {
         [parameter, parameters @ ..] => match operands {
             [operand, operands @ ..] => {
-                misfits(classes, heap, references, *parameter, *operand)
-                    || some_misfit(classes, heap, references, parameters, operands)
+                misfits(scene, *parameter, *operand) || some_misfit(scene, parameters, operands)
             }
             [] => false,
         },
@@ -162,131 +144,92 @@ fn some_misfit(
 }
 
 /// Whether a reference may be stored in a field of this type.
-fn fits_type(
-    classes: &ClassTable,
-    heap: &Heap,
-    reference: Option<Addr>,
-    field_type: FieldType,
-) -> bool
-    requires { (a : ℕ) → reference ≡ Some a → IsAddress heap.now a }
-    ensures { result ≡ fits_type_there classes.now heap.now reference (field_type_view field_type) }
+fn fits_type(scene: &Scene<'_>, reference: Option<Addr>, field_type: FieldType) -> bool
+    requires { (a : ℕ) → reference ≡ Some a → IsAddress scene.now.heap.now a }
+    ensures { result ≡ fits_type_there scene.now.classes.now scene.now.heap.now reference (field_type_view field_type) }
 {
     match field_type {
         FieldType::Number(_) => false,
-        FieldType::Reference(class) => fits_there(classes, heap, reference, class),
+        FieldType::Reference(class) => fits_there(scene.classes, scene.heap, reference, class),
     }
 }
 
 /// What the field or static of operand 1 holds, and numbers for NULL.
-fn asked_type(
-    classes: &ClassTable,
-    fields: &[Option<FieldHandle>],
-    operands: &[Operand],
-) -> FieldType
-    requires { AreHandles classes.now fields.now operands.now }
-    ensures { field_type_view result ≡ (field_there classes.now (field_at fields.now (operand_of operands.now 1))).field.type }
+fn asked_type(scene: &Scene<'_>, function: &Call) -> FieldType
+    requires { AreHandles scene.now.classes.now scene.now.fields.now function.now.operands.items }
+    ensures { field_type_view result ≡ (field_there scene.now.classes.now (handle (scene_view scene.now) (call_view function.now))).field.type }
 {
-    type_of(classes, handle_at(classes, fields, operands, 1))
+    type_of(scene.classes, handle_of(scene, function))
 }
 
 /// Whether operand 0 is an object that has the field of operand 1.
-fn has_field(
-    classes: &ClassTable,
-    heap: &Heap,
-    references: &References<'_>,
-    fields: &[Option<FieldHandle>],
-    operands: &[Operand],
-) -> bool
-    requires objects { AreAddresses heap.now references.now operands.now }
-    requires handles { AreHandles classes.now fields.now operands.now }
-    ensures { result ≡ has_field classes.now heap.now references.now fields.now operands.now }
+fn has_field(scene: &Scene<'_>, function: &Call) -> bool
+    requires objects { AreAddresses scene.now.heap.now scene.now.references function.now.operands.items }
+    requires handles { AreHandles scene.now.classes.now scene.now.fields.now function.now.operands.items }
+    ensures { result ≡ has_field scene.now.classes.now scene.now.heap.now scene.now.references scene.now.fields.now function.now.operands.items }
 {
-    let field = handle_at(classes, fields, operands, 1);
-    let reference = reference_at(heap, references, operands, 0);
-    !is_static(classes, field)
-        && classes.assignable(class_of_given(heap, reference), declaring(classes, field))
+    let classes = scene.classes;
+    let field = handle_of(scene, function);
+    let class = class_of_given(scene.heap, reference_of(scene, function, 0));
+    !is_static(classes, field) && classes.assignable(class, declaring(classes, field))
 }
 
 /// Whether operand 0 is a class that has the static of operand 1.
-fn has_static(
-    classes: &ClassTable,
-    heap: &Heap,
-    references: &References<'_>,
-    fields: &[Option<FieldHandle>],
-    operands: &[Operand],
-) -> bool
-    requires objects { AreAddresses heap.now references.now operands.now }
-    requires handles { AreHandles classes.now fields.now operands.now }
-    ensures { result ≡ has_static classes.now heap.now references.now fields.now operands.now }
+fn has_static(scene: &Scene<'_>, function: &Call) -> bool
+    requires objects { AreAddresses scene.now.heap.now scene.now.references function.now.operands.items }
+    requires handles { AreHandles scene.now.classes.now scene.now.fields.now function.now.operands.items }
+    ensures { result ≡ has_static scene.now.classes.now scene.now.heap.now scene.now.references scene.now.fields.now function.now.operands.items }
 {
-    let field = handle_at(classes, fields, operands, 1);
-    let reference = reference_at(heap, references, operands, 0);
-    is_static(classes, field)
-        && classes.assignable(name_there(heap, reference), declaring(classes, field))
+    let classes = scene.classes;
+    let field = handle_of(scene, function);
+    let class = name_of(scene, function, 0);
+    is_static(classes, field) && classes.assignable(class, declaring(classes, field))
 }
 
 /// Whether the arguments of a function, each of its kind, go together.
-fn fit_together(
-    classes: &ClassTable,
-    heap: &Heap,
-    references: &References<'_>,
-    fields: &[Option<FieldHandle>],
-    function: JniFunction,
-    operands: &[Operand],
-    target: Target,
-) -> bool
-    requires objects { AreAddresses heap.now references.now operands.now }
-    requires handles { AreHandles classes.now fields.now operands.now }
-    ensures { result ≡ fit_together classes.now heap.now references.now fields.now operands.now (element_wanted target) (function_value function) }
+fn fit_together(scene: &Scene<'_>, function: &Call) -> bool
+    requires objects { AreAddresses scene.now.heap.now scene.now.references function.now.operands.items }
+    requires handles { AreHandles scene.now.classes.now scene.now.fields.now function.now.operands.items }
+    ensures { result ≡ arguments_fit (scene_view scene.now) function.now.operands.items
+        (element_wanted function.now.target) (function_value function.now.function) }
 {
-    match function {
-        JniFunction::AllocObject => {
-            let class = reference_at(heap, references, operands, 0);
-            !classes.has_own_making(name_there(heap, class))
-        }
+    let classes = scene.classes;
+    match function.function {
+        JniFunction::AllocObject => !classes.has_own_making(name_of(scene, function, 0)),
         JniFunction::GetField(element) | JniFunction::SetField(element) => {
-            has_field(classes, heap, references, fields, operands)
-                && holds_number(element, asked_type(classes, fields, operands))
+            has_field(scene, function) && holds_number(element, asked_type(scene, function))
         }
         JniFunction::GetObjectField => {
-            has_field(classes, heap, references, fields, operands)
-                && holds_reference(asked_type(classes, fields, operands))
+            has_field(scene, function) && holds_reference(asked_type(scene, function))
         }
         JniFunction::SetObjectField => {
-            let value = reference_at(heap, references, operands, 2);
-            has_field(classes, heap, references, fields, operands)
-                && fits_type(classes, heap, value, asked_type(classes, fields, operands))
+            let value = reference_of(scene, function, 2);
+            has_field(scene, function) && fits_type(scene, value, asked_type(scene, function))
         }
         JniFunction::GetStaticField(element) | JniFunction::SetStaticField(element) => {
-            has_static(classes, heap, references, fields, operands)
-                && holds_number(element, asked_type(classes, fields, operands))
+            has_static(scene, function) && holds_number(element, asked_type(scene, function))
         }
         JniFunction::GetStaticObjectField => {
-            has_static(classes, heap, references, fields, operands)
-                && holds_reference(asked_type(classes, fields, operands))
+            has_static(scene, function) && holds_reference(asked_type(scene, function))
         }
         JniFunction::SetStaticObjectField => {
-            let value = reference_at(heap, references, operands, 2);
-            has_static(classes, heap, references, fields, operands)
-                && fits_type(classes, heap, value, asked_type(classes, fields, operands))
+            let value = reference_of(scene, function, 2);
+            has_static(scene, function) && fits_type(scene, value, asked_type(scene, function))
         }
         JniFunction::NewObjectArray => {
-            let class = name_there(heap, reference_at(heap, references, operands, 1));
-            let element = reference_at(heap, references, operands, 2);
-            !classes.is_array(class) && fits_there(classes, heap, element, class)
+            let class = name_of(scene, function, 1);
+            let element = reference_of(scene, function, 2);
+            !classes.is_array(class) && fits_there(classes, scene.heap, element, class)
         }
         JniFunction::GetBuffer(Access::ArrayView) => {
-            let array = reference_at(heap, references, operands, 0);
-            class_of_given(heap, array) == number_array(element_wanted(target))
+            let class = class_of_given(scene.heap, reference_of(scene, function, 0));
+            class == number_array(element_wanted(function.target))
         }
         JniFunction::Throw => {
-            let exception = reference_at(heap, references, operands, 0);
-            classes.assignable(class_of_given(heap, exception), THROWABLE)
-        }
-        JniFunction::ThrowNew => {
-            let class = name_there(heap, reference_at(heap, references, operands, 0));
+            let class = class_of_given(scene.heap, reference_of(scene, function, 0));
             classes.assignable(class, THROWABLE)
         }
+        JniFunction::ThrowNew => classes.assignable(name_of(scene, function, 0), THROWABLE),
         _ => true,
     }
 }
@@ -303,37 +246,25 @@ fn element_wanted(target: Target) -> ElementType
 
 /// The trap of a call for its arguments.
 #[inline(never)]
-fn check_arguments(
-    classes: &ClassTable,
-    heap: &Heap,
-    references: &References<'_>,
-    fields: &[Option<FieldHandle>],
-    function: &Call,
-) -> Option<Trap>
-    requires objects { AreAddresses heap.now references.now function.now.operands.items }
-    requires handles { AreHandles classes.now fields.now function.now.operands.items }
-    ensures some { IfSome result (λ t. (rest : List (Bool × SourceTrap)) → first_trap (arguments_asked classes.now heap.now references.now fields.now (element_wanted function.now.target) (function_value function.now.function) function.now.operands.items ++ rest) ≡ Some (trap_view t)) }
-    ensures none { IfNone result ((rest : List (Bool × SourceTrap)) → first_trap (arguments_asked classes.now heap.now references.now fields.now (element_wanted function.now.target) (function_value function.now.function) function.now.operands.items ++ rest) ≡ first_trap rest) }
+fn check_arguments(scene: &Scene<'_>, function: &Call) -> Option<Trap>
+    requires objects { AreAddresses scene.now.heap.now scene.now.references function.now.operands.items }
+    requires handles { AreHandles scene.now.classes.now scene.now.fields.now function.now.operands.items }
+    ensures some { IfSome result (λ t. (rest : List (Bool × SourceTrap)) → first_trap (arguments_asked scene.now.classes.now scene.now.heap.now
+        scene.now.references scene.now.fields.now (element_wanted function.now.target) (function_value function.now.function)
+        function.now.operands.items ++ rest) ≡ Some (trap_view t)) }
+    ensures none { IfNone result ((rest : List (Bool × SourceTrap)) → first_trap (arguments_asked scene.now.classes.now scene.now.heap.now
+        scene.now.references scene.now.fields.now (element_wanted function.now.target) (function_value function.now.function)
+        function.now.operands.items ++ rest) ≡ first_trap rest) }
 {
     let operands = &function.operands;
     let parameters = function.function.prototype().parameters;
-    if some_deleted(references, operands) {
+    if some_deleted(&scene.references, operands) {
         return Some(Trap::DeletedReference);
     }
-    if some_missing(references, fields, parameters, operands) {
+    if some_missing(scene, parameters, operands) {
         return Some(Trap::NullReference);
     }
-    if some_misfit(classes, heap, references, parameters, operands)
-        || !fit_together(
-            classes,
-            heap,
-            references,
-            fields,
-            function.function,
-            operands,
-            function.target,
-        )
-    {
+    if some_misfit(scene, parameters, operands) || !fit_together(scene, function) {
         return Some(Trap::WrongObject);
     }
     None
@@ -341,21 +272,19 @@ fn check_arguments(
 
 /// The trap of a call for its arguments, without a look at arguments of which nothing is asked.
 #[tactic(auto, using(crate::proofs::Unasked::nothing_asked))]
-fn argument_trap(
-    classes: &ClassTable,
-    heap: &Heap,
-    references: &References<'_>,
-    fields: &[Option<FieldHandle>],
-    function: &Call,
-) -> Option<Trap>
+fn argument_trap(scene: &Scene<'_>, function: &Call) -> Option<Trap>
     requires prepared { IsPrepared function.now }
-    requires objects { AreAddresses heap.now references.now function.now.operands.items }
-    requires handles { AreHandles classes.now fields.now function.now.operands.items }
-    ensures some { IfSome result (λ t. (rest : List (Bool × SourceTrap)) → first_trap (arguments_asked classes.now heap.now references.now fields.now (element_wanted function.now.target) (function_value function.now.function) function.now.operands.items ++ rest) ≡ Some (trap_view t)) }
-    ensures none { IfNone result ((rest : List (Bool × SourceTrap)) → first_trap (arguments_asked classes.now heap.now references.now fields.now (element_wanted function.now.target) (function_value function.now.function) function.now.operands.items ++ rest) ≡ first_trap rest) }
+    requires objects { AreAddresses scene.now.heap.now scene.now.references function.now.operands.items }
+    requires handles { AreHandles scene.now.classes.now scene.now.fields.now function.now.operands.items }
+    ensures some { IfSome result (λ t. (rest : List (Bool × SourceTrap)) → first_trap (arguments_asked scene.now.classes.now scene.now.heap.now
+        scene.now.references scene.now.fields.now (element_wanted function.now.target) (function_value function.now.function)
+        function.now.operands.items ++ rest) ≡ Some (trap_view t)) }
+    ensures none { IfNone result ((rest : List (Bool × SourceTrap)) → first_trap (arguments_asked scene.now.classes.now scene.now.heap.now
+        scene.now.references scene.now.fields.now (element_wanted function.now.target) (function_value function.now.function)
+        function.now.operands.items ++ rest) ≡ first_trap rest) }
 {
     if function.asks {
-        check_arguments(classes, heap, references, fields, function)
+        check_arguments(scene, function)
     } else {
         None
     }
@@ -386,13 +315,7 @@ pub fn check(scene: &Scene<'_>, locals: &Locals, function: &Call) -> Option<Trap
     if is_kept_off(scene.pending, function.function) {
         return Some(Trap::ExceptionPending);
     }
-    if let Some(trap) = argument_trap(
-        scene.classes,
-        scene.heap,
-        &scene.references,
-        scene.fields,
-        function,
-    ) {
+    if let Some(trap) = argument_trap(scene, function) {
         return Some(trap);
     }
     if lacks_room(locals, function) {

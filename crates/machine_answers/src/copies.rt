@@ -10,7 +10,7 @@ ghost use Rattle.machine_scenes.specs.Given.{operand_of, AreAddresses};
 ghost use Rattle.machine_scenes.specs.Scenes.{scene_view};
 ghost use Rattle.machine_answers.specs.WorkedOut.{array_in, copies_in, copies_out, next_number, region, region_in, IsWorkedOut};
 
-use crate::answer::{Answer, argument};
+use crate::answer::{Answer, reference_of};
 use crate::arrays::stack_number;
 use class_rules::ClassId;
 use classes::built_ins::{
@@ -55,7 +55,7 @@ fn region_asked(scene: &Scene<'_>, function: &Call, array: LocalArray) -> Option
     requires array { array ≡ array_in (operand_of function.now.operands.items 3) }
     ensures { result ≡ region (scene_view scene.now) (call_view function.now) }
 {
-    let object = argument(scene.heap, &scene.references, function, 0);
+    let object = reference_of(scene, function, 0);
     let start = next_number(scene.stack);
     region_in(scene.heap, object, start, stack_number(scene.stack), array)
 }
