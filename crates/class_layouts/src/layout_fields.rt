@@ -15,7 +15,8 @@ use classes::fields::FieldId;
 use classes::table::ClassTable;
 use std::marker::Model;
 
-/// A place in a layout: the class whose own fields come next, how many of these have come, and the classes below it, the next one last.
+/// A place in a layout: the class whose own fields come next, how many of these have come, and the classes below it,
+/// the next one last.
 #[derive(Drop)]
 pub(crate) struct Position {
     class: ClassId,

@@ -27,7 +27,8 @@ pub fn initial_values(alloc: Global, fields: &OwnFields) -> Result<Vec<ObjectVal
     Ok(values)
 }
 
-/// What the fields of a new object of the class hold: 0, or NULL. It takes a time that goes by their number and the depth of the class.
+/// What the fields of a new object of the class hold: 0, or NULL. It takes a time that goes by their number and the
+/// depth of the class.
 pub fn fresh_values(
     alloc: Global,
     classes: &ClassTable,

@@ -1,5 +1,5 @@
-//! What a run asks of classes alone, whichever run it is: whether an object is of the kind of a parameter, what a field can hold, what
-//! objects hold at first, the elements of arrays, and whose native method a function is.
+//! What a run asks of classes alone, whichever run it is: whether an object is of the kind of a parameter, what a field
+//! can hold, what objects hold at first, the elements of arrays, and whose native method a function is.
 #![tactic(auto)]
 
 mod arrays;

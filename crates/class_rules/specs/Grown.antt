@@ -8,7 +8,9 @@ use Rattle.class_rules.specs.Additions.{new_class, with_class, with_field, with_
 -- the built-in classes, and then at a time a class below one that may have subclasses, a field or a static
 pub data IsGrown : Classes → Type 0 where
   BuiltIns : IsGrown built_ins
-  WithClass : (classes : Classes) (name : Identifier) (superclass : ℕ) → IsGrown classes → 0 < superclass → superclass ≤ length classes → has_own_making classes superclass ≡ false → IsGrown (with_class classes (new_class name (Some superclass)))
+  WithClass : (classes : Classes) (name : Identifier) (superclass : ℕ) → IsGrown classes → 0 < superclass
+      → superclass ≤ length classes → has_own_making classes superclass ≡ false
+      → IsGrown (with_class classes (new_class name (Some superclass)))
   WithField : (classes : Classes) (c : ℕ) (field : Field) → IsGrown classes → IsGrown (with_field classes c field)
   WithStatic : (classes : Classes) (c : ℕ) (field : Field) → IsGrown classes → IsGrown (with_static classes c field)
 

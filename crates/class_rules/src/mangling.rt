@@ -102,7 +102,9 @@ fn reads_name(bytes: &[u8]) -> bool
 /// still to come.
 #[inline]
 fn push_after_underscore(path: &mut Vec<u8>, b: u8) -> Result<bool, AllocError>
-    ensures { IfOk result (λ pending. (rest : List ℕ) → path.new.items ++ (if pending then unescaped (95 ∷ rest) else unescaped rest) ≡ path.old.items ++ unescaped (95 ∷ b ∷ rest)) }
+    ensures { IfOk result (λ pending. (rest : List ℕ)
+        → path.new.items ++ (if pending then unescaped (95 ∷ rest) else unescaped rest) ≡ path.old.items
+        ++ unescaped (95 ∷ b ∷ rest)) }
 {
     if b == b'1' {
         path.push(b'_')?;

@@ -104,7 +104,8 @@ impl ClassTable {
         signature: &[u8],
     ) -> Result<FieldType, ClassRule>
         ensures { MatchResult result
-            (λ field_type. (first_broken (λ rule. field_breaks rule self.now class name.now signature.now) ≡ None) × (type_of_signature self.now signature.now ≡ Some (field_type_view field_type)))
+            (λ field_type. (first_broken (λ rule. field_breaks rule self.now class name.now signature.now) ≡ None)
+            × (type_of_signature self.now signature.now ≡ Some (field_type_view field_type)))
             (λ rule. first_broken (λ rule. field_breaks rule self.now class name.now signature.now) ≡ Some (rule_view rule)) }
     {
         if self.declares(class, name) {
@@ -135,9 +136,12 @@ impl ClassTable {
         signature: &[u8],
         is_static: bool,
     ) -> Result<(), FieldError>
-        ensures answer { AnswersField (first_broken (λ rule. field_breaks rule self.old (class_named self.old class_name.now) name.now signature.now)) (class_named self.old class_name.now) result }
+        ensures answer { AnswersField (first_broken (λ rule. field_breaks rule self.old
+            (class_named self.old class_name.now) name.now signature.now))
+            (class_named self.old class_name.now) result }
         ensures grown { IsGrown self.old → IsGrown self.new }
-        ensures table { self.new ≡ (if is_ok result then with_declared self.old (class_named self.old class_name.now) (declared_field self.old name.now signature.now) is_static else self.old) }
+        ensures table { self.new ≡ (if is_ok result then with_declared self.old (class_named self.old class_name.now)
+            (declared_field self.old name.now signature.now) is_static else self.old) }
     {
         let class = self.find(class_name);
         let field_type = self.type_for(class, name, signature)?;

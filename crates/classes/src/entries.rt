@@ -180,7 +180,8 @@ impl Entries {
     ) -> Result<(), AllocError>
         requires there { place < length self.old }
         requires new { list_any (λ f. bytes_eq f.name name.now) (declared_as self.old (place + 1) is_static) ≡ false }
-        ensures { self.new ≡ (if is_ok result then with_declared self.old (Some (place + 1)) (record { name = name.now; type = field_type_view field_type }) is_static else self.old) }
+        ensures { self.new ≡ (if is_ok result then with_declared self.old (Some (place + 1))
+            (record { name = name.now; type = field_type_view field_type }) is_static else self.old) }
     {
         let entry = &mut self.classes[place];
         if is_static {

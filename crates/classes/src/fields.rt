@@ -139,9 +139,12 @@ impl ClassTable {
         self.field_at(handle)
     }
 
-    /// The type of references that has this signature: of a class by the name between `L` and the semicolon, and of a class of arrays by its name.
+    /// The type of references that has this signature: of a class by the name between `L` and the semicolon, and of a
+    /// class of arrays by its name.
     fn reference_type(&self, text: &[u8]) -> Option<FieldType>
-        ensures { option_map field_type_view result ≡ find (λ type. bytes_eq (signature self.now type) text.now) (map (λ c. ReferenceField c.0) (enumerate_from 1 self.now)) }
+        ensures { option_map field_type_view result
+            ≡ find (λ type. bytes_eq (signature self.now type) text.now)
+            (map (λ c. ReferenceField c.0) (enumerate_from 1 self.now)) }
     {
         let _ = &self.classes;
         match referred_name(text) {

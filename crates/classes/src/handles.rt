@@ -34,7 +34,8 @@ impl ClassTable {
         is_static: bool,
     ) -> Option<usize>
         ensures { option_map (λ place. slice_get (declared_as self.now class is_static) place) result
-            ≡ option_map (λ f. Some f) (find (λ f. bytes_eq f.name name.now && bytes_eq (signature self.now f.type) text.now) (declared_as self.now class is_static)) }
+            ≡ option_map (λ f. Some f) (find (λ f. bytes_eq f.name name.now
+            && bytes_eq (signature self.now f.type) text.now) (declared_as self.now class is_static)) }
     {
         // That no two of a class have one name is told here.
         let _ = &self.classes;
@@ -134,7 +135,8 @@ impl ClassTable {
 
     /// Whether the field of a handle has the class and the name of this one.
     fn is_at(&self, handle: FieldHandle, field: Found<'_>) -> bool
-        ensures { IsTrue result → (g : FieldId) × (field_of self.now handle ≡ Some g) × (g.class ≡ handle.class) × (g.field.name ≡ (field_id_view field.entry).field.name) }
+        ensures { IsTrue result → (g : FieldId) × (field_of self.now handle ≡ Some g) × (g.class ≡ handle.class)
+            × (g.field.name ≡ (field_id_view field.entry).field.name) }
     {
         match self.field_at(handle) {
             Some(there) => there.field.name == field.field.name,

@@ -15,7 +15,8 @@ use class_rules::ClassId;
 use std::alloc::{AllocError, Global};
 use std::marker::Model;
 
-/// The classes, each at its number, which is its place counted from 1. A class is found by its name or its number in constant time.
+/// The classes, each at its number, which is its place counted from 1. A class is found by its name or its number in
+/// constant time.
 pub struct ClassTable {
     pub(crate) classes: Entries,
 }

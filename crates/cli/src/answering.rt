@@ -47,7 +47,9 @@ fn decline<E: Sink>(text: &[u8], err: &mut E) -> u8
 pub fn lacks_words<E: Sink>(kind: ErrorKind, err: &mut E) -> u8
     requires { CanFail (E.written err.old) }
     ensures memory { kind ≡ ErrorKind.OutOfMemory → (result ≡ 3) × Tells (E.written err.old) (E.written err.new) (codes "memory\n") }
-    ensures not_text { kind ≢ ErrorKind.OutOfMemory → Declines (codes "error: a word of the command line isn't UTF-8\n") (E.written err.old) (E.written err.new) result }
+    ensures not_text { kind ≢ ErrorKind.OutOfMemory
+        → Declines (codes "error: a word of the command line isn't UTF-8\n") (E.written err.old)
+        (E.written err.new) result }
 {
     match kind {
         ErrorKind::OutOfMemory => fail(err, b"memory\n"),
@@ -79,7 +81,8 @@ pub fn answer<F: Files, O: Sink, E: Sink, R: Threads + Wait + Sync>(
 ) -> u8
     requires out { CanFail (O.written out.old) }
     requires err { CanFail (E.written err.old) }
-    ensures { Answers (F.gives files.old) (F.lacks files.old) request.now (O.written out.old) (O.written out.new) (E.written err.old) (E.written err.new) result }
+    ensures { Answers (F.gives files.old) (F.lacks files.old) request.now (O.written out.old) (O.written out.new)
+        (E.written err.old) (E.written err.new) result }
 {
     match request {
         Request::Serve(command) => serve(rt, alloc, *command, files, out, err),

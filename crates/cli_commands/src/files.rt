@@ -72,7 +72,8 @@ fn read_three<F: Files>(
     world: &str,
     order: &str,
 ) -> Result<Texts, FileFault>
-    ensures given { IfOk result (λ texts. AreGiven (F.gives files.old) program.now world.now order.now texts.program.items texts.world.items texts.order.items) }
+    ensures given { IfOk result (λ texts. AreGiven
+        (F.gives files.old) program.now world.now order.now texts.program.items texts.world.items texts.order.items) }
     ensures lacking { result ≡ Err FileFault.File → LacksAny (F.lacks files.old) program.now world.now order.now }
 {
     let program = files.read(alloc, program)?;

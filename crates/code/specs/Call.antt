@@ -20,7 +20,13 @@ pub record Call : Type 0 where
 
 -- a call in memory
 abbrev pub call_view : InMemory → Call
-call_view c = record { line = c.line; target = c.target; function = function_value c.function; operands = c.operands.items; texts = map (λ text. text.items) c.texts.items }
+call_view c = record {
+  line = c.line;
+  target = c.target;
+  function = function_value c.function;
+  operands = c.operands.items;
+  texts = map (λ text. text.items) c.texts.items;
+}
 
 -- a parameter takes each local reference, and NULL
 abbrev pub takes_any : ParameterKind → Bool

@@ -137,8 +137,8 @@ pub enum Target {
     Test,
 }
 
-/// A call of a function of the JNI, in a statement on this line (JNI Specification, chapter 4), and what its step would else find in the
-/// table each time.
+/// A call of a function of the JNI, in a statement on this line (JNI Specification, chapter 4), and what its step would
+/// else find in the table each time.
 #[derive(Drop)]
 pub struct Call {
     /// Counted from 1; a trap of the call is reported there.
@@ -198,7 +198,13 @@ impl Call {
         operands: Vec<Operand>,
         texts: Vec<Vec<u8>>,
     ) -> Call
-        ensures view { call_view result ≡ record { line = line; target = target; function = function_value function; operands = operands.items; texts = map (λ text. text.items) texts.items } }
+        ensures view { call_view result ≡ record {
+          line = line;
+          target = target;
+          function = function_value function;
+          operands = operands.items;
+          texts = map (λ text. text.items) texts.items;
+        } }
         ensures prepared { IsPrepared result }
     {
         let prototype = function.prototype();
@@ -337,7 +343,8 @@ pub enum PlainTrap {
     OutOfRange,
 }
 
-/// Where an instruction leads: to the next, over a number of instructions after it, a number of places back, or to a trap on a line.
+/// Where an instruction leads: to the next, over a number of instructions after it, a number of places back, or to a
+/// trap on a line.
 #[derive(Clone, Copy, PartialEq, Eq)]
 pub enum Plain {
     Next,

@@ -228,7 +228,13 @@ result_target s i = target.Number i
 abbrev pub call_code : Known → (line : ℕ) → Target → JniFunction → List Argument → List Instr
 call_code known line target f arguments =
     let given = zip (prototype f).parameters arguments in
-    arguments_code known line given ++ Call (record { line = line; target = target; function = f; operands = map (operand_code known) given; texts = arguments_texts arguments }) ∷ []
+    arguments_code known line given ++ Call (record {
+      line = line;
+      target = target;
+      function = f;
+      operands = map (operand_code known) given;
+      texts = arguments_texts arguments;
+    }) ∷ []
 
 -- the same, if the function is known
 abbrev pub named_call_code : Known → (line : ℕ) → Target → Option JniFunction → List Argument → List Instr

@@ -230,7 +230,8 @@ module _ (code : Listing) (known : Known) (place : ℕ) (stack : List ℕ) (slot
   IsOperand operand.Text actual = (bytes : List ℕ) × (actual ≡ TextActual bytes)
   IsOperand (operand.Array array) actual = (x : Identifier) × (actual ≡ VariableActual x) × (t : ElementType) × IsArray known x t array.len array.start
   IsOperand (operand.Buffer i) actual =
-      (x : Identifier) × (actual ≡ VariableActual x) × (t : ElementType) × (writable : Bool) × (lookup x known ≡ Some (record { sort = Buffer t writable; index = i }))
+      (x : Identifier) × (actual ≡ VariableActual x) × (t : ElementType) × (writable : Bool)
+      × (lookup x known ≡ Some (record { sort = Buffer t writable; index = i }))
   IsOperand (operand.Mode mode) actual = (m : ReleaseMode) × (actual ≡ ModeActual m) × (mode ≡ mode_code m)
   IsOperand (operand.IsCopy i) actual = (x : Identifier) × (actual ≡ VariableActual x) × (lookup x known ≡ Some (record { sort = Flag; index = i }))
 
@@ -238,21 +239,27 @@ module _ (code : Listing) (known : Known) (place : ℕ) (stack : List ℕ) (slot
   pub record TakesNumber (s : Sort) (i : ℕ) (x : Identifier) (tasks : List Task) : Type 0 where
     pub within : i < length slots.numbers
     pub names : Known
-    pub shows : (v : Value) (new : Visible) → ValueHasSort v s → IsSet visible x v new → Shows code names new (record slots { numbers = slice_set slots.numbers i (word_of v) })
+    pub shows : (v : Value) (new : Visible) → ValueHasSort v s → IsSet visible x v new
+        → Shows code names new (record slots { numbers = slice_set slots.numbers i (word_of v) })
     pub stands : StandsFor code names (place + 1) [] tasks
 
   -- the same of a reference, beside which is its level, if it is the variable's own
   pub record TakesReference (i : ℕ) (x : Identifier) (tasks : List Task) : Type 0 where
     pub within : i < length slots.references
     pub names : Known
-    pub shows : (r : Reference) (new : Visible) → IsReferred visible x r new → Shows code names new (record slots { references = slice_set slots.references i r; owners = slice_set slots.owners i (new.owner x) })
+    pub shows : (r : Reference) (new : Visible) → IsReferred visible x r new
+        → Shows code names new (record slots {
+          references = slice_set slots.references i r;
+          owners = slice_set slots.owners i (new.owner x);
+        })
     pub stands : StandsFor code names (place + 1) [] tasks
 
   -- the same of a field ID
   pub record TakesField (i : ℕ) (x : Identifier) (tasks : List Task) : Type 0 where
     pub within : i < length slots.fields
     pub names : Known
-    pub shows : (f : Option source.FieldId) (new : Visible) → IsFieldSet visible x f new → Shows code names new (record slots { fields = slice_set slots.fields i f })
+    pub shows : (f : Option source.FieldId) (new : Visible) → IsFieldSet visible x f new
+        → Shows code names new (record slots { fields = slice_set slots.fields i f })
     pub stands : StandsFor code names (place + 1) [] tasks
 
   -- the same of a global reference, which a static that is known holds then
@@ -277,7 +284,8 @@ module _ (code : Listing) (known : Known) (place : ℕ) (stack : List ℕ) (slot
     pub then' : Block
     pub else' : Block
     pub is : target ≡ Tested then' else'
-    pub stands : (gave_zero : Bool) → StandsFor code known (place + 1) (truth_word gave_zero ∷ []) (Branch line (Done (value.Truth gave_zero)) then' else' ∷ tasks)
+    pub stands : (gave_zero : Bool) → StandsFor code known (place + 1) (truth_word gave_zero ∷ [])
+        (Branch line (Done (value.Truth gave_zero)) then' else' ∷ tasks)
 
   -- a new variable of this kind takes what is taken, or one that is of this kind already
   abbrev pub GoesInto : VariableKind → Target → (Takes : Identifier → Type 0) → Type 0
@@ -287,7 +295,8 @@ module _ (code : Listing) (known : Known) (place : ℕ) (stack : List ℕ) (slot
 
   -- where the result of a call in a statement on this line goes, by what the function gives, and what comes then
   abbrev pub TakesResult : (line : ℕ) → Destination → ResultKind → Target → List Task → Type 0
-  TakesResult line (destination.Number i) gives target tasks = (s : Sort) × (number_sort gives ≡ Some s) × GoesInto ScalarKind target (λ x. TakesNumber s i x tasks)
+  TakesResult line (destination.Number i) gives target tasks = (s : Sort) × (number_sort gives ≡ Some s)
+      × GoesInto ScalarKind target (λ x. TakesNumber s i x tasks)
   TakesResult line (destination.Local i) gives target tasks = (gives ≡ NewLocal) × GoesInto ReferenceKind target (λ x. TakesReference i x tasks)
   TakesResult line (destination.FieldId i) gives target tasks = (gives ≡ GivesField) × GoesInto FieldKind target (λ x. TakesField i x tasks)
   TakesResult line (destination.Static i) gives target tasks = (gives ≡ NewGlobal) × ((x : Identifier) × (target ≡ Assigned x) × TakesStatic i x tasks)

@@ -51,7 +51,8 @@ TermHasSort known (term.Named tree.True) s = s ≡ Flag
 TermHasSort known (term.Named tree.False) s = s ≡ Flag
 TermHasSort known (term.Named c) s = ⊥
 TermHasSort known (Read x) s = IsVariable known x s
-TermHasSort known (term.Element x t) s = (r : Sort) × IsIndexSort r × TermHasSort known t r × ((n : Slot) × (lookup x known ≡ Some n) × HasElements n.sort) × (s ≡ Jint)
+TermHasSort known (term.Element x t) s = (r : Sort) × IsIndexSort r × TermHasSort known t r
+    × ((n : Slot) × (lookup x known ≡ Some n) × HasElements n.sort) × (s ≡ Jint)
 TermHasSort known (IsNull equal x) s = ((n : Slot) × (lookup x known ≡ Some n) × IsNullable n.sort) × (s ≡ Truth)
 TermHasSort known (Prefix LogicalNot t) s = TermHasSort known t Truth × (s ≡ Truth)
 TermHasSort known (Prefix Complement t) s = TermHasSort known t Word × (s ≡ Word)
@@ -278,7 +279,8 @@ abbrev mutual
   StmtFits l (tree.DeclareArray line t x size) = IsNew l.known x × (0 < size) × (size ≤ most_elements)
   StmtFits l (tree.Assign line x r) = (s : Slot) × (lookup x l.known ≡ Some s) × RightFits l.known s.sort r
   StmtFits l (tree.AssignElement line x i e) =
-      ((n : Slot) × (lookup x l.known ≡ Some n) × HasElements n.sort) × ((r : Sort) × IsIndexSort r × NumberFits l.known (term_of i) r) × NumberFits l.known (term_of e) Jint
+      ((n : Slot) × (lookup x l.known ≡ Some n) × HasElements n.sort)
+      × ((r : Sort) × IsIndexSort r × NumberFits l.known (term_of i) r) × NumberFits l.known (term_of e) Jint
   StmtFits l (tree.Perform line c) = CallDrops l.known c
   StmtFits l (tree.PutJint line e) = NumberFits l.known (term_of e) Jint
   StmtFits l (tree.If line test then') = TestFits l.known test × BlockFits l then'

@@ -32,7 +32,8 @@ pub record IsCodeOf (statics : Known) (f : Function) (code : Listing) : Type 0 w
   pub short : function_steps f ≤ most_steps
   pub begins : StandsFor code (entry_layout statics f).known 0 [] (tasks_of f.body)
   pub room : (arguments : List ObjectValue) → ArgumentsFit f.parameters arguments → HasRoom code arguments
-  pub shows : (own : Identifier → Option ℕ) (shared : Shared) (thread : Thread) (calls : List Invocation) (class : ℕ) (arguments : List ObjectValue) (slots : Slots)
+  pub shows : (own : Identifier → Option ℕ) (shared : Shared) (thread : Thread) (calls : List Invocation) (class : ℕ)
+      (arguments : List ObjectValue) (slots : Slots)
       → ArgumentsFit f.parameters arguments → EntrySlots code class arguments slots → AreShared statics shared → AreOfLowest own
       → Shows code (entry_layout statics f).known (visible_to own shared (entered thread calls f class arguments)) slots
   pub steps : (visible : Visible) (known : Known) (slots : Slots) (place : ℕ) (stack : List ℕ) (task : Task) (rest : List Task)

@@ -104,7 +104,8 @@ pub record SetStands (code : Listing) (known : Known) (place : ℕ) (stack : Lis
   pub further : ComesAfter after (place + length (term_code known line t) + 1) ((x, slot) ∷ known)
 
 -- an element of an array or a buffer is set by the instruction after index and number, which are worked out like an operator's operands
-pub record SetElementStands (code : Listing) (known : Known) (place : ℕ) (stack : List ℕ) (after : After) (line : ℕ) (x : Identifier) (i e : Term) : Type 0 where
+pub record SetElementStands (code : Listing) (known : Known) (place : ℕ) (stack : List ℕ) (after : After) (line : ℕ)
+    (x : Identifier) (i e : Term) : Type 0 where
   pub slot : Slot
   pub there : lookup x known ≡ Some slot
   pub elements : HasElements slot.sort
@@ -152,7 +153,8 @@ pub record SetNullStands (code : Listing) (known : Known) (place : ℕ) (stack :
   pub further : ComesAfter after (place + 1) ((name, slot) ∷ known)
 
 -- a local array is made
-pub record MakeArrayStands (code : Listing) (known : Known) (place : ℕ) (stack : List ℕ) (after : After) (t : ElementType) (x : Identifier) (size : ℕ) : Type 0 where
+pub record MakeArrayStands (code : Listing) (known : Known) (place : ℕ) (stack : List ℕ) (after : After)
+    (t : ElementType) (x : Identifier) (size : ℕ) : Type 0 where
   pub empty : stack ≡ []
   pub start : ℕ
   pub at : slice_get code.instrs place ≡ Some (instr.ClearArray (record { start = start; len = size }))
@@ -336,15 +338,18 @@ BufferGoes code known after place element i target =
 abbrev pub TargetStands : Listing → Known → After → (place : ℕ) → (line : ℕ) → Destination → ResultKind → Target → Type 0
 TargetStands code known after place line (destination.Number i) gives target =
     (s : Sort) × (number_sort gives ≡ Some s) × ResultGoes code known after place (record { sort = s; index = i }) ScalarKind target
-TargetStands code known after place line (destination.Local i) gives target = (gives ≡ NewLocal) × ResultGoes code known after place (record { sort = Ref; index = i }) ReferenceKind target
-TargetStands code known after place line (destination.FieldId i) gives target = (gives ≡ GivesField) × ResultGoes code known after place (record { sort = FieldId; index = i }) FieldKind target
+TargetStands code known after place line (destination.Local i) gives target = (gives ≡ NewLocal)
+    × ResultGoes code known after place (record { sort = Ref; index = i }) ReferenceKind target
+TargetStands code known after place line (destination.FieldId i) gives target = (gives ≡ GivesField)
+    × ResultGoes code known after place (record { sort = FieldId; index = i }) FieldKind target
 TargetStands code known after place line (destination.Static i) gives target = (gives ≡ NewGlobal) × StaticStands known after place i target
 TargetStands code known after place line (destination.Buffer element i) gives target = IsBufferResult gives × BufferGoes code known after place element i target
 TargetStands code known after place line destination.Test gives target = (gives ≡ GivesInt) × TestStands code known after place line target
 TargetStands code known after place line destination.Dropped gives target = (target ≡ Dropped) × (is_droppable gives ≡ true) × after place known
 
 -- what is left to be worked out for a call is at the place, and then its instruction, and then what comes
-pub record InvokeStands (code : Listing) (known : Known) (place : ℕ) (stack : List ℕ) (after : After) (line : ℕ) (target : Target) (f : JniFunction) (operands : List Operand) : Type 0 where
+pub record InvokeStands (code : Listing) (known : Known) (place : ℕ) (stack : List ℕ) (after : After) (line : ℕ)
+    (target : Target) (f : JniFunction) (operands : List Operand) : Type 0 where
   pub call : Call
   pub at : HasAt code.instrs place (operands_rest known line operands ++ instr.Call call ∷ [])
   pub same_line : call.line ≡ line
@@ -367,7 +372,8 @@ pub record EndStands (code : Listing) (known : Known) (place : ℕ) (stack : Lis
   pub further : ComesAfter after (place + 1 + skipped) known
 
 -- a loop whose test is under way; its code begins at `start`
-pub record LoopStands (code : Listing) (known : Known) (place : ℕ) (stack : List ℕ) (after : After) (line : ℕ) (test : Expr) (t : Term) (body : Block) : Type 0 where
+pub record LoopStands (code : Listing) (known : Known) (place : ℕ) (stack : List ℕ) (after : After) (line : ℕ)
+    (test : Expr) (t : Term) (body : Block) : Type 0 where
   pub slots : SlotCounts
   pub start : ℕ
   pub under_way : IsUnderWay known sort.Truth t stack
@@ -398,7 +404,8 @@ pub record TurnStands (code : Listing) (known : Known) (place : ℕ) (stack : Li
 abbrev pub ReferenceReturned : Listing → Known → (place : ℕ) → Term → Type 0
 ReferenceReturned code known place t =
     ((t ≡ term.Named tree.Null) × (slice_get code.instrs place ≡ Some (instr.ReturnReference Null)))
-    ⊎ ((x : Identifier) × (i : ℕ) × (t ≡ Read x) × (lookup x known ≡ Some (record { sort = Ref; index = i })) × (slice_get code.instrs place ≡ Some (instr.ReturnReference (Local i))))
+    ⊎ ((x : Identifier) × (i : ℕ) × (t ≡ Read x) × (lookup x known ≡ Some (record { sort = Ref; index = i }))
+    × (slice_get code.instrs place ≡ Some (instr.ReturnReference (Local i))))
 
 -- a value is returned
 abbrev pub ReturnStands : Listing → Known → (place : ℕ) → (stack : List ℕ) → (line : ℕ) → Term → Type 0
@@ -413,7 +420,8 @@ TaskStands code known place stack after (SetElement line x i e) = SetElementStan
 TaskStands code known place stack after (SetNull target) = SetNullStands code known place stack after target
 TaskStands code known place stack after (MakeArray t x size) = MakeArrayStands code known place stack after t x size
 TaskStands code known place stack after (Invoke line target f operands) = InvokeStands code known place stack after line target f operands
-TaskStands code known place stack after (Print line t) = NumberStands code known place stack line Jint t (instr.PutJint ∷ []) × after (place + length (term_code known line t) + 1) known
+TaskStands code known place stack after (Print line t) = NumberStands code known place stack line Jint t
+    (instr.PutJint ∷ []) × after (place + length (term_code known line t) + 1) known
 TaskStands code known place stack after (Branch line t then' else') = BranchStands code known place stack after line t then' else'
 TaskStands code known place stack after EndIf = EndStands code known place stack after
 TaskStands code known place stack after (Loop line test t body) = LoopStands code known place stack after line test t body

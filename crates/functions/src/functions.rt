@@ -84,7 +84,8 @@ fn add<'a>(
     function: &'a Function,
     number: usize,
 ) -> Result<(), AllocError>
-    ensures { (before : _) → number ≡ length before → FindsAll 0 before by_name.old → OnOk result (FindsAll 0 (before ++ function_tree function.now ∷ []) by_name.new) }
+    ensures { (before : _) → number ≡ length before → FindsAll 0 before by_name.old
+        → OnOk result (FindsAll 0 (before ++ function_tree function.now ∷ []) by_name.new) }
 {
     let name = function.name.as_bytes();
     if by_name.contains_key(name) {

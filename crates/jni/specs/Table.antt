@@ -126,7 +126,15 @@ all_rows = map facts_of all_functions
 
 -- in memory
 abbrev pub facts : PrototypeInMemory → Facts
-facts p = record { prototype = record { name = p.name.now; parameters = map parameter_value p.parameters.now; result = result_value p.result }; effect = effect_value p.effect; pending = p.pending }
+facts p = record {
+  prototype = record {
+    name = p.name.now;
+    parameters = map parameter_value p.parameters.now;
+    result = result_value p.result;
+  };
+  effect = effect_value p.effect;
+  pending = p.pending;
+}
 
 -- functions in memory
 abbrev pub functions_value : Bor (List FunctionInMemory) → List JniFunction

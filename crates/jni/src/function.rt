@@ -94,8 +94,8 @@ macro_rules! rows {
     };
 }
 
-// The functions in the order of their numbers, in groups. A row has the name, the parameters after `env`, the result, what a call does to buffers,
-// references and frames, and whether it may be called while an exception is pending.
+// The functions in the order of their numbers, in groups. A row has the name, the parameters after `env`, the result,
+// what a call does to buffers, references and frames, and whether it may be called while an exception is pending.
 
 /// Those of classes and references.
 static REFERENCE_ROWS: [Prototype; 14] = rows! {

@@ -14,11 +14,13 @@ abbrev pub IsJournalOf : {program world schedule written : List ℕ} → IsRun p
 IsJournalOf run journal = journal_of journal (length run.meaning.world.threads) ≡ Ok run.journal
 
 abbrev pub RunsAreReplayed : Type 0
-RunsAreReplayed = (program world schedule journal written : List ℕ) (run : IsRun program world schedule written) → IsJournalOf run journal → IsReplayedAs program world journal written
+RunsAreReplayed = (program world schedule journal written : List ℕ) (run : IsRun program world schedule written)
+    → IsJournalOf run journal → IsReplayedAs program world journal written
 
 -- the same of a run by workers
 abbrev pub IsJournalOfWork : {program world written : List ℕ} → IsWork program world written → (journal : List ℕ) → Type 0
 IsJournalOfWork work journal = journal_of journal (length work.meaning.world.threads) ≡ Ok work.journal
 
 abbrev pub WorksAreReplayed : Type 0
-WorksAreReplayed = (program world journal written : List ℕ) (work : IsWork program world written) → IsJournalOfWork work journal → IsReplayedAs program world journal written
+WorksAreReplayed = (program world journal written : List ℕ) (work : IsWork program world written)
+    → IsJournalOfWork work journal → IsReplayedAs program world journal written

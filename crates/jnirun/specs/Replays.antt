@@ -50,11 +50,18 @@ pub record EndsReplay (program world journal : List ℕ) (trap : Option TrapAt) 
 -- that is refused.
 pub data AreRefusedReplays (program world journal : List ℕ) : (number : ℕ) → Place → Type 0 where
   by_program : (number line : ℕ) → IsRefusedProgram program number line → AreRefusedReplays program world journal number (Line which.Program line)
-  by_world : (unit : SourceUnit) (fault : TextFault) → IsProgram program unit → world_of_text world ≡ Err fault → AreRefusedReplays program world journal (rule_number fault.rule) (Line which.World fault.line)
-  by_journal : (unit : SourceUnit) (w : World) (fault : TextFault) → IsProgram program unit → world_of_text world ≡ Ok w → journal_of journal (length w.threads) ≡ Err fault → AreRefusedReplays program world journal (rule_number fault.rule) (Line which.Journal fault.line)
-  by_load : (unit : SourceUnit) (w : World) (entries : Journal) (line : ℕ) → IsProgram program unit → world_of_text world ≡ Ok w → journal_of journal (length w.threads) ≡ Ok entries → first_load_fault unit w ≡ Some line → AreRefusedReplays program world journal 82 (Line which.World line)
+  by_world : (unit : SourceUnit) (fault : TextFault) → IsProgram program unit → world_of_text world ≡ Err fault
+      → AreRefusedReplays program world journal (rule_number fault.rule) (Line which.World fault.line)
+  by_journal : (unit : SourceUnit) (w : World) (fault : TextFault) → IsProgram program unit → world_of_text world ≡ Ok w
+      → journal_of journal (length w.threads) ≡ Err fault
+      → AreRefusedReplays program world journal (rule_number fault.rule) (Line which.Journal fault.line)
+  by_load : (unit : SourceUnit) (w : World) (entries : Journal) (line : ℕ) → IsProgram program unit
+      → world_of_text world ≡ Ok w → journal_of journal (length w.threads) ≡ Ok entries
+      → first_load_fault unit w ≡ Some line → AreRefusedReplays program world journal 82 (Line which.World line)
   -- an entry isn't possible where the entries before it have led
-  by_entry : (meaning : ReplayMeaning program world journal) (entry : ℕ) → IsFirstImpossible meaning.unit meaning.world meaning.entries entry → AreRefusedReplays program world journal 91 (Entry entry)
+  by_entry : (meaning : ReplayMeaning program world journal) (entry : ℕ)
+      → IsFirstImpossible meaning.unit meaning.world meaning.entries entry
+      → AreRefusedReplays program world journal 91 (Entry entry)
 
 -- each entry of the journal is possible where the entries before it have led
 pub record IsPossible (program world journal : List ℕ) : Type 0 where

@@ -57,7 +57,8 @@ error_text command program world order number place detail =
 
 -- where and why a trap stopped the run
 abbrev pub trap_text : Command → (program : List ℕ) → TrapAt → List ℕ
-trap_text command program trap = told (codes "trap") (name_of command which.Program) program trap.number (Line which.Program trap.line) (trap_words trap.number) []
+trap_text command program trap = told (codes "trap") (name_of command which.Program) program trap.number
+    (Line which.Program trap.line) (trap_words trap.number) []
 
 -- the trap that stopped the run is told, and without one nothing is
 abbrev pub TellsTrap : Command → (program : List ℕ) → (err err_after : Written) → Option TrapAt → Type 0
@@ -79,16 +80,20 @@ pub data ServesTexts (command : Command) (program world order : List ℕ) (out o
   -- memory was refused, and nothing is written
   lacks_memory : out_after ≡ out → Tells err err_after (codes "memory\n") → ServesTexts command program world order out out_after err err_after 3
   -- standard output failed within what the command writes, or within the line of a fault that the texts earn
-  loses_text : StopsRun out out_after (λ text. (trap : Option TrapAt) × TextsWrite command program world order trap text) → Tells err err_after (codes "writer\n")
+  loses_text : StopsRun out out_after (λ text. (trap : Option TrapAt)
+      × TextsWrite command program world order trap text) → Tells err err_after (codes "writer\n")
       → ServesTexts command program world order out out_after err err_after 3
   loses_fault : (number : ℕ) (place : Place) → TextsEarn command program world order number place
       → StopsWithin out out_after (fault_line number place) → Tells err err_after (codes "writer\n")
       → ServesTexts command program world order out out_after err err_after 3
 
 -- What is done by a command, where files may be read as some texts and others may be lacking.
-pub data Serves (gives : List ℕ → List ℕ → Type 0) (lacks : List ℕ → Type 0) (command : Command) (out out_after err err_after : Written) : (status : ℕ) → Type 0 where
+pub data Serves (gives : List ℕ → List ℕ → Type 0) (lacks : List ℕ → Type 0) (command : Command)
+    (out out_after err err_after : Written) : (status : ℕ) → Type 0 where
   -- its files were read
-  on_texts : (status : ℕ) → OfFiles gives command (λ p w o. ServesTexts command p w o out out_after err err_after status) → Serves gives lacks command out out_after err err_after status
+  on_texts : (status : ℕ) → OfFiles gives command
+      (λ p w o. ServesTexts command p w o out out_after err err_after status)
+      → Serves gives lacks command out out_after err err_after status
   -- memory was refused, or a file of the command is lacking, and nothing is written
   cannot_read : out_after ≡ out → Tells err err_after (codes "memory\n") → Serves gives lacks command out out_after err err_after 3
   has_no_file : LacksOne lacks command → out_after ≡ out → Tells err err_after (codes "file\n") → Serves gives lacks command out out_after err err_after 3

@@ -28,6 +28,11 @@ pub record Meaning (program_text world_text schedule_text : List ℕ) : Type 0 w
 -- first that is refused.
 pub data AreRefused (program world schedule : List ℕ) : (number : ℕ) → Place → Type 0 where
   by_check : (number : ℕ) (place : Place) → FailsCheck program number place → AreRefused program world schedule number place
-  by_world : (fault : TextFault) → PassesCheck program → world_of_text world ≡ Err fault → AreRefused program world schedule (rule_number fault.rule) (Line which.World fault.line)
-  by_schedule : (w : World) (fault : TextFault) → PassesCheck program → world_of_text world ≡ Ok w → schedule_of schedule (length w.threads) ≡ Err fault → AreRefused program world schedule (rule_number fault.rule) (Line which.Schedule fault.line)
-  by_load : (w : World) (words : Schedule) (line : ℕ) (passes : PassesCheck program) → world_of_text world ≡ Ok w → schedule_of schedule (length w.threads) ≡ Ok words → first_load_fault passes.unit w ≡ Some line → AreRefused program world schedule 82 (Line which.World line)
+  by_world : (fault : TextFault) → PassesCheck program → world_of_text world ≡ Err fault
+      → AreRefused program world schedule (rule_number fault.rule) (Line which.World fault.line)
+  by_schedule : (w : World) (fault : TextFault) → PassesCheck program → world_of_text world ≡ Ok w
+      → schedule_of schedule (length w.threads) ≡ Err fault
+      → AreRefused program world schedule (rule_number fault.rule) (Line which.Schedule fault.line)
+  by_load : (w : World) (words : Schedule) (line : ℕ) (passes : PassesCheck program) → world_of_text world ≡ Ok w
+      → schedule_of schedule (length w.threads) ≡ Ok words → first_load_fault passes.unit w ≡ Some line
+      → AreRefused program world schedule 82 (Line which.World line)

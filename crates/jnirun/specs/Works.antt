@@ -58,9 +58,12 @@ pub record EndsWork (program world : List ℕ) (trap : Option TrapAt) (text : Li
 -- those of the first that is refused.
 pub data AreRefusedWork (program world : List ℕ) : (number : ℕ) → Place → Type 0 where
   by_check : (number : ℕ) (place : Place) → FailsCheck program number place → AreRefusedWork program world number place
-  by_world : (fault : TextFault) → PassesCheck program → world_of_text world ≡ Err fault → AreRefusedWork program world (rule_number fault.rule) (Line which.World fault.line)
-  by_load : (w : World) (line : ℕ) (passes : PassesCheck program) → world_of_text world ≡ Ok w → first_load_fault passes.unit w ≡ Some line → AreRefusedWork program world 82 (Line which.World line)
-  by_full : (text : List ℕ) (work : IsWork program world text) → is_over work ≡ false → most_entries ≤ length work.journal → AreRefusedWork program world 92 (Line which.Program 0)
+  by_world : (fault : TextFault) → PassesCheck program → world_of_text world ≡ Err fault
+      → AreRefusedWork program world (rule_number fault.rule) (Line which.World fault.line)
+  by_load : (w : World) (line : ℕ) (passes : PassesCheck program) → world_of_text world ≡ Ok w
+      → first_load_fault passes.unit w ≡ Some line → AreRefusedWork program world 82 (Line which.World line)
+  by_full : (text : List ℕ) (work : IsWork program world text) → is_over work ≡ false
+      → most_entries ≤ length work.journal → AreRefusedWork program world 92 (Line which.Program 0)
 
 -- Texts that go with each other are refused for want of memory alone, where a function is too long or the journal is full, or by the writer.
 abbrev pub IsWorkOrFails : Result (Option TrapAt) RunError → Type 0

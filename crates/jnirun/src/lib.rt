@@ -1,5 +1,5 @@
-//! Native methods from their texts: a program is checked, run over a heap by a schedule or by workers, or replayed by a journal; and the same of
-//! files, with what is said of them on standard output and standard error.
+//! Native methods from their texts: a program is checked, run over a heap by a schedule or by workers, or replayed by a
+//! journal; and the same of files, with what is said of them on standard output and standard error.
 #![tactic(auto)]
 
 mod errors;

@@ -33,8 +33,10 @@ fn replay_checked<W: Sink>(
 ) -> Result<Option<TrapAt>, RunError>
     requires { CanFail (W.written out.old) }
     ensures replay { (program : List ℕ) → IsProgram program (unit_tree checked.now)
-        → RunsTexts (W.written out.old) (W.written out.new) result (EndsReplay program world_text.now journal_text.now) (AreRefusedReplays program world_text.now journal_text.now) }
-    ensures accepted { (program : List ℕ) (p : IsPossible program world_text.now journal_text.now) → unit_tree checked.now ≡ p.meaning.unit → IsReplayOrFails result }
+        → RunsTexts (W.written out.old) (W.written out.new) result (EndsReplay program world_text.now journal_text.now)
+        (AreRefusedReplays program world_text.now journal_text.now) }
+    ensures accepted { (program : List ℕ) (p : IsPossible program world_text.now journal_text.now)
+        → unit_tree checked.now ≡ p.meaning.unit → IsReplayOrFails result }
 {
     match read_world(alloc, world_text) {
         Ok(world) => replay_world(alloc, checked, &world, journal_text, out),
@@ -52,8 +54,10 @@ fn replay_world<W: Sink>(
 ) -> Result<Option<TrapAt>, RunError>
     requires { CanFail (W.written out.old) }
     ensures replay { (program text : List ℕ) → IsProgram program (unit_tree checked.now) → world_of_text text ≡ Ok world.now → IsWorldText text world.now
-        → RunsTexts (W.written out.old) (W.written out.new) result (EndsReplay program text journal_text.now) (AreRefusedReplays program text journal_text.now) }
-    ensures accepted { (program text : List ℕ) → world_of_text text ≡ Ok world.now → (p : IsPossible program text journal_text.now) → unit_tree checked.now ≡ p.meaning.unit
+        → RunsTexts (W.written out.old) (W.written out.new) result (EndsReplay program text journal_text.now)
+        (AreRefusedReplays program text journal_text.now) }
+    ensures accepted { (program text : List ℕ) → world_of_text text ≡ Ok world.now
+        → (p : IsPossible program text journal_text.now) → unit_tree checked.now ≡ p.meaning.unit
         → IsReplayOrFails result }
 {
     let threads = thread_count(world);
@@ -66,13 +70,14 @@ fn replay_world<W: Sink>(
     }
 }
 
-/// Replays the journal of the program in the world, and writes the report of its run and the journal. Answers the trap that stopped
-/// the run, if one did.
+/// Replays the journal of the program in the world, and writes the report of its run and the journal. Answers the trap
+/// that stopped the run, if one did.
 ///
-/// On `Ok` what was written is what a run with this journal writes, and none of it waits in the sink. A fault is one that the texts earn, and nothing is
-/// written then: 91 has the number of the first entry that isn't possible, counted from 1. The texts are read in their
-/// order: the program is scanned, parsed, and checked for sorts and regions, then the world and the journal are read, then
-/// they are loaded and the entries taken. No code is made, so no function is too long.
+/// On `Ok` what was written is what a run with this journal writes, and none of it waits in the sink. A fault is one
+/// that the texts earn, and nothing is written then: 91 has the number of the first entry that isn't possible, counted
+/// from 1. The texts are read in their order: the program is scanned, parsed, and checked for sorts and regions, then
+/// the world and the journal are read, then they are loaded and the entries taken. No code is made, so no function is
+/// too long.
 pub fn replay_text<W: Sink>(
     alloc: Global,
     program_text: &[u8],

@@ -89,7 +89,8 @@ fn run_by<W: Sink>(
     ensures run { (program text order : List ℕ) → IsPassed program text (unit_tree lowered.entry.unit) world
         → schedule_of order (length world.threads) ≡ Ok schedule.now → IsScheduleText (length world.threads) order schedule.now
         → RunsTexts (W.written out.old) (W.written out.new) result (EndsRun program text order) (AreRefused program text order) }
-    ensures accepted { (program text order : List ℕ) → world_of_text text ≡ Ok world → (m : Meaning program text order) → unit_tree lowered.entry.unit ≡ m.unit → IsRunOrFails result }
+    ensures accepted { (program text order : List ℕ) → world_of_text text ≡ Ok world → (m : Meaning program text order)
+        → unit_tree lowered.entry.unit ≡ m.unit → IsRunOrFails result }
 {
     match Machine::load(alloc, lowered, world) {
         Ok(mut machine) => run_loaded(alloc, &mut machine, schedule, out),
@@ -108,7 +109,8 @@ fn run_world<W: Sink>(
     requires { CanFail (W.written out.old) }
     ensures run { (program text : List ℕ) → IsPassed program text (unit_tree lowered.entry.unit) world
         → RunsTexts (W.written out.old) (W.written out.new) result (EndsRun program text schedule_text.now) (AreRefused program text schedule_text.now) }
-    ensures accepted { (program text : List ℕ) → world_of_text text ≡ Ok world → (m : Meaning program text schedule_text.now) → unit_tree lowered.entry.unit ≡ m.unit
+    ensures accepted { (program text : List ℕ) → world_of_text text ≡ Ok world
+        → (m : Meaning program text schedule_text.now) → unit_tree lowered.entry.unit ≡ m.unit
         → IsRunOrFails result }
 {
     let threads = thread_count(&world);
@@ -128,7 +130,8 @@ fn run_checked<W: Sink>(
 ) -> Result<Option<TrapAt>, RunError>
     requires { CanFail (W.written out.old) }
     ensures run { (program : List ℕ) → IsProgram program (unit_tree checked.now)
-        → RunsTexts (W.written out.old) (W.written out.new) result (EndsRun program world_text.now schedule_text.now) (AreRefused program world_text.now schedule_text.now) }
+        → RunsTexts (W.written out.old) (W.written out.new) result (EndsRun program world_text.now schedule_text.now)
+        (AreRefused program world_text.now schedule_text.now) }
     ensures accepted { (program : List ℕ) (m : Meaning program world_text.now schedule_text.now) → unit_tree checked.now ≡ m.unit → IsRunOrFails result }
 {
     match lower(alloc, checked) {
@@ -144,9 +147,9 @@ fn run_checked<W: Sink>(
 /// stopped the run, if one did.
 ///
 /// On `Ok` what was written is the report of the source run that the journal names, and that journal, which follows the
-/// schedule; none of it waits in the sink. A fault is one that the texts earn, and nothing is written then. The texts are read in their order: the program is
-/// scanned, parsed, checked for sorts and regions and lowered, then the world and the schedule are read, then they are
-/// loaded.
+/// schedule; none of it waits in the sink. A fault is one that the texts earn, and nothing is written then. The texts
+/// are read in their order: the program is scanned, parsed, checked for sorts and regions and lowered, then the world
+/// and the schedule are read, then they are loaded.
 pub fn run_text<W: Sink>(
     alloc: Global,
     program_text: &[u8],

@@ -29,7 +29,8 @@ fn check_and_say<W: Sink>(
     out: &mut W,
 ) -> Result<Option<TrapAt>, RunError>
     requires { CanFail (W.written out.old) }
-    ensures { RunsTexts (W.written out.old) (W.written out.new) result (λ trap text. PassesCheck program.now × (trap ≡ None) × (text ≡ passed)) (FailsCheck program.now) }
+    ensures { RunsTexts (W.written out.old) (W.written out.new) result
+        (λ trap text. PassesCheck program.now × (trap ≡ None) × (text ≡ passed)) (FailsCheck program.now) }
 {
     match check_text(alloc, program) {
         Ok(()) => {}
@@ -172,8 +173,9 @@ fn serve_texts<O: Sink, E: Sink, R: Threads + Wait + Sync>(
 /// Does what a command asks for, and answers the program's status: 0 done, 1 a text is refused, 3 memory, a file or a
 /// writer failed.
 ///
-/// Standard output gets what the command writes, or the line of a fault; standard error gets where and why a text is refused,
-/// with the line of that text, where a trap stopped the run, in the same way, or one word for what failed. That standard error fails changes no status.
+/// Standard output gets what the command writes, or the line of a fault; standard error gets where and why a text is
+/// refused, with the line of that text, where a trap stopped the run, in the same way, or one word for what failed.
+/// That standard error fails changes no status.
 pub fn serve<F: Files, O: Sink, E: Sink, R: Threads + Wait + Sync>(
     rt: &R,
     alloc: Global,
@@ -184,7 +186,8 @@ pub fn serve<F: Files, O: Sink, E: Sink, R: Threads + Wait + Sync>(
 ) -> u8
     requires out { CanFail (O.written out.old) }
     requires err { CanFail (E.written err.old) }
-    ensures { Serves (F.gives files.old) (F.lacks files.old) command.entry (O.written out.old) (O.written out.new) (E.written err.old) (E.written err.new) result }
+    ensures { Serves (F.gives files.old) (F.lacks files.old) command.entry (O.written out.old) (O.written out.new)
+        (E.written err.old) (E.written err.new) result }
 {
     match read_texts(alloc, files, command) {
         Ok(texts) => serve_texts(rt, alloc, command, &texts, out, err),

@@ -118,7 +118,8 @@ fn work_in<W: Sink, R: Threads + Wait + Sync>(
     requires can_fail { CanFail (W.written out.old) }
     ensures run { (program text : List ℕ) → IsPassed program text (unit_tree lowered.entry.unit) world
         → RunsTexts (W.written out.old) (W.written out.new) result (EndsWork program text) (AreRefusedWork program text) }
-    ensures accepted { (program text : List ℕ) → world_of_text text ≡ Ok world → (m : WorkMeaning program text) → unit_tree lowered.entry.unit ≡ m.unit → IsWorkOrFails result }
+    ensures accepted { (program text : List ℕ) → world_of_text text ≡ Ok world → (m : WorkMeaning program text)
+        → unit_tree lowered.entry.unit ≡ m.unit → IsWorkOrFails result }
 {
     match Machine::load(alloc, lowered, world) {
         Ok(machine) => work_loaded(rt, alloc, machine, out),
@@ -148,12 +149,14 @@ fn work_checked<W: Sink, R: Threads + Wait + Sync>(
     }
 }
 
-/// Runs the program in the world by workers, a thread of the system for each thread, and writes the report of the run and its journal.
-/// Answers the trap that stopped the run, if one did.
+/// Runs the program in the world by workers, a thread of the system for each thread, and writes the report of the run
+/// and its journal. Answers the trap that stopped the run, if one did.
 ///
-/// On `Ok` what was written is the report of the source run that the journal names, and that journal; none of it waits in the
-/// sink. In which order the threads step isn't known before, and the journal tells it. A fault is one that the texts earn, 92 where the journal has no
-/// room for another entry, and nothing is written then. Memory is also refused where a worker of a thread couldn't be started. The texts are read as in `run_text`, and four workers lower the program.
+/// On `Ok` what was written is the report of the source run that the journal names, and that journal; none of it waits
+/// in the sink. In which order the threads step isn't known before, and the journal tells it. A fault is one that the
+/// texts earn, 92 where the journal has no room for another entry, and nothing is written then. Memory is also refused
+/// where a worker of a thread couldn't be started. The texts are read as in `run_text`, and four workers lower the
+/// program.
 pub fn work_text<W: Sink, R: Threads + Wait + Sync>(
     rt: &R,
     alloc: Global,

@@ -24,8 +24,8 @@ pub struct Fault {
     pub line: usize,
 }
 
-/// Whether a text is that of an accepted program, as `program_check::check_text` says: 0 it is, 1 it is refused, and `fault` tells
-/// why, 3 memory was refused.
+/// Whether a text is that of an accepted program, as `program_check::check_text` says: 0 it is, 1 it is refused, and
+/// `fault` tells why, 3 memory was refused.
 #[unsafe(no_mangle)]
 pub extern "C" fn jnirun_check(alloc: Global, text: &[u8], fault: &mut Fault) -> i32
     ensures answers { Answers text.now fault.new result }

@@ -63,7 +63,8 @@ fn lower_item<'a>(
     Ok(())
 }
 
-/// The code of a function, where the statics before it are known. After it they alone are known again. Errors are those of `lower`.
+/// The code of a function, where the statics before it are known. After it they alone are known again. Errors are those
+/// of `lower`.
 pub fn lower_function<'a>(
     alloc: Global,
     names: &mut Names<'a>,
@@ -89,7 +90,8 @@ fn body_instrs<'a>(
     names: &mut Names<'a>,
     function: &'a Function,
 ) -> Result<Vec<Instr>, AllocError>
-    ensures instrs { IfOk result (λ instrs. instrs.items ≡ block_code (entry_layout names.old.known (function_tree function.now)) (function_tree function.now).body) }
+    ensures instrs { IfOk result (λ instrs. instrs.items
+        ≡ block_code (entry_layout names.old.known (function_tree function.now)) (function_tree function.now).body) }
     ensures slots { OnOk result (names.new.slots ≡ function_slots names.old.known (function_tree function.now)) }
     ensures statics { OnOk result (names.new.known ≡ names.old.known) }
 {

@@ -28,9 +28,11 @@ pub(crate) fn in_order(
 /// The next code of a worker's share, or none where it has no more.
 fn take_code(shares: &mut Vec<VecDeque<Code>>, worker: usize) -> Option<Code>
     requires { worker < vec_len shares.old }
-    ensures taken { slice_index_or (map (λ s. s.items) shares.old.items) worker [] ≡ option_to_list result ++ slice_index_or (map (λ s. s.items) shares.new.items) worker [] }
+    ensures taken { slice_index_or (map (λ s. s.items) shares.old.items) worker [] ≡ option_to_list result
+        ++ slice_index_or (map (λ s. s.items) shares.new.items) worker [] }
     ensures none { result ≡ None → slice_index_or (map (λ s. s.items) shares.old.items) worker [] ≡ [] }
-    ensures kept { (w : ℕ) → (w ≡ worker → ⊥) → slice_index_or (map (λ s. s.items) shares.new.items) w [] ≡ slice_index_or (map (λ s. s.items) shares.old.items) w [] }
+    ensures kept { (w : ℕ) → (w ≡ worker → ⊥) → slice_index_or (map (λ s. s.items) shares.new.items) w []
+        ≡ slice_index_or (map (λ s. s.items) shares.old.items) w [] }
     ensures many { vec_len shares.new ≡ vec_len shares.old }
     ensures fewer { IsSome result → sum_by (λ s. length s.items) shares.new.items < sum_by (λ s. length s.items) shares.old.items }
 {

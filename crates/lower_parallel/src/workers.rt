@@ -18,9 +18,9 @@ use std::collections::VecDeque;
 use std::thread;
 use std::thread::Threads;
 
-/// The program that `lower` makes, by several workers: of the functions, counted from 0 in the order of the text, each worker lowers
-/// those whose number leaves its own as remainder by `workers`. Each worker has a thread of its own where one can be started, and
-/// `lower_parallel` waits for all.
+/// The program that `lower` makes, by several workers: of the functions, counted from 0 in the order of the text, each
+/// worker lowers those whose number leaves its own as remainder by `workers`. Each worker has a thread of its own where
+/// one can be started, and `lower_parallel` waits for all.
 ///
 /// Errors are those of `lower`, and `Memory` where any worker was refused memory, or there was none for what the workers made.
 pub fn lower_parallel<'a, K: Watch + Sync, R: Threads + Sync>(

@@ -88,8 +88,14 @@ impl<'a> Names<'a> {
     /// Declares parameters, of which the first is known as the latest: so it takes the slots of each before the next one's, and
     /// declares it after that. It calls itself once for each.
     fn declare_parameters(&mut self, parameters: &'a [Parameter]) -> Result<(), AllocError>
-        ensures known { OnOk result (self.new.known ≡ parameter_slots (map parameter_tree parameters.now) self.old.slots.numbers self.old.slots.references ++ self.old.known) }
-        ensures slots { OnOk result (self.new.slots ≡ record (self.old.slots) { numbers = numbers_of (map parameter_tree parameters.now) self.old.slots.numbers; references = references_of (map parameter_tree parameters.now) self.old.slots.references }) }
+        ensures known { OnOk result (self.new.known
+            ≡ parameter_slots (map parameter_tree parameters.now) self.old.slots.numbers self.old.slots.references
+            ++ self.old.known) }
+        ensures slots { OnOk result (self.new.slots
+            ≡ record (self.old.slots) {
+              numbers = numbers_of (map parameter_tree parameters.now) self.old.slots.numbers;
+              references = references_of (map parameter_tree parameters.now) self.old.slots.references;
+            }) }
     {
         match parameters {
             [] => Ok(()),

@@ -131,7 +131,9 @@ fn emit_first<'a>(
     first: &'a Block,
 ) -> Result<usize, AllocError>
     ensures end { IfOk result (λ end. end + 1 ≡ vec_len code.new) }
-    ensures code { OnOk result (code.new.items ≡ code.old.items ++ first_code (test_code names.old.known line (test_tree test.now)) (block_code names.old (block_tree first.now))) }
+    ensures code { OnOk result (code.new.items ≡ code.old.items
+        ++ first_code (test_code names.old.known line (test_tree test.now))
+        (block_code names.old (block_tree first.now))) }
     ensures names { OnOk result (names.new ≡ closed names.old (block_layout names.old (block_tree first.now))) }
 {
     emit_test(code, names, line, test)?;
@@ -175,7 +177,9 @@ fn emit_loop<'a>(
     body: &'a Block,
     test: &Expr,
 ) -> Result<(), AllocError>
-    ensures code { OnOk result (code.new.items ≡ code.old.items ++ loop_code (expr_code names.old.known line (expr_tree test.now)) (block_code names.old (block_tree body.now))) }
+    ensures code { OnOk result (code.new.items ≡ code.old.items
+        ++ loop_code (expr_code names.old.known line (expr_tree test.now))
+        (block_code names.old (block_tree body.now))) }
     ensures names { OnOk result (names.new ≡ closed names.old (block_layout names.old (block_tree body.now))) }
 {
     let start = code.len();
@@ -190,7 +194,8 @@ fn emit_loop<'a>(
 fn close_turn(code: &mut Vec<Instr>, start: usize, jump: usize) -> Result<(), AllocError>
     requires begun { start ≤ jump }
     requires inside { jump < vec_len code.old }
-    ensures { OnOk result (code.new.items ≡ slice_set (code.old.items ++ Instr.JumpBack (vec_len code.old - start) ∷ []) jump (Instr.JumpIfFalse (vec_len code.old - jump))) }
+    ensures { OnOk result (code.new.items ≡ slice_set (code.old.items
+        ++ Instr.JumpBack (vec_len code.old - start) ∷ []) jump (Instr.JumpIfFalse (vec_len code.old - jump))) }
 {
     let end = code.len();
     let back = counted(end - start)?;
@@ -224,7 +229,8 @@ fn emit_declaration<'a>(
     sort: Sort,
     right: &RightSide,
 ) -> Result<(), AllocError>
-    ensures code { OnOk result (code.new.items ≡ code.old.items ++ right_code names.old.known line (new_slot (sort_value sort) names.old) (right_side_tree right.now)) }
+    ensures code { OnOk result (code.new.items ≡ code.old.items
+        ++ right_code names.old.known line (new_slot (sort_value sort) names.old) (right_side_tree right.now)) }
     ensures names { OnOk result (names.new ≡ with_name name.now (sort_value sort) names.old) }
 {
     emit_right(code, names, line, names.new_slot(sort), right)?;
@@ -309,7 +315,10 @@ fn emit_element_set(
     index: &Expr,
     value: &Expr,
 ) -> Result<(), AllocError>
-    ensures { OnOk result (code.new.items ≡ code.old.items ++ (expr_code names.now.known line (expr_tree index.now) ++ (expr_code names.now.known line (expr_tree value.now) ++ of_slot (write_code line) (lookup name.now names.now.known)))) }
+    ensures { OnOk result (code.new.items ≡ code.old.items
+        ++ (expr_code names.now.known line (expr_tree index.now)
+        ++ (expr_code names.now.known line (expr_tree value.now)
+        ++ of_slot (write_code line) (lookup name.now names.now.known)))) }
 {
     emit_expr(code, names, line, index)?;
     emit_expr(code, names, line, value)?;
@@ -374,7 +383,9 @@ fn emit_call(
     target: Target,
     call: &Call,
 ) -> Result<(), AllocError>
-    ensures { OnOk result (code.new.items ≡ code.old.items ++ named_call_code names.now.known line target (function_named (call_tree call.now).function) (call_tree call.now).arguments) }
+    ensures { OnOk result (code.new.items ≡ code.old.items
+        ++ named_call_code names.now.known line target (function_named (call_tree call.now).function)
+        (call_tree call.now).arguments) }
 {
     let Some(function) = function_named(call.function.as_bytes()) else {
         return Ok(());
@@ -394,7 +405,14 @@ fn emit_prepared(
     operands: Vec<Operand>,
     arguments: &[Argument],
 ) -> Result<(), AllocError>
-    ensures { OnOk result (code.new.items ≡ code.old.items ++ Instr.Call (record { line = line; target = target; function = function_value function; operands = operands.items; texts = arguments_texts (map argument_tree arguments.now) }) ∷ []) }
+    ensures { OnOk result (code.new.items ≡ code.old.items
+        ++ Instr.Call (record {
+          line = line;
+          target = target;
+          function = function_value function;
+          operands = operands.items;
+          texts = arguments_texts (map argument_tree arguments.now);
+        }) ∷ []) }
 {
     let alloc = *code.allocator();
     let mut texts = Vec::new(alloc);
@@ -411,7 +429,9 @@ fn emit_arguments(
     parameters: &[ParameterKind],
     arguments: &[Argument],
 ) -> Result<(), AllocError>
-    ensures { OnOk result (code.new.items ≡ code.old.items ++ arguments_code names.now.known line (zip (map parameter_value parameters.now) (map argument_tree arguments.now))) }
+    ensures { OnOk result (code.new.items ≡ code.old.items
+        ++ arguments_code names.now.known line (zip (map parameter_value parameters.now)
+        (map argument_tree arguments.now))) }
 {
     match parameters {
         [] => Ok(()),
@@ -450,7 +470,9 @@ fn push_operands(
     parameters: &[ParameterKind],
     arguments: &[Argument],
 ) -> Result<(), AllocError>
-    ensures { OnOk result (operands.new.items ≡ operands.old.items ++ map (operand_code names.now.known) (zip (map parameter_value parameters.now) (map argument_tree arguments.now))) }
+    ensures { OnOk result (operands.new.items ≡ operands.old.items
+        ++ map (operand_code names.now.known) (zip (map parameter_value parameters.now)
+        (map argument_tree arguments.now))) }
 {
     match parameters {
         [] => Ok(()),
@@ -471,7 +493,9 @@ fn operands_of(
     parameters: &[ParameterKind],
     arguments: &[Argument],
 ) -> Result<Vec<Operand>, AllocError>
-    ensures { IfOk result (λ operands. operands.items ≡ map (operand_code names.now.known) (zip (map parameter_value parameters.now) (map argument_tree arguments.now))) }
+    ensures { IfOk result (λ operands. operands.items
+        ≡ map (operand_code names.now.known) (zip (map parameter_value parameters.now)
+        (map argument_tree arguments.now))) }
 {
     let mut operands = Vec::new(alloc);
     push_operands(&mut operands, names, parameters, arguments)?;
@@ -525,7 +549,8 @@ fn variable_operand(sort: Sort, index: u32) -> Operand
 
 /// Copies of the texts among the arguments of a call, in order.
 fn push_texts(texts: &mut Vec<Vec<u8>>, arguments: &[Argument]) -> Result<(), AllocError>
-    ensures { OnOk result (map (λ text. text.items) texts.new.items ≡ map (λ text. text.items) texts.old.items ++ arguments_texts (map argument_tree arguments.now)) }
+    ensures { OnOk result (map (λ text. text.items) texts.new.items ≡ map (λ text. text.items) texts.old.items
+        ++ arguments_texts (map argument_tree arguments.now)) }
 {
     match arguments {
         [] => Ok(()),

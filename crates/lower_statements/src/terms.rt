@@ -108,7 +108,8 @@ fn emit_binary(
     right: &Expr,
 ) -> Result<(), AllocError>
     requires { null_tested (Binary (binary_tree operator) (expr_tree left.now) (expr_tree right.now)) ≡ None }
-    ensures { OnOk result (code.new.items ≡ code.old.items ++ expr_code names.now.known line (Binary (binary_tree operator) (expr_tree left.now) (expr_tree right.now))) }
+    ensures { OnOk result (code.new.items ≡ code.old.items
+        ++ expr_code names.now.known line (Binary (binary_tree operator) (expr_tree left.now) (expr_tree right.now))) }
 {
     match operator {
         BinaryOp::LogicalAnd => emit_logical(code, names, line, true, left, right),
@@ -142,7 +143,9 @@ fn emit_operator(
     left: &Expr,
     right: &Expr,
 ) -> Result<(), AllocError>
-    ensures { OnOk result (code.new.items ≡ code.old.items ++ term_code names.now.known line (term.Binary (binary_tree operator) (term_of (expr_tree left.now)) (term_of (expr_tree right.now)))) }
+    ensures { OnOk result (code.new.items ≡ code.old.items
+        ++ term_code names.now.known line (term.Binary (binary_tree operator) (term_of (expr_tree left.now))
+        (term_of (expr_tree right.now)))) }
 {
     emit_expr(code, names, line, left)?;
     emit_expr(code, names, line, right)?;
@@ -157,7 +160,8 @@ fn emit_operation(
     operator: BinaryOp,
     left: &Expr,
 ) -> Result<(), AllocError>
-    ensures { OnOk result (code.new.items ≡ code.old.items ++ operator_code line (is_signed names.now.known (term_of (expr_tree left.now))) (binary_tree operator) ∷ []) }
+    ensures { OnOk result (code.new.items ≡ code.old.items
+        ++ operator_code line (is_signed names.now.known (term_of (expr_tree left.now))) (binary_tree operator) ∷ []) }
 {
     let signed = is_signed(names, left);
     emit(code, operator_instr(line, signed, operator))
@@ -173,7 +177,9 @@ fn emit_logical(
     left: &Expr,
     right: &Expr,
 ) -> Result<(), AllocError>
-    ensures { OnOk result (code.new.items ≡ code.old.items ++ logical_code conjunction (expr_code names.now.known line (expr_tree left.now)) (expr_code names.now.known line (expr_tree right.now))) }
+    ensures { OnOk result (code.new.items ≡ code.old.items
+        ++ logical_code conjunction (expr_code names.now.known line (expr_tree left.now))
+        (expr_code names.now.known line (expr_tree right.now))) }
 {
     emit_expr(code, names, line, left)?;
     let place = code.len();

@@ -76,7 +76,8 @@ abbrev pub acquired : State → Acquired
 acquired s = record { copied = copied s; viewed = views s }
 
 -- The machine stands for the state that its journal leads to.
-pub record Corresponds (p : Lowered) (world : World) (store : Store) (threads : List Thread) (printed : List Printed) (stop : Option Stop) (journal : List Entry) : Type 0 where
+pub record Corresponds (p : Lowered) (world : World) (store : Store) (threads : List Thread) (printed : List Printed)
+    (stop : Option Stop) (journal : List Entry) : Type 0 where
   pub lowered : IsLowered p
   -- no step of an accepted unit does what JNI leaves undefined
   pub safe : IsSafe (unit_tree p.unit) world
@@ -85,7 +86,8 @@ pub record Corresponds (p : Lowered) (world : World) (store : Store) (threads : 
   pub state : State
   pub replays : replay (unit_tree p.unit) world journal ≡ Some state
   pub store_agrees : StoreAgrees p world store state.shared (acquired state)
-  pub threads_agree : ThreadsAgree p world.classes store.heap store.elements (length (loaded_objects world)) (owners_after (unit_tree p.unit) world journal) 1 state.shared threads state.threads
+  pub threads_agree : ThreadsAgree p world.classes store.heap store.elements (length (loaded_objects world))
+      (owners_after (unit_tree p.unit) world journal) 1 state.shared threads state.threads
   pub same_printed : state.printed ≡ printed
   pub same_stop : state.stop ≡ option_map stop_view stop
   -- fewer objects were made at load than a heap has cells, and each step makes two at most
@@ -105,7 +107,8 @@ event_of advanced.Refused = event.Quiet
 abbrev pub HoldsAlways : Lowered → World → (k : ℕ) → Store → Thread → (Acquired → Owners → Shared → SourceThread → Type 0) → Type 0
 HoldsAlways p w k store t Holds =
     (others : Acquired) (own : Owners) (shared : Shared) (s : SourceThread) → StoreAgrees p w store shared (beside others (acquired_by s))
-    → ThreadAgrees p w.classes store.heap store.elements (length (loaded_objects w)) k own shared t s → IsSteady w.classes own shared s → waits w.classes k shared s ≡ false → Holds others own shared s
+    → ThreadAgrees p w.classes store.heap store.elements (length (loaded_objects w)) k own shared t s
+    → IsSteady w.classes own shared s → waits w.classes k shared s ≡ false → Holds others own shared s
 
 -- it took the step that the source's thread takes
 abbrev pub AdvancesAlways : Lowered → World → (k : ℕ) → (store after : Store) → Thread → Thread → Advanced → Type 0
@@ -113,7 +116,8 @@ AdvancesAlways p w k store after t t' x = HoldsAlways p w k store t (λ others o
 
 -- its step makes objects, if nothing is refused
 abbrev pub MakesObjects : Lowered → World → (k : ℕ) → Store → Thread → Type 0
-MakesObjects p w k store t = HoldsAlways p w k store t (λ others own shared s. 0 < cells_made shared (thread_step (unit_tree p.unit) w.classes (in_use_with others s) k shared s false))
+MakesObjects p w k store t = HoldsAlways p w k store t (λ others own shared s. 0 < cells_made shared
+    (thread_step (unit_tree p.unit) w.classes (in_use_with others s) k shared s false))
 
 -- The thread at a place hasn't ended and doesn't wait, in a store and threads that stand for the state that a journal leads to.
 pub record CanAdvance (p : Lowered) (w : World) (store : Store) (threads : List Thread) (index : ℕ) : Type 0 where
@@ -131,7 +135,8 @@ abbrev pub IsBetween : Store → List Thread → (between : Store) → List Thre
 IsBetween store threads between threads' x = ((between ≡ store) × (threads' ≡ threads) × (x ≢ advanced.Refused)) ⊎ AreCollected store threads between threads'
 
 -- the thread at a place took its step, with a collection before it or without one
-pub record AdvancesFrom (p : Lowered) (w : World) (store : Store) (threads : List Thread) (index : ℕ) (after : Store) (later : List Thread) (x : Advanced) : Type 0 where
+pub record AdvancesFrom (p : Lowered) (w : World) (store : Store) (threads : List Thread) (index : ℕ) (after : Store)
+    (later : List Thread) (x : Advanced) : Type 0 where
   pub between : Store
   pub among : List Thread
   pub is : IsBetween store threads between among x
@@ -281,14 +286,16 @@ abbrev pub seen : Lowered → World → Store → List Entry → Run
 seen p w store journal = record { unit = p.unit; world = w; journal = journal; left = left_of store.heap }
 
 -- Thread k, the one at a place among those of a machine with this journal, has not ended, and no trap has stopped the machine.
-pub record CanGoOn (p : Lowered) (w : World) (store : Store) (threads : List Thread) (index : ℕ) (printed : List Printed) (journal : List Entry) (k : ℕ) (thread : Thread) : Type 0 where
+pub record CanGoOn (p : Lowered) (w : World) (store : Store) (threads : List Thread) (index : ℕ)
+    (printed : List Printed) (journal : List Entry) (k : ℕ) (thread : Thread) : Type 0 where
   pub stands : Corresponds p w store threads printed None journal
   pub number : k ≡ suc index
   pub at : slice_get threads index ≡ Some thread
   pub lives : thread.ending ≡ Unfinished
 
 -- it took so many turns, each with a step that changed no other thread, nor the store, and printed nothing
-pub record WentOn (p : Lowered) (w : World) (store : Store) (threads : List Thread) (index : ℕ) (printed : List Printed) (old : List Entry) (k turns : ℕ) (after : Thread) (stop : Option Stop) (journal : List Entry) : Type 0 where
+pub record WentOn (p : Lowered) (w : World) (store : Store) (threads : List Thread) (index : ℕ) (printed : List Printed)
+    (old : List Entry) (k turns : ℕ) (after : Thread) (stop : Option Stop) (journal : List Entry) : Type 0 where
   pub stands : Corresponds p w store (slice_set threads index after) printed stop journal
   pub along : RunsAlong (seen p w store old) (seen p w store journal) (replicate turns (Turn k))
 

@@ -102,7 +102,8 @@ impl<'a> Machine<'a> {
     /// A machine before its first step, which keeps the allocator for what it does later.
     ///
     /// Fault 82 exactly where a call of the world doesn't fit the program: its function or the function's class is
-    /// unknown, or the arguments don't fit the parameters in number and kind. The objects that the world begins with lie in its heap.
+    /// unknown, or the arguments don't fit the parameters in number and kind. The objects that the world begins with
+    /// lie in its heap.
     pub fn load(alloc: Global, program: Program<'a>, world: World) -> Result<Machine<'a>, LoadFault>
         ensures ok { IfOk result (IsUnstarted program.entry.unit world) }
         ensures fits { OnOk result (first_load_fault (unit_tree program.entry.unit) world ≡ None) }
@@ -159,8 +160,9 @@ impl<'a> Machine<'a> {
         &self.printed
     }
 
-    /// Moves the objects that can still be reached together; the others are gone. What is viewed can be reached, and stays where it is,
-    /// so that a view shows the present elements of its array through any collection. It gives no entry.
+    /// Moves the objects that can still be reached together; the others are gone. What is viewed can be reached, and
+    /// stays where it is, so that a view shows the present elements of its array through any collection. It gives no
+    /// entry.
     ///
     /// An `Err` says that host memory was refused. Nothing has moved then.
     pub fn collect(&mut self) -> Result<(), AllocError>
@@ -171,8 +173,8 @@ impl<'a> Machine<'a> {
         collect_blocks(self.alloc, &mut self.store, &mut self.threads)
     }
 
-    /// Lets thread `k`, counted from 1, take one step. Where the objects that it makes have no room, the machine collects first, and
-    /// the allocation is refused where they have none then.
+    /// Lets thread `k`, counted from 1, take one step. Where the objects that it makes have no room, the machine
+    /// collects first, and the allocation is refused where they have none then.
     ///
     /// An `Err` says that the thread could step and the journal has room, but host memory was refused, to the step or to its
     /// collection. Nothing has changed then, and the same turn can be asked again.
@@ -290,8 +292,8 @@ impl<'a> Machine<'a> {
         Ok(())
     }
 
-    /// Lets thread `k` take steps one after another, as long as its next instruction works on the stack and the number slots alone, and
-    /// the journal has memory for its entry, but no more than this many. Answers how many it took.
+    /// Lets thread `k` take steps one after another, as long as its next instruction works on the stack and the number
+    /// slots alone, and the journal has memory for its entry, but no more than this many. Answers how many it took.
     #[inline(always)]
     fn run_plainly(&mut self, k: u8, most: u32) -> u32
         requires counted { 0 < k }
@@ -321,8 +323,8 @@ impl<'a> Machine<'a> {
     /// thread that the world lacks give none.
     ///
     /// After an `Err` the steps of a beginning of the schedule stay, and the next word is the turn of a thread that
-    /// could step, where the journal was full, or had room and host memory was refused, or it is a collection that host memory was
-    /// refused to.
+    /// could step, where the journal was full, or had room and host memory was refused, or it is a collection that host
+    /// memory was refused to.
     pub fn run(&mut self, schedule: &Schedule) -> Result<(), RunFault>
         ensures ok { OnOk result (RunsAlong self.old self.new schedule.now) }
         ensures err { IfErr result (RunsInto self.old self.new schedule.now) }
@@ -502,9 +504,9 @@ fn most_entries(journal: &Vec<Entry>, most: u32) -> u32
     most.min(left as u32)
 }
 
-/// Takes steps of a thread, which is thread `k`, has not ended, and is of a machine that no trap has stopped, as long as its next
-/// instruction works on the stack and the number slots alone. It takes this many at most, for which the journal has room and memory, and
-/// answers how many. A trap is the last.
+/// Takes steps of a thread, which is thread `k`, has not ended, and is of a machine that no trap has stopped, as long
+/// as its next instruction works on the stack and the number slots alone. It takes this many at most, for which the
+/// journal has room and memory, and answers how many. A trap is the last.
 #[inline(always)]
 fn take_plainly(
     program: &Program<'_>,
@@ -515,12 +517,14 @@ fn take_plainly(
     k: u8,
     most: u32,
 ) -> u32
-    requires stands { (w : SourceWorld) × (threads : List Thread) × (index : ℕ) × (printed : List Printed) × CanGoOn program.now w store.now threads index printed journal.old.items k thread.old }
+    requires stands { (w : SourceWorld) × (threads : List Thread) × (index : ℕ) × (printed : List Printed)
+        × CanGoOn program.now w store.now threads index printed journal.old.items k thread.old }
     requires goes { stop.old ≡ None }
     requires room { 0 < most → length journal.old.items + most ≤ most_entries }
     requires memory { 0 < most → vec_len journal.old + most ≤ vec_capacity journal.old }
     ensures most { result ≤ most }
-    ensures went { (w : SourceWorld) (threads : List Thread) (index : ℕ) (printed : List Printed) → CanGoOn program.now w store.now threads index printed journal.old.items k thread.old
+    ensures went { (w : SourceWorld) (threads : List Thread) (index : ℕ) (printed : List Printed)
+        → CanGoOn program.now w store.now threads index printed journal.old.items k thread.old
         → WentOn program.now w store.now threads index printed journal.old.items k result thread.new stop.new journal.new.items }
 {
     for taken in 0..most {
@@ -560,9 +564,10 @@ fn make_room(printed: &mut Vec<Printed>, journal: &mut Vec<Entry>) -> Result<(),
     printed.reserve(1)
 }
 
-/// Takes one step of thread `k`, which is at this place, has not ended, and doesn't wait. Where what it makes has no room, which a step is asked for
-/// before anything has changed, there is a collection, one for all objects of the step, and then the allocation is refused where it has
-/// none still. Only a step that makes nothing takes host memory, so after the collection nothing can fail.
+/// Takes one step of thread `k`, which is at this place, has not ended, and doesn't wait. Where what it makes has no
+/// room, which a step is asked for before anything has changed, there is a collection, one for all objects of the step,
+/// and then the allocation is refused where it has none still. Only a step that makes nothing takes host memory, so
+/// after the collection nothing can fail.
 #[inline(always)]
 fn advance_or_collect(
     alloc: Global,

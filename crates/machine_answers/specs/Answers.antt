@@ -170,7 +170,8 @@ pub record IsExited (k : ℕ) (s : Shared) (t : Thread) (n : ℕ) (effect : Call
 abbrev pub IsAnswer : Classes → Brought → Space → LocalTable → ResultKind → Shared → Thread → Answer → CallEffect → Type 0
 IsAnswer classes brought space locals kind s t (answer.Throws c) (Throws class) = (c ≡ class) × IsMakeable classes c
 IsAnswer classes brought space locals kind s t (answer.Gives given) (Leaves [] s' t' c) = (s' ≡ s) × (t' ≡ t) × GivenAgrees classes space kind given c
-IsAnswer classes brought space locals kind s t (answer.Writes a place v) (Leaves [] s' t' NoResult) = (t' ≡ t) × (kind ≡ GivesNothing) × WritesAt space s s' a place v
+IsAnswer classes brought space locals kind s t (answer.Writes a place v) (Leaves [] s' t' NoResult) = (t' ≡ t)
+    × (kind ≡ GivesNothing) × WritesAt space s s' a place v
 IsAnswer classes brought space locals kind s t (answer.CopiesOut region) effect = (kind ≡ GivesNothing) × IsCopiedOut brought space s t region effect
 IsAnswer classes brought space locals kind s t (answer.CopiesIn region) effect = (kind ≡ GivesNothing) × IsCopiedIn brought space s t region effect
 IsAnswer classes brought space locals kind s t (answer.Makes new) (Leaves (o ∷ []) s' t' (ReferenceResult r)) =
@@ -178,16 +179,24 @@ IsAnswer classes brought space locals kind s t (answer.Makes new) (Leaves (o ∷
 IsAnswer classes brought space locals kind s t (answer.Raises class place) effect =
     (kind ≡ GivesInt) × IsMakeable classes string_class × IsMakeable classes class × (effect ≡ throw_new_effect classes s t class (text_in brought.texts place))
 IsAnswer classes brought space locals kind s t (answer.Pends a given) effect =
-    (r : Reference) × ReferenceAgrees space a r × ((c : CallResult) × GivenAgrees classes space kind given c × (effect ≡ Leaves [] s (record t { pending = r }) c))
+    (r : Reference) × ReferenceAgrees space a r × ((c : CallResult) × GivenAgrees classes space kind given c
+    × (effect ≡ Leaves [] s (record t { pending = r }) c))
 IsAnswer classes brought space locals kind s t (answer.Halts trap) effect = effect ≡ Halts (trap_view trap)
-IsAnswer classes brought space locals kind s t (answer.Ensures more) effect = (kind ≡ GivesInt) × (effect ≡ frames_effect classes s t (with_capacity more t.frames))
-IsAnswer classes brought space locals kind s t (answer.Pushes capacity) effect = (kind ≡ GivesInt) × (effect ≡ frames_effect classes s t (record { capacity = capacity; references = [] } ∷ t.frames))
-IsAnswer classes brought space locals kind s t (answer.Pops a) effect = (kind ≡ NewLocal) × ((r : Reference) × ReferenceAgrees space a r × (effect ≡ Leaves [] s (record t { frames = drop 1 t.frames }) (ReferenceResult r)))
+IsAnswer classes brought space locals kind s t (answer.Ensures more) effect = (kind ≡ GivesInt)
+    × (effect ≡ frames_effect classes s t (with_capacity more t.frames))
+IsAnswer classes brought space locals kind s t (answer.Pushes capacity) effect = (kind ≡ GivesInt)
+    × (effect ≡ frames_effect classes s t (record { capacity = capacity; references = [] } ∷ t.frames))
+IsAnswer classes brought space locals kind s t (answer.Pops a) effect = (kind ≡ NewLocal)
+    × ((r : Reference) × ReferenceAgrees space a r
+    × (effect ≡ Leaves [] s (record t { frames = drop 1 t.frames }) (ReferenceResult r)))
 IsAnswer classes brought space locals kind s t (answer.Deletes key) effect =
-    (kind ≡ GivesNothing) × ((n level : ℕ) × IsKeyOf space locals key n level × (effect ≡ Leaves [] s (record t { frames = without_local level n t.frames }) NoResult))
+    (kind ≡ GivesNothing) × ((n level : ℕ) × IsKeyOf space locals key n level
+    × (effect ≡ Leaves [] s (record t { frames = without_local level n t.frames }) NoResult))
 IsAnswer classes brought space locals kind s t (answer.MakesGlobal a) effect =
-    (kind ≡ NewGlobal) × ((r : Reference) × ReferenceAgrees space a r × (effect ≡ Leaves [] (record s { globals = option_to_list r ++ s.globals }) t (ReferenceResult r)))
-IsAnswer classes brought space locals kind s t (answer.DeletesGlobal i) effect = (kind ≡ GivesNothing) × ((x : Identifier) × (n : ℕ) × HoldsObject s x i n × (effect ≡ delete_global_effect s t x (Some n)))
+    (kind ≡ NewGlobal) × ((r : Reference) × ReferenceAgrees space a r
+    × (effect ≡ Leaves [] (record s { globals = option_to_list r ++ s.globals }) t (ReferenceResult r)))
+IsAnswer classes brought space locals kind s t (answer.DeletesGlobal i) effect = (kind ≡ GivesNothing)
+    × ((x : Identifier) × (n : ℕ) × HoldsObject s x i n × (effect ≡ delete_global_effect s t x (Some n)))
 IsAnswer classes brought space locals kind s t (answer.AcquiresCopy a) effect = IsBufferResult kind × IsCopyAcquired brought space s t a effect
 IsAnswer classes brought space locals kind s t (answer.AcquiresView a) effect = IsBufferResult kind × IsViewAcquired brought space s t a effect
 IsAnswer classes brought space locals kind s t (answer.Releases r) effect = (kind ≡ GivesNothing) × IsReleased brought space s t r effect

@@ -36,7 +36,18 @@ references_of store call = record { keys = call.slots.references.items; locals =
 -- what a call of thread k sees
 abbrev pub scene_of : Classes → Store → Activation → (k : ℕ) → (pending : Option ℕ) → Scene
 scene_of classes store call k pending =
-    record { classes = classes; space = store.heap; loaded = store.loaded.items; references = references_of store call; fields = call.slots.fields.items; buffers = call.slots.buffers.items; stack = call.stack; pending = pending; monitors = store.monitors; thread = k }
+    record {
+      classes = classes;
+      space = store.heap;
+      loaded = store.loaded.items;
+      references = references_of store call;
+      fields = call.slots.fields.items;
+      buffers = call.slots.buffers.items;
+      stack = call.stack;
+      pending = pending;
+      monitors = store.monitors;
+      thread = k;
+    }
 
 -- the buffers of a call of thread k
 abbrev pub buffers_of : Store → Activation → (k : ℕ) → HeldBuffers
@@ -44,12 +55,15 @@ buffers_of store call k = holding call.slots.buffers.items store.elements k
 
 -- what a call of a function with these arguments brings, where all buffers take this
 abbrev pub brought_by : Store → Activation → (k : ℕ) → BuffersInUse → Call → List Actual → Brought
-brought_by store call k in_use function args = bringing function.texts call.slots.numbers.items (buffers_of store call k) in_use (array_given function.operands args)
+brought_by store call k in_use function args = bringing function.texts call.slots.numbers.items
+    (buffers_of store call k) in_use (array_given function.operands args)
 
 -- Store, frames and pending exception of thread k agree with the source's, and each operand gives what the argument at its place is, and
 -- the target wants what the source's does. Objects and variables are typed. While the thread has a view, the function is critical, and a
 -- release names the object that its buffer came from. The thread doesn't wait for a monitor.
-pub record IsAsked (p : Lowered) (w : World) (store : Store) (pending : Option ℕ) (call : Activation) (function : Call) (others : Acquired) (k : ℕ) (shared : Shared) (s : Thread) (target : Target) (f : JniFunction) (args : List Actual) : Type 0 where
+pub record IsAsked (p : Lowered) (w : World) (store : Store) (pending : Option ℕ) (call : Activation) (function : Call)
+    (others : Acquired) (k : ℕ) (shared : Shared) (s : Thread) (target : Target) (f : JniFunction)
+    (args : List Actual) : Type 0 where
   pub store_agrees : StoreAgrees p w store shared (beside others (acquired_by s))
   pub pending_agrees : ReferenceAgrees store.heap pending s.pending
   pub frames_agree : FramesAgree store.heap call.locals s.frames

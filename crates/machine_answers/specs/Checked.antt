@@ -50,7 +50,8 @@ may_be_null p = false
 
 -- some operand gives NULL where that isn't allowed
 abbrev pub some_missing : References → List (Option FieldHandle) → List ParameterKind → List Operand → Bool
-some_missing references fields (p ∷ parameters) (o ∷ operands) = (not (may_be_null p) && gives_null references fields o) || some_missing references fields parameters operands
+some_missing references fields (p ∷ parameters) (o ∷ operands) = (not (may_be_null p) && gives_null references fields o)
+    || some_missing references fields parameters operands
 some_missing references fields parameters operands = false
 
 -- the object at an address is of another kind than the parameter
@@ -60,7 +61,8 @@ misfits classes space p (Some a) = class_misfits classes p (class_there space a)
 
 -- some operand gives an object of another kind than its parameter
 abbrev pub some_misfit : Classes → Space → References → List ParameterKind → List Operand → Bool
-some_misfit classes space references (p ∷ parameters) (o ∷ operands) = misfits classes space p (operand_at references o) || some_misfit classes space references parameters operands
+some_misfit classes space references (p ∷ parameters) (o ∷ operands) = misfits classes space p (operand_at references o)
+    || some_misfit classes space references parameters operands
 some_misfit classes space references parameters operands = false
 
 -- the reference may be stored in a field of this type
@@ -102,7 +104,8 @@ module _ (classes : Classes) (space : Space) (references : References) (fields :
   fit_together wanted (SetStaticField T) = has_static && holds_number T field.field.type
   fit_together wanted GetStaticObjectField = has_static && holds_reference field.field.type
   fit_together wanted SetStaticObjectField = has_static && fits_type_there classes space (reference 2) field.field.type
-  fit_together wanted NewObjectArray = is_plain (class_kind classes (name_there space (reference 1))) && fits_there classes space (reference 2) (name_there space (reference 1))
+  fit_together wanted NewObjectArray = is_plain (class_kind classes (name_there space (reference 1)))
+      && fits_there classes space (reference 2) (name_there space (reference 1))
   fit_together wanted (GetBuffer ArrayView) = class_of_given space (reference 0) == number_array wanted
   fit_together wanted Throw = assignable classes (class_of_given space (reference 0)) throwable_class
   fit_together wanted ThrowNew = assignable classes (name_there space (reference 0)) throwable_class
@@ -122,7 +125,11 @@ abbrev pub arguments_asked : Classes → Space → References → List (Option F
 arguments_asked classes space references fields wanted f operands =
     (list_any (gives_deleted references) operands, DeletedReference)
     ∷ (some_missing references fields (prototype f).parameters operands, NullReference)
-    ∷ (some_misfit classes space references (prototype f).parameters operands || not (fit_together classes space references fields operands wanted f), WrongObject)
+    ∷ (
+      some_misfit classes space references (prototype f).parameters operands
+          || not (fit_together classes space references fields operands wanted f),
+      WrongObject,
+    )
     ∷ []
 
 -- the trap of a call that sees this, before it does anything; a buffer that it fills has elements of this type

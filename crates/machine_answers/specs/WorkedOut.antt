@@ -276,7 +276,8 @@ module _ (scene : Scene) (call : Call) where
   worked_out GetSuperclass = Gives (Reference (class_object scene.loaded (superclass scene.classes (name_there scene.space (reference 0)))))
   worked_out GetObjectClass = Gives (Reference (class_object scene.loaded (Some (class_of_given scene.space (reference 0)))))
   worked_out IsInstanceOf = Gives (Number (truth_word (fits_there scene.classes scene.space (reference 0) (name_there scene.space (reference 1)))))
-  worked_out IsAssignableFrom = Gives (Number (truth_word (assignable scene.classes (name_there scene.space (reference 0)) (name_there scene.space (reference 1)))))
+  worked_out IsAssignableFrom = Gives (Number (truth_word (assignable scene.classes
+      (name_there scene.space (reference 0)) (name_there scene.space (reference 1)))))
   worked_out AllocObject = Makes (Fresh (name_there scene.space (reference 0)))
   worked_out NewLocalRef = Gives (Reference (reference 0))
   worked_out NewGlobalRef = MakesGlobal (reference 0)
@@ -296,9 +297,11 @@ module _ (scene : Scene) (call : Call) where
   worked_out SetStaticObjectField = writes_there scene.space declaring place_of_static (held_reference (reference 2))
   worked_out GetArrayLength = Gives (Number (count_there scene.space (reference 0)))
   worked_out (NewArray T) = new_array (number_array T) (stack_number scene.stack) (value.Number 0)
-  worked_out NewObjectArray = new_array (unwrap_or (array_class_of scene.classes (name_there scene.space (reference 1))) 0) (stack_number scene.stack) (held_reference (reference 2))
+  worked_out NewObjectArray = new_array (unwrap_or (array_class_of scene.classes
+      (name_there scene.space (reference 1))) 0) (stack_number scene.stack) (held_reference (reference 2))
   worked_out GetObjectArrayElement = element_there scene.space (reference 0) (index_there scene.space (reference 0) (stack_number scene.stack))
-  worked_out SetObjectArrayElement = stores_there scene.space (reference 0) fits_element (index_there scene.space (reference 0) (stack_number scene.stack)) (held_reference (reference 2))
+  worked_out SetObjectArrayElement = stores_there scene.space (reference 0) fits_element
+      (index_there scene.space (reference 0) (stack_number scene.stack)) (held_reference (reference 2))
   worked_out NewStringUTF = Makes (Text 0)
   worked_out GetStringLength = Gives (Number (count_there scene.space (reference 0)))
   worked_out (GetArrayRegion T) = copies_out array_index_out_of_bounds local_array region

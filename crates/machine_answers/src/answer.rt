@@ -80,8 +80,8 @@ pub enum Answer {
     Makes(New),
     /// An exception of the class of this number is made and is pending.
     Throws(ClassId),
-    /// A string of the call's text at this place is made, and an exception of the class of this number with it as message, which is
-    /// pending; 0 is given.
+    /// A string of the call's text at this place is made, and an exception of the class of this number with it as
+    /// message, which is pending; 0 is given.
     Raises {
         class: ClassId,
         text: usize,
@@ -121,7 +121,8 @@ pub fn work_out(scene: &Scene<'_>, function: &Call) -> Answer
     requires loaded { (i a : ℕ) → slice_get scene.now.loaded.now i ≡ Some a → IsAddress scene.now.heap.now a }
     requires objects { AreAddresses scene.now.heap.now scene.now.references function.now.operands.items }
     requires handles { AreHandles scene.now.classes.now scene.now.fields.now function.now.operands.items }
-    requires passed { arguments_fit (scene_view scene.now) function.now.operands.items (element_wanted function.now.target) (function_value function.now.function) ≡ true }
+    requires passed { arguments_fit (scene_view scene.now) function.now.operands.items
+        (element_wanted function.now.target) (function_value function.now.function) ≡ true }
     ensures { IsWorkedOut (scene_view scene.now) (call_view function.now) (function_value function.now.function) result }
 {
     match function.function {
@@ -170,7 +171,8 @@ fn work_out_further(scene: &Scene<'_>, function: &Call) -> Answer
     requires objects { AreAddresses scene.now.heap.now scene.now.references function.now.operands.items }
     requires handles { AreHandles scene.now.classes.now scene.now.fields.now function.now.operands.items }
     requires further { is_further (function_value function.now.function) ≡ true }
-    requires passed { arguments_fit (scene_view scene.now) function.now.operands.items (element_wanted function.now.target) (function_value function.now.function) ≡ true }
+    requires passed { arguments_fit (scene_view scene.now) function.now.operands.items
+        (element_wanted function.now.target) (function_value function.now.function) ≡ true }
     ensures { IsWorkedOut (scene_view scene.now) (call_view function.now) (function_value function.now.function) result }
 {
     match function.function {
@@ -205,7 +207,8 @@ fn work_out_field(scene: &Scene<'_>, function: &Call) -> Answer
     requires objects { AreAddresses scene.now.heap.now scene.now.references function.now.operands.items }
     requires handles { AreHandles scene.now.classes.now scene.now.fields.now function.now.operands.items }
     requires of_objects { is_of_objects (function_value function.now.function) ≡ true }
-    requires passed { arguments_fit (scene_view scene.now) function.now.operands.items (element_wanted function.now.target) (function_value function.now.function) ≡ true }
+    requires passed { arguments_fit (scene_view scene.now) function.now.operands.items
+        (element_wanted function.now.target) (function_value function.now.function) ≡ true }
     ensures { IsWorkedOut (scene_view scene.now) (call_view function.now) (function_value function.now.function) result }
 {
     match function.function {
@@ -367,7 +370,9 @@ fn deletes_global(reference: Option<Addr>, operand: Operand) -> Answer
 
 /// A handle of the field, or the static, with the name and the signature of a call's texts, or else an exception.
 fn find_field(classes: &ClassTable, class: ClassId, texts: &[Vec<u8>], is_static: bool) -> Answer
-    ensures { IsFoundField classes.now (find_as classes.now class (unwrap_or (slice_get (map (λ text. text.items) texts.now) 0) []) (unwrap_or (slice_get (map (λ text. text.items) texts.now) 1) []) is_static) result }
+    ensures { IsFoundField classes.now (find_as classes.now class (unwrap_or
+        (slice_get (map (λ text. text.items) texts.now) 0) []) (unwrap_or
+        (slice_get (map (λ text. text.items) texts.now) 1) []) is_static) result }
 {
     match classes.find_handle(class, text_at(texts, 0), text_at(texts, 1), is_static) {
         Some(handle) => Answer::Gives(Given::FieldId(Some(handle))),
@@ -496,7 +501,8 @@ fn field_place(classes: &ClassTable, class: ClassId, field: Option<FieldHandle>)
 /// The place of the static of a handle among those of the class that declares it, and 0 for NULL.
 fn static_place(classes: &ClassTable, field: Option<FieldHandle>) -> usize
     requires { (h : FieldHandle) → field ≡ Some h → IsSome (field_of classes.now h) }
-    ensures { (field_there classes.now field).is_static ≡ true → result ≡ place_there classes.now field (own_statics classes.now (field_there classes.now field).class) }
+    ensures { (field_there classes.now field).is_static ≡ true
+        → result ≡ place_there classes.now field (own_statics classes.now (field_there classes.now field).class) }
 {
     match field {
         Some(handle) => classes.static_place(handle),

@@ -166,7 +166,8 @@ pub fn release(
     requires back { copies_back release.now.mode ≡ true → CanCopyBack elements.old release.now.object release.now.held heap.old }
     requires held { CanGiveUp release.now.held heap.old elements.old views.old }
     requires slot { release.now.slot < length buffers.old }
-    ensures released { MayGiveUp (gives_up release.now.mode) release.now.held (space_back elements.old release.now heap.old) elements.old views.old heap.new elements.new views.new }
+    ensures released { MayGiveUp (gives_up release.now.mode) release.now.held
+        (space_back elements.old release.now heap.old) elements.old views.old heap.new elements.new views.new }
     ensures slots { buffers.new ≡ (if gives_up release.now.mode then slice_set buffers.old release.now.slot Buffer.Null else buffers.old) }
 {
     if copies_back(release.mode) {

@@ -300,7 +300,8 @@ fn is_kept_off(pending: Option<Addr>, function: JniFunction) -> bool
 /// Whether a call gives a local reference for which there is no room.
 fn lacks_room(locals: &Locals, function: &Call) -> bool
     requires { IsPrepared function.now }
-    ensures { result ≡ (puts_local (prototype (function_value function.now.function)).result && not (has_room (locals_after (function_value function.now.function) locals.now))) }
+    ensures { result ≡ (puts_local (prototype (function_value function.now.function)).result
+        && not (has_room (locals_after (function_value function.now.function) locals.now))) }
 {
     puts_local(function.result) && !has_room(locals, function.function)
 }
@@ -310,7 +311,9 @@ pub fn check(scene: &Scene<'_>, locals: &Locals, function: &Call) -> Option<Trap
     requires prepared { IsPrepared function.now }
     requires objects { AreAddresses scene.now.heap.now scene.now.references function.now.operands.items }
     requires handles { AreHandles scene.now.classes.now scene.now.fields.now function.now.operands.items }
-    ensures { option_map trap_view result ≡ trap_found (scene_view scene.now) (has_room (locals_after (function_value function.now.function) locals.now)) (element_wanted function.now.target) (function_value function.now.function) function.now.operands.items }
+    ensures { option_map trap_view result ≡ trap_found (scene_view scene.now)
+        (has_room (locals_after (function_value function.now.function) locals.now)) (element_wanted function.now.target)
+        (function_value function.now.function) function.now.operands.items }
 {
     if is_kept_off(scene.pending, function.function) {
         return Some(Trap::ExceptionPending);

@@ -97,7 +97,8 @@ GoesByRoom false cells old new = cells ≤ left_of old
 
 -- a global reference that no static holds, or none
 abbrev pub IsFresh : Store → StaticReference → Type 0
-IsFresh store s = (key : ℕ) → s ≡ static.Live key → IsSome (address_at store.globals key) × ((i : ℕ) → slice_get store.statics.items i ≡ Some (static.Live key) → ⊥)
+IsFresh store s = (key : ℕ) → s ≡ static.Live key → IsSome (address_at store.globals key)
+    × ((i : ℕ) → slice_get store.statics.items i ≡ Some (static.Live key) → ⊥)
 
 -- what thread k is given is the buffer of a result, or NULL
 abbrev pub BufferIsGiven : Store → (k : ℕ) → Buffer → CallResult → Type 0
@@ -108,7 +109,9 @@ BufferIsGiven store k h c = ⊥
 -- what a function of this kind of result gives to thread k, where that may be a buffer or for a static
 abbrev pub ResultAgrees : Classes → Store → (k : ℕ) → Given → ResultKind → CallResult → Type 0
 ResultAgrees classes store k (given.Buffer h) kind c = IsBufferResult kind × BufferIsGiven store k h c
-ResultAgrees classes store k (given.Global s) kind c = (kind ≡ NewGlobal) × ((r : Reference) × ((c ≡ ReferenceResult r) ⊎ ((c ≡ NullResult) × (r ≡ None))) × HeldAgrees store.heap (held store.globals s) (as_static r) × IsFresh store s)
+ResultAgrees classes store k (given.Global s) kind c = (kind ≡ NewGlobal)
+    × ((r : Reference) × ((c ≡ ReferenceResult r) ⊎ ((c ≡ NullResult) × (r ≡ None)))
+    × HeldAgrees store.heap (held store.globals s) (as_static r) × IsFresh store s)
 ResultAgrees classes store k g kind c = GivenAgrees classes store.heap kind g c
 
 -- the number slots once an answer is carried out
@@ -178,7 +181,9 @@ IsLeft a frames key level = Unit {0}
 -- The store, the frames and the exception that is pending are those that the effect on thread k leaves, and what is given is what the
 -- call gives; the buffers of other threads take what they did. Keys that the answer leaves are those of the same references. Only what
 -- makes objects can be refused, and only where they have no room.
-pub record CarriesOut (p : Lowered) (w : World) (old : Space) (before : LocalTable) (answer : Answer) (kind : ResultKind) (others : Acquired) (k : ℕ) (shared : Shared) (s : Thread) (effect : CallEffect) (refused : Bool) (store : Store) (pending : Option ℕ) (locals : LocalTable) (given : Given) : Type 0 where
+pub record CarriesOut (p : Lowered) (w : World) (old : Space) (before : LocalTable) (answer : Answer)
+    (kind : ResultKind) (others : Acquired) (k : ℕ) (shared : Shared) (s : Thread) (effect : CallEffect)
+    (refused : Bool) (store : Store) (pending : Option ℕ) (locals : LocalTable) (given : Given) : Type 0 where
   pub store_agrees : StoreAgrees p w store (shared_after w.classes refused shared effect) (acquired_after others kind refused s effect)
   pub keeps : Keeps old shared store.heap (shared_after w.classes refused shared effect)
   pub pending_agrees : ReferenceAgrees store.heap pending (pending_after w.classes refused shared s effect)
@@ -200,7 +205,8 @@ failed (GivesBuffer access) = given.Buffer buffer.Null
 failed kind = given.Nothing
 
 -- A call can be carried out: the store, the exception that is pending and the frames agree with the source's.
-pub record IsPossible (p : Lowered) (w : World) (store : Store) (pending : Option ℕ) (locals : LocalTable) (others : Acquired) (shared : Shared) (s : Thread) : Type 0 where
+pub record IsPossible (p : Lowered) (w : World) (store : Store) (pending : Option ℕ) (locals : LocalTable)
+    (others : Acquired) (shared : Shared) (s : Thread) : Type 0 where
   pub store_agrees : StoreAgrees p w store shared (beside others (acquired_by s))
   pub pending_agrees : ReferenceAgrees store.heap pending s.pending
   pub frames_agree : FramesAgree store.heap locals s.frames

@@ -18,7 +18,8 @@ next_block space class birth values = record { address = end_of space; class = c
 -- the heap with a further block, where it has room, and else as it was
 abbrev pub Allocates : Space → (class birth : ℕ) → List Value → Space → Option ℕ → Type 0
 Allocates old class birth values new None = (new ≡ old) × (left_of old < object_size (length values))
-Allocates old class birth values new (Some a) = (new ≡ with_block old (next_block old class birth values)) × (object_size (length values) ≤ left_of old) × (a ≡ end_of old)
+Allocates old class birth values new (Some a) = (new ≡ with_block old (next_block old class birth values))
+    × (object_size (length values) ≤ left_of old) × (a ≡ end_of old)
 
 -- the block of a new object in a store
 abbrev pub new_block : Classes → (texts : List (List ℕ)) → Store → New → Block
@@ -54,4 +55,5 @@ cells_of classes texts a = 0
 abbrev pub Raises : Classes → (texts : List (List ℕ)) → Store → (class place : ℕ) → Store → Option ℕ → Type 0
 Raises classes texts before class place after None = (after ≡ before) × (left_of before.heap < cells_of classes texts (answer.Raises class place))
 Raises classes texts before class place after (Some a) =
-    (between : Store) × (message : ℕ) × HasMade classes texts before (Text place) between message × HasMade classes texts between (Exception class message) after a
+    (between : Store) × (message : ℕ) × HasMade classes texts before (Text place) between message
+    × HasMade classes texts between (Exception class message) after a

@@ -55,9 +55,9 @@ pub fn has_room(classes: &ClassTable, texts: &[Vec<u8>], heap: &Heap, answer: &A
     }
 }
 
-/// Does to the store and to an activation's frames and slots what this call of a function answers, in a thread of this number. An object
-/// or an exception is refused exactly where it has no room in the heap: then the OutOfMemoryError object is pending, and the call fails.
-/// Local arrays are in the number slots.
+/// Does to the store and to an activation's frames and slots what this call of a function answers, in a thread of this
+/// number. An object or an exception is refused exactly where it has no room in the heap: then the OutOfMemoryError
+/// object is pending, and the call fails. Local arrays are in the number slots.
 ///
 /// An error says that host memory for a frame, a global reference or a copy of elements was refused; then all is as before.
 pub fn carry_out(

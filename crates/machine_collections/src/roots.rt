@@ -1,6 +1,6 @@
-//! The roots: what refers to objects from outside of the heap. A report begins with them, a collection keeps what they name, and
-//! moves them along. Views are no roots of a collection: what they are of is pinned, so it stays, and slots have its address yet. A report
-//! begins with them too.
+//! The roots: what refers to objects from outside of the heap. A report begins with them, a collection keeps what they
+//! name, and moves them along. Views are no roots of a collection: what they are of is pinned, so it stays, and slots
+//! have its address yet. A report begins with them too.
 //!
 //! A kind of root has a line in `gather`, one in `put_back` and one in `root_places`, at the same place of each, and no other.
 
@@ -44,8 +44,8 @@ impl Roots for RootPlaces {
     }
 }
 
-/// The roots: the objects made at load, the global references, of each thread its local references and its pending exception, and the
-/// objects whose monitors are owned, by the places in their tables.
+/// The roots: the objects made at load, the global references, of each thread its local references and its pending
+/// exception, and the objects whose monitors are owned, by the places in their tables.
 pub fn gather(alloc: Global, store: &Store, threads: &[Thread]) -> Result<RootPlaces, AllocError>
     ensures places { IfOk result (λ roots. roots.places.items ≡ root_places store.now threads.now) }
     ensures stacked { IfOk result (λ _. ThreadsAreStacked threads.now) }
@@ -61,7 +61,8 @@ pub fn gather(alloc: Global, store: &Store, threads: &[Thread]) -> Result<RootPl
 /// Puts the roots back, where a collection has moved what they name.
 pub(crate) fn put_back(roots: &RootPlaces, store: &mut Store, threads: &mut [Thread])
     requires { (to : ℕ → ℕ) × (roots.now.places.items ≡ moved_slots to (root_places store.old threads.old)) }
-    ensures { (to : ℕ → ℕ) → roots.now.places.items ≡ moved_slots to (root_places store.old threads.old) → AreMoved to store.old threads.old store.new threads.new }
+    ensures { (to : ℕ → ℕ) → roots.now.places.items ≡ moved_slots to (root_places store.old threads.old)
+        → AreMoved to store.old threads.old store.new threads.new }
 {
     let next = put_loaded(&mut store.loaded, roots);
     let next = put_globals(&mut store.globals, roots, next);
@@ -212,7 +213,8 @@ fn put_globals(globals: &mut Globals, roots: &RootPlaces, from: usize) -> usize
 /// Puts back what threads refer to, from a place on, and tells the next one.
 fn put_threads(threads: &mut [Thread], roots: &RootPlaces, from: usize) -> usize
     requires { (to : ℕ → ℕ) × AreMovedAt to (flat_map thread_places threads.old) roots.now.places.items from }
-    ensures moved { (to : ℕ → ℕ) → AreMovedAt to (flat_map thread_places threads.old) roots.now.places.items from → threads.new ≡ map (moved_thread to) threads.old }
+    ensures moved { (to : ℕ → ℕ) → AreMovedAt to (flat_map thread_places threads.old) roots.now.places.items from
+        → threads.new ≡ map (moved_thread to) threads.old }
     ensures next { result ≡ from + length (flat_map thread_places threads.old) }
 {
     let mut next = from;

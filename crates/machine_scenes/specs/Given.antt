@@ -69,7 +69,8 @@ abbrev pub IsGiven : Classes → Space → (references : References) → (fields
 IsGiven classes space references fields operand.Number actual = (z : ℤ) × (actual ≡ NumberActual z) × FitsSigned w32 z
 IsGiven classes space references fields operand.Text actual = (bytes : List ℕ) × (actual ≡ TextActual bytes)
 IsGiven classes space references fields (operand.FieldId i) actual = FieldIsGiven classes fields (operand.FieldId i) actual
-IsGiven classes space references fields operand.Null actual = ReferenceIsGiven space references operand.Null actual ⊎ FieldIsGiven classes fields operand.Null actual ⊎ (actual ≡ NothingActual)
+IsGiven classes space references fields operand.Null actual = ReferenceIsGiven space references operand.Null actual
+    ⊎ FieldIsGiven classes fields operand.Null actual ⊎ (actual ≡ NothingActual)
 IsGiven classes space references fields (operand.Local i) actual = ReferenceIsGiven space references (operand.Local i) actual
 IsGiven classes space references fields (operand.Static i) actual = StaticIsGiven space references i actual
 IsGiven classes space references fields (operand.Array array) actual = (x : Identifier) × (actual ≡ VariableActual x)

@@ -43,5 +43,7 @@ pub record IsKeyOf (space : Space) (locals : LocalTable) (key n level : ℕ) : T
 -- slot has it; else it may be dead.
 pub record KeysAgree (space : Space) (locals : LocalTable) (keys : List (Option ℕ)) (references : List Reference) (owners : List (Option ℕ)) : Type 0 where
   pub nulls : map is_none keys ≡ map is_none references
-  pub own : (i key n level : ℕ) → slice_get keys i ≡ Some (Some key) → slice_get references i ≡ Some (Some n) → slice_get owners i ≡ Some (Some level) → IsKeyOf space locals key n level
-  pub apart : (i j key level other : ℕ) → slice_get keys i ≡ Some (Some key) → slice_get keys j ≡ Some (Some key) → slice_get owners i ≡ Some (Some level) → slice_get owners j ≡ Some (Some other) → i ≡ j
+  pub own : (i key n level : ℕ) → slice_get keys i ≡ Some (Some key) → slice_get references i ≡ Some (Some n)
+      → slice_get owners i ≡ Some (Some level) → IsKeyOf space locals key n level
+  pub apart : (i j key level other : ℕ) → slice_get keys i ≡ Some (Some key) → slice_get keys j ≡ Some (Some key)
+      → slice_get owners i ≡ Some (Some level) → slice_get owners j ≡ Some (Some other) → i ≡ j

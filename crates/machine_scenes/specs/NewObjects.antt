@@ -81,7 +81,8 @@ pub record IsMakeable (classes : Classes) (c : ℕ) : Type 0 where
 -- what is made is this object of the source
 abbrev pub IsObject : Classes → (texts : List (List ℕ)) → Space → New → Object → Type 0
 IsObject classes texts space (Fresh class) o = o ≡ fresh_object classes class
-IsObject classes texts space (Array array) o = (v : ObjectValue) × ValueAgrees space array.value v × (o ≡ record { class = array.class; values = replicate array.count v })
+IsObject classes texts space (Array array) o = (v : ObjectValue) × ValueAgrees space array.value v
+    × (o ≡ record { class = array.class; values = replicate array.count v })
 IsObject classes texts space (Text place) o = o ≡ string_object (text_in texts place)
 IsObject classes texts space (Exception class message) o = (n : ℕ) × (name_at space message ≡ Some n) × (o ≡ with_message (fresh_object classes class) (Some n))
 

@@ -24,4 +24,15 @@ pub record Scene : Type 0 where
 
 -- what a call sees in memory
 abbrev pub scene_view : InMemory → Scene
-scene_view s = record { classes = s.classes.now; space = s.heap.now; loaded = s.loaded.now; references = s.references; fields = s.fields.now; buffers = s.buffers.now; stack = s.stack.now; pending = s.pending; monitors = s.monitors.now; thread = s.thread }
+scene_view s = record {
+  classes = s.classes.now;
+  space = s.heap.now;
+  loaded = s.loaded.now;
+  references = s.references;
+  fields = s.fields.now;
+  buffers = s.buffers.now;
+  stack = s.stack.now;
+  pending = s.pending;
+  monitors = s.monitors.now;
+  thread = s.thread;
+}

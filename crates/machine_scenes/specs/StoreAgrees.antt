@@ -65,7 +65,8 @@ MayChange before after = (after ≡ before) ⊎ ((x : Identifier) × (r : Static
 
 -- each object that was there is there, of its class and with as many values
 abbrev pub SameShapes : Heap → Heap → Type 0
-SameShapes before after = (n : ℕ) (o : Object) → object_at before n ≡ Some o → (p : Object) × (object_at after n ≡ Some p) × (p.class ≡ o.class) × (length p.values ≡ length o.values)
+SameShapes before after = (n : ℕ) (o : Object) → object_at before n ≡ Some o → (p : Object)
+    × (object_at after n ≡ Some p) × (p.class ≡ o.class) × (length p.values ≡ length o.values)
 
 -- what a step of one thread leaves as it was for the others, and what it may add
 pub record Keeps (space : Space) (shared : Shared) (space' : Space) (shared' : Shared) : Type 0 where

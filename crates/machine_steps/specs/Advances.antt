@@ -29,19 +29,24 @@ use Rattle.machine_threads.specs.ThreadAgrees.{ThreadAgrees}
 -- thread k, in a store, stands for one of the source that no step breaks; the buffers of the other threads take this
 abbrev pub Stands : Lowered → World → Store → (others : Acquired) → (k : ℕ) → Owners → Shared → source.Thread → Thread → Type 0
 Stands p w store others k own shared s t =
-    StoreAgrees p w store shared (beside others (acquired_by s)) × ThreadAgrees p w.classes store.heap store.elements (length (loaded_objects w)) k own shared t s × IsSteady w.classes own shared s
+    StoreAgrees p w store shared (beside others (acquired_by s))
+    × ThreadAgrees p w.classes store.heap store.elements (length (loaded_objects w)) k own shared t s
+    × IsSteady w.classes own shared s
 
 -- Thread k took the step that the source's thread takes, or the same with its allocation refused, where too few cells were left. The
 -- buffers of the other threads, which take this, are as they were.
-pub record Advances (p : Lowered) (w : World) (old store : Store) (others : Acquired) (k : ℕ) (own : Owners) (shared : Shared) (s : source.Thread) (t : Thread) (refused : Bool) (event : Event) : Type 0 where
+pub record Advances (p : Lowered) (w : World) (old store : Store) (others : Acquired) (k : ℕ) (own : Owners)
+    (shared : Shared) (s : source.Thread) (t : Thread) (refused : Bool) (event : Event) : Type 0 where
   pub next_shared : Shared
   pub next : source.Thread
   pub steps : thread_step (unit_tree p.unit) w.classes (in_use_with others s) k shared s refused ≡ source.Advances next_shared next (event_view event)
   pub store_agrees : StoreAgrees p w store next_shared (beside others (acquired_by next))
   pub keeps : Keeps old.heap shared store.heap next_shared
   pub keeps_copies : KeepsCopies k old.elements store.elements
-  pub agrees : ThreadAgrees p w.classes store.heap store.elements (length (loaded_objects w)) k (after_advance shared s own (source.Advances next_shared next (event_view event))) next_shared t next
-  pub short : refused ≡ true → IsShortOf (cells_made shared (thread_step (unit_tree p.unit) w.classes (in_use_with others s) k shared s false)) old.heap store.heap
+  pub agrees : ThreadAgrees p w.classes store.heap store.elements (length (loaded_objects w)) k
+      (after_advance shared s own (source.Advances next_shared next (event_view event))) next_shared t next
+  pub short : refused ≡ true → IsShortOf (cells_made shared (thread_step (unit_tree p.unit) w.classes
+      (in_use_with others s) k shared s false)) old.heap store.heap
 
 -- the same by what is told of it
 abbrev pub AdvancesBy : Lowered → World → (old store : Store) → (others : Acquired) → (k : ℕ) → Owners → Shared → source.Thread → Thread → Advanced → Type 0

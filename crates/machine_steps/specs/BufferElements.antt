@@ -47,6 +47,7 @@ with_word store (held.Copy key) index word = record store { elements = written s
 with_word store (held.View a) index word = record store { heap = with_value store.heap a index (Number word) }
 
 -- an element of a buffer is written, if it is there
-abbrev pub StoresElement : (line : ℕ) → (stack : List ℕ) → (inside : Bool) → Store → Buffer → (index word : ℕ) → (after : Store) → (call after_call : Activation) → Event → Type 0
+abbrev pub StoresElement : (line : ℕ) → (stack : List ℕ) → (inside : Bool) → Store → Buffer → (index word : ℕ)
+    → (after : Store) → (call after_call : Activation) → Event → Type 0
 StoresElement line stack true store b index word after call after_call seen = (after ≡ with_word store b index word) × GoesOnWith stack call after_call seen
 StoresElement line stack false store b index word after call after_call seen = (after ≡ store) × TrapsPast line call after_call seen

@@ -42,14 +42,16 @@ use Rattle.machine_scenes.specs.StoreAgrees.{StoreAgrees, Keeps}
 pub record IsSteady (classes : Classes) (own : Owners) (shared : Shared) (s : source.Thread) : Type 0 where
   pub view : (task : Task) (rest : List Task) → s.tasks ≡ Some (task ∷ rest) → viewed_by s ≢ [] → MayMeetView task
   pub return : next_effect shared s s.tasks ≡ Returns → MayReturn s
-  pub release : (line : ℕ) (target : Target) (access : Access) (args : List Actual) → next_effect shared s s.tasks ≡ Calls line target (ReleaseBuffer access) args
+  pub release : (line : ℕ) (target : Target) (access : Access) (args : List Actual)
+      → next_effect shared s s.tasks ≡ Calls line target (ReleaseBuffer access) args
       → came_from (lookup (variable_given args 1) s.variables) ≡ Some (object_given args 0)
   pub free : (x : Identifier) → SetsWhole x (next_effect shared s s.tasks) → HoldsNoBuffer (lookup x s.variables)
   pub possible : (tasks : List Task) → s.tasks ≡ Some tasks → next_effect shared s s.tasks ≢ NoEffect
   pub objects : AreTypedObjects classes shared.heap
   pub variables : AreTypedVariables classes shared.heap s.variables
   pub declared : (line : ℕ) (x : Identifier) (f : JniFunction) (args : List Actual) (level : ℕ) (r : Reference)
-      → next_effect shared s s.tasks ≡ Calls line (Assigned x) f args → (prototype f).result ≡ NewLocal → lookup x s.variables ≡ Some (LocalRef level r) → level ≡ length (frames_after f s.frames)
+      → next_effect shared s s.tasks ≡ Calls line (Assigned x) f args → (prototype f).result ≡ NewLocal
+      → lookup x s.variables ≡ Some (LocalRef level r) → level ≡ length (frames_after f s.frames)
   pub owned : (task : Task) (rest : List Task) → s.tasks ≡ Some (task ∷ rest) → AllByRecursion (λ x. IsOwn own x (lookup x s.variables)) (task_names task)
 
 -- what all buffers take of what there is for them, where those of the other threads take this
@@ -58,7 +60,9 @@ in_use_with others s = in_use_of (beside others (acquired_by s))
 
 -- A call in progress of thread k, with what is pending, stands for the thread's tasks, of which this is the first; the buffers of the
 -- other threads take this. The thread doesn't wait for a monitor.
-pub record IsExecuting (p : Lowered) (w : World) (store : Store) (call : Activation) (pending : Option ℕ) (others : Acquired) (k : ℕ) (own : Owners) (shared : Shared) (s : source.Thread) (task : Task) (rest : List Task) : Type 0 where
+pub record IsExecuting (p : Lowered) (w : World) (store : Store) (call : Activation) (pending : Option ℕ)
+    (others : Acquired) (k : ℕ) (own : Owners) (shared : Shared) (s : source.Thread) (task : Task)
+    (rest : List Task) : Type 0 where
   pub store_agrees : StoreAgrees p w store shared (beside others (acquired_by s))
   pub tasks : s.tasks ≡ Some (task ∷ rest)
   pub stands : CallStands p w.classes store.heap store.elements k call (visible_to own shared s) s.frames (task ∷ rest)
@@ -91,14 +95,18 @@ owners_left other event frames own vs = own
 
 -- The first task had this effect on thread k, with the rest still to do: the thread goes on within its call. Its allocation was
 -- refused only where too few cells were left. The buffers of the other threads are as they were.
-pub record GoesOn (p : Lowered) (w : World) (old store : Store) (others : Acquired) (k : ℕ) (own : Owners) (shared : Shared) (s : source.Thread) (rest : List Task) (call : Activation) (pending : Option ℕ) (effect : Effect) (refused : Bool) (event : Event) : Type 0 where
+pub record GoesOn (p : Lowered) (w : World) (old store : Store) (others : Acquired) (k : ℕ) (own : Owners)
+    (shared : Shared) (s : source.Thread) (rest : List Task) (call : Activation) (pending : Option ℕ) (effect : Effect)
+    (refused : Bool) (event : Event) : Type 0 where
   pub next_shared : Shared
   pub next : source.Thread
   pub steps : after_any w.classes (in_use_with others s) k shared s rest refused effect ≡ source.Advances next_shared next (event_view event)
   pub store_agrees : StoreAgrees p w store next_shared (beside others (acquired_by next))
   pub keeps : Keeps old.heap shared store.heap next_shared
   pub keeps_copies : KeepsCopies k old.elements store.elements
-  pub work : WorkAgrees p w.classes store.heap store.elements k (visible_to (owners_left effect (event_view event) (length s.frames) own next.variables) next_shared next) (Some call) next.frames next.tasks
+  pub work : WorkAgrees p w.classes store.heap store.elements k (visible_to
+      (owners_left effect (event_view event) (length s.frames) own next.variables) next_shared next)
+      (Some call) next.frames next.tasks
   pub pending_agrees : ReferenceAgrees store.heap pending next.pending
   pub views : AreViewed store.heap call.slots.buffers.items next
   pub calls : next.calls ≡ s.calls
@@ -106,8 +114,10 @@ pub record GoesOn (p : Lowered) (w : World) (old store : Store) (others : Acquir
   pub short : refused ≡ true → IsShortOf (cells_made shared (after_effect w.classes (in_use_with others s) k shared s rest effect)) old.heap store.heap
 
 -- what an instruction did is the effect of the first of the tasks; a return leaves the store as it was
-abbrev pub Executes : Lowered → World → (old store : Store) → (others : Acquired) → (k : ℕ) → Owners → Shared → source.Thread → (rest : List Task) → Activation → (pending : Option ℕ) → Effect → Executed → Type 0
-Executes p w old store others k own shared s rest call pending effect (Did event) = GoesOn p w old store others k own shared s rest call pending effect false event
+abbrev pub Executes : Lowered → World → (old store : Store) → (others : Acquired) → (k : ℕ) → Owners → Shared
+    → source.Thread → (rest : List Task) → Activation → (pending : Option ℕ) → Effect → Executed → Type 0
+Executes p w old store others k own shared s rest call pending effect
+    (Did event) = GoesOn p w old store others k own shared s rest call pending effect false event
 Executes p w old store others k own shared s rest call pending effect Refused = GoesOn p w old store others k own shared s rest call pending effect true Quiet
 Executes p w old store others k own shared s rest call pending effect Returned =
     (effect ≡ Returns) × StoreAgrees p w store shared (beside others (acquired_by s)) × (store ≡ old) × ReferenceAgrees store.heap pending s.pending

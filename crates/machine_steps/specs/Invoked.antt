@@ -39,7 +39,9 @@ use Rattle.machine_scenes.specs.HeapAgrees.{ReferenceAgrees}
 
 -- Thread k of the source has a call as its first task, the machine is at the instruction that stands for it, and all that the
 -- call can change agrees. What is seen of buffers are their elements. The thread doesn't wait for a monitor.
-pub record AtCall (p : Lowered) (w : World) (store : Store) (pending : Option ℕ) (call : Activation) (function : InMemory) (others : Acquired) (k : ℕ) (own : Owners) (shared : Shared) (s : Thread) (task : Task) (rest : List Task) : Type 0 where
+pub record AtCall (p : Lowered) (w : World) (store : Store) (pending : Option ℕ) (call : Activation)
+    (function : InMemory) (others : Acquired) (k : ℕ) (own : Owners) (shared : Shared) (s : Thread) (task : Task)
+    (rest : List Task) : Type 0 where
   pub lowered : IsLowered p
   pub tasks : s.tasks ≡ Some (task ∷ rest)
   pub shares : StoreAgrees p w store shared (beside others (acquired_by s))
@@ -56,7 +58,9 @@ pub record AtCall (p : Lowered) (w : World) (store : Store) (pending : Option �
 -- the trap of a call of thread k before it does anything
 abbrev pub trap_at : World → Store → (pending : Option ℕ) → Activation → (k : ℕ) → InMemory → Option SourceTrap
 trap_at w store pending call k function =
-    trap_found (scene_of w.classes store call k pending) (has_room (locals_after (function_value function.function) call.locals)) (element_wanted function.target) (function_value function.function) function.operands.items
+    trap_found (scene_of w.classes store call k pending) (has_room (locals_after
+    (function_value function.function) call.locals)) (element_wanted function.target)
+    (function_value function.function) function.operands.items
 
 -- No check stops a call of thread k, and this is what it answers.
 pub record IsAnswered (w : World) (store : Store) (pending : Option ℕ) (call : Activation) (k : ℕ) (function : InMemory) (given : Answer) : Type 0 where
@@ -66,7 +70,8 @@ pub record IsAnswered (w : World) (store : Store) (pending : Option ℕ) (call :
 
 -- A trap stops a call: a check found it, or it is what the call does.
 abbrev pub IsStopped : World → Store → (pending : Option ℕ) → Activation → (k : ℕ) → InMemory → Trap → Type 0
-IsStopped w store pending call k function trap = (trap_at w store pending call k function ≡ Some (trap_view trap)) ⊎ IsAnswered w store pending call k function (answer.Halts trap)
+IsStopped w store pending call k function trap = (trap_at w store pending call k function ≡ Some (trap_view trap))
+    ⊎ IsAnswered w store pending call k function (answer.Halts trap)
 
 -- what a call came to that wasn't stopped
 abbrev pub done_or_refused : (refused : Bool) → Invoked

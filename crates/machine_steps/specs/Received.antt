@@ -88,7 +88,9 @@ HasStatic target count = Unit {0}
 
 -- the target's slot is there
 abbrev pub HasTarget : Target → Activation → Type 0
-HasTarget target call = HasNumber target (length call.slots.numbers.items) × HasReference target (length call.slots.references.items) × HasField target (length call.slots.fields.items) × HasBuffer target (length call.slots.buffers.items)
+HasTarget target call = HasNumber target (length call.slots.numbers.items)
+    × HasReference target (length call.slots.references.items) × HasField target (length call.slots.fields.items)
+    × HasBuffer target (length call.slots.buffers.items)
 
 -- the slot of the flag for `isCopy`, if there is one, is among this number of slots of numbers
 abbrev pub HasTold : (told : Option ℕ) → ℕ → Type 0

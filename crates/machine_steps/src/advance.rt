@@ -96,8 +96,8 @@ pub fn advance(
     }
 }
 
-/// Takes one step of a thread, if its next instruction works on the stack and the number slots alone, and answers what is seen of it.
-/// None leaves all as it was. It takes no host memory.
+/// Takes one step of a thread, if its next instruction works on the stack and the number slots alone, and answers what
+/// is seen of it. None leaves all as it was. It takes no host memory.
 #[inline(always)]
 pub fn advance_plainly(program: &Program<'_>, store: &Store, thread: &mut Thread) -> Option<Event>
     requires lowered { IsLowered program.now }

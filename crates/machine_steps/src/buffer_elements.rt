@@ -44,8 +44,8 @@ pub fn load_element(store: &Store, call: &mut Activation, slot: u32, line: u32) 
     }
 }
 
-/// The topmost word is converted to the type of a buffer's elements and written there, at the index that is the word below it. Past
-/// the end a trap on this line leaves all as it was.
+/// The topmost word is converted to the type of a buffer's elements and written there, at the index that is the word
+/// below it. Past the end a trap on this line leaves all as it was.
 #[inline(never)]
 pub fn store_element(
     store: &mut Store,

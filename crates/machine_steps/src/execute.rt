@@ -44,7 +44,8 @@ pub enum Executed {
     Returned,
 }
 
-/// One instruction of a call of the thread of this number. Where what it makes has no room, it is refused if it may be, and else the fault says so.
+/// One instruction of a call of the thread of this number. Where what it makes has no room, it is refused if it may be,
+/// and else the fault says so.
 #[inline(always)]
 pub fn execute(
     program: &Program<'_>,
@@ -105,7 +106,8 @@ pub fn execute(
     }
 }
 
-/// What the instruction of a call on this line did, by what the call came to. A step knows its outcome by cases then, where one from memory would have to be read again.
+/// What the instruction of a call on this line did, by what the call came to. A step knows its outcome by cases then,
+/// where one from memory would have to be read again.
 #[inline(always)]
 fn outcome_of(line: u32, invoked: Invoked) -> Executed
     ensures { result ≡ executed_as line invoked }

@@ -44,9 +44,9 @@ pub enum Invoked {
     Trapped(Trap),
 }
 
-/// The instruction that calls a function, in the thread of this number. Only a new frame, a new global reference, a copy of elements
-/// and a monitor that is entered take host memory. Where what is made has no room, the call is refused if it may be, and else the
-/// fault says so. A call that only enters or leaves a monitor goes a shorter way.
+/// The instruction that calls a function, in the thread of this number. Only a new frame, a new global reference, a
+/// copy of elements and a monitor that is entered take host memory. Where what is made has no room, the call is refused
+/// if it may be, and else the fault says so. A call that only enters or leaves a monitor goes a shorter way.
 #[inline(always)]
 pub fn invoke(
     world: &World,
@@ -81,8 +81,8 @@ pub fn invoke(
     }
 }
 
-/// What a call of the thread of this number answers, where it is seen at once that it enters or leaves a monitor and that no check
-/// stops it. None says nothing of the call.
+/// What a call of the thread of this number answers, where it is seen at once that it enters or leaves a monitor and
+/// that no check stops it. None says nothing of the call.
 #[inline(always)]
 fn unchecked_answer(
     world: &World,

@@ -23,8 +23,9 @@ use monitors::{Enter, Exit, Monitors, Object};
 use std::alloc::AllocError;
 use tables::{Local, Locals};
 
-/// What a call of the thread of this number answers, where it is seen at once that it enters or leaves a monitor and that no check
-/// stops it: no exception is pending, and its argument is a local reference to an object. None says nothing of the call.
+/// What a call of the thread of this number answers, where it is seen at once that it enters or leaves a monitor and
+/// that no check stops it: no exception is pending, and its argument is a local reference to an object. None says
+/// nothing of the call.
 #[inline(always)]
 pub(crate) fn answer_at_once(
     store: &Store,

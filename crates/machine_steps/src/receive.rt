@@ -16,9 +16,10 @@ use machine_scenes::buffer::Buffer;
 use machine_scenes::statics::StaticReference;
 use tables::{Local, Locals};
 
-/// Puts what a function of this kind of result gives into its target, a new local reference also into the current frame, and
-/// goes on after the instruction. Before, the flag in the slot `told`, if there is one, tells a buffer that is a copy from a view (JNI
-/// Specification, chapter 4, "Get<PrimitiveType>ArrayElements Routines"). It takes no host memory.
+/// Puts what a function of this kind of result gives into its target, a new local reference also into the current
+/// frame, and goes on after the instruction. Before, the flag in the slot `told`, if there is one, tells a buffer that
+/// is a copy from a view (JNI Specification, chapter 4, "Get<PrimitiveType>ArrayElements Routines"). It takes no host
+/// memory.
 pub fn receive(
     call: &mut Activation,
     statics: &mut [StaticReference],

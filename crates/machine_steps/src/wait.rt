@@ -31,8 +31,9 @@ use machine_threads::thread::Thread;
 use monitors::Enter;
 use world_values::World;
 
-/// Whether a thread, which has this number, waits for a monitor: its next step is a call of `MonitorEnter` that no check stops, for
-/// an object whose monitor another thread owns (JNI Specification, chapter 4, "MonitorEnter"). It takes no host memory.
+/// Whether a thread, which has this number, waits for a monitor: its next step is a call of `MonitorEnter` that no
+/// check stops, for an object whose monitor another thread owns (JNI Specification, chapter 4, "MonitorEnter"). It
+/// takes no host memory.
 #[inline(always)]
 pub fn waits(
     program: &Program<'_>,

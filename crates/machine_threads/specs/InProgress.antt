@@ -15,7 +15,8 @@ use Rattle.machine_scenes.specs.Locals.{FramesAgree}
 use Rattle.machine_threads.specs.SlotsHold.{Meant, SlotsHold, slots_of, values_in}
 
 -- A call in progress of thread k stands for its tasks still to do, where this can be seen.
-pub record CallStands (p : Lowered) (classes : Classes) (space : Space) (copies : List (Option OwnedNumbers)) (k : ℕ) (call : Activation) (visible : Visible) (frames : List source.Frame) (tasks : List Task) : Type 0 where
+pub record CallStands (p : Lowered) (classes : Classes) (space : Space) (copies : List (Option OwnedNumbers)) (k : ℕ)
+    (call : Activation) (visible : Visible) (frames : List source.Frame) (tasks : List Task) : Type 0 where
   pub code : Listing
   pub of_function : slice_get p.codes call.function ≡ Some code
   pub known : Known
@@ -27,7 +28,8 @@ pub record CallStands (p : Lowered) (classes : Classes) (space : Space) (copies 
   pub frames_agree : FramesAgree space call.locals frames
 
 -- a call in progress, or none, which has no frame
-abbrev pub WorkAgrees : Lowered → Classes → Space → List (Option OwnedNumbers) → (k : ℕ) → Visible → Option Activation → List source.Frame → Option (List Task) → Type 0
+abbrev pub WorkAgrees : Lowered → Classes → Space → List (Option OwnedNumbers) → (k : ℕ) → Visible → Option Activation
+    → List source.Frame → Option (List Task) → Type 0
 WorkAgrees p classes space copies k visible None frames None = frames ≡ []
 WorkAgrees p classes space copies k visible None frames (Some tasks) = ⊥
 WorkAgrees p classes space copies k visible (Some call) frames None = ⊥

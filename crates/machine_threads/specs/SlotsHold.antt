@@ -27,7 +27,12 @@ pub record SlotValues : Type 0 where
 
 -- what the slots of a call hold
 abbrev pub values_in : Activation → SlotValues
-values_in call = record { numbers = call.slots.numbers.items; keys = call.slots.references.items; handles = call.slots.fields.items; buffers = call.slots.buffers.items }
+values_in call = record {
+  numbers = call.slots.numbers.items;
+  keys = call.slots.references.items;
+  handles = call.slots.fields.items;
+  buffers = call.slots.buffers.items;
+}
 
 -- what the slots of references, field IDs and buffers stand for, with the levels of the references that are variables' own
 pub record Meant : Type 0 where
@@ -38,7 +43,13 @@ pub record Meant : Type 0 where
 
 -- the same with the numbers in slots, as the source's variables are shown
 abbrev pub slots_of : Activation → Meant → Slots
-slots_of call meant = record { numbers = call.slots.numbers.items; references = meant.references; owners = meant.owners; fields = meant.fields; buffers = meant.buffers }
+slots_of call meant = record {
+  numbers = call.slots.numbers.items;
+  references = meant.references;
+  owners = meant.owners;
+  fields = meant.fields;
+  buffers = meant.buffers;
+}
 
 -- a copy has at most as many numbers as all copies may have together, each in the range of a `jint`
 abbrev pub IsSmallCopy : source.Buffer → Type 0
@@ -46,7 +57,8 @@ IsSmallCopy (source.Copy n zs) = (length zs ≤ most_copied) × AllByRecursion (
 IsSmallCopy b = Unit {0}
 
 -- the values in the slots of thread k, with this table of local references and these copied lists, stand for these
-pub record SlotsHold (classes : Classes) (space : Space) (copies : List (Option OwnedNumbers)) (k : ℕ) (locals : LocalTable) (slots : SlotValues) (meant : Meant) : Type 0 where
+pub record SlotsHold (classes : Classes) (space : Space) (copies : List (Option OwnedNumbers)) (k : ℕ)
+    (locals : LocalTable) (slots : SlotValues) (meant : Meant) : Type 0 where
   pub keys : KeysAgree space locals slots.keys meant.references meant.owners
   pub fields : FieldsAgree classes slots.handles meant.fields
   pub buffers : BuffersAgree space copies k slots.buffers meant.buffers

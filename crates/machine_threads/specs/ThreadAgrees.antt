@@ -56,7 +56,8 @@ buffers_of None = []
 buffers_of (Some call) = call.slots.buffers.items
 
 -- thread k stands for one of the source, with this heap and these copied lists, where this number of objects were made at load
-pub record ThreadAgrees (p : Lowered) (classes : Classes) (space : Space) (copies : List (Option OwnedNumbers)) (made k : ℕ) (own : Owners) (shared : Shared) (t : Thread) (s : source.Thread) : Type 0 where
+pub record ThreadAgrees (p : Lowered) (classes : Classes) (space : Space) (copies : List (Option OwnedNumbers))
+    (made k : ℕ) (own : Owners) (shared : Shared) (t : Thread) (s : source.Thread) : Type 0 where
   pub calls : CallsAgree p classes made t.calls.items s.calls
   pub work : WorkAgrees p classes space copies k (visible_to own shared s) t.call s.frames s.tasks
   pub pending : ReferenceAgrees space t.pending s.pending
@@ -71,8 +72,10 @@ pub record ThreadAgrees (p : Lowered) (classes : Classes) (space : Space) (copie
   pub views : AreViewed space (buffers_of t.call) s
 
 -- thread by thread, from the one of a number on
-abbrev pub ThreadsAgree : Lowered → Classes → Space → List (Option OwnedNumbers) → (made : ℕ) → AllOwners → ℕ → Shared → List Thread → List source.Thread → Type 0
+abbrev pub ThreadsAgree : Lowered → Classes → Space → List (Option OwnedNumbers) → (made : ℕ) → AllOwners → ℕ → Shared
+    → List Thread → List source.Thread → Type 0
 ThreadsAgree p classes space copies made owners k shared [] [] = Unit {0}
 ThreadsAgree p classes space copies made owners k shared [] (s ∷ ss) = ⊥
 ThreadsAgree p classes space copies made owners k shared (t ∷ ts) [] = ⊥
-ThreadsAgree p classes space copies made owners k shared (t ∷ ts) (s ∷ ss) = ThreadAgrees p classes space copies made k (owners k) shared t s × ThreadsAgree p classes space copies made owners (suc k) shared ts ss
+ThreadsAgree p classes space copies made owners k shared (t ∷ ts) (s ∷ ss) = ThreadAgrees p classes space copies made k
+    (owners k) shared t s × ThreadsAgree p classes space copies made owners (suc k) shared ts ss

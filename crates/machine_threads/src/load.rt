@@ -34,7 +34,9 @@ pub fn load_threads(
     program: &Program<'_>,
     world: &World,
 ) -> Result<Vec<Thread>, LoadFault>
-    ensures agree { IfOk result (λ threads. (space : Space) (copies : List (Option OwnedNumbers)) (owners : AllOwners) (k : ℕ) (shared : Shared) → ThreadsAgree program.now world.now.classes space copies (length (loaded_objects world.now)) owners k shared threads.items
+    ensures agree { IfOk result (λ threads. (space : Space) (copies : List (Option OwnedNumbers)) (owners : AllOwners)
+        (k : ℕ) (shared : Shared) → ThreadsAgree program.now world.now.classes space copies
+        (length (loaded_objects world.now)) owners k shared threads.items
         (map waiting_thread world.now.threads)) }
     ensures all { OnOk result (flat_map (refused_calls (unit_tree program.now.unit) world.now.classes) world.now.threads ≡ []) }
     ensures refused { IfErr result (IsFirstOf (flat_map (refused_calls (unit_tree program.now.unit) world.now.classes) world.now.threads)) }
@@ -54,7 +56,9 @@ fn load_all(
     world: &World,
 ) -> Result<Vec<Thread>, LoadFault>
     requires { functions.now ≡ program.now.unit }
-    ensures agree { IfOk result (λ threads. (space : Space) (copies : List (Option OwnedNumbers)) (owners : AllOwners) (k : ℕ) (shared : Shared) → ThreadsAgree program.now world.now.classes space copies (length (loaded_objects world.now)) owners k shared threads.items
+    ensures agree { IfOk result (λ threads. (space : Space) (copies : List (Option OwnedNumbers)) (owners : AllOwners)
+        (k : ℕ) (shared : Shared) → ThreadsAgree program.now world.now.classes space copies
+        (length (loaded_objects world.now)) owners k shared threads.items
         (map waiting_thread world.now.threads)) }
     ensures all { OnOk result (flat_map (refused_calls (unit_tree program.now.unit) world.now.classes) world.now.threads ≡ []) }
     ensures refused { IfErr result (IsFirstOf (flat_map (refused_calls (unit_tree program.now.unit) world.now.classes) world.now.threads)) }
@@ -80,7 +84,9 @@ fn load_thread(
     requires functions { functions.now ≡ program.now.unit }
     requires some { IsTrue (has_call calls.now) }
     requires given { IsTrue (list_all (are_arguments (length (loaded_objects world.now))) calls.now) }
-    ensures agrees { IfOk result (λ thread. (space : Space) (copies : List (Option OwnedNumbers)) (k : ℕ) (own : Owners) (shared : Shared) → ThreadAgrees program.now world.now.classes space copies (length (loaded_objects world.now)) k own shared thread
+    ensures agrees { IfOk result (λ thread. (space : Space) (copies : List (Option OwnedNumbers)) (k : ℕ) (own : Owners)
+        (shared : Shared) → ThreadAgrees program.now world.now.classes space copies
+        (length (loaded_objects world.now)) k own shared thread
         (waiting_thread calls.now)) }
     ensures all { OnOk result (refused_calls (unit_tree program.now.unit) world.now.classes calls.now ≡ []) }
     ensures refused { IfErr result (IsFirstOf (refused_calls (unit_tree program.now.unit) world.now.classes calls.now)) }

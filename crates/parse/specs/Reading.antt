@@ -81,8 +81,10 @@ ReadItem = Item × ℕ × ℕ × List Lexed
 -- an item, where there may be this many more functions and statics
 unfoldable pub item_at : (functions statics : ℕ) → List Lexed → Result ReadItem ParseError
 item_at functions statics ls =
-    if starts_with (fixed.Word words.JniExport) ls then (if functions == 0 then Err (fault_at TooMany ls) else (function_at ls >>= λ f. Ok (FunctionItem f.0, functions - 1, statics, f.1)))
-    else if starts_with (fixed.Word words.Static) ls then (if statics == 0 then Err (fault_at TooMany ls) else (static_at ls >>= λ s. Ok (StaticItem s.0, functions, statics - 1, s.1)))
+    if starts_with (fixed.Word words.JniExport) ls then (if functions == 0 then Err (fault_at TooMany ls) else
+    (function_at ls >>= λ f. Ok (FunctionItem f.0, functions - 1, statics, f.1)))
+    else if starts_with (fixed.Word words.Static) ls then (if statics == 0 then Err (fault_at TooMany ls) else
+    (static_at ls >>= λ s. Ok (StaticItem s.0, functions, statics - 1, s.1)))
     else Err (fault_at NoForm ls)
 
 -- items up to the end, of which there are fewer than steps

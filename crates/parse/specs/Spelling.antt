@@ -30,7 +30,8 @@ function f =
     ++ mark marks.CloseParen ∷ mark marks.OpenBrace ∷ inside f.body
 
 abbrev pub item : Item → List Spelled
-item (StaticItem s) = on_line s.line (word words.Static ∷ word (reference_word s.type) ∷ name s.name ∷ mark marks.Assign ∷ word (constant_word Null) ∷ mark marks.Semicolon ∷ [])
+item (StaticItem s) = on_line s.line (word words.Static ∷ word
+    (reference_word s.type) ∷ name s.name ∷ mark marks.Assign ∷ word (constant_word Null) ∷ mark marks.Semicolon ∷ [])
 item (FunctionItem f) = function f
 
 abbrev pub spell : SourceUnit → List Spelled

@@ -31,8 +31,10 @@ static_head_at ls = do
 
 -- a function, where there may be this many more functions and statics
 unfoldable pub function_item_at : (functions statics : ℕ) → List Lexed → Result ReadItem ParseError
-function_item_at functions statics ls = if functions == 0 then Err (fault_at TooMany ls) else (function_at ls >>= λ f. Ok (FunctionItem f.0, functions - 1, statics, f.1))
+function_item_at functions statics ls = if functions == 0 then Err (fault_at TooMany ls) else
+    (function_at ls >>= λ f. Ok (FunctionItem f.0, functions - 1, statics, f.1))
 
 -- the same of a static
 unfoldable pub static_item_at : (functions statics : ℕ) → List Lexed → Result ReadItem ParseError
-static_item_at functions statics ls = if statics == 0 then Err (fault_at TooMany ls) else (static_at ls >>= λ s. Ok (StaticItem s.0, functions, statics - 1, s.1))
+static_item_at functions statics ls = if statics == 0 then Err (fault_at TooMany ls) else
+    (static_at ls >>= λ s. Ok (StaticItem s.0, functions, statics - 1, s.1))

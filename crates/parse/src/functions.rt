@@ -112,7 +112,14 @@ fn made(
     parameters: Vec<Parameter>,
     body: Block,
 ) -> Result<Function, AllocError>
-    ensures { IfOk result (λ f. function_tree f ≡ record { line = line; result = result_tree kind; name = name.now; class_name = class_name.now; parameters = map parameter_tree parameters.items; body = block_tree body }) }
+    ensures { IfOk result (λ f. function_tree f ≡ record {
+      line = line;
+      result = result_tree kind;
+      name = name.now;
+      class_name = class_name.now;
+      parameters = map parameter_tree parameters.items;
+      body = block_tree body;
+    }) }
 {
     let name = Name::new(alloc, name)?;
     let class_name = Name::new(alloc, class_name)?;

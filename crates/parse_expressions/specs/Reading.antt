@@ -97,7 +97,8 @@ after_paren deep ls =
 unfoldable pub index_by : ℕ → Reader → List Lexed → Result ReadExpr ParseError
 index_by room deep ls =
     if room == 0 then Err (fault_at TooHigh ls)
-    else (expect (fixed.Mark marks.OpenBracket) ls >>= λ within. deep 0 within >>= λ i. expect (fixed.Mark marks.CloseBracket) i.2 >>= λ after. Ok (i.0, i.1, after))
+    else (expect (fixed.Mark marks.OpenBracket) ls >>= λ within. deep 0 within >>= λ i. expect
+    (fixed.Mark marks.CloseBracket) i.2 >>= λ after. Ok (i.0, i.1, after))
 
 -- whether a name with an index comes next
 abbrev pub starts_element : List Lexed → Bool
@@ -203,7 +204,8 @@ starts_call ls = if starts_with (fixed.Mark marks.OpenParen) ls then starts_with
 -- whether what comes next may follow the opening parenthesis of an operand: of a cast, or of an expression in parentheses
 unfoldable pub starts_inside : List Lexed → Bool
 starts_inside ls =
-    is_ok (primary_at ls) || starts_with (fixed.Mark marks.OpenParen) ls || starts_with (fixed.Mark marks.Tilde) ls || starts_with (fixed.Mark marks.Exclamation) ls
+    is_ok (primary_at ls) || starts_with (fixed.Mark marks.OpenParen) ls || starts_with (fixed.Mark marks.Tilde) ls
+    || starts_with (fixed.Mark marks.Exclamation) ls
     || starts_with (fixed.Word words.Uint32) ls || starts_with (fixed.Word words.Jint) ls
 
 -- The expression of a right side. Where no height is left, its parenthesis may still be that of a call: the token after it is the first that can't be there.

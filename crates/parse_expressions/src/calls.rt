@@ -99,7 +99,14 @@ fn called<'t>(
     paren: Fixed,
     lexemes: Cursor<'t>,
 ) -> Result<(Call, Cursor<'t>), ParseError>
-    ensures { Gives (λ x. (call_tree x.0, views x.1)) result (made_of {B = ReadCall} (expect paren (views lexemes.entry)) (λ after. (record { function = function.now; arguments = map argument_tree arguments.items }, after))) }
+    ensures { Gives (λ x. (call_tree x.0, views x.1)) result (made_of {B = ReadCall}
+        (expect paren (views lexemes.entry)) (λ after. (
+          record {
+            function = function.now;
+            arguments = map argument_tree arguments.items;
+          },
+          after,
+        ))) }
 {
     let rest = expect(paren, lexemes)?;
     let Ok(function) = Name::new(alloc, function) else {
@@ -178,7 +185,9 @@ fn set_to<'t>(
     semicolon: Fixed,
     lexemes: Cursor<'t>,
 ) -> Result<(Name, RightSide, Cursor<'t>), ParseError>
-    ensures { Gives (λ x. (x.0, right_side_tree x.1, views x.2)) result (made_of {B = ReadSetting} (expect semicolon (views lexemes.entry)) (λ rest. (name.now, right_side_tree right, rest))) }
+    ensures { Gives (λ x. (x.0, right_side_tree x.1, views x.2)) result
+        (made_of {B = ReadSetting} (expect semicolon (views lexemes.entry))
+        (λ rest. (name.now, right_side_tree right, rest))) }
 {
     match ended_name(alloc, name, semicolon, lexemes) {
         Ok((name, rest)) => Ok((name, right, rest)),
@@ -235,7 +244,8 @@ fn zero(lexemes: Cursor<'_>) -> Result<Cursor<'_>, ParseError>
 /// A call with what tests it for 0, which comes next.
 #[inline]
 fn called_test(call: Call, lexemes: Cursor<'_>) -> Result<(Test, Cursor<'_>), ParseError>
-    ensures { Gives (λ x. (test_tree x.0, views x.1)) result (made_of {B = ReadTest} (zero_at (views lexemes.entry)) (λ rest. (TestCall (call_tree call), rest))) }
+    ensures { Gives (λ x. (test_tree x.0, views x.1)) result (made_of {B = ReadTest} (zero_at (views lexemes.entry))
+        (λ rest. (TestCall (call_tree call), rest))) }
 {
     match zero(lexemes) {
         Ok(rest) => Ok((Test::Call(call), rest)),

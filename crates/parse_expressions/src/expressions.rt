@@ -134,7 +134,8 @@ pub fn expect_two(
 #[inline(always)]
 fn named(word: Word, lexemes: Cursor<'_>) -> Result<ReadExpr<'_>, ParseError>
     ensures low { IfOk result (λ x. x.1 ≡ 0) }
-    ensures gives { Gives {Y = ReadExpr} (λ x. (expr_tree x.0, x.1, views x.2)) result (named_of (constant_of_word word) (views lexemes.entry) (rest_of (views lexemes.entry))) }
+    ensures gives { Gives {Y = ReadExpr} (λ x. (expr_tree x.0, x.1, views x.2)) result
+        (named_of (constant_of_word word) (views lexemes.entry) (rest_of (views lexemes.entry))) }
 {
     match constant_of(word) {
         Some(constant) => Ok((Expr::Named(constant), 0, rest_of(lexemes))),
@@ -182,7 +183,8 @@ pub fn closed(
     lexemes: Cursor<'_>,
 ) -> Result<ReadExpr<'_>, ParseError>
     ensures low { IfOk result (λ x. x.1 ≡ height) }
-    ensures gives { Gives (λ x. (expr_tree x.0, x.1, views x.2)) result (made_of {B = ReadExpr} (expect end (views lexemes.entry)) (λ after. (expr_tree inside, height, after))) }
+    ensures gives { Gives (λ x. (expr_tree x.0, x.1, views x.2)) result
+        (made_of {B = ReadExpr} (expect end (views lexemes.entry)) (λ after. (expr_tree inside, height, after))) }
 {
     match expect(end, lexemes) {
         Ok(rest) => Ok((inside, height, rest)),
@@ -194,7 +196,9 @@ pub fn closed(
 #[inline(always)]
 fn ended<'t>(end: Fixed, read: ReadExpr<'t>) -> Result<ReadExpr<'t>, ParseError>
     ensures low { IfOk result (λ x. x.1 ≡ read.entry.1) }
-    ensures gives { Gives (λ x. (expr_tree x.0, x.1, views x.2)) result (made_of {B = ReadExpr} (expect end (views read.entry.2)) (λ after. (expr_tree read.entry.0, read.entry.1, after))) }
+    ensures gives { Gives (λ x. (expr_tree x.0, x.1, views x.2)) result
+        (made_of {B = ReadExpr} (expect end (views read.entry.2)) (λ after.
+        (expr_tree read.entry.0, read.entry.1, after))) }
 {
     let (inside, height, rest) = read;
     closed(end, inside, height, rest)
@@ -204,7 +208,9 @@ fn ended<'t>(end: Fixed, read: ReadExpr<'t>) -> Result<ReadExpr<'t>, ParseError>
 #[inline(always)]
 fn ended_as<'t>(opening: Opening<'t>, inside: ReadExpr<'t>) -> Result<ReadExpr<'t>, ParseError>
     ensures low { IfOk result (λ x. x.1 ≡ inside.entry.1) }
-    ensures gives { Gives (λ x. (expr_tree x.0, x.1, views x.2)) result (made_of {B = ReadExpr} (ending_at (opening_view opening.entry) (views inside.entry.2)) (λ after. (expr_tree inside.entry.0, inside.entry.1, after))) }
+    ensures gives { Gives (λ x. (expr_tree x.0, x.1, views x.2)) result
+        (made_of {B = ReadExpr} (ending_at (opening_view opening.entry) (views inside.entry.2))
+        (λ after. (expr_tree inside.entry.0, inside.entry.1, after))) }
 {
     match opening {
         Opening::Prefix(_) => Ok(inside),
@@ -222,7 +228,8 @@ fn operand_of<'t>(
 ) -> Result<ReadExpr<'t>, ParseError>
     requires { inside.1 < 32 }
     ensures low { IfOk result (λ x. x.1 ≡ 1 + inside.entry.1) }
-    ensures gives { Gives (λ x. (expr_tree x.0, x.1, views x.2)) result (operand_of (opening_view opening.entry) (expr_tree inside.entry.0, inside.entry.1, views inside.entry.2)) }
+    ensures gives { Gives (λ x. (expr_tree x.0, x.1, views x.2)) result
+        (operand_of (opening_view opening.entry) (expr_tree inside.entry.0, inside.entry.1, views inside.entry.2)) }
 {
     let (inside, height, rest) = ended_as(opening, inside)?;
     let Ok(operand) = around(alloc, opening, inside) else {
@@ -241,7 +248,9 @@ fn joined<'t>(
 ) -> Result<ReadExpr<'t>, ParseError>
     requires { IfOk right (λ x. (x.1 < 32) × (left.1 < 32)) }
     ensures low { (most : ℕ) → IfOk right.entry (λ x. (x.1 < most) × (left.entry.1 < most)) → IfOk result (λ x. (x.1 ≤ most) × (left.entry.1 < x.1)) }
-    ensures gives { (read : Result ReadExpr ParseError) → Gives (λ x. (expr_tree x.0, x.1, views x.2)) right.entry read → Gives (λ x. (expr_tree x.0, x.1, views x.2)) result (joined_by (binary_tree op) (expr_tree left.entry.0, left.entry.1, views left.entry.2) read) }
+    ensures gives { (read : Result ReadExpr ParseError) → Gives (λ x. (expr_tree x.0, x.1, views x.2)) right.entry read
+        → Gives (λ x. (expr_tree x.0, x.1, views x.2)) result (joined_by (binary_tree op)
+        (expr_tree left.entry.0, left.entry.1, views left.entry.2) read) }
 {
     let (right, right_height, rest) = right?;
     let (left, height, _) = left;

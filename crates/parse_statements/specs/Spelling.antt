@@ -21,11 +21,13 @@ abbrev mutual
       (word (element_word t) ∷ name x ∷ mark marks.OpenBracket ∷ Anywhere (Number' size false) ∷ mark marks.CloseBracket
       ∷ mark marks.Assign ∷ mark marks.OpenBrace ∷ Anywhere (Number' 0 false) ∷ mark marks.CloseBrace ∷ mark marks.Semicolon ∷ [])
   statement (Assign line x r) = on_line line (setting x r)
-  statement (AssignElement line x i e) = on_line line (name x ∷ mark marks.OpenBracket ∷ (expression i ++ mark marks.CloseBracket ∷ mark marks.Assign ∷ (expression e ++ mark marks.Semicolon ∷ [])))
+  statement (AssignElement line x i e) = on_line line (name x ∷ mark marks.OpenBracket ∷
+      (expression i ++ mark marks.CloseBracket ∷ mark marks.Assign ∷ (expression e ++ mark marks.Semicolon ∷ [])))
   statement (Perform line c) = on_line line (call c ++ mark marks.Semicolon ∷ [])
   statement (PutJint line e) = on_line line (word words.PutJint ∷ mark marks.OpenParen ∷ (expression e ++ mark marks.CloseParen ∷ mark marks.Semicolon ∷ []))
   statement (If line test then') = on_line line (tested words.If (test_tokens test)) ++ mark marks.OpenBrace ∷ inside then'
-  statement (IfElse line test then' else') = on_line line (tested words.If (test_tokens test)) ++ mark marks.OpenBrace ∷ inside then' ++ word words.Else ∷ mark marks.OpenBrace ∷ inside else'
+  statement (IfElse line test then' else') = on_line line (tested words.If (test_tokens test))
+      ++ mark marks.OpenBrace ∷ inside then' ++ word words.Else ∷ mark marks.OpenBrace ∷ inside else'
   statement (While line test body) = on_line line (tested words.While (expression test)) ++ mark marks.OpenBrace ∷ inside body
   statement (Return line) = on_line line (word words.Return ∷ mark marks.Semicolon ∷ [])
   statement (ReturnValue line e) = on_line line (word words.Return ∷ (expression e ++ mark marks.Semicolon ∷ []))

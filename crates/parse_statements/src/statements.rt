@@ -75,7 +75,9 @@ fn is_return(stmt: &Stmt) -> bool
 /// A test, and what comes after its parenthesis and the brace of a block.
 #[inline]
 fn tested(test: Test, lexemes: Cursor<'_>) -> Result<(Test, Cursor<'_>), ParseError>
-    ensures { Gives (λ x. (test_tree x.0, views x.1)) result (made_of {B = ReadTest} (two (Fixed.Mark Mark.CloseParen) (Fixed.Mark Mark.OpenBrace) (views lexemes.entry)) (λ after. (test_tree test, after))) }
+    ensures { Gives (λ x. (test_tree x.0, views x.1)) result (made_of {B = ReadTest}
+        (two (Fixed.Mark Mark.CloseParen) (Fixed.Mark Mark.OpenBrace) (views lexemes.entry))
+        (λ after. (test_tree test, after))) }
 {
     let paren = Fixed::Mark(Mark::CloseParen);
     match expect_two(paren, Fixed::Mark(Mark::OpenBrace), lexemes) {
@@ -155,7 +157,8 @@ fn takes_other(head: &Head) -> bool
 /// A statement of its blocks.
 #[inline]
 fn nested_form(head: Head, body: Block, other: Option<Block>) -> Form
-    ensures { (line : ℕ) → stmt_tree (record { line = line; form = result }) ≡ nested_made line (head_view head) (block_tree body) (option_map block_tree other) }
+    ensures { (line : ℕ) → stmt_tree (record { line = line; form = result })
+        ≡ nested_made line (head_view head) (block_tree body) (option_map block_tree other) }
 {
     match head {
         Head::While(test) => Form::While(test, body),
@@ -173,7 +176,9 @@ fn nested<'t>(
     head: Head,
     ways: Result<ReadWays<'t>, ParseError>,
 ) -> Result<ReadStmt<'t>, ParseError>
-    ensures { (read : Result WaysRead ParseError) → Gives (λ x. (block_tree x.0, option_map block_tree x.1, x.2, views x.3)) ways.entry read → Gives (λ x. (stmt_tree x.0, x.1, views x.2)) result (nested_of line (head_view head) read) }
+    ensures { (read : Result WaysRead ParseError)
+        → Gives (λ x. (block_tree x.0, option_map block_tree x.1, x.2, views x.3)) ways.entry read
+        → Gives (λ x. (stmt_tree x.0, x.1, views x.2)) result (nested_of line (head_view head) read) }
 {
     match ways {
         Ok((body, other, free, rest)) => {
@@ -190,7 +195,10 @@ fn both<'t>(
     body: Block,
     other: Result<ReadOther<'t>, ParseError>,
 ) -> Result<ReadWays<'t>, ParseError>
-    ensures { (read : Result OtherRead ParseError) → Gives (λ x. (option_map block_tree x.0, x.1, views x.2)) other.entry read → Gives (λ x. (block_tree x.0, option_map block_tree x.1, x.2, views x.3)) result (both_of (block_tree body) read) }
+    ensures { (read : Result OtherRead ParseError)
+        → Gives (λ x. (option_map block_tree x.0, x.1, views x.2)) other.entry read
+        → Gives (λ x. (block_tree x.0, option_map block_tree x.1, x.2, views x.3)) result
+        (both_of (block_tree body) read) }
 {
     match other {
         Ok((other, free, rest)) => Ok((body, other, free, rest)),
@@ -219,7 +227,8 @@ fn ways(
 /// A block that was read as the second one.
 #[inline]
 fn second(read: Result<ReadBlock<'_>, ParseError>) -> Result<ReadOther<'_>, ParseError>
-    ensures { (from : Result BlockRead ParseError) → Gives (λ x. (block_tree x.0, x.1, views x.2)) read.entry from → Gives (λ x. (option_map block_tree x.0, x.1, views x.2)) result (second_of from) }
+    ensures { (from : Result BlockRead ParseError) → Gives (λ x. (block_tree x.0, x.1, views x.2)) read.entry from
+        → Gives (λ x. (option_map block_tree x.0, x.1, views x.2)) result (second_of from) }
 {
     match read {
         Ok((other, free, rest)) => Ok((Some(other), free, rest)),

@@ -26,8 +26,12 @@ pub data IsRefusedProgram (text : List ℕ) : (number line : ℕ) → Type 0 whe
   -- it has no tokens
   by_scan : (fault : ScanFault) → IsFirstFault text (scanning.Fault fault) → IsRefusedProgram text (scan_rule_number fault.rule) fault.line
   -- its tokens form no tree
-  by_parse : (tokens : List Token) (fault : ParseFault) → Spells text tokens → unit_at (lexemes text 1 tokens) ≡ Err (parsing.Fault fault) → IsRefusedProgram text (parse_rule_number fault.rule) fault.line
+  by_parse : (tokens : List Token) (fault : ParseFault) → Spells text tokens
+      → unit_at (lexemes text 1 tokens) ≡ Err (parsing.Fault fault)
+      → IsRefusedProgram text (parse_rule_number fault.rule) fault.line
   -- a rule of sorts is broken
-  by_sorts : (unit : SourceUnit) (rule : SortRule) (line : ℕ) → SpellsUnit text unit → first_broken unit ≡ Some (line, rule) → IsRefusedProgram text (sort_rule_number rule) line
+  by_sorts : (unit : SourceUnit) (rule : SortRule) (line : ℕ) → SpellsUnit text unit
+      → first_broken unit ≡ Some (line, rule) → IsRefusedProgram text (sort_rule_number rule) line
   -- a rule of regions is broken
-  by_regions : (unit : SourceUnit) (rule : RegionRule) (line : ℕ) → SpellsUnit text unit → IsSorted unit → IsFirstRegionFault rule line unit → IsRefusedProgram text (region_rule_number rule) line
+  by_regions : (unit : SourceUnit) (rule : RegionRule) (line : ℕ) → SpellsUnit text unit → IsSorted unit
+      → IsFirstRegionFault rule line unit → IsRefusedProgram text (region_rule_number rule) line

@@ -2,8 +2,8 @@
 
 ghost use Rattle.std.specs.Prelude.{◌≡◌, ℕ, ◌<◌, List, Option, Some, length, slice_get};
 
-/// Places, counted from 0, with values, each of which refers to a place or doesn't. There may be numbers between them that are no places, as in a
-/// heap, where a place is an address.
+/// Places, counted from 0, with values, each of which refers to a place or doesn't. There may be numbers between them
+/// that are no places, as in a heap, where a place is an address.
 pub trait Graph {
     /// The numbers of places.
     ghost IsPlace: { Self → ℕ → Type 0 };

@@ -74,7 +74,8 @@ fn follow<G: Graph>(
 ) -> Result<(), AllocError>
     requires place { G.IsPlace graph.now place }
     requires within { (q : ℕ) → Contains (G.references graph.now place) (Some q) → q < length marked.old.items }
-    ensures adds { OnOk result (Adds (λ q. Contains (G.references graph.now place) (Some q)) marked.old.items waiting.old.items marked.new.items waiting.new.items) }
+    ensures adds { OnOk result (Adds (λ q. Contains (G.references graph.now place)
+        (Some q)) marked.old.items waiting.old.items marked.new.items waiting.new.items) }
     ensures followed { OnOk result (IsFollowed (G.references graph.now) marked.new.items place) }
 {
     for index in 0..graph.count(place) {

@@ -20,11 +20,14 @@ abbrev mutual
   FirstIn rule l before (If line test then') =
       FirstHere rule l before (If line test then')
       ⊎ Obeys before (If line test then') × FirstBlock rule l before (where_true before test) then'
-      ⊎ Obeys before (If line test then') × (rule ≡ WaysDiffer) × (l ≡ line) × ((yes : Way) × KeepsBlock before (where_true before test) then' yes × Differ yes (On (where_false before test)))
+      ⊎ Obeys before (If line test then') × (rule ≡ WaysDiffer) × (l ≡ line)
+      × ((yes : Way) × KeepsBlock before (where_true before test) then' yes × Differ yes (On (where_false before test)))
   FirstIn rule l before (IfElse line test then' else') =
       FirstHere rule l before (IfElse line test then' else')
       ⊎ Obeys before (IfElse line test then' else')
-      × (FirstBlock rule l before (where_true before test) then' ⊎ ((yes : Way) × KeepsBlock before (where_true before test) then' yes × FirstBlock rule l before (where_false before test) else'))
+      × (FirstBlock rule l before (where_true before test) then'
+      ⊎ ((yes : Way) × KeepsBlock before (where_true before test) then' yes
+      × FirstBlock rule l before (where_false before test) else'))
       ⊎ Obeys before (IfElse line test then' else') × (rule ≡ WaysDiffer) × (l ≡ line)
       × ((yes no : Way) × KeepsBlock before (where_true before test) then' yes × KeepsBlock before (where_false before test) else' no × Differ yes no)
   FirstIn rule l before (While line test body) =
@@ -76,11 +79,13 @@ NotBoth = (unit : SourceUnit) (rule : RegionRule) (l : ℕ) → IsFirstRegionFau
 
 -- a statement has one first fault at most
 abbrev pub OneFirst : Type 0
-OneFirst = (before : RegionState) (s : Stmt) (rule rule' : RegionRule) (l l' : ℕ) → FirstIn rule l before s → FirstIn rule' l' before s → (l ≡ l') × (rule ≡ rule')
+OneFirst = (before : RegionState) (s : Stmt) (rule rule' : RegionRule) (l l' : ℕ) → FirstIn rule l before s
+    → FirstIn rule' l' before s → (l ≡ l') × (rule ≡ rule')
 
 -- and so has a unit
 abbrev pub OneFirstOfUnit : Type 0
-OneFirstOfUnit = (unit : SourceUnit) (rule rule' : RegionRule) (l l' : ℕ) → IsFirstRegionFault rule l unit → IsFirstRegionFault rule' l' unit → (l ≡ l') × (rule ≡ rule')
+OneFirstOfUnit = (unit : SourceUnit) (rule rule' : RegionRule) (l l' : ℕ) → IsFirstRegionFault rule l unit
+    → IsFirstRegionFault rule' l' unit → (l ≡ l') × (rule ≡ rule')
 
 -- the first fault of a unit is of a rule that is broken at its line
 abbrev pub FirstIsBroken : Type 0

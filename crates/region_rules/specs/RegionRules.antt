@@ -51,7 +51,8 @@ is_free s = false
 
 -- whether a release is not the one that a held buffer wants: of its own access, with its own array variable
 abbrev pub is_mismatched : Release → Option VariableState → Bool
-is_mismatched release (Some (BufferIn b)) = some_passes (λ held. not (same_access release.access held.0 && some_passes (bytes_eq held.1) release.object)) (held_by b)
+is_mismatched release (Some (BufferIn b)) = some_passes (λ held. not
+    (same_access release.access held.0 && some_passes (bytes_eq held.1) release.object)) (held_by b)
 is_mismatched release s = false
 
 -- a buffer that is not free
@@ -111,7 +112,8 @@ breaks_region_rule UntestedBuffer state s =
 -- a free buffer is tested, read, written or released; a held one is released wrongly
 breaks_region_rule WrongBuffer state s =
     list_any (λ x. is_free (state_of state x)) (used_names s)
-    || some_passes (λ release. (release.commits && is_critical release.access) || some_passes (λ x. is_mismatched release (state_of state x)) release.buffer) (release_of (function_called s))
+    || some_passes (λ release. (release.commits && is_critical release.access)
+    || some_passes (λ x. is_mismatched release (state_of state x)) release.buffer) (release_of (function_called s))
 breaks_region_rule ReturnInFrame state s = is_return s && nat_lt 1 state.frames
 breaks_region_rule PopLastFrame state s = pops (function_called s) && nat_le state.frames 1
 -- a dead reference is used

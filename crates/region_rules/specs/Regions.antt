@@ -120,10 +120,13 @@ abbrev mutual
   BreaksIn rule l before (If line test then') =
       BreaksHere rule l before (If line test then')
       ⊎ Obeys before (If line test then') × BreaksBlock rule l before (where_true before test) then'
-      ⊎ Obeys before (If line test then') × (rule ≡ WaysDiffer) × (l ≡ line) × ((yes : Way) × KeepsBlock before (where_true before test) then' yes × Differ yes (On (where_false before test)))
+      ⊎ Obeys before (If line test then') × (rule ≡ WaysDiffer) × (l ≡ line)
+      × ((yes : Way) × KeepsBlock before (where_true before test) then' yes × Differ yes (On (where_false before test)))
   BreaksIn rule l before (IfElse line test then' else') =
       BreaksHere rule l before (IfElse line test then' else')
-      ⊎ Obeys before (IfElse line test then' else') × (BreaksBlock rule l before (where_true before test) then' ⊎ BreaksBlock rule l before (where_false before test) else')
+      ⊎ Obeys before (IfElse line test then' else')
+      × (BreaksBlock rule l before (where_true before test) then'
+      ⊎ BreaksBlock rule l before (where_false before test) else')
       ⊎ Obeys before (IfElse line test then' else') × (rule ≡ WaysDiffer) × (l ≡ line)
       × ((yes no : Way) × KeepsBlock before (where_true before test) then' yes × KeepsBlock before (where_false before test) else' no × Differ yes no)
   BreaksIn rule l before (While line test body) =

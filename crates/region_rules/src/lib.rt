@@ -1,4 +1,5 @@
-//! Which units are accepted: the rules on buffers, references, frames and returns on each way through a function, and units that keep them.
+//! Which units are accepted: the rules on buffers, references, frames and returns on each way through a function, and
+//! units that keep them.
 #![tactic(auto)]
 
 mod checked;

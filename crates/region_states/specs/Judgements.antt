@@ -39,13 +39,15 @@ abbrev pub judged : RegionRule → RegionState → Stmt → Option EffectCall �
 judged CallWhileCritical state s call = holds_critical state && (is_put_jint s || is_forbidden call)
 judged ReturnWithBuffer state s call = is_return s && holds_buffer state
 judged HeldBuffer state s call = is_some (got call) && some_passes (asks condition.Held state) (assigned_name s)
-judged UntestedBuffer state s call = reads (asks condition.Untested state) s || some_passes (λ release. some_passes (asks condition.Untested state) release.buffer) (released call)
+judged UntestedBuffer state s call = reads (asks condition.Untested state) s
+    || some_passes (λ release. some_passes (asks condition.Untested state) release.buffer) (released call)
 judged WrongBuffer state s call = uses (asks condition.Free state) s || some_passes (is_wrong_release state) (released call)
 judged ReturnInFrame state s call = is_return s && nat_lt 1 state.frames
 judged PopLastFrame state s call = popped call && nat_le state.frames 1
 judged DeadReference state s call = uses (asks condition.Dead state) s
 judged ArrayInUse state s call =
-    some_passes (λ x. holds_of x state) (assigned_name s) || some_passes (λ x. holds_of x state) (deleted call) || pops_array state call || gets_elsewhere state call
+    some_passes (λ x. holds_of x state) (assigned_name s) || some_passes (λ x. holds_of x state) (deleted call)
+    || pops_array state call || gets_elsewhere state call
 judged WrongLevel state s call = some_passes (λ x. is_other_level (frames_after state call) (state_of state x)) (assigned_name s)
 judged rule state s call = false
 

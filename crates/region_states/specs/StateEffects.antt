@@ -26,7 +26,12 @@ made_value c = (effect_value c.effect, map argument_tree c.arguments.now)
 
 -- what a call releases, in memory
 abbrev pub release_value : ReleaseInMemory → Release
-release_value r = record { access = access_value r.access; object = option_map (λ x. x.now) r.object; buffer = option_map (λ x. x.now) r.buffer; commits = r.commits }
+release_value r = record {
+  access = access_value r.access;
+  object = option_map (λ x. x.now) r.object;
+  buffer = option_map (λ x. x.now) r.buffer;
+  commits = r.commits;
+}
 
 -- ---- the parts of a call
 

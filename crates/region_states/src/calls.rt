@@ -30,7 +30,8 @@ pub struct Release<'a> {
 
 /// A call of a function that is known.
 fn made(function: Option<JniFunction>, arguments: &[Argument]) -> Option<MadeCall<'_>>
-    ensures { option_map made_value result ≡ option_map call_state_effect (option_map (λ f. (f, map argument_tree arguments.now)) (option_map function_value function)) }
+    ensures { option_map made_value result ≡ option_map call_state_effect
+        (option_map (λ f. (f, map argument_tree arguments.now)) (option_map function_value function)) }
 {
     match function {
         Some(f) => Some(MadeCall {

@@ -9,7 +9,8 @@ use indexmap::IndexMap;
 use std::alloc::{AllocError, Global};
 use std::marker::Model;
 
-/// How many held buffers each array or string variable has, by its name. The number of a name is found, and changed, in constant time.
+/// How many held buffers each array or string variable has, by its name. The number of a name is found, and changed, in
+/// constant time.
 pub struct Holders<'a> {
     counts: IndexMap<&'a [u8], usize>,
 }

@@ -1,5 +1,5 @@
-//! What is known of buffers, references and frames at a point of a function, as it lies in memory, and what statements and tests do
-//! to it, with the names that they use.
+//! What is known of buffers, references and frames at a point of a function, as it lies in memory, and what statements
+//! and tests do to it, with the names that they use.
 #![tactic(auto)]
 
 pub mod calls;

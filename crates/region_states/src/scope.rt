@@ -7,7 +7,8 @@ use indexmap::IndexSet;
 use std::alloc::{AllocError, Global};
 use std::marker::Model;
 
-/// Names in the order of their declarations, no two of them alike. A name's number, its place in this order, is found in constant time.
+/// Names in the order of their declarations, no two of them alike. A name's number, its place in this order, is found
+/// in constant time.
 pub struct Names<'a> {
     places: IndexSet<&'a [u8]>,
 }

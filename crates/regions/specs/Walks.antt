@@ -53,7 +53,8 @@ plain_way before s = if is_return s then Ok Returned else Ok (On (state_after be
 -- the way after a statement that keeps the rules itself
 abbrev pub inner_way : RegionState → Stmt → WayOrFault
 inner_way before (If line test then') = join_ways line (way_of_block before (where_true before test) then') (Ok (On (where_false before test)))
-inner_way before (IfElse line test then' else') = join_ways line (way_of_block before (where_true before test) then') (way_of_block before (where_false before test) else')
+inner_way before (IfElse line test then' else') = join_ways line (way_of_block before (where_true before test) then')
+    (way_of_block before (where_false before test) else')
 inner_way before (While line test body) = turn_way line before (way_of_block before before body)
 inner_way before (Return line) = Ok Returned
 inner_way before (ReturnValue line e) = Ok Returned

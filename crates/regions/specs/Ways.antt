@@ -50,8 +50,11 @@ turn_way line before (Ok (On after)) = way_if (same_state after before) (On befo
 abbrev mutual
   -- the way after a statement, or its first fault
   pub way_of : RegionState → Stmt → Result Way Found
-  way_of before (If line test then') = own_way (first_broken before (If line test then')) line (join_ways line (way_of_block before (where_true before test) then') (Ok (On (where_false before test))))
-  way_of before (IfElse line test then' else') = own_way (first_broken before (IfElse line test then' else')) line (join_ways line (way_of_block before (where_true before test) then') (way_of_block before (where_false before test) else'))
+  way_of before (If line test then') = own_way (first_broken before (If line test then')) line
+      (join_ways line (way_of_block before (where_true before test) then') (Ok (On (where_false before test))))
+  way_of before (IfElse line test then' else') = own_way (first_broken before (IfElse line test then' else')) line
+      (join_ways line (way_of_block before (where_true before test) then')
+      (way_of_block before (where_false before test) else'))
   way_of before (While line test body) = own_way (first_broken before (While line test body)) line (turn_way line before (way_of_block before before body))
   way_of before (Return line) = own_way (first_broken before (Return line)) line (Ok Returned)
   way_of before (ReturnValue line e) = own_way (first_broken before (ReturnValue line e)) line (Ok Returned)

@@ -61,8 +61,8 @@ impl RegionRule {
     }
 }
 
-/// A rule that is broken, and its line, with what was found there: that of the first token of the statement, or of the closing brace
-/// where a block's or the function's end is reached.
+/// A rule that is broken, and its line, with what was found there: that of the first token of the statement, or of the
+/// closing brace where a block's or the function's end is reached.
 pub type RegionFault = Fault<RegionRule, Line>;
 
 /// Why `check` answers no unit.

@@ -53,7 +53,8 @@ fn join_ways<'a>(
 ) -> Result<Way, CheckError>
     requires long { length known.old.variables.items ≡ length (names_of state.old) }
     requires counted { HasCounts known.old }
-    ensures goes { (a : RegionState) → IsSaved known.old a → names_of a ≡ names_of state.old → Goes result state.new (join_ways line (Ok (way_value first a)) (Ok (way_value second state.old))) }
+    ensures goes { (a : RegionState) → IsSaved known.old a → names_of a ≡ names_of state.old
+        → Goes result state.new (join_ways line (Ok (way_value first a)) (Ok (way_value second state.old))) }
     ensures names { (a : RegionState) → IsSaved known.old a → names_of a ≡ names_of state.old → IfOk result (λ _. names_of state.new ≡ names_of state.old) }
 {
     match first {
@@ -82,8 +83,11 @@ pub(crate) fn join<'a>(
 ) -> Result<Way, CheckError>
     requires long { IfOk second (λ _. length first.known.variables.items ≡ length (names_of state.old)) }
     requires counted { HasCounts first.known }
-    ensures goes { (a : RegionState) (expected : WayOrFault) → IsSaved first.entry.known a → IfOk second (λ _. names_of a ≡ names_of state.old) → Goes second state.old expected → Goes result state.new (join_ways line (Ok (way_value first.entry.way a)) expected) }
-    ensures names { (a : RegionState) → IsSaved first.entry.known a → IfOk second (λ _. names_of a ≡ names_of state.old) → IfOk result (λ _. names_of state.new ≡ names_of a) }
+    ensures goes { (a : RegionState) (expected : WayOrFault) → IsSaved first.entry.known a
+        → IfOk second (λ _. names_of a ≡ names_of state.old) → Goes second state.old expected
+        → Goes result state.new (join_ways line (Ok (way_value first.entry.way a)) expected) }
+    ensures names { (a : RegionState) → IsSaved first.entry.known a → IfOk second (λ _. names_of a ≡ names_of state.old)
+        → IfOk result (λ _. names_of state.new ≡ names_of a) }
 {
     let mut known = first.known;
     match second {
@@ -100,7 +104,8 @@ pub(crate) fn one_way<'a>(
     first: Result<Branch<'a>, CheckError>,
 ) -> Result<Way, CheckError>
     requires { Awaits first state.old }
-    ensures goes { (expected : WayOrFault) (other : RegionState) → Branches first.entry state.old expected other → Goes result state.new (join_ways line expected (Ok (On other))) }
+    ensures goes { (expected : WayOrFault) (other : RegionState) → Branches first.entry state.old expected other
+        → Goes result state.new (join_ways line expected (Ok (On other))) }
     ensures names { (names : List Identifier) → IfOk first.entry (λ _. names_of state.old ≡ names) → IfOk result (λ _. names_of state.new ≡ names) }
 {
     match first {
@@ -145,7 +150,9 @@ pub(crate) fn take_else<'a>(
 ) -> Result<Branch<'a>, CheckError>
     requires long { IfOk first (λ _. length before.variables.items ≡ length (names_of state.old)) }
     requires counted { HasCounts before }
-    ensures { (s : RegionState) (expected : WayOrFault) → IsSaved before.entry s → IfOk first (λ _. names_of s ≡ names_of state.old) → Goes first state.old expected → Branches result state.new expected (where_false s (test_tree test.now)) }
+    ensures { (s : RegionState) (expected : WayOrFault) → IsSaved before.entry s
+        → IfOk first (λ _. names_of s ≡ names_of state.old) → Goes first state.old expected
+        → Branches result state.new expected (where_false s (test_tree test.now)) }
 {
     let way = first?;
     let mut known = before;

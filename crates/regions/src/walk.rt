@@ -25,7 +25,8 @@ use syntax::{Block, Form, Function, Item, ParameterType, Stmt, Test};
 /// A block's end on this line, where the block began with this many variables and its way so far is this one.
 fn end(state: &mut FlowState, count: usize, way: Way, line: usize) -> Result<Way, CheckError>
     requires { count ≤ length (names_of state.old) }
-    ensures goes { (outer : RegionState) → count ≡ length (names_of outer) → Grows outer state.old → Goes result state.new (go_on outer (way_value way state.old) (End line)) }
+    ensures goes { (outer : RegionState) → count ≡ length (names_of outer) → Grows outer state.old
+        → Goes result state.new (go_on outer (way_value way state.old) (End line)) }
     ensures names { (outer : RegionState) → count ≡ length (names_of outer) → Grows outer state.old → IfOk result (λ _. names_of state.new ≡ names_of outer) }
 {
     match way {
@@ -65,7 +66,8 @@ fn then_way<'a>(
     then: &'a Block,
 ) -> Result<Branch<'a>, CheckError>
     requires { DeclareNew (names_of state.old) (block_tree then.now) }
-    ensures { Branches result state.new (way_of_block state.old (where_true state.old (test_tree test.now)) (block_tree then.now)) (where_false state.old (test_tree test.now)) }
+    ensures { Branches result state.new (way_of_block state.old (where_true state.old (test_tree test.now))
+        (block_tree then.now)) (where_false state.old (test_tree test.now)) }
 {
     match take_then(alloc, state, test) {
         Ok(before) => {
@@ -87,7 +89,9 @@ fn other_way<'a>(
 ) -> Result<Way, CheckError>
     requires saved { Awaits first state.old }
     requires new { IfOk first (λ _. DeclareNew (names_of state.old) (block_tree block.now)) }
-    ensures goes { (outer : RegionState) (expected : WayOrFault) (other : RegionState) → names_of outer ≡ names_of other → Branches first.entry state.old expected other → Goes result state.new (join_ways line expected (way_of_block outer other (block_tree block.now))) }
+    ensures goes { (outer : RegionState) (expected : WayOrFault) (other : RegionState) → names_of outer ≡ names_of other
+        → Branches first.entry state.old expected other
+        → Goes result state.new (join_ways line expected (way_of_block outer other (block_tree block.now))) }
     ensures names { (names : List Identifier) → IfOk first.entry (λ _. names_of state.old ≡ names) → IfOk result (λ _. names_of state.new ≡ names) }
 {
     match first {

@@ -97,7 +97,8 @@ ShowsRows m rows = (unit : SourceUnit) (w : World) (s : State) → Stands unit w
 -- for each unit and world whose replay leads to this state, what writing its report and the journal did
 abbrev pub WritesState : StateInMemory → Journal → Written → Written → Result (Unit {0}) ReplayError → Type 0
 WritesState m journal old new (Ok _) = ((unit : SourceUnit) (w : World) → Replayed unit w journal m → WritesRun unit w journal old new) × (new.waiting ≡ 0)
-WritesState m journal old new (Err fault) = ((unit : SourceUnit) (w : World) → Replayed unit w journal m → IsStoppedBy unit w journal old new fault) × IsFromOutside fault
+WritesState m journal old new (Err fault) = ((unit : SourceUnit) (w : World) → Replayed unit w journal m
+    → IsStoppedBy unit w journal old new fault) × IsFromOutside fault
 
 -- what a replay answers, and what it did to the sink
 abbrev pub Answers : SourceUnit → World → Journal → Written → Written → Result (Option TrapAt) ReplayError → Type 0

@@ -123,7 +123,8 @@ fn replay_from<'a, W: Sink>(
     requires tree { IsTree (unit_tree functions.now) }
     requires sorted { IsSorted (unit_tree functions.now) }
     requires range { AreInRange state.old.threads.items }
-    ensures { (w : World) → Replayed (unit_tree functions.now) w [] state.old → Answers (unit_tree functions.now) w journal.now (W.written out.old) (W.written out.new) result }
+    ensures { (w : World) → Replayed (unit_tree functions.now) w [] state.old
+        → Answers (unit_tree functions.now) w journal.now (W.written out.old) (W.written out.new) result }
 {
     match follow(alloc, functions, state, journal) {
         Ok(()) => match write_report(alloc, state, journal, out) {

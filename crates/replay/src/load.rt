@@ -132,8 +132,8 @@ fn waiting_threads<'a>(alloc: Global, world: &'a World) -> Result<Vec<Thread<'a>
     Ok(threads)
 }
 
-/// What all threads share before the first entry: the objects that are made at load, statics that are all NULL, no global reference,
-/// and no monitor.
+/// What all threads share before the first entry: the objects that are made at load, statics that are all NULL, no
+/// global reference, and no monitor.
 fn loaded<'a>(alloc: Global, items: &'a [Item], world: &World) -> Result<Shared<'a>, AllocError>
     requires { IsSorted (unit_tree items.now) }
     ensures { IfOk result (λ shared. shared_view shared ≡ (start (unit_tree items.entry.now) world.now).shared) }

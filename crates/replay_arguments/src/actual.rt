@@ -49,7 +49,9 @@ pub fn actuals<'a>(
     function: JniFunction,
     operands: &[Operand<'a>],
 ) -> Result<Vec<Actual<'a>>, AllocError>
-    ensures { IfOk result (λ args. map actual_view args.items ≡ actuals (sight_in (shared_view shared.now) variables.now) (function_value function) (map operand_view operands.now)) }
+    ensures { IfOk result (λ args. map actual_view args.items
+        ≡ actuals (sight_in (shared_view shared.now) variables.now) (function_value function)
+        (map operand_view operands.now)) }
 {
     let mut actuals = Vec::new(alloc);
     push_actuals(
@@ -71,7 +73,8 @@ fn push_actuals<'a>(
     operands: &[Operand<'a>],
 ) -> Result<(), AllocError>
     ensures { IfOk result (λ _. map actual_view actuals.new.items
-        ≡ map actual_view actuals.old.items ++ map (look_up (sight_in (shared_view shared.now) variables.now)) (zip (map parameter_value parameters.entry.now) (map operand_view operands.entry.now))) }
+        ≡ map actual_view actuals.old.items ++ map (look_up (sight_in (shared_view shared.now) variables.now))
+        (zip (map parameter_value parameters.entry.now) (map operand_view operands.entry.now))) }
 {
     match parameters {
         [] => Ok(()),

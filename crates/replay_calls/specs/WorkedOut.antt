@@ -200,7 +200,8 @@ monitor_left k n None = Raises illegal_monitor_state
 monitor_left k n (Some m) = if m.owner == k then (if m.count == 1 then Disowns n else Owns n (m.count - 1)) else Raises illegal_monitor_state
 
 -- thread k calls a function
-module _ (classes : Classes) (in_use : BuffersInUse) (k : ℕ) (monitors : List Monitor) (heap : Heap) (variables : Variables) (frames : List Frame) (pending : Reference) (args : List Actual) where
+module _ (classes : Classes) (in_use : BuffersInUse) (k : ℕ) (monitors : List Monitor) (heap : Heap)
+    (variables : Variables) (frames : List Frame) (pending : Reference) (args : List Actual) where
   abbrev pub reference : ℕ → Option ℕ
   reference i = reference_given args i
 

@@ -191,8 +191,8 @@ fn subject_of(function: JniFunction) -> Subject
     }
 }
 
-/// What a call does, its arguments being looked up: the run stops by the first check that fails, or else it does what its function
-/// does.
+/// What a call does, its arguments being looked up: the run stops by the first check that fails, or else it does what
+/// its function does.
 pub fn answer_or_trap<'a>(
     scene: Scene<'_, 'a>,
     caller: Caller,

@@ -25,8 +25,8 @@ use replay_terms::{Given, StaticReference, Variables};
 use semantics::ObjectId;
 use std::alloc::AllocError;
 
-/// Does what a function of this kind of result answers to a thread's call, where the run goes on, and tells what it gives. It gives
-/// no buffer.
+/// Does what a function of this kind of result answers to a thread's call, where the run goes on, and tells what it
+/// gives. It gives no buffer.
 pub fn carry_out<'a>(
     turn: Turn<'_>,
     shared: &mut Shared<'a>,
@@ -125,7 +125,8 @@ fn carry_out_numbers<'a>(
     Ok(Given::Nothing)
 }
 
-/// Does to the references and monitors of all threads and to a call's frames what an answer of references, monitors or frames says.
+/// Does to the references and monitors of all threads and to a call's frames what an answer of references, monitors or
+/// frames says.
 #[inline(always)]
 fn carry_out_references<'a>(
     turn: Turn<'_>,

@@ -80,8 +80,8 @@ fn region_given<'a>(store: &Store, actuals: &[Actual<'a>]) -> Option<Region<'a>>
     }
 }
 
-/// The local array of argument 3 begins with the numbers of a region; there is a Java exception where there is no such region, and
-/// a trap where the local array is too short.
+/// The local array of argument 3 begins with the numbers of a region; there is a Java exception where there is no such
+/// region, and a trap where the local array is too short.
 fn region_got<'a>(
     store: &Store,
     variables: &Variables<'_>,

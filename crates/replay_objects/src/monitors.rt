@@ -20,7 +20,8 @@ pub struct Monitor {
     pub count: u8,
 }
 
-/// The monitors that threads own, seen as a list that begins with the one that changed last. Each call takes time for all of them.
+/// The monitors that threads own, seen as a list that begins with the one that changed last. Each call takes time for
+/// all of them.
 #[derive(Drop)]
 pub struct Monitors {
     monitors: Vec<Monitor>,

@@ -141,8 +141,8 @@ impl Store {
         }
     }
 
-    /// Overwrites numbers of an object, from a place on; a reference in it, as in no accepted program, becomes 0. The cost goes by
-    /// the new numbers, and the first time by all of the object's. The name 0 is as in `set`.
+    /// Overwrites numbers of an object, from a place on; a reference in it, as in no accepted program, becomes 0. The
+    /// cost goes by the new numbers, and the first time by all of the object's. The name 0 is as in `set`.
     pub fn set_numbers(&mut self, name: ObjectId, start: usize, numbers: &[i32])
         requires { start + length numbers.now ≤ length (values_of self.old name) }
         ensures { self.new ≡ with_numbers self.old name (overwritten (numbers_of self.old name) start numbers.now) }
@@ -158,8 +158,8 @@ impl Store {
         }
     }
 
-    /// Gives an object these numbers as its values. There is no memory for more or fewer than it has, as in no accepted program. The
-    /// name 0 is as in `set`.
+    /// Gives an object these numbers as its values. There is no memory for more or fewer than it has, as in no accepted
+    /// program. The name 0 is as in `set`.
     pub fn put_numbers(&mut self, name: ObjectId, numbers: &[i32]) -> Result<(), AllocError>
         ensures ok { IfOk result (λ _. self.new ≡ with_numbers self.old name numbers.now) }
         ensures err { OnErr result (self.new ≡ self.old) }
@@ -247,7 +247,10 @@ fn is_number(value: ObjectValue) -> bool
 
 /// Puts a value into an object, if it has the place.
 pub(crate) fn put_value(object: &mut Object, place: usize, value: ObjectValue)
-    ensures view { object_view object.new ≡ record { class = (object_view object.old).class; values = slice_set (object_view object.old).values place (object_value_view value) } }
+    ensures view { object_view object.new ≡ record {
+      class = (object_view object.old).class;
+      values = slice_set (object_view object.old).values place (object_value_view value);
+    } }
     ensures length { length object.new.values.items ≡ length object.old.values.items }
     ensures mark { IsMarked object.old → IsMarked object.new }
 {
@@ -261,7 +264,10 @@ pub(crate) fn put_value(object: &mut Object, place: usize, value: ObjectValue)
 fn overwrite(object: &mut Object, start: usize, numbers: &[i32])
     requires mark { IsMarked object.old }
     requires room { start + length numbers.now ≤ length object.old.values.items }
-    ensures view { object_view object.new ≡ record { class = object.old.class; values = map Number (overwritten (map number_in (object_view object.old).values) start numbers.now) } }
+    ensures view { object_view object.new ≡ record {
+      class = object.old.class;
+      values = map Number (overwritten (map number_in (object_view object.old).values) start numbers.now);
+    } }
     ensures length { length object.new.values.items ≡ length object.old.values.items }
     ensures mark { IsMarked object.new }
 {
@@ -305,7 +311,8 @@ fn forget_references(values: &mut [ObjectValue])
 /// Overwrites values by numbers, from a place on.
 fn write_numbers(values: &mut [ObjectValue], start: usize, numbers: &[i32])
     requires { start + length numbers.now ≤ length values.old }
-    ensures { map object_value_view values.new ≡ take start (map object_value_view values.old) ++ map Number numbers.now ++ drop (start + length numbers.now) (map object_value_view values.old) }
+    ensures { map object_value_view values.new ≡ take start (map object_value_view values.old) ++ map Number numbers.now
+        ++ drop (start + length numbers.now) (map object_value_view values.old) }
 {
     for (place, number) in numbers.iter().enumerate() {
         values[start + place] = ObjectValue::Number(*number);

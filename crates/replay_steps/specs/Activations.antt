@@ -82,7 +82,8 @@ advance_by k s t took = thread.Advances s t Quiet
 abbrev pub Advances : (refused : Bool) → Scene → Work → Outcome → Scene → Work → Type 0
 Advances refused before old took after new =
     (unit : SourceUnit) (t : Thread) → Sees before t → t.tasks ≡ Some (tasks_left old)
-    → step_within unit before.classes before.in_use before.thread before.shared t refused (Some (tasks_left old)) ≡ advance_by before.thread after.shared (thread_in t (tasks_left new) after) took
+    → step_within unit before.classes before.in_use before.thread before.shared t refused (Some (tasks_left old))
+    ≡ advance_by before.thread after.shared (thread_in t (tasks_left new) after) took
 
 -- a task is the one that a statement begins as
 pub record HasBegun (s : StmtInMemory) (o : Option TaskInMemory) : Type 0 where

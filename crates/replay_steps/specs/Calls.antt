@@ -33,7 +33,8 @@ use Rattle.replay_tasks.specs.Tasks.{task_view}
 -- Where this can be seen, each number is worked out already, or what was done is the step of the first that isn't.
 abbrev pub ReducesFirst : Sight → List Operand → Option ReductionInMemory → List Operand → Type 0
 ReducesFirst sight old None new = (is_ready (map operand_view old) ≡ true) × (new ≡ old)
-ReducesFirst sight old (Some reduction.Reduced) new = (is_ready (map operand_view old) ≡ false) × (reduce_first sight (map operand_view old) ≡ Gives (map operand_view new))
+ReducesFirst sight old (Some reduction.Reduced) new = (is_ready (map operand_view old) ≡ false)
+    × (reduce_first sight (map operand_view old) ≡ Gives (map operand_view new))
 ReducesFirst sight old (Some (reduction.Trapped trap)) new =
     (is_ready (map operand_view old) ≡ false) × (reduce_first sight (map operand_view old) ≡ Traps (trap_view trap)) × (new ≡ old)
 ReducesFirst sight old (Some reduction.Stuck) new = (is_ready (map operand_view old) ≡ false) × (reduce_first sight (map operand_view old) ≡ Stuck)
@@ -48,12 +49,16 @@ ReducesOne sight old (Some took) new = (rest : List Operand) → ReducesFirst si
 abbrev pub MakesCall : (refused : Bool) → Scene → (line : ℕ) → PurposeInMemory → JniFunction → List Actual → Outcome → Scene → Type 0
 MakesCall refused before line purpose f args took after =
     (t : Thread) (rest : List Task) (new : TaskInMemory) → Sees before t → t.tasks ≡ Some (task_view new ∷ rest)
-    → call_step before.classes before.in_use before.thread before.shared t line (purpose_view line purpose) f args rest refused ≡ left_by before.thread after.shared (in_scene t after) rest took new
+    → call_step before.classes before.in_use before.thread before.shared t line
+    (purpose_view line purpose) f args rest refused
+    ≡ left_by before.thread after.shared (in_scene t after) rest took new
 
 -- the same for an invocation, whose arguments are looked up before it
 abbrev pub MakesInvocation : (refused : Bool) → Scene → Invocation → Outcome → Scene → Type 0
 MakesInvocation refused before i took after =
-    MakesCall refused before i.line i.purpose (function_value i.function) (actuals (sight_in before.shared before.variables) (function_value i.function) (map operand_view i.operands.items)) took after
+    MakesCall refused before i.line i.purpose (function_value i.function)
+    (actuals (sight_in before.shared before.variables) (function_value i.function)
+    (map operand_view i.operands.items)) took after
 
 -- what a call does with the buffer that it gives
 abbrev pub lent_outcome : ℕ → PurposeInMemory → Lent → Outcome

@@ -33,7 +33,15 @@ pub record Scene : Type 0 where
   pub pending : Reference
 
 abbrev pub scene_with : Classes → BuffersInUse → (thread : ℕ) → Shared → Contents → List Frame → Reference → Scene
-scene_with classes in_use thread s vs frames pending = record { classes = classes; in_use = in_use; thread = thread; shared = s; variables = vs; frames = frames; pending = pending }
+scene_with classes in_use thread s vs frames pending = record {
+  classes = classes;
+  in_use = in_use;
+  thread = thread;
+  shared = s;
+  variables = vs;
+  frames = frames;
+  pending = pending;
+}
 
 -- the same at a turn
 abbrev pub scene_of : Turn → Shared → Locals → Reference → Scene
@@ -55,7 +63,8 @@ left_by k s t rest outcome.Stays new = Advances s (with_tasks t (task_view new �
 left_by k s t rest (outcome.Printed z) new = Advances s (with_tasks t rest) (PrintedNumber z)
 left_by k s t rest (outcome.Enters block e) new = Advances s (with_tasks t ((tasks_of_statements (statements_in block) ++ end_view e ∷ []) ++ rest)) Quiet
 left_by k s t rest outcome.Ends new = Advances s (with_tasks t rest) Quiet
-left_by k s t rest (outcome.Tests line zero b other) new = Advances s (with_tasks t (Branch line (Done (Truth zero)) (block_tree b.now) (else_tree line other) ∷ rest)) Quiet
+left_by k s t rest (outcome.Tests line zero b other) new = Advances s
+    (with_tasks t (Branch line (Done (Truth zero)) (block_tree b.now) (else_tree line other) ∷ rest)) Quiet
 left_by k s t rest outcome.Returned new = return_step k s t
 left_by k s t rest (outcome.Trapped trap line) new = Advances s (with_tasks t (task_view new ∷ rest)) (Trapped (trap_view trap) line)
 left_by k s t rest outcome.Impossible new = NoAdvance
@@ -66,4 +75,5 @@ left_by k s t rest took new = variable_step took s (with_tasks t rest)
 abbrev pub Does : (refused : Bool) → Scene → TaskInMemory → Outcome → Scene → TaskInMemory → Type 0
 Does refused before old took after new =
     (unit : SourceUnit) (t : Thread) (rest : List Task) → Sees before t → t.tasks ≡ Some (task_view old ∷ rest)
-    → step_within unit before.classes before.in_use before.thread before.shared t refused (Some (task_view old ∷ rest)) ≡ left_by before.thread after.shared (in_scene t after) rest took new
+    → step_within unit before.classes before.in_use before.thread before.shared t refused (Some (task_view old ∷ rest))
+    ≡ left_by before.thread after.shared (in_scene t after) rest took new

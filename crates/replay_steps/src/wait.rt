@@ -115,8 +115,8 @@ fn task_waits<'a>(scene: Scene<'_, 'a>, thread: usize, task: &Option<Task<'a>>) 
     }
 }
 
-/// Whether the thread of this number, counted from 1, waits for a monitor: its next step is a call of `MonitorEnter` that all checks
-/// let through, on an object that another thread owns.
+/// Whether the thread of this number, counted from 1, waits for a monitor: its next step is a call of `MonitorEnter`
+/// that all checks let through, on an object that another thread owns.
 pub fn waits<'a>(
     classes: &'a ClassTable,
     thread: usize,

@@ -1,5 +1,5 @@
-//! The tasks of a call in progress in memory: statements that are begun, what a step of one comes to, the steps of those that are no
-//! call, and what a step does to the variables and the statics.
+//! The tasks of a call in progress in memory: statements that are begun, what a step of one comes to, the steps of
+//! those that are no call, and what a step does to the variables and the statics.
 #![tactic(auto)]
 
 mod outcome;

@@ -78,7 +78,9 @@ fn declare<'a>(
     name: &'a Name,
     given: Given<'a>,
 ) -> Result<(), AllocError>
-    ensures { IfOk result (λ _. variables_view variables.new ≡ assign name.entry.now (filled (blank (kind_view kind) frames) (given_view given.entry)) (variables_view variables.old)) }
+    ensures { IfOk result (λ _. variables_view variables.new
+        ≡ assign name.entry.now (filled (blank (kind_view kind) frames) (given_view given.entry))
+        (variables_view variables.old)) }
 {
     let content = blank(kind, frames);
     match filled(&content, given) {
@@ -96,7 +98,8 @@ fn put<'a>(
     target: Target<'a>,
     given: Given<'a>,
 ) -> Result<(), AllocError>
-    ensures { IfOk result (λ _. (heap : Heap) → LeavesVariables frames statics.old heap variables.old (put (target_view target.entry) (given_view given.entry)) statics.new heap variables.new) }
+    ensures { IfOk result (λ _. (heap : Heap) → LeavesVariables frames statics.old heap variables.old
+        (put (target_view target.entry) (given_view given.entry)) statics.new heap variables.new) }
 {
     match target {
         Target::Declared(kind, name) => declare(frames, variables, kind, name, given),
@@ -179,7 +182,9 @@ fn lend<'a>(
     target: Target<'a>,
     buffer: Lent,
 ) -> Result<(), AllocError>
-    ensures { IfOk result (λ _. LeavesVariables frames statics.old store.now variables.old (put (target_view target.entry) (BufferResult (lent_view store.now buffer))) statics.new store.now variables.new) }
+    ensures { IfOk result (λ _. LeavesVariables frames statics.old store.now variables.old
+        (put (target_view target.entry) (BufferResult
+        (lent_view store.now buffer))) statics.new store.now variables.new) }
 {
     match target {
         Target::Declared(kind, name) => {
@@ -208,7 +213,9 @@ fn write<'a>(
     index: usize,
     number: i32,
 ) -> bool
-    ensures { (statics : StaticsOfUnit) (frames : ℕ) → LeavesIf frames statics store.old variables.old (variable_step (outcome.SetsElement name.entry index number)) result statics store.new variables.new }
+    ensures { (statics : StaticsOfUnit) (frames : ℕ)
+        → LeavesIf frames statics store.old variables.old (variable_step
+        (outcome.SetsElement name.entry index number)) result statics store.new variables.new }
 {
     match variables.write(name, index, number) {
         Written::Done => true,
@@ -228,14 +235,16 @@ fn make_array<'a>(
     name: &'a Name,
     size: u32,
 ) -> Result<(), AllocError>
-    ensures { IfOk result (λ _. variables_view variables.new ≡ assign name.entry.now (LocalArray (element_value kind) (replicate size (pos 0))) (variables_view variables.old)) }
+    ensures { IfOk result (λ _. variables_view variables.new
+        ≡ assign name.entry.now (LocalArray (element_value kind) (replicate size (pos 0)))
+        (variables_view variables.old)) }
 {
     let numbers = zeros(alloc, size)?;
     variables.set(name, Content::Array(kind, numbers))
 }
 
-/// Does what an outcome does to the objects, the variables and the statics, where there are this many frames; false where it is not
-/// possible.
+/// Does what an outcome does to the objects, the variables and the statics, where there are this many frames; false
+/// where it is not possible.
 #[tactic(auto, using(crate::proofs::PutLemmas::variable_rules))]
 pub fn set_variables<'a>(
     alloc: Global,

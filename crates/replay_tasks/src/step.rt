@@ -79,7 +79,9 @@ fn write<'a, O: Objects>(
     index: Value,
     number: Value,
 ) -> Outcome<'a>
-    ensures step { (statics : StaticsOfUnit) → HasEffect (seen (variables_view variables.now) statics (O.heap objects.now)) (element_task line name.entry (term.Done index) (term.Done number)) result (element_task line name.entry (term.Done index) (term.Done number)) }
+    ensures step { (statics : StaticsOfUnit) → HasEffect (seen (variables_view variables.now) statics
+        (O.heap objects.now)) (element_task line name.entry (term.Done index) (term.Done number)) result
+        (element_task line name.entry (term.Done index) (term.Done number)) }
     ensures range { OutcomeInRange result }
 {
     match number {
@@ -107,7 +109,9 @@ fn set_at<'a, O: Objects>(
     t: &mut Term<'_>,
 ) -> Outcome<'a>
     requires { NumbersInRange t.old }
-    ensures step { HasEffect (seen (variables_view variables.now) statics.now (O.heap objects.now)) (element_task line name.entry (term.Done index) t.old) result (element_task line name.entry (term.Done index) t.new) }
+    ensures step { HasEffect (seen (variables_view variables.now) statics.now (O.heap objects.now))
+        (element_task line name.entry (term.Done index) t.old) result
+        (element_task line name.entry (term.Done index) t.new) }
     ensures number { NumbersInRange t.new }
     ensures range { OutcomeInRange result }
 {

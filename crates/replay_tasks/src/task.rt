@@ -241,7 +241,8 @@ fn declaration<'a>(
     right: &'a RightSide,
 ) -> Result<Task<'a>, AllocError>
     requires { RightSideInRange (right_side_tree right.now) }
-    ensures view { IfOk result (λ t. task_view t ≡ right_side_task line (Declared (kind_view kind) name.entry.now) name.entry.now (right_side_tree right.entry.now)) }
+    ensures view { IfOk result (λ t. task_view t ≡ right_side_task line
+        (Declared (kind_view kind) name.entry.now) name.entry.now (right_side_tree right.entry.now)) }
     ensures range { IfOk result TaskInRange }
 {
     set_task(alloc, line, Target::Declared(kind, name), name, right)

@@ -1,4 +1,5 @@
-//! The values, the variables and the terms of the source in memory, how a term is reduced, and what goes into a call and comes out of it.
+//! The values, the variables and the terms of the source in memory, how a term is reduced, and what goes into a call
+//! and comes out of it.
 #![tactic(auto)]
 
 mod buffers;

@@ -73,7 +73,8 @@ fn replace(term: &mut Term<'_>, value: Evaluated) -> Reduction
 /// The value of a part without parts.
 fn leaf_value(statics: &Statics<'_>, variables: &Variables<'_>, term: &Term<'_>) -> Evaluated
     requires { NumbersInRange term.now }
-    ensures { IsLeaf term.now → (heap : Heap) → reduce (seen (variables_view variables.now) (statics.now) heap) (term_view term.now) ≡ done (evaluated_view result) }
+    ensures { IsLeaf term.now → (heap : Heap) → reduce (seen (variables_view variables.now) (statics.now) heap)
+        (term_view term.now) ≡ done (evaluated_view result) }
 {
     match term {
         Term::Number { value, unsigned } => Evaluated::Gives(literal(*value, *unsigned)),
@@ -87,7 +88,9 @@ fn leaf_value(statics: &Statics<'_>, variables: &Variables<'_>, term: &Term<'_>)
 
 /// The value of an operator between two terms that have theirs; none where one has none.
 fn operator_value(op: BinaryOp, left: &Term<'_>, right: &Term<'_>) -> Option<Evaluated>
-    ensures { IsValue left.now → IsValue right.now → (sight : Sight) → reduce sight (Binary (binary_tree op) (term_view left.now) (term_view right.now)) ≡ decided result (Binary (binary_tree op) (term_view left.now) (term_view right.now)) }
+    ensures { IsValue left.now → IsValue right.now → (sight : Sight)
+        → reduce sight (Binary (binary_tree op) (term_view left.now) (term_view right.now))
+        ≡ decided result (Binary (binary_tree op) (term_view left.now) (term_view right.now)) }
 {
     let Term::Done(v) = *left else {
         return None;
@@ -106,7 +109,8 @@ fn value_of<O: Objects>(
     term: &Term<'_>,
 ) -> Option<Evaluated>
     requires { NumbersInRange term.now }
-    ensures { HasValues term.now → reduce (seen (variables_view variables.now) (statics.now) (O.heap objects.now)) (term_view term.now) ≡ decided result (right_side (term_view term.now)) }
+    ensures { HasValues term.now → reduce (seen (variables_view variables.now) (statics.now) (O.heap objects.now))
+        (term_view term.now) ≡ decided result (right_side (term_view term.now)) }
 {
     match term {
         Term::Element(name, i) => match **i {

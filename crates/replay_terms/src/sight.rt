@@ -209,7 +209,8 @@ fn element_at<O: Objects>(
     name: &Name,
     i: usize,
 ) -> Evaluated
-    ensures { evaluated_view result ≡ outcome_map Int (outcome_then (λ zs. in_range (slice_get zs i)) (elements_of (O.heap objects.now) (lookup name.now (variables_view variables.now)))) }
+    ensures { evaluated_view result ≡ outcome_map Int (outcome_then (λ zs. in_range (slice_get zs i))
+        (elements_of (O.heap objects.now) (lookup name.now (variables_view variables.now)))) }
 {
     match shown_in(variables, name) {
         None => Evaluated::Stuck,
@@ -227,7 +228,8 @@ pub(crate) fn element_in<O: Objects>(
     name: &Name,
     v: Value,
 ) -> Evaluated
-    ensures { (statics : Statics) → evaluated_view result ≡ element_value (seen (variables_view variables.now) statics (O.heap objects.now)) name.now (value_view v) }
+    ensures { (statics : Statics) → evaluated_view result
+        ≡ element_value (seen (variables_view variables.now) statics (O.heap objects.now)) name.now (value_view v) }
 {
     match index_of(v) {
         Indexed::At(i) => element_at(objects, variables, name, i),

@@ -111,8 +111,8 @@ impl<'a> Variables<'a> {
         self.contents.get(name)
     }
 
-    /// Sets the variable of this name. Where there is none, it is new and comes last. There is no memory for buffers that take more
-    /// than there is, as in no accepted program.
+    /// Sets the variable of this name. Where there is none, it is new and comes last. There is no memory for buffers
+    /// that take more than there is, as in no accepted program.
     pub fn set(&mut self, name: &'a Name, content: Content<'a>) -> Result<(), AllocError>
         ensures { IfOk result (λ _. variables_view self.new ≡ assign name.now (content_view content.entry) (variables_view self.old)) }
     {

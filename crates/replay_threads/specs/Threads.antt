@@ -53,7 +53,9 @@ pub record IsBegun (f : Function) (class : ℕ) (arguments : List ObjectValueInM
   pub is : o ≡ Some activation
   pub tasks : tasks_left activation.work ≡ tasks_of (function_tree f).body
   pub range : IsAtStatement activation.work
-  pub variables : variables_view activation.locals.variables ≡ assign_all ((f.class_name, LocalRef 1 (Some class)) ∷ parameter_variables (zip (function_tree f).parameters (map object_value_view arguments))) []
+  pub variables : variables_view activation.locals.variables
+      ≡ assign_all ((f.class_name, LocalRef 1 (Some class)) ∷ parameter_variables
+      (zip (function_tree f).parameters (map object_value_view arguments))) []
   pub frames : activation.locals.frames ≡ entry_frame (class ∷ filter_map named_object (map object_value_view arguments)) ∷ []
 
 -- a call in progress is this one at its beginning
@@ -65,7 +67,8 @@ pub record IsEntered (unit : SourceUnit) (classes : Classes) (call : Invocation)
   pub activation : Activation
   pub is : o ≡ Some activation
   pub tasks : tasks_left activation.work ≡ tasks_of function.body
-  pub variables : variables_view activation.locals.variables ≡ (function.class_name, LocalRef 1 (Some class)) ∷ parameter_variables (zip function.parameters call.arguments)
+  pub variables : variables_view activation.locals.variables
+      ≡ (function.class_name, LocalRef 1 (Some class)) ∷ parameter_variables (zip function.parameters call.arguments)
   pub frames : activation.locals.frames ≡ entry_frame (class ∷ filter_map named_object call.arguments) ∷ []
   pub range : IsAtStatement activation.work
 
@@ -109,7 +112,8 @@ pub record ThreadStands (unit : SourceUnit) (classes : Classes) (t : ThreadInMem
 
 -- whether each thread that it stands for waits for a monitor, as thread k
 abbrev pub ThreadWaits : Classes → (k : ℕ) → Shared → ThreadInMemory → Bool → Type 0
-ThreadWaits classes k shared t answer = (unit : SourceUnit) (s : Thread) → ThreadStands unit classes t s → WorkInRange t.activation → answer ≡ waits classes k shared s
+ThreadWaits classes k shared t answer = (unit : SourceUnit) (s : Thread) → ThreadStands unit classes t s
+    → WorkInRange t.activation → answer ≡ waits classes k shared s
 
 -- a step leaves the thread so, and all threads this to share
 pub record Leaves (unit : SourceUnit) (classes : Classes) (shared : Shared) (t : ThreadInMemory) (event : Event) (advance : Advance) : Type 0 where
@@ -124,9 +128,11 @@ StepIs unit classes shared t None advance = advance ≡ NoAdvance
 
 -- The same for each thread that it stands for, with this to share before and after it, or what the step does with its object
 -- refused. It is thread k, and the buffers of all threads together take what is in use.
-abbrev pub TakesStep : SourceUnit → Classes → BuffersInUse → (k : ℕ) → (refused : Bool) → Shared → ThreadInMemory → Option EventInMemory → Shared → ThreadInMemory → Type 0
+abbrev pub TakesStep : SourceUnit → Classes → BuffersInUse → (k : ℕ) → (refused : Bool) → Shared → ThreadInMemory
+    → Option EventInMemory → Shared → ThreadInMemory → Type 0
 TakesStep unit classes in_use k refused shared old took after new =
-    (s : Thread) → ThreadStands unit classes old s → s.ending ≡ Unfinished → StepIs unit classes after new took (thread_step unit classes in_use k shared s refused)
+    (s : Thread) → ThreadStands unit classes old s → s.ending ≡ Unfinished
+    → StepIs unit classes after new took (thread_step unit classes in_use k shared s refused)
 
 -- the same at a turn
 abbrev pub TakesTurn : SourceUnit → Turn → Shared → ThreadInMemory → Option EventInMemory → Shared → ThreadInMemory → Type 0

@@ -11,8 +11,8 @@ use replay_steps::Activation;
 use semantics::ObjectId;
 use std::alloc::{AllocError, Global};
 
-/// The names of the objects that global references and threads refer to, that threads own, and that views show, in the order of the
-/// definitions.
+/// The names of the objects that global references and threads refer to, that threads own, and that views show, in the
+/// order of the definitions.
 pub fn root_names(
     alloc: Global,
     shared: &Shared<'_>,

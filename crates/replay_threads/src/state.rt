@@ -93,7 +93,8 @@ fn waits_for_owner(state: &State<'_>, k: usize) -> bool
     is_waiting(classes, k, &state.shared, &state.threads[k - 1])
 }
 
-/// The place of thread `k` if it can step: the machine hasn't stopped, and the thread is there, has not ended, and waits for no monitor.
+/// The place of thread `k` if it can step: the machine hasn't stopped, and the thread is there, has not ended, and
+/// waits for no monitor.
 #[inline]
 fn place_of(state: &State<'_>, k: u8) -> Option<usize>
     requires { AreInRange state.now.threads.items }

@@ -71,7 +71,8 @@ fn add_parameters<'a>(
     arguments: &[ObjectValue],
 ) -> Result<(), AllocError>
     ensures { IfOk result (λ _. variables_view variables.new
-        ≡ assign_all (parameter_variables (zip (map parameter_tree parameters.entry.now) (map object_value_view arguments.entry.now))) (variables_view variables.old)) }
+        ≡ assign_all (parameter_variables (zip (map parameter_tree parameters.entry.now)
+        (map object_value_view arguments.entry.now))) (variables_view variables.old)) }
 {
     match parameters {
         [] => Ok(()),
@@ -105,7 +106,8 @@ fn entry_variables<'a>(
     arguments: &[ObjectValue],
 ) -> Result<Variables<'a>, AllocError>
     ensures { IfOk result (λ variables. variables_view variables
-        ≡ assign_all ((function.entry.now.class_name, LocalRef 1 (Some class)) ∷ parameter_variables (zip (function_tree function.entry.now).parameters (map object_value_view arguments.now))) []) }
+        ≡ assign_all ((function.entry.now.class_name, LocalRef 1 (Some class)) ∷ parameter_variables
+        (zip (function_tree function.entry.now).parameters (map object_value_view arguments.now))) []) }
 {
     let mut variables = Variables::new(alloc);
     variables.set(
@@ -266,7 +268,8 @@ fn ending_after(store: &Store, pending: Option<ObjectId>, calls: &[Call]) -> End
     }
 }
 
-/// Ends the call in progress of thread `k`. With an exception pending, or no call to come, the thread has ended, and owns no monitor.
+/// Ends the call in progress of thread `k`. With an exception pending, or no call to come, the thread has ended, and
+/// owns no monitor.
 fn leave(shared: &mut Shared<'_>, k: u8, thread: &mut Thread<'_>)
     ensures { HasLeft k (shared_view shared.old) thread.old (shared_view shared.new) thread.new }
 {
@@ -283,8 +286,8 @@ fn leave(shared: &mut Shared<'_>, k: u8, thread: &mut Thread<'_>)
     }
 }
 
-/// Leaves the call in progress of thread `k` if it returned. Tells what others see of what it did; none where it did nothing that is
-/// possible.
+/// Leaves the call in progress of thread `k` if it returned. Tells what others see of what it did; none where it did
+/// nothing that is possible.
 #[inline]
 fn end_step(
     shared: &mut Shared<'_>,
@@ -319,8 +322,8 @@ pub(crate) fn is_waiting<'a>(
     }
 }
 
-/// Lets a thread that has not ended take its next step, or the same with its object refused. Tells what others see of it; none where
-/// it isn't possible.
+/// Lets a thread that has not ended take its next step, or the same with its object refused. Tells what others see of
+/// it; none where it isn't possible.
 pub(crate) fn take_step<'a>(
     functions: &Functions<'a>,
     world: &'a World,
@@ -333,7 +336,8 @@ pub(crate) fn take_step<'a>(
     requires classes { turn.classes.now ≡ world.now.classes }
     requires grown { IsGrown turn.classes.now }
     requires range { WorkInRange thread.old.activation }
-    ensures step { IfOk result (λ took. TakesTurn (unit_tree functions.now) turn.entry (shared_view shared.old) thread.old took (shared_view shared.new) thread.new) }
+    ensures step { IfOk result (λ took. TakesTurn (unit_tree functions.now) turn.entry
+        (shared_view shared.old) thread.old took (shared_view shared.new) thread.new) }
     ensures range { IfOk result (λ _. WorkInRange thread.new.activation) }
 {
     let Some(activation) = &mut thread.activation else {

@@ -40,7 +40,9 @@ fn put_values<O: Objects, S: Sink>(
 ) -> Result<(), SinkFailed>
     requires can_fail { CanFail (S.written sink.old) }
     requires name { IsWithin (length (O.heap objects.now)) name }
-    ensures { Writes (S.written sink.old) (S.written sink.new) result (flat_map (λ v. codes " " ++ shown_text v) (map (shown_value classes.now) (values_of (O.heap objects.now) name))) }
+    ensures { Writes (S.written sink.old) (S.written sink.new) result
+        (flat_map (λ v. codes " " ++ shown_text v) (map (shown_value classes.now)
+        (values_of (O.heap objects.now) name))) }
 {
     for index in 0..objects.count(name) {
         let value = objects.value(name, index);

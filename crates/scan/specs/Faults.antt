@@ -31,7 +31,8 @@ ScanFault = FaultAt ScanRule ℕ
 abbrev pub HasFault : List ℕ → ScanRule → Type 0
 HasFault text BadByte = (byte : ℕ) × (rest : List ℕ) × (text ≡ byte ∷ rest) × BeginsNothing byte
 HasFault text OpenComment = (rest : List ℕ) × (text ≡ 47 ∷ 42 ∷ rest) × ((inside rest_of : List ℕ) → rest ≢ inside ++ 42 ∷ 47 ∷ rest_of)
-HasFault text BadNumber = (digit : ℕ) × (rest : List ℕ) × (text ≡ digit ∷ rest) × IsTrue (is_from_to 48 57 digit) × ((value : ℕ) (unsigned : Bool) (n : ℕ) → IsToken (Number unsigned value) text n → ⊥)
+HasFault text BadNumber = (digit : ℕ) × (rest : List ℕ) × (text ≡ digit ∷ rest) × IsTrue (is_from_to 48 57 digit)
+    × ((value : ℕ) (unsigned : Bool) (n : ℕ) → IsToken (Number unsigned value) text n → ⊥)
 HasFault text BadText = (rest : List ℕ) × (text ≡ 34 ∷ rest) × ((n : ℕ) → IsToken Text text n → ⊥)
 
 -- The text is filled up to a place of this line, where it has this fault.

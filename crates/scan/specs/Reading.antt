@@ -20,7 +20,10 @@ lookup [] byte = None
 lookup (row ∷ rows) byte = if byte == row.0 then Some row.1 else lookup rows byte
 
 abbrev pub marks : List (ℕ × Mark)
-marks = (40, OpenParen) ∷ (41, CloseParen) ∷ (123, OpenBrace) ∷ (125, CloseBrace) ∷ (91, OpenBracket) ∷ (93, CloseBracket) ∷ (59, Semicolon) ∷ (44, Comma) ∷ (61, Assign) ∷ (42, Star) ∷ (38, Ampersand) ∷ (124, Bar) ∷ (94, Caret) ∷ (126, Tilde) ∷ (33, Exclamation) ∷ (43, Plus) ∷ (45, Minus) ∷ (47, Slash) ∷ (37, Percent) ∷ (60, Less) ∷ (62, Greater) ∷ []
+marks = (40, OpenParen) ∷ (41, CloseParen) ∷ (123, OpenBrace) ∷ (125, CloseBrace) ∷ (91, OpenBracket) ∷
+    (93, CloseBracket) ∷ (59, Semicolon) ∷ (44, Comma) ∷ (61, Assign) ∷ (42, Star) ∷ (38, Ampersand) ∷ (124, Bar) ∷
+    (94, Caret) ∷ (126, Tilde) ∷ (33, Exclamation) ∷ (43, Plus) ∷ (45, Minus) ∷ (47, Slash) ∷ (37, Percent) ∷
+    (60, Less) ∷ (62, Greater) ∷ []
 
 abbrev pub mark_of : ℕ → Option Mark
 mark_of byte = lookup marks byte
@@ -30,7 +33,8 @@ lookup_pair [] first second = None
 lookup_pair (row ∷ rows) first second = if first == row.0 && second == row.1 then Some row.2 else lookup_pair rows first second
 
 abbrev pub pairs : List (ℕ × ℕ × Mark)
-pairs = (45, 62, Arrow) ∷ (60, 61, LessEqual) ∷ (62, 61, GreaterEqual) ∷ (61, 61, Equal) ∷ (33, 61, NotEqual) ∷ (38, 38, LogicalAnd) ∷ (124, 124, LogicalOr) ∷ (60, 60, ShiftLeft) ∷ (62, 62, ShiftRight) ∷ []
+pairs = (45, 62, Arrow) ∷ (60, 61, LessEqual) ∷ (62, 61, GreaterEqual) ∷ (61, 61, Equal) ∷ (33, 61, NotEqual) ∷
+    (38, 38, LogicalAnd) ∷ (124, 124, LogicalOr) ∷ (60, 60, ShiftLeft) ∷ (62, 62, ShiftRight) ∷ []
 
 abbrev pub pair_of : ℕ → ℕ → Option Mark
 pair_of first second = lookup_pair pairs first second
@@ -45,8 +49,11 @@ abbrev pub with_suffix : ℕ → List ℕ → List ℕ → Option (ℕ × Bool)
 with_suffix base digits [] = within base digits false
   where
     within : ℕ → List ℕ → Bool → Option (ℕ × Bool)
-    within base digits unsigned = if are_formed base digits && nat_lt (base_value base 0 digits) (number_limit unsigned) then Some (base_value base 0 digits, unsigned) else None
-with_suffix base digits (b ∷ []) = if b == 117 && are_formed base digits && nat_lt (base_value base 0 digits) (number_limit true) then Some (base_value base 0 digits, true) else None
+    within base digits unsigned = if are_formed base digits
+        && nat_lt (base_value base 0 digits) (number_limit unsigned) then Some (base_value base 0 digits, unsigned)
+        else None
+with_suffix base digits (b ∷ []) = if b == 117 && are_formed base digits
+    && nat_lt (base_value base 0 digits) (number_limit true) then Some (base_value base 0 digits, true) else None
 with_suffix base digits (b ∷ c ∷ more) = None
 
 unfoldable pub number_in : ℕ → List ℕ → Option (ℕ × Bool)

@@ -153,7 +153,8 @@ token_at text at kind n = record { kind = kind; line = line_of text at; start = 
 pub data SpellsFrom (text : List ℕ) : ℕ → List Token → Type 0 where
   ends : {at : ℕ} → at ≡ length text → SpellsFrom text at []
   passes : {at : ℕ} {tokens : List Token} (n : ℕ) → IsGap (drop at text) n → SpellsFrom text (at + n) tokens → SpellsFrom text at tokens
-  takes : {at : ℕ} {tokens : List Token} (kind : Kind) (n : ℕ) → IsToken kind (drop at text) n → SpellsFrom text (at + n) tokens → SpellsFrom text at (token_at text at kind n ∷ tokens)
+  takes : {at : ℕ} {tokens : List Token} (kind : Kind) (n : ℕ) → IsToken kind (drop at text) n
+      → SpellsFrom text (at + n) tokens → SpellsFrom text at (token_at text at kind n ∷ tokens)
 
 abbrev pub Spells : List ℕ → List Token → Type 0
 Spells text tokens = SpellsFrom text 0 tokens

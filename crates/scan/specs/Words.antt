@@ -88,4 +88,5 @@ unused_word bytes = if is_unused_type bytes || is_unused_declaration bytes || is
 
 -- the reserved word of these bytes, if they are one
 unfoldable pub word_of : List ℕ → Option Word
-word_of bytes = option_or (keyword bytes) (option_or (interface_word bytes) (option_or (reference_word bytes) (option_or (constant_word bytes) (unused_word bytes))))
+word_of bytes = option_or (keyword bytes) (option_or (interface_word bytes)
+    (option_or (reference_word bytes) (option_or (constant_word bytes) (unused_word bytes))))

@@ -12,7 +12,8 @@ use Rattle.semantics.specs.Step.{is_blocked, is_live, world_step}
 -- an entry of one thread, marked or not, changes no other thread's part in the journal
 abbrev pub OthersStay : Type 0
 OthersStay =
-    (unit : SourceUnit) (w : World) (journal : Journal) (k : ℕ) (refused : Bool) (other : ℕ) → IsSome (replay unit w (journal ++ Step k refused ∷ [])) → other ≢ k
+    (unit : SourceUnit) (w : World) (journal : Journal) (k : ℕ) (refused : Bool) (other : ℕ)
+    → IsSome (replay unit w (journal ++ Step k refused ∷ [])) → other ≢ k
     → account unit w (journal ++ Step k refused ∷ []) other ≡ account unit w journal other
 
 -- thread k can step: no trap has stopped the machine, and it has neither ended nor waits
@@ -23,7 +24,8 @@ pub record MayStep (classes : Classes) (s : State) (k : ℕ) : Type 0 where
 
 -- an entry is of a thread that can step
 abbrev pub StepsMay : Type 0
-StepsMay = (unit : SourceUnit) (classes : Classes) (s next : State) (k : ℕ) (refused : Bool) → world_step unit classes s (Step k refused) ≡ Some next → MayStep classes s k
+StepsMay = (unit : SourceUnit) (classes : Classes) (s next : State) (k : ℕ) (refused : Bool)
+    → world_step unit classes s (Step k refused) ≡ Some next → MayStep classes s k
 
 -- A step of thread k prints nothing, or one number of its own, behind those printed before.
 abbrev pub Prints : (s : State) (k : ℕ) (next : State) → Type 0
@@ -31,4 +33,5 @@ Prints s k next = (next.printed ≡ s.printed) ⊎ ((z : ℤ) × (next.printed �
 
 -- an entry prints at most one number
 abbrev pub StepsPrint : Type 0
-StepsPrint = (unit : SourceUnit) (classes : Classes) (s next : State) (k : ℕ) (refused : Bool) → world_step unit classes s (Step k refused) ≡ Some next → Prints s k next
+StepsPrint = (unit : SourceUnit) (classes : Classes) (s next : State) (k : ℕ) (refused : Bool)
+    → world_step unit classes s (Step k refused) ≡ Some next → Prints s k next

@@ -234,5 +234,6 @@ enter_effect k s t object (Some m) =
 abbrev pub exit_effect : (k : ℕ) → Shared → Thread → ℕ → Option Monitor → CallEffect
 exit_effect k s t object None = Throws illegal_monitor_state
 exit_effect k s t object (Some m) =
-    if m.owner == k then monitors_effect s t (if m.count == 1 then without_monitor s.monitors object else monitor object k (m.count - 1) ∷ without_monitor s.monitors object)
+    if m.owner == k then monitors_effect s t (if m.count == 1 then without_monitor s.monitors object
+    else monitor object k (m.count - 1) ∷ without_monitor s.monitors object)
     else Throws illegal_monitor_state

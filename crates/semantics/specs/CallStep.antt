@@ -110,7 +110,8 @@ makes_objects (Leaves (o ∷ made) s t given) = true
 makes_objects e = false
 
 -- Thread k calls a function, for this target and with these arguments, and goes on with the rest.
-module _ (classes : Classes) (in_use : BuffersInUse) (k : ℕ) (s : Shared) (t : Thread) (line : ℕ) (target : Target) (f : JniFunction) (args : List Actual) (rest : List Task) where
+module _ (classes : Classes) (in_use : BuffersInUse) (k : ℕ) (s : Shared) (t : Thread) (line : ℕ) (target : Target)
+    (f : JniFunction) (args : List Actual) (rest : List Task) where
   -- what the call does
   abbrev pub effect_of_call : CallEffect
   effect_of_call = checked (trap_of_call classes s t target f args) (call_effect classes in_use k s t args f)
@@ -118,7 +119,10 @@ module _ (classes : Classes) (in_use : BuffersInUse) (k : ℕ) (s : Shared) (t :
   -- the thread with the call's result: in its frame, in `isCopy`, and in the test of an `if`
   abbrev pub resumed : Thread → CallResult → Thread
   resumed t' given =
-      record (received (prototype f).result given t') { tasks = Some (tasks_after line target (is_zero given) ++ rest); variables = tell_copy (address_given args 1) given t'.variables }
+      record (received (prototype f).result given t') {
+        tasks = Some (tasks_after line target (is_zero given) ++ rest);
+        variables = tell_copy (address_given args 1) given t'.variables;
+      }
 
   -- the new objects are made, and the result goes where it belongs
   abbrev pub completed : List Object → Shared → Thread → CallResult → Advance

@@ -34,8 +34,11 @@ replay unit w journal = replay_from unit w (start unit w) journal
 pub data Follows (unit : SourceUnit) (w : World) : State → Journal → Schedule → State → Type 0 where
   Over : (s : State) → Follows unit w s [] [] s
   Collects : (s end : State) (journal : Journal) (words : Schedule) → Follows unit w s journal words end → Follows unit w s journal (Collect ∷ words) end
-  Waits : (s end : State) (k : ℕ) (journal : Journal) (words : Schedule) → can_step w.classes s k ≡ false → Follows unit w s journal words end → Follows unit w s journal (Turn k ∷ words) end
-  Steps : (s next end : State) (k : ℕ) (refused : Bool) (journal : Journal) (words : Schedule) → can_step w.classes s k ≡ true → world_step unit w.classes s (Step k refused) ≡ Some next → Follows unit w next journal words end → Follows unit w s (Step k refused ∷ journal) (Turn k ∷ words) end
+  Waits : (s end : State) (k : ℕ) (journal : Journal) (words : Schedule) → can_step w.classes s k ≡ false
+      → Follows unit w s journal words end → Follows unit w s journal (Turn k ∷ words) end
+  Steps : (s next end : State) (k : ℕ) (refused : Bool) (journal : Journal) (words : Schedule)
+      → can_step w.classes s k ≡ true → world_step unit w.classes s (Step k refused) ≡ Some next
+      → Follows unit w next journal words end → Follows unit w s (Step k refused ∷ journal) (Turn k ∷ words) end
 
 -- the journal is one of a run by the schedule
 abbrev pub JournalFollows : SourceUnit → World → Journal → Schedule → Type 0

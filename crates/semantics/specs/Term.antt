@@ -105,4 +105,5 @@ reduce sight (Prefix operator e) = with_part (λ v. done (prefix_value operator 
 reduce sight (And a b) = with_part (and_then b) (λ t. And t b) a (reduce sight a)
 reduce sight (Or a b) = with_part (or_else b) (λ t. Or t b) a (reduce sight a)
 reduce sight (Binary operator a b) =
-    with_part (λ v. with_part (λ w. done (binary_value operator v w)) (Binary operator (Done v)) b (reduce sight b)) (λ t. Binary operator t b) a (reduce sight a)
+    with_part (λ v. with_part (λ w. done (binary_value operator v w)) (Binary operator (Done v)) b (reduce sight b))
+    (λ t. Binary operator t b) a (reduce sight a)

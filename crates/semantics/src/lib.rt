@@ -1,5 +1,6 @@
-//! What a program does: its run on a heap where objects have names and never move. The definitions are in `specs/`; the code has only what a run is made of for the
-//! machine and for the replay alike (words of journals and schedules, values of objects, traps, events and endings, and what is printed), and the laws.
+//! What a program does: its run on a heap where objects have names and never move. The definitions are in `specs/`; the
+//! code has only what a run is made of for the machine and for the replay alike (words of journals and schedules,
+//! values of objects, traps, events and endings, and what is printed), and the laws.
 #![tactic(auto)]
 
 mod event;

@@ -4,8 +4,8 @@ ghost use Rattle.std.specs.Prelude.{◌≡◌};
 ghost use Rattle.semantics.specs.Value.{trap_number};
 ghost use Rattle.semantics.specs.EventViews.{trap_view};
 
-/// Why a run stops: C or the JNI leaves undefined what would follow (ISO/IEC 9899:1999, 6.5.5 to 6.5.7; JNI Specification, chapter 2, "Reporting
-/// Programming Errors"), or the program ended the run itself.
+/// Why a run stops: C or the JNI leaves undefined what would follow (ISO/IEC 9899:1999, 6.5.5 to 6.5.7; JNI
+/// Specification, chapter 2, "Reporting Programming Errors"), or the program ended the run itself.
 #[derive(Clone, Copy)]
 pub enum Trap {
     /// Division by zero (C99, 6.5.5).

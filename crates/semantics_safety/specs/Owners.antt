@@ -95,7 +95,8 @@ with_owners owners k own j = if j == k then own else owners j
 -- after a step of thread k, if it is there
 abbrev pub after_turn : SourceUnit → Classes → State → AllOwners → (k : ℕ) → (refused : Bool) → Option Thread → AllOwners
 after_turn unit classes s owners k refused None = owners
-after_turn unit classes s owners k refused (Some t) = with_owners owners k (after_advance s.shared t (owners k) (thread_step unit classes (in_use s) k s.shared t refused))
+after_turn unit classes s owners k refused (Some t) = with_owners owners k
+    (after_advance s.shared t (owners k) (thread_step unit classes (in_use s) k s.shared t refused))
 
 -- after an entry
 abbrev pub after_entry : SourceUnit → Classes → State → AllOwners → Entry → AllOwners

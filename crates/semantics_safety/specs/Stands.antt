@@ -66,14 +66,16 @@ copies names n = length (filter (λ m. n == m) names)
 
 -- the level of each live reference is that of its variable's own
 abbrev pub IsOwned : Owners → Variables → Point → Type 0
-IsOwned own vs p = (x : Identifier) (level l n : ℕ) → state_of p.regions x ≡ Some (ReferenceAt level true) → lookup x vs ≡ Some (LocalRef l (Some n)) → own x ≡ Some l
+IsOwned own vs p = (x : Identifier) (level l n : ℕ) → state_of p.regions x ≡ Some (ReferenceAt level true)
+    → lookup x vs ≡ Some (LocalRef l (Some n)) → own x ≡ Some l
 
 -- the thread is at this point
 pub record Stands (own : Owners) (statics : Statics) (vs : Variables) (frames : List Frame) (p : Point) : Type 0 where
   pub sorts : (x : Identifier) (s : Sort) → sort_in p.names x ≡ Some s → VariableFits s (lookup x vs) (lookup x statics)
   pub shows : (x : Identifier) (v : VariableState) → state_of p.regions x ≡ Some v → Shows vs v (lookup x vs)
   -- no other buffer is held
-  pub held : (x : Identifier) (u : ElementType) (b : Buffer_) → lookup x vs ≡ Some (Elements u b) → (b ≡ NoBuffer) ⊎ ((access : Access) × (a : Identifier) × Holds p x access a)
+  pub held : (x : Identifier) (u : ElementType) (b : Buffer_) → lookup x vs ≡ Some (Elements u b) → (b ≡ NoBuffer)
+      ⊎ ((access : Access) × (a : Identifier) × Holds p x access a)
   pub once : AreOnce vs
   pub known_once : AreOnce p.regions.variables
   pub depth : length frames ≡ p.regions.frames

@@ -100,14 +100,18 @@ pub record StepSafe (unit : SourceUnit) (w : World) (s : State) (own : Owners) (
   -- a return finds no copied list, no view and one frame
   pub return : next_effect s.shared t t.tasks ≡ Returns → MayReturn t
   -- a step uses no dead reference
-  pub references : (task : Task) (rest : List Task) → t.tasks ≡ Some (task ∷ rest) → AllByRecursion (λ x. IsAlive t.frames (lookup x t.variables)) (task_names task)
+  pub references : (task : Task) (rest : List Task) → t.tasks ≡ Some (task ∷ rest)
+      → AllByRecursion (λ x. IsAlive t.frames (lookup x t.variables)) (task_names task)
   -- nor one that isn't the variable's own
   pub owned : (task : Task) (rest : List Task) → t.tasks ≡ Some (task ∷ rest) → AllByRecursion (λ x. IsOwn own x (lookup x t.variables)) (task_names task)
   -- a release names the array that its buffer came from
-  pub release : (line : ℕ) (target : _) (access : _) (args : List Actual) → next_effect s.shared t t.tasks ≡ Calls line target (ReleaseBuffer access) args → came_from (lookup (variable_given args 1) t.variables) ≡ Some (object_given args 0)
+  pub release : (line : ℕ) (target : _) (access : _) (args : List Actual)
+      → next_effect s.shared t t.tasks ≡ Calls line target (ReleaseBuffer access) args
+      → came_from (lookup (variable_given args 1) t.variables) ≡ Some (object_given args 0)
   -- a call that gives a new local reference to a variable that is there already finds it declared at the frame that is then current
   pub declared : (line : ℕ) (x : Identifier) (f : JniFunction) (args : List Actual) (level : ℕ) (r : Reference)
-      → next_effect s.shared t t.tasks ≡ Calls line (Assigned x) f args → (prototype f).result ≡ NewLocal → lookup x t.variables ≡ Some (LocalRef level r) → level ≡ length (frames_after f t.frames)
+      → next_effect s.shared t t.tasks ≡ Calls line (Assigned x) f args → (prototype f).result ≡ NewLocal
+      → lookup x t.variables ≡ Some (LocalRef level r) → level ≡ length (frames_after f t.frames)
   -- a variable that it sets as a whole is no buffer that holds something, so that no copy is lost and no view
   pub free : (x : Identifier) → SetsWhole x (next_effect s.shared t t.tasks) → HoldsNoBuffer (lookup x t.variables)
   -- in a call, the next step has an effect
@@ -126,7 +130,8 @@ HasCalls w = IsTrue (list_all has_calls w.threads)
 
 -- after each journal that can be replayed, each thread's next step is safe
 abbrev pub IsSafe : SourceUnit → World → Type 0
-IsSafe unit w = (journal : Journal) (s : State) (k : ℕ) (t : Thread) → replay unit w journal ≡ Some s → thread_at s k ≡ Some t → StepSafe unit w s (owners_after unit w journal k) k t
+IsSafe unit w = (journal : Journal) (s : State) (k : ℕ) (t : Thread) → replay unit w journal ≡ Some s
+    → thread_at s k ≡ Some t → StepSafe unit w s (owners_after unit w journal k) k t
 
 -- an accepted unit is safe in each world that goes with it
 abbrev pub AcceptedIsSafe : Type 0

@@ -117,7 +117,8 @@ DeclaresResult p ScalarKind x GivesFlag get k = IsNew p x × k (named p x Flag)
 DeclaresResult p ReferenceKind x NewLocal get k = IsNew p x × k (at (named p x Ref) (with_new p.regions x (ReferenceAt p.regions.frames true)))
 DeclaresResult p FieldKind x GivesField get k = IsNew p x × k (named p x sort.FieldId)
 DeclaresResult p (BufferKind t) x (GivesBuffer access) get k =
-    IsNew p x × ((writable : Bool) × (is_buffer_for access (Some (Buffer t writable)) ≡ true) × k (at (named p x (Buffer t writable)) (with_new p.regions x (BufferIn (buffer_from get)))))
+    IsNew p x × ((writable : Bool) × (is_buffer_for access (Some (Buffer t writable)) ≡ true)
+    × k (at (named p x (Buffer t writable)) (with_new p.regions x (BufferIn (buffer_from get)))))
 DeclaresResult p kind x result get k = ⊥
 
 -- a variable of this sort gets a call's result
@@ -128,7 +129,8 @@ AssignsResult p (Some Ref) x NewLocal get k = MaySet p x × k (at p (with_change
 AssignsResult p (Some Global) x NewGlobal get k = k p
 AssignsResult p (Some sort.FieldId) x GivesField get k = k p
 AssignsResult p (Some (Buffer t writable)) x (GivesBuffer access) get k =
-    (state_of p.regions x ≡ Some (BufferIn Free)) × (is_buffer_for access (Some (Buffer t writable)) ≡ true) × k (at p (with_changed p.regions x (λ old. BufferIn (buffer_from get))))
+    (state_of p.regions x ≡ Some (BufferIn Free)) × (is_buffer_for access (Some (Buffer t writable)) ≡ true)
+    × k (at p (with_changed p.regions x (λ old. BufferIn (buffer_from get))))
 AssignsResult p s x result get k = ⊥
 
 -- a call whose result is dropped gives no buffer and no global reference
@@ -148,7 +150,9 @@ CallKeeps p (ReleaseBuffer access) (tree.Value (tree.Variable a) ∷ tree.Value 
 CallKeeps p (ReleaseBuffer access) arguments = ⊥
 CallKeeps p DeleteLocalRef (tree.Value (tree.Variable x) ∷ []) = IsUnused p x
 CallKeeps p DeleteLocalRef arguments = ⊥
-CallKeeps p PopLocalFrame arguments = (1 < p.regions.frames) × ((x a : Identifier) (access : Access) (live : Bool) → Holds p x access a → state_of p.regions a ≡ Some (ReferenceAt p.regions.frames live) → ⊥)
+CallKeeps p PopLocalFrame arguments = (1 < p.regions.frames)
+    × ((x a : Identifier) (access : Access) (live : Bool) → Holds p x access a
+    → state_of p.regions a ≡ Some (ReferenceAt p.regions.frames live) → ⊥)
 CallKeeps p f arguments = Unit {0}
 
 -- while a buffer is critical, only critical calls are made
@@ -205,7 +209,8 @@ RunsPlain (SetElement line x i t) k p = ElementsFit p x (sort_in p.names x) × (
 RunsPlain (SetNull target) k p = SetsNullThere p target k
 RunsPlain (MakeArray t x size) k p = IsNew p x × k (named p x (Array t size))
 RunsPlain (Invoke line target f operands) k p =
-    CallFits p f operands × (is_push f ≡ false) × ResultGoes target (prototype f).result (get_of (call_seen f operands)) k (at p (after_call p.regions (call_seen f operands)))
+    CallFits p f operands × (is_push f ≡ false) × ResultGoes target (prototype f).result
+    (get_of (call_seen f operands)) k (at p (after_call p.regions (call_seen f operands)))
 RunsPlain (Print line t) k p = HasSort p t Jint × HasNoView p × k p
 RunsPlain task.Return k p = MayReturnFrom p
 RunsPlain (task.ReturnValue line t) k p = ReturnFits p t × MayReturnFrom p
@@ -234,7 +239,8 @@ abbrev mutual
   RunsStmt (If line (TestExpr e) then') k p = RunsTest (term_of e) (RunsBlock then' (Outside k)) (Outside k) p
   RunsStmt (If line (TestCall c) then') k p = RunsPush (task_of (If line (TestCall c) then')) (RunsBlock then' (Outside k)) (Outside k) p
   RunsStmt (IfElse line (TestExpr e) then' else') k p = RunsTest (term_of e) (RunsBlock then' (Outside k)) (RunsBlock else' (Outside k)) p
-  RunsStmt (IfElse line (TestCall c) then' else') k p = RunsPush (task_of (IfElse line (TestCall c) then' else')) (RunsBlock then' (Outside k)) (RunsBlock else' (Outside k)) p
+  RunsStmt (IfElse line (TestCall c) then' else') k p = RunsPush (task_of (IfElse line (TestCall c) then' else'))
+      (RunsBlock then' (Outside k)) (RunsBlock else' (Outside k)) p
   RunsStmt (While line e body) k p = HasSort p (term_of e) Truth × RunsBlock body (λ q. Closes q p) p × k p
   RunsStmt s k p = RunsPlain (task_of s) k p
 
@@ -250,7 +256,8 @@ Runs (Branch line t then' else') k p = RunsTest t (RunsBlock then' (Outside k)) 
 Runs EndIf k p = Outside k p
 Runs (Loop line e t body) k p = HasSort p t Truth × Turns e body p × k p
 Runs (EndTurn line e body) k p = (q : Point) × Closes p q × Turns e body q × k q
-Runs (Invoke line (Tested then' else') f operands) k p = RunsPush (Invoke line (Tested then' else') f operands) (RunsBlock then' (Outside k)) (RunsBlock else' (Outside k)) p
+Runs (Invoke line (Tested then' else') f operands) k p = RunsPush (Invoke line (Tested then' else') f operands)
+    (RunsBlock then' (Outside k)) (RunsBlock else' (Outside k)) p
 Runs task k p = RunsPlain task k p
 
 -- from this point on all tasks break no rule, and a return comes before their end

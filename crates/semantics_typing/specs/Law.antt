@@ -17,7 +17,8 @@ use Rattle.semantics_typing.specs.Texts.{HasTexts}
 -- after each journal that can be replayed objects are typed, and one entry more leaves each with its class and its number of values
 pub record RunsTyped (unit : SourceUnit) (w : World) : Type 0 where
   pub typed : (journal : Journal) (s : State) → replay unit w journal ≡ Some s → IsTyped w.classes s
-  pub shapes : (journal : Journal) (s next : State) (e : Entry) → replay unit w journal ≡ Some s → world_step unit w.classes s e ≡ Some next → ShapesStay s.shared.heap next.shared.heap
+  pub shapes : (journal : Journal) (s next : State) (e : Entry) → replay unit w journal ≡ Some s
+      → world_step unit w.classes s e ≡ Some next → ShapesStay s.shared.heap next.shared.heap
 
 -- an accepted unit's runs are typed, in each world that goes with it; its texts are of bytes, as in memory
 abbrev pub AcceptedIsTyped : Type 0

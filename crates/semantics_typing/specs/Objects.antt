@@ -103,4 +103,5 @@ pub record IsTyped (classes : Classes) (s : State) : Type 0 where
 
 -- each object is there yet, with its class and its number of values
 abbrev pub ShapesStay : Heap → Heap → Type 0
-ShapesStay before after = (n : ℕ) (o : Object) → object_at before n ≡ Some o → (p : Object) × (object_at after n ≡ Some p) × (p.class ≡ o.class) × (length p.values ≡ length o.values)
+ShapesStay before after = (n : ℕ) (o : Object) → object_at before n ≡ Some o → (p : Object)
+    × (object_at after n ≡ Some p) × (p.class ≡ o.class) × (length p.values ≡ length o.values)

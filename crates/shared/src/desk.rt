@@ -35,7 +35,8 @@ impl<'a, J: Naming> Model for Desk<'a, J> {
 
     ghost view = { λ d. d.machine };
 
-    ghost invariant = { λ d. (d.machine.world ≡ J.world) × (d.keeper.table_id ≡ J.cell) × (cell_view d.keeper ≡ knower (known_of d.machine) (length J.world.threads + 1)) × (d.machine.unit ≡ J.unit) };
+    ghost invariant = { λ d. (d.machine.world ≡ J.world) × (d.keeper.table_id ≡ J.cell)
+        × (cell_view d.keeper ≡ knower (known_of d.machine) (length J.world.threads + 1)) × (d.machine.unit ≡ J.unit) };
 }
 
 impl<'a, J: Naming> Desk<'a, J> {

@@ -40,7 +40,9 @@ impl<J: Naming> Model for Seat<J> {
 
     ghost view = { λ s. record { thread = s.thread; account = (cell_view s.pass).account.account; kept = s.kept } };
 
-    ghost invariant = { λ s. (0 < s.thread) × (s.thread ≤ length J.world.threads) × (s.pass.table_id ≡ J.cell) × (cell_view s.pass ≡ sitting s.thread (record { account = (cell_view s.pass).account.account; kept = s.kept })) × ((cell_view s.pass).account.account.printed ≡ s.lines.items) };
+    ghost invariant = { λ s. (0 < s.thread) × (s.thread ≤ length J.world.threads) × (s.pass.table_id ≡ J.cell)
+        × (cell_view s.pass ≡ sitting s.thread (record { account = (cell_view s.pass).account.account; kept = s.kept }))
+        × ((cell_view s.pass).account.account.printed ≡ s.lines.items) };
 }
 
 impl<J: Naming> Seat<J> {
@@ -108,7 +110,9 @@ pub(crate) fn give_all<J: Naming>(
     requires keeper { cell_view keeper.old ≡ knower (cell_view keeper.old).table 1 }
     requires fits { threads ≡ length J.world.threads }
     requires known { length (cell_view keeper.old).table.table ≡ length J.world.threads + 1 }
-    requires printed { (k : ℕ) → k < length J.world.threads → (unwrap_or (slice_get (cell_view keeper.old).table.table (k + 1)) nothing).printed ≡ numbers_of printed.now (k + 1) }
+    requires printed { (k : ℕ) → k < length J.world.threads
+        → (unwrap_or (slice_get (cell_view keeper.old).table.table (k + 1)) nothing).printed
+        ≡ numbers_of printed.now (k + 1) }
     ensures keeper { OnOk result ((keeper.new.table_id ≡ J.cell) × (cell_view keeper.new ≡ knower (cell_view keeper.old).table (length J.world.threads + 1))) }
     ensures seats { IfOk result (λ seats. seats.items ≡ seats_in (cell_view keeper.old).table.table (length J.world.threads)) }
 {

@@ -201,7 +201,8 @@ pub fn settle<E: Becomes, M, R: Wait>(
     requires own { (keeper.old.table_id ≡ cell.now.table.shared.table_id) × (seat.old.table_id ≡ cell.now.table.shared.table_id) }
     requires keeper { cell_view keeper.old ≡ knower (cell_view keeper.old).table (cell_view keeper.old).next }
     requires seat { cell_view seat.old ≡ sitting (cell_view seat.old).thread (cell_view seat.old).account }
-    requires here { Right (cell_view keeper.old).table (cell_view seat.old).thread (cell_view seat.old).account → Right E.table (cell_view seat.old).thread E.account }
+    requires here { Right (cell_view keeper.old).table (cell_view seat.old).thread (cell_view seat.old).account
+        → Right E.table (cell_view seat.old).thread E.account }
     requires others { (j : ℕ) (c : Claim) → j ≢ (cell_view seat.old).thread → Right (cell_view keeper.old).table j c → Right E.table j c }
     ensures was { Right (cell_view keeper.old).table (cell_view seat.old).thread (cell_view seat.old).account }
     ensures keeper { (keeper.new.table_id ≡ keeper.old.table_id) × (cell_view keeper.new ≡ knower E.table (cell_view keeper.old).next) }

@@ -42,8 +42,8 @@ pub enum Written {
     Block(usize),
 }
 
-/// A heap with roots and weak references. References, roots and weak references are each to a block, and name it by its place in the
-/// order of addresses, from 0 on; where no block has it they are to none.
+/// A heap with roots and weak references. References, roots and weak references are each to a block, and name it by its
+/// place in the order of addresses, from 0 on; where no block has it they are to none.
 #[derive(Drop)]
 pub struct Closed {
     heap: Heap,

@@ -41,8 +41,8 @@ fn a_number_is_no_address_and_cycles_die(rt: HostRuntime) -> Result<(), Fail> {
     Ok(())
 }
 
-// Beside a block of 6 cells at 0, which dies, a pinned one of 5 at 6. That of 7 has no room below it, and stays; once it has died, one of
-// 3 passes the pinned one.
+// Beside a block of 6 cells at 0, which dies, a pinned one of 5 at 6. That of 7 has no room below it, and stays; once
+// it has died, one of 3 passes the pinned one.
 #[test]
 fn a_pinned_block_stays_and_others_pass_it(rt: HostRuntime) -> Result<(), Fail> {
     let mut heap = Closed::new(rt.alloc(), 60)?;
@@ -66,8 +66,8 @@ fn a_pinned_block_stays_and_others_pass_it(rt: HostRuntime) -> Result<(), Fail> 
     Ok(())
 }
 
-// Each of 262,144 blocks of four cells refers to the last one before it at an odd place, or else to the first: all at odd places and the
-// first are kept.
+// Each of 262,144 blocks of four cells refers to the last one before it at an odd place, or else to the first: all at
+// odd places and the first are kept.
 #[test]
 fn a_full_heap_is_collected(rt: HostRuntime) -> Result<(), Fail> {
     let mut heap = Closed::new(rt.alloc(), 1_048_576)?;

@@ -17,4 +17,5 @@ without_collections (Turn k ∷ words) = Turn k ∷ without_collections words
 -- Collections change no run: the same journals follow a schedule with them and without them, to the same states.
 abbrev pub CollectionsChangeNothing : Type 0
 CollectionsChangeNothing =
-    (unit : SourceUnit) (w : World) (s end : State) (journal : Journal) (words : Schedule) → Follows unit w s journal words end ↔ Follows unit w s journal (without_collections words) end
+    (unit : SourceUnit) (w : World) (s end : State) (journal : Journal) (words : Schedule)
+    → Follows unit w s journal words end ↔ Follows unit w s journal (without_collections words) end

@@ -1,4 +1,5 @@
-//! Tests of the public calls of `heap`, `tables` and `monitors`: with success, and each refusal once. Expected values are counted by hand.
+//! Tests of the public calls of `heap`, `tables` and `monitors`: with success, and each refusal once. Expected values
+//! are counted by hand.
 #![tactic(auto)]
 
 #[cfg(test)]

@@ -1,7 +1,8 @@
 //! Runs a program in a world by the calls of a machine, of seats or of workers, and asks each call that is refused memory again:
 //! `test_refusals machine PROG WORLD SCHEDULE`, `seats PROG WORLD SCHEDULE` or `workers PROG WORLD`.
 //!
-//! The report is written, and the status says what came of it. What a refused call may not change is compared with what it was before.
+//! The report is written, and the status says what came of it. What a refused call may not change is compared with what
+//! it was before.
 #![tactic(auto)]
 
 mod failure;

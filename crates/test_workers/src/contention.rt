@@ -32,7 +32,8 @@ const TWICE: &[u8] =
 const ONE_OBJECT: &[u8] =
     b"heap 512\nclass A\nobject @o A\nthread Java_A_f @o\nthread Java_A_f @o\n";
 
-/// Twelve steps: the entry, the field ID, the monitor, the number, six for its successor, which is set, the monitor again, and the return.
+/// Twelve steps: the entry, the field ID, the monitor, the number, six for its successor, which is set, the monitor
+/// again, and the return.
 const COUNTING: &[u8] =
     b"JNIEXPORT void JNICALL Java_A_f(JNIEnv *env, jclass cls, jobject o) { jfieldID n = (*env)->GetFieldID(env, cls, \"n\", \"I\"); (*env)->MonitorEnter(env, o); jint old = (*env)->GetIntField(env, o, n); (*env)->SetIntField(env, o, n, (jint)((uint32_t)old + 1u)); (*env)->MonitorExit(env, o); return; }";
 
@@ -195,8 +196,8 @@ fn a_deadlock(rt: HostRuntime) -> Result<(), Fail> {
     Ok(())
 }
 
-/// Lets each of two workers take two turns, and goes on once the other one has taken as many, for which it looks 1,000 times, a millisecond
-/// apart.
+/// Lets each of two workers take two turns, and goes on once the other one has taken as many, for which it looks 1,000
+/// times, a millisecond apart.
 #[derive(Drop)]
 struct Crossing<R: Clock> {
     clock: R,

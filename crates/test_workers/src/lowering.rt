@@ -160,8 +160,8 @@ fn long_functions_are_refused(rt: HostRuntime) -> Result<(), Fail> {
     Ok(())
 }
 
-/// Of two functions, whether each was begun, and whether it then saw the other begun. It looks 1,000 times, and sleeps a millisecond
-/// after each.
+/// Of two functions, whether each was begun, and whether it then saw the other begun. It looks 1,000 times, and sleeps
+/// a millisecond after each.
 #[derive(Drop)]
 struct Meeting<R: Clock> {
     clock: R,

@@ -54,8 +54,8 @@ pub(crate) fn reported(alloc: Global, machine: &Machine<'_>) -> Result<Vec<u8>, 
     }
 }
 
-/// Takes turns of each thread in order until all have ended, and hands the seats back: not before the last is the machine given. The
-/// numbers that each thread has printed, and the report.
+/// Takes turns of each thread in order until all have ended, and hands the seats back: not before the last is the
+/// machine given. The numbers that each thread has printed, and the report.
 fn turns<J: Naming, R: Wait>(
     rt: &R,
     alloc: Global,

@@ -1,5 +1,5 @@
-//! Tests of class tables, of what worlds, schedules and journals are read as, and of what is written: the public calls with success, each
-//! refusal once, and writers that fail. Expected values are counted by hand.
+//! Tests of class tables, of what worlds, schedules and journals are read as, and of what is written: the public calls
+//! with success, each refusal once, and writers that fail. Expected values are counted by hand.
 #![tactic(auto)]
 
 #[cfg(test)]

@@ -75,7 +75,8 @@ abbrev mutual
 abbrev pub function_places : List Identifier → Scope → Function → List Place
 function_places taken statics f =
     record { line = f.line; known = statics; taken = taken; returns = f.result; form = HeadForm f }
-    ∷ places_of f.result ((f.class_name, Ref) ∷ map (λ p. (p.name, parameter_sort p.type)) f.parameters ++ statics) (parameter_names f ++ map (λ s. s.0) statics) f.body
+    ∷ places_of f.result ((f.class_name, Ref) ∷ map (λ p. (p.name, parameter_sort p.type)) f.parameters ++ statics)
+    (parameter_names f ++ map (λ s. s.0) statics) f.body
 
 -- the places of items, after the names of the file so far and its statics so far
 abbrev pub item_places : List Identifier → Scope → List Item → List Place
@@ -259,7 +260,8 @@ abbrev pub breaks_sort_rule : SortRule → Scope → List Identifier → ResultT
 breaks_sort_rule UnknownName known taken returns s = list_any (is_unknown known) (used_names s ++ option_to_list (assigned_name s))
 breaks_sort_rule DeclaredTwice known taken returns s = some_passes (has_name taken) (declared_name s)
 breaks_sort_rule SortMisfit known taken returns s =
-    not (list_all (is_formed known) (own_expressions s)) || not (statement_fits known returns s) || some_passes (λ c. not (call_arguments_fit known c (function_named c.function))) (own_call s)
+    not (list_all (is_formed known) (own_expressions s)) || not (statement_fits known returns s)
+    || some_passes (λ c. not (call_arguments_fit known c (function_named c.function))) (own_call s)
 breaks_sort_rule UnknownFunction known taken returns s = some_passes (λ c. is_none (function_named c.function)) (own_call s)
 breaks_sort_rule ArgumentCount known taken returns s = some_passes (λ c. has_wrong_count c (function_named c.function)) (own_call s)
 breaks_sort_rule ReferenceCopied known taken returns s = copies_reference known (set_sort known s) (right_side s)

@@ -88,7 +88,8 @@ refused_of returns known taken s line rules = flat_map (λ rule. broken_if (brea
 -- the places inside a statement
 abbrev pub places_inside : ResultType → Scope → List Identifier → Stmt → List Place
 places_inside returns known taken (If line test then') = places_of returns known taken then'
-places_inside returns known taken (IfElse line test then' else') = places_of returns known taken then' ++ places_of returns known (taken ++ names_declared (statements_of then')) else'
+places_inside returns known taken (IfElse line test then' else') = places_of returns known taken then'
+    ++ places_of returns known (taken ++ names_declared (statements_of then')) else'
 places_inside returns known taken (While line test body) = places_of returns known taken body
 places_inside returns known taken s = []
 
@@ -104,7 +105,8 @@ with_static statics (FunctionItem f) = statics
 
 -- what is refused at a function's head after items of these names, where its parameters and the statics have those
 abbrev pub head_faults : List Identifier → List Identifier → FunctionInMemory → Faults
-head_faults taken entry f = broken_if (not (is_some (unmangle f.name))) UnknownName f.line ++ broken_if (has_name taken f.name || has_repeated entry) DeclaredTwice f.line
+head_faults taken entry f = broken_if (not (is_some (unmangle f.name))) UnknownName f.line
+    ++ broken_if (has_name taken f.name || has_repeated entry) DeclaredTwice f.line
 
 -- ---- names in memory
 

@@ -47,7 +47,8 @@ fn prefix_sort(op: PrefixOp, sort: Option<Sort>) -> Option<Sort>
 
 /// Whether two numbers may be compared.
 fn are_comparable(left: Option<Sort>, right: Option<Sort>) -> bool
-    ensures { result ≡ (is_word (option_map sort_value left) && is_word (option_map sort_value right) || is_jint (option_map sort_value left) && is_jint (option_map sort_value right)) }
+    ensures { result ≡ (is_word (option_map sort_value left) && is_word (option_map sort_value right)
+        || is_jint (option_map sort_value left) && is_jint (option_map sort_value right)) }
 {
     (is_word(left) && is_word(right)) || (is_jint(left) && is_jint(right))
 }

@@ -62,7 +62,8 @@ fn check_body<'a>(
     taken: &mut Vec<Name>,
     f: &'a Function,
 ) -> Result<(), TypeError>
-    ensures finds { Finds result (head_faults names.now taken.old.items f.now ++ found (places_of (result_tree f.now.result) (scope_of known.old) taken.old.items (block_tree f.now.body))) }
+    ensures finds { Finds result (head_faults names.now taken.old.items f.now
+        ++ found (places_of (result_tree f.now.result) (scope_of known.old) taken.old.items (block_tree f.now.body))) }
     ensures restored { OnOk result (known.new ≡ known.old) }
 {
     check_head(names, taken, f)?;

@@ -191,7 +191,9 @@ fn return_fits(known: &Known<'_, Sort>, returns: ResultType, e: &Expr) -> bool
 
 /// Whether an element of a named buffer or array may be set.
 fn element_fits(known: &Known<'_, Sort>, name: &Name, index: &Expr, value: &Expr) -> bool
-    ensures { result ≡ (has_elements (sort_in (scope_of known.now) name.now) && is_index (sort_of (scope_of known.now) (expr_tree index.now)) && is_jint (sort_of (scope_of known.now) (expr_tree value.now))) }
+    ensures { result ≡ (has_elements (sort_in (scope_of known.now) name.now)
+        && is_index (sort_of (scope_of known.now) (expr_tree index.now))
+        && is_jint (sort_of (scope_of known.now) (expr_tree value.now))) }
 {
     has_elements(sort_in(known, name))
         && is_index(sort_of(known, index))
@@ -230,7 +232,9 @@ pub(crate) fn statement_fits(
 /// Whether the arguments of a statement's call do not fit, or one of them is neither bare nor has a sort.
 fn call_misfits(known: &Known<'_, Sort>, form: &Form, function: Option<JniFunction>) -> bool
     requires { (line : ℕ) → option_map function_value function ≡ function_in (own_call (form_tree line form.now)) }
-    ensures { (line : ℕ) → result ≡ some_passes (λ c. not (list_all (is_formed (scope_of known.now)) (call_expressions c)) || not (call_arguments_fit (scope_of known.now) c (function_named c.function))) (own_call (form_tree line form.now)) }
+    ensures { (line : ℕ) → result ≡ some_passes (λ c. not (list_all (is_formed (scope_of known.now))
+        (call_expressions c)) || not (call_arguments_fit (scope_of known.now) c (function_named c.function)))
+        (own_call (form_tree line form.now)) }
 {
     match own_call(form) {
         Some(call) => !call_formed(known, call) || !call_arguments_fit(known, function, call),
@@ -326,7 +330,8 @@ fn check_uses(
     line: usize,
 ) -> Result<(), TypeError>
     requires { (line : ℕ) → option_map function_value function ≡ function_in (own_call (form_tree line form.now)) }
-    ensures { Finds result (refused_of (result_tree returns) (scope_of known.now) taken.now (form_tree line form.now) line (ReferenceCopied ∷ BadMode ∷ ReadOnlyWrite ∷ [])) }
+    ensures { Finds result (refused_of (result_tree returns) (scope_of known.now) taken.now
+        (form_tree line form.now) line (ReferenceCopied ∷ BadMode ∷ ReadOnlyWrite ∷ [])) }
 {
     refuse_if(
         copies_reference(known, form),
@@ -348,7 +353,9 @@ fn check_call(
     line: usize,
 ) -> Result<(), TypeError>
     requires { (line : ℕ) → option_map function_value function ≡ function_in (own_call (form_tree line form.now)) }
-    ensures { Finds result (refused_of (result_tree returns) (scope_of known.now) taken.now (form_tree line form.now) line (UnknownFunction ∷ ArgumentCount ∷ ReferenceCopied ∷ BadMode ∷ ReadOnlyWrite ∷ [])) }
+    ensures { Finds result (refused_of (result_tree returns) (scope_of known.now) taken.now
+        (form_tree line form.now) line
+        (UnknownFunction ∷ ArgumentCount ∷ ReferenceCopied ∷ BadMode ∷ ReadOnlyWrite ∷ [])) }
 {
     refuse_if(
         calls_unknown(form, function),
@@ -359,7 +366,8 @@ fn check_call(
     check_uses(known, taken, returns, form, function, line)
 }
 
-/// The first rule that a statement on this line breaks, without the blocks inside it. All rules are judged, in the order of their numbers.
+/// The first rule that a statement on this line breaks, without the blocks inside it. All rules are judged, in the
+/// order of their numbers.
 #[tactic(auto, using(crate::proofs::FindsLemmas::finds_rules))]
 fn judge_form(
     known: &Known<'_, Sort>,

@@ -158,7 +158,11 @@ with_line g number (ClassLine name superclass) = record g {
   used = g.used + 6;
   part = 0;
 }
-with_line g number (FieldLine class name signature) = record g { classes = with_field g.classes (class_number g.classes class) (field_of g.classes name signature); part = 0 }
+with_line g number (FieldLine class name signature) = record g {
+  classes = with_field g.classes
+      (class_number g.classes class) (field_of g.classes name signature);
+  part = 0;
+}
 with_line g number (StaticLine class name signature) = record g {
   classes = with_static g.classes (class_number g.classes class) (field_of g.classes name signature);
   used = g.used + 1;

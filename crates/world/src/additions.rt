@@ -96,7 +96,8 @@ impl WorldBuilder {
         Ok(held)
     }
 
-    /// One more class, below the class of this name. Where a rule is broken or memory runs out, that is an error, so the rules are asked first.
+    /// One more class, below the class of this name. Where a rule is broken or memory runs out, that is an error, so
+    /// the rules are asked first.
     fn put_class_below(&mut self, name: &[u8], superclass: &[u8]) -> Result<(), AllocError>
         requires formed { IsTrue (is_class_name name.now) }
         requires room { self.old.used + 6 ≤ self.old.cells }
@@ -184,7 +185,9 @@ impl WorldBuilder {
         requires few { length self.old.names < most_objects }
         requires room { self.old.used + (3 + length values.now) ≤ self.old.cells }
         requires numbers { IsTrue (list_all (value_in_range JInt) (map value_view values.now)) }
-        ensures { OnOk result (gathered_of self.new ≡ with_object (gathered_of self.old) name.now class (map (value_at self.old.classes self.old.names) (map value_view values.now))) }
+        ensures { OnOk result (gathered_of self.new
+            ≡ with_object (gathered_of self.old) name.now class (map (value_at self.old.classes self.old.names)
+            (map value_view values.now))) }
     {
         let values = self.values_at(alloc, values)?;
         self.put_object(alloc, name, class, values)

@@ -27,21 +27,27 @@ impl WorldBuilder {
 
     fn take_field(&mut self, field: FieldWords) -> Result<(), AllocError>
         requires { least_rule (gathered_of self.old) (FieldLine field.class.now field.name.now field.signature.now) ≡ None }
-        ensures { OnOk result (gathered_of self.new ≡ with_line (gathered_of self.old) 0 (FieldLine field.entry.class.now field.entry.name.now field.entry.signature.now)) }
+        ensures { OnOk result (gathered_of self.new
+            ≡ with_line (gathered_of self.old) 0
+            (FieldLine field.entry.class.now field.entry.name.now field.entry.signature.now)) }
     {
         self.put_field(field, false)
     }
 
     fn take_static(&mut self, field: FieldWords) -> Result<(), AllocError>
         requires { least_rule (gathered_of self.old) (StaticLine field.class.now field.name.now field.signature.now) ≡ None }
-        ensures { OnOk result (gathered_of self.new ≡ with_line (gathered_of self.old) 0 (StaticLine field.entry.class.now field.entry.name.now field.entry.signature.now)) }
+        ensures { OnOk result (gathered_of self.new
+            ≡ with_line (gathered_of self.old) 0
+            (StaticLine field.entry.class.now field.entry.name.now field.entry.signature.now)) }
     {
         self.put_field(field, true)
     }
 
     fn take_object(&mut self, alloc: Global, object: &ObjectWords) -> Result<(), AllocError>
         requires { least_rule (gathered_of self.old) (ObjectLine object.now.name.now object.now.class.now (map value_view object.now.values.items)) ≡ None }
-        ensures { OnOk result (gathered_of self.new ≡ with_line (gathered_of self.old) 0 (ObjectLine object.now.name.now object.now.class.now (map value_view object.now.values.items))) }
+        ensures { OnOk result (gathered_of self.new
+            ≡ with_line (gathered_of self.old) 0 (ObjectLine object.now.name.now object.now.class.now
+            (map value_view object.now.values.items))) }
     {
         let class = class_number(&self.classes, object.class);
         self.put_values(alloc, object.name, class, &object.values)
@@ -49,15 +55,20 @@ impl WorldBuilder {
 
     fn take_objects(&mut self, alloc: Global, object: &ObjectWords) -> Result<(), AllocError>
         requires { least_rule (gathered_of self.old) (ObjectsLine object.now.name.now object.now.class.now (map value_view object.now.values.items)) ≡ None }
-        ensures { OnOk result (gathered_of self.new ≡ with_line (gathered_of self.old) 0 (ObjectsLine object.now.name.now object.now.class.now (map value_view object.now.values.items))) }
+        ensures { OnOk result (gathered_of self.new
+            ≡ with_line (gathered_of self.old) 0 (ObjectsLine object.now.name.now object.now.class.now
+            (map value_view object.now.values.items))) }
     {
         let class = self.classes.find_array_of(object.class)?.unwrap_or(0);
         self.put_values(alloc, object.name, class, &object.values)
     }
 
     fn take_array(&mut self, alloc: Global, array: &ArrayWords) -> Result<(), AllocError>
-        requires { least_rule (gathered_of self.old) (ArrayLine array.now.name.now (element_value array.now.element) (map value_view array.now.values.items)) ≡ None }
-        ensures { OnOk result (gathered_of self.new ≡ with_line (gathered_of self.old) 0 (ArrayLine array.now.name.now (element_value array.now.element) (map value_view array.now.values.items))) }
+        requires { least_rule (gathered_of self.old) (ArrayLine array.now.name.now (element_value array.now.element)
+            (map value_view array.now.values.items)) ≡ None }
+        ensures { OnOk result (gathered_of self.new
+            ≡ with_line (gathered_of self.old) 0 (ArrayLine array.now.name.now (element_value array.now.element)
+            (map value_view array.now.values.items))) }
     {
         let class = number_array(array.element);
         self.put_values(alloc, array.name, class, &array.values)
@@ -88,7 +99,9 @@ impl WorldBuilder {
         call: &CallWords,
     ) -> Result<(), AllocError>
         requires { least_rule (gathered_of self.old) (ThreadLine call.now.function.now (map value_view call.now.arguments.items)) ≡ None }
-        ensures { OnOk result (gathered_of self.new ≡ with_line (gathered_of self.old) number (ThreadLine call.now.function.now (map value_view call.now.arguments.items))) }
+        ensures { OnOk result (gathered_of self.new
+            ≡ with_line (gathered_of self.old) number (ThreadLine call.now.function.now
+            (map value_view call.now.arguments.items))) }
     {
         let made = self.call(alloc, number, call)?;
         self.put_thread(alloc, made)
@@ -101,7 +114,9 @@ impl WorldBuilder {
         call: &CallWords,
     ) -> Result<(), AllocError>
         requires { least_rule (gathered_of self.old) (CallLine call.now.function.now (map value_view call.now.arguments.items)) ≡ None }
-        ensures { OnOk result (gathered_of self.new ≡ with_line (gathered_of self.old) number (CallLine call.now.function.now (map value_view call.now.arguments.items))) }
+        ensures { OnOk result (gathered_of self.new
+            ≡ with_line (gathered_of self.old) number (CallLine call.now.function.now
+            (map value_view call.now.arguments.items))) }
     {
         let made = self.call(alloc, number, call)?;
         self.put_call(made)

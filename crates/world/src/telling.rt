@@ -285,7 +285,8 @@ fn take_any(
     }
 }
 
-/// What was found at the first fault of a world's text. There are no words where the text earns none, and where memory is refused.
+/// What was found at the first fault of a world's text. There are no words where the text earns none, and where memory
+/// is refused.
 pub fn world_detail(alloc: Global, text: &[u8]) -> Detail {
     let mut builder = None;
     let mut number: usize = 0;

@@ -102,14 +102,14 @@ fn order_detail(alloc: Global, order: Order, text: &[u8], line: usize, threads: 
     }
 }
 
-/// What was found at the first fault of a schedule's text, which is on this line, for a world of this number of threads. There are no
-/// words where memory is refused.
+/// What was found at the first fault of a schedule's text, which is on this line, for a world of this number of
+/// threads. There are no words where memory is refused.
 pub fn schedule_detail(alloc: Global, text: &[u8], line: usize, threads: u8) -> Detail {
     order_detail(alloc, Order::Schedule, text, line, threads)
 }
 
-/// What was found at the first fault of a journal's text, which is on this line, for a world of this number of threads. There are no
-/// words where memory is refused.
+/// What was found at the first fault of a journal's text, which is on this line, for a world of this number of threads.
+/// There are no words where memory is refused.
 pub fn journal_detail(alloc: Global, text: &[u8], line: usize, threads: u8) -> Detail {
     order_detail(alloc, Order::Journal, text, line, threads)
 }

@@ -8,7 +8,8 @@ ghost use Rattle.world_values.specs.Views.{object_value_view};
 use syntax::{Parameter, ParameterType};
 use world_values::ObjectValue;
 
-/// Whether there are as many arguments as parameters, each of its kind: a number for `jint`, and NULL or an object for a reference.
+/// Whether there are as many arguments as parameters, each of its kind: a number for `jint`, and NULL or an object for
+/// a reference.
 pub fn arguments_fit(parameters: &[Parameter], arguments: &[ObjectValue]) -> bool
     ensures { result ≡ fit_parameters (map parameter_tree parameters.now) (map object_value_view arguments.now) }
 {

@@ -5,7 +5,8 @@ use Rattle.world_lines.specs.ReadingLines.{object_by_words, array_by_words, call
 
 -- a call's line of this first word
 abbrev pub calls_by_kind : (word : List ℕ) → List (List ℕ) → Option WorldLine
-calls_by_kind word words = if bytes_eq word (codes "thread") then call_by_words ThreadLine words else (if bytes_eq word (codes "call") then call_by_words CallLine words else None)
+calls_by_kind word words = if bytes_eq word (codes "thread") then call_by_words ThreadLine words else
+    (if bytes_eq word (codes "call") then call_by_words CallLine words else None)
 
 -- an object's, or a call's
 abbrev pub objects_by_kind : (word : List ℕ) → List (List ℕ) → Option WorldLine

@@ -27,7 +27,8 @@ use classes::fault::ClassRule;
 use classes::table::ClassTable;
 
 fn class_rule(classes: &ClassTable, name: &[u8], superclass: Option<&[u8]>) -> Option<ClassRule>
-    ensures { option_map rule_view result ≡ first_broken (λ rule. class_breaks rule classes.now name.now (unwrap_or (option_map (λ s. s.now) superclass.entry) (codes "java/lang/Object"))) }
+    ensures { option_map rule_view result ≡ first_broken (λ rule. class_breaks rule classes.now name.now
+        (unwrap_or (option_map (λ s. s.now) superclass.entry) (codes "java/lang/Object"))) }
 {
     match superclass {
         Some(superclass) => classes.class_rule(name, superclass),

@@ -9,7 +9,8 @@ use Rattle.world_schedules.specs.ScheduleText.{IsScheduleText}
 
 -- a schedule is read of exactly the texts that mean it
 abbrev pub SchedulesAreRead : Type 0
-SchedulesAreRead = (threads : ℕ) (text : List ℕ) (schedule : Schedule) → threads ≤ 8 → (schedule_of text threads ≡ Ok schedule) ↔ IsScheduleText threads text schedule
+SchedulesAreRead = (threads : ℕ) (text : List ℕ) (schedule : Schedule) → threads ≤ 8
+    → (schedule_of text threads ≡ Ok schedule) ↔ IsScheduleText threads text schedule
 
 -- a journal is read of exactly the texts that mean it
 abbrev pub JournalsAreRead : Type 0

@@ -14,7 +14,8 @@ IsDeclared classes f = (i : ℕ) × (slice_get (declared_of classes f) i ≡ Som
 
 pub record DeclaresWell (classes : Classes) : Type 0 where
   -- a class declares no two fields of one name, and no two statics
-  pub once : (f g : FieldId) → IsDeclared classes f → IsDeclared classes g → f.class ≡ g.class → f.is_static ≡ g.is_static → bytes_eq f.field.name g.field.name ≡ true → f ≡ g
+  pub once : (f g : FieldId) → IsDeclared classes f → IsDeclared classes g → f.class ≡ g.class
+      → f.is_static ≡ g.is_static → bytes_eq f.field.name g.field.name ≡ true → f ≡ g
   -- arrays, strings and class objects have no field: neither their classes nor those above declare one
   pub bare : (c d : ℕ) → has_own_making classes c ≡ true → is_subclass classes c d ≡ true → own_fields classes d ≡ []
   -- java/lang/Throwable declares its message alone
@@ -22,4 +23,5 @@ pub record DeclaresWell (classes : Classes) : Type 0 where
   -- a field of a reference type is of a class
   pub referred : (f : FieldId) (c : ℕ) → IsDeclared classes f → f.field.type ≡ ReferenceField c → 0 < c
   -- the class of arrays of a class that is no array's is found by its name
-  pub arrays : (c : ℕ) → 0 < c → c ≤ length classes → is_plain (class_kind classes c) ≡ true → (a : ℕ) × (array_class_of classes c ≡ Some a) × (class_kind classes a ≡ ArrayOfObjects c)
+  pub arrays : (c : ℕ) → 0 < c → c ≤ length classes → is_plain (class_kind classes c) ≡ true → (a : ℕ)
+      × (array_class_of classes c ≡ Some a) × (class_kind classes a ≡ ArrayOfObjects c)

@@ -19,7 +19,8 @@ use Rattle.world_values.specs.WorldRules.{is_in_range}
 
 -- the types of an object's values, by the kind of its class; a string's are its units
 abbrev pub types_by_kind : Classes → (class : ℕ) → ClassKind → List ObjectValue → List FieldType
-types_by_kind classes class Plain values = if class == string_class then map (λ v. NumberField JChar) values else map (λ (f : FieldId). f.field.type) (layout classes class)
+types_by_kind classes class Plain values = if class == string_class then map (λ v. NumberField JChar) values else map
+    (λ (f : FieldId). f.field.type) (layout classes class)
 types_by_kind classes class (ArrayOfNumbers t) values = map (λ v. NumberField t) values
 types_by_kind classes class (ArrayOfObjects c) values = map (λ v. ReferenceField c) values
 

@@ -140,7 +140,8 @@ each_in_range types values = list_all (value_in_range JInt) values
 -- the limits on objects, threads and calls
 abbrev pub is_within_limits : Lines → Bool
 is_within_limits lines =
-    nat_le (length (objects_defined lines)) most_objects && nat_le (length (threads_of lines)) most_threads && list_all (λ calls. nat_le (length calls) most_calls) (threads_of lines)
+    nat_le (length (objects_defined lines)) most_objects && nat_le (length (threads_of lines)) most_threads
+    && list_all (λ calls. nat_le (length calls) most_calls) (threads_of lines)
 
 -- ---- the rules on a line, after earlier lines
 
