@@ -3,3 +3,4 @@ pub mod Prototype
 pub mod JniFunction
 pub mod StateEffect
 pub mod Table
+pub mod Subjects

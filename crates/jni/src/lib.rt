@@ -5,8 +5,10 @@ mod access;
 mod function;
 mod kinds;
 mod mode;
+mod subject;
 
 pub use access::{Access, is_same_element};
 pub use function::{JniFunction, function_named};
 pub use kinds::{ParameterKind, Prototype, ResultKind, StateEffect};
 pub use mode::ReleaseMode;
+pub use subject::Subject;

@@ -9,6 +9,7 @@ mod object_value;
 mod objects;
 mod printed;
 mod schedule;
+mod static_reference;
 mod trap;
 
 ghost use Rattle.semantics.specs.AccountLaws.{OthersStay, StepsMay, StepsPrint};
@@ -20,6 +21,7 @@ pub use object_value::{ObjectId, ObjectValue};
 pub use objects::Objects;
 pub use printed::Printed;
 pub use schedule::ScheduleWord;
+pub use static_reference::StaticReference;
 pub use trap::Trap;
 
 /// The computed list is the set of the reachable objects.
