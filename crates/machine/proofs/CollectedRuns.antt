@@ -25,8 +25,8 @@ use Rattle.machine_scenes.specs.declared.buffer.Buffer.TheVariants as buffer
 use Rattle.machine_scenes.specs.declared.store.Store.{Store}
 use Rattle.machine_scenes.specs.Buffers.{Acquired, AreViewed, IsTaken, viewed_in}
 use Rattle.machine_scenes.specs.declared.references.Held.{Held}
-use Rattle.machine_scenes.specs.declared.statics.StaticReference.{StaticReference}
-use Rattle.machine_scenes.specs.declared.statics.StaticReference.TheVariants as static
+use Rattle.machine_scenes.specs.Statics.{StaticReference}
+use Rattle.semantics.specs.declared.static_reference.StaticReference.TheVariants as static
 use Rattle.machine_scenes.specs.HeapAgrees.{HeapAgrees, IsTable, SlotsAgree, times}
 use Rattle.machine_scenes.specs.Statics.{all_held, held, held_at}
 use Rattle.machine_scenes.specs.StoreAgrees.{StaticsAgree, StoreAgrees}

@@ -11,8 +11,8 @@ use Rattle.semantics.specs.Variable.{Empty, Live, Deleted, assign}
 use Rattle.semantics.specs.Variable as variable
 use Rattle.tables.specs.Globals.{without}
 use Rattle.tables.specs.References.{address_at}
-use Rattle.machine_scenes.specs.declared.statics.StaticReference.{StaticReference}
-use Rattle.machine_scenes.specs.declared.statics.StaticReference.TheVariants as static
+use Rattle.machine_scenes.specs.Statics.{StaticReference}
+use Rattle.semantics.specs.declared.static_reference.StaticReference.TheVariants as static
 use Rattle.machine_scenes.specs.Statics.{held as held_of, held_at}
 use Rattle.machine_calls.proofs.StaticStores.{fresh_global, keeps_but_statics, live_there, with_deleted, with_global}
 use Rattle.std.specs.Prelude.{slice_get, slice_set, nat_le, if◌then◌else◌}

@@ -13,8 +13,8 @@ use Rattle.code_meaning.specs.Slots.{is_empty, static_index}
 use Rattle.tables.specs.References.{address_at}
 use Rattle.machine_scenes.specs.declared.references.Held.{Held}
 use Rattle.machine_scenes.specs.declared.references.Held.TheVariants as held
-use Rattle.machine_scenes.specs.declared.statics.StaticReference.{StaticReference as InMemory}
-use Rattle.machine_scenes.specs.declared.statics.StaticReference.TheVariants as static
+use Rattle.machine_scenes.specs.Statics.{StaticReference as InMemory}
+use Rattle.semantics.specs.declared.static_reference.StaticReference.TheVariants as static
 use Rattle.machine_scenes.specs.StoreAgrees.{HeldAgrees, StaticsAgree}
 use Rattle.machine_scenes.specs.Statics.{HaveKeys, all_held, held as held_of, held_or_null, holds_null}
 

@@ -19,7 +19,7 @@ use Rattle.machine_scenes.specs.Buffers.{Acquired}
 use Rattle.machine_scenes.specs.StoreAgrees.{Keeps, StaticsAgree, StoreAgrees}
 use Rattle.machine_scenes.specs.Statics.{HaveKeys, all_held}
 use Rattle.machine_scenes.specs.declared.references.Held.{Held}
-use Rattle.machine_scenes.specs.declared.statics.StaticReference.{StaticReference}
+use Rattle.machine_scenes.specs.Statics.{StaticReference}
 use Rattle.machine_scenes.specs.declared.new_object.New.{New}
 use Rattle.machine_scenes.specs.HeapAgrees.{HeapAgrees, IsTable}
 use Rattle.machine_calls.specs.Made.{HasMade, new_block}

@@ -23,8 +23,8 @@ use Rattle.machine_scenes.specs.declared.store.Store.{Store}
 use Rattle.semantics.specs.Variable.{Variables, as_static}
 use Rattle.tables.specs.References.{address_at}
 use Rattle.machine_scenes.specs.Statics.{held}
-use Rattle.machine_scenes.specs.declared.statics.StaticReference.{StaticReference}
-use Rattle.machine_scenes.specs.declared.statics.StaticReference.TheVariants as static
+use Rattle.machine_scenes.specs.Statics.{StaticReference}
+use Rattle.semantics.specs.declared.static_reference.StaticReference.TheVariants as static
 use Rattle.machine_scenes.specs.StoreAgrees.{HeldAgrees, StoreAgrees, Keeps}
 use Rattle.machine_answers.specs.Answers.{GivenAgrees}
 use Rattle.machine_answers.specs.declared.answer.Answer.{Answer}

@@ -9,8 +9,8 @@ use Rattle.tables.specs.Globals.{without}
 use Rattle.tables.proofs.Keys.{one_more}
 use Rattle.tables.specs.Keys.{Gains}
 use Rattle.tables.specs.References.{IsPut, address_at, references_in}
-use Rattle.machine_scenes.specs.declared.statics.StaticReference.{StaticReference}
-use Rattle.machine_scenes.specs.declared.statics.StaticReference.TheVariants as static
+use Rattle.machine_scenes.specs.Statics.{StaticReference}
+use Rattle.semantics.specs.declared.static_reference.StaticReference.TheVariants as static
 use Rattle.machine_scenes.specs.Statics.{HaveKeys, all_held, held, held_at}
 use Rattle.machine_scenes.specs.declared.references.Held.{Held}
 use Rattle.machine_scenes.specs.declared.references.Held.TheVariants as memory

@@ -3,10 +3,14 @@ use Rattle.std.specs.Prelude.{◌≡◌, ℕ, Bool, true, false, List, map, slic
 use Rattle.tables.specs.Keys.{Gains}
 use Rattle.tables.specs.Locals.{LocalTable}
 use Rattle.tables.specs.References.{address_at}
-use Rattle.machine_scenes.specs.declared.statics.StaticReference.{StaticReference}
-use Rattle.machine_scenes.specs.declared.statics.StaticReference.TheVariants as static
+use Rattle.semantics.specs.declared.static_reference.StaticReference.{StaticReference as Reference}
+use Rattle.semantics.specs.declared.static_reference.StaticReference.TheVariants as static
 use Rattle.machine_scenes.specs.declared.references.Held.{Held}
 use Rattle.machine_scenes.specs.declared.references.Held.TheVariants.{Empty, At, Deleted}
+
+-- what a static holds: a global reference is known by its key
+abbrev pub StaticReference : Type 0
+StaticReference = Reference ℕ
 
 -- the references that operands can name: the keys in the slots of local references, with their table, and what the statics hold
 pub record References : Type 0 where

@@ -2,7 +2,7 @@
 
 ghost use Rattle.std.specs.Prelude.{◌≡◌, ℕ, Some, IsSome, slice_get, slice_set, IfOk, OnErr};
 ghost use Rattle.machine_scenes.specs.Statics.{MakesGlobal};
-ghost use Rattle.machine_scenes.specs.declared.statics.StaticReference.TheVariants.{Live, Deleted};
+ghost use Rattle.semantics.specs.declared.static_reference.StaticReference.TheVariants.{Live, Deleted};
 ghost use Rattle.tables.specs.Globals.{without};
 ghost use Rattle.tables.specs.References.{address_at};
 
@@ -10,15 +10,8 @@ use heap::Addr;
 use std::alloc::AllocError;
 use tables::{Global, Globals};
 
-/// What a static holds.
-#[derive(Clone, Copy)]
-pub enum StaticReference {
-    /// NULL.
-    Empty,
-    Live(Global),
-    /// A global reference that was deleted, which isn't NULL.
-    Deleted,
-}
+/// What a static holds: a global reference is known by its key.
+pub type StaticReference = semantics::StaticReference<Global>;
 
 /// Makes a global reference to the object at this address, and none for NULL.
 ///

@@ -45,7 +45,7 @@ use Rattle.machine_answers.specs.declared.answer.Given.{Given}
 use Rattle.machine_answers.specs.declared.answer.Given.TheVariants as given
 use Rattle.machine_scenes.specs.declared.buffer.Buffer.{Buffer as HeldBuffer}
 use Rattle.machine_scenes.specs.declared.buffer.Buffer.TheVariants as held
-use Rattle.machine_scenes.specs.declared.statics.StaticReference.{StaticReference}
+use Rattle.machine_scenes.specs.Statics.{StaticReference}
 use Rattle.machine_scenes.specs.declared.store.Store.{Store}
 use Rattle.machine_answers.specs.Answers.{IsAnswer, is_halt}
 use Rattle.machine_answers.specs.Asked.{brought_by, scene_of}

@@ -54,7 +54,7 @@ use Rattle.machine_steps.specs.Executes.{Executes, IsSteady, in_use_with}
 use Rattle.machine_threads.specs.InProgress.{CallStands, WorkAgrees}
 use Rattle.semantics.specs.EventViews.{event_view, trap_view}
 use Rattle.machine_answers.specs.Asked.{references_of}
-use Rattle.machine_scenes.specs.declared.statics.StaticReference.{StaticReference}
+use Rattle.machine_scenes.specs.Statics.{StaticReference}
 use Rattle.machine_steps.specs.Moved.{HasMoved, end_of_way, WayIsSeen}
 use Rattle.machine_threads.specs.SlotsHold.{slots_of, values_in}
 use Rattle.machine_steps.specs.Variables.{is_null, HasSlot, nulled_buffers, nulled_slots, nulled_statics}

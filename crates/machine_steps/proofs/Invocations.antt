@@ -62,7 +62,7 @@ use Rattle.machine_scenes.specs.declared.buffer.Buffer.{Buffer as HeldBuffer}
 use Rattle.machine_scenes.specs.declared.buffer.Buffer.TheVariants as held_as
 use Rattle.tables.specs.Elements.{OwnedNumbers}
 use Rattle.machine_scenes.specs.Statics.{held as held_of}
-use Rattle.machine_scenes.specs.declared.statics.StaticReference.{StaticReference as InMemory}
+use Rattle.machine_scenes.specs.Statics.{StaticReference as InMemory}
 use Rattle.machine_scenes.specs.declared.store.Store.{Store}
 use Rattle.code_meaning.proofs.StaticLaws.{is_held}
 use Rattle.code_meaning.proofs.OwnerLaws.{fewer_owners}

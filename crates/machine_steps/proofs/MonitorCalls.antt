@@ -20,7 +20,7 @@ use Rattle.machine_calls.specs.CarriedOut.{CarriesOut, IsPossible, buffers_after
 use Rattle.machine_calls.specs.Made.{cells_of}
 use Rattle.machine_scenes.specs.Buffers.{Acquired}
 use Rattle.machine_scenes.specs.declared.buffer.Buffer.{Buffer}
-use Rattle.machine_scenes.specs.declared.statics.StaticReference.{StaticReference}
+use Rattle.machine_scenes.specs.Statics.{StaticReference}
 use Rattle.machine_scenes.specs.declared.store.Store.{Store}
 use Rattle.machine_steps.specs.MonitorCalls.{Changes, changes_monitor}
 use Rattle.machine_steps.specs.Received.{statics_with}

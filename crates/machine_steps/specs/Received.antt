@@ -13,7 +13,7 @@ use Rattle.machine_scenes.specs.declared.activation.Activation.{Activation}
 use Rattle.machine_scenes.specs.declared.buffer.Buffer.{Buffer as HeldBuffer}
 use Rattle.machine_scenes.specs.declared.buffer.Buffer.TheVariants as held
 use Rattle.tables.specs.Locals.{LocalTable, IsMade, has_room}
-use Rattle.machine_scenes.specs.declared.statics.StaticReference.{StaticReference}
+use Rattle.machine_scenes.specs.Statics.{StaticReference}
 
 -- the stack, on which the test of an `if` finds the truth whether a number is 0
 abbrev pub stack_with : Target → Given → List ℕ

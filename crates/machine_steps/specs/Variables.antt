@@ -5,8 +5,8 @@ use Rattle.code.specs.declared.instr.NullableVariable.{NullableVariable}
 use Rattle.code.specs.declared.instr.NullableVariable.TheVariants.{Local, Static, FieldId, Buffer}
 use Rattle.machine_scenes.specs.declared.buffer.Buffer.{Buffer as HeldBuffer}
 use Rattle.machine_scenes.specs.declared.buffer.Buffer.TheVariants as held
-use Rattle.machine_scenes.specs.declared.statics.StaticReference.{StaticReference}
-use Rattle.machine_scenes.specs.declared.statics.StaticReference.TheVariants.{Empty}
+use Rattle.machine_scenes.specs.Statics.{StaticReference}
+use Rattle.semantics.specs.declared.static_reference.StaticReference.TheVariants.{Empty}
 use Rattle.machine_scenes.specs.Given.{held_in}
 use Rattle.machine_threads.specs.SlotsHold.{SlotValues}
 use Rattle.machine_scenes.specs.Statics.{References, holds_null, static_at}

@@ -5,7 +5,7 @@ ghost use Rattle.std.specs.List.{list_all};
 ghost use Rattle.heap.specs.Heap.{IsLaidOut, left_of};
 ghost use Rattle.machine_scenes.specs.HeapAgrees.{AreMade};
 ghost use Rattle.machine_threads.specs.Held.{held_value};
-ghost use Rattle.machine_scenes.specs.declared.statics.StaticReference.TheVariants.{Empty};
+ghost use Rattle.semantics.specs.declared.static_reference.StaticReference.TheVariants.{Empty};
 ghost use Rattle.syntax.specs.Parts.{statics_of};
 ghost use Rattle.syntax.specs.Views.{unit_tree};
 ghost use Rattle.semantics.specs.Heap.{Heap as Objects};

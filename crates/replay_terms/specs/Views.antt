@@ -32,8 +32,8 @@ use Rattle.replay_terms.specs.declared.reduction.Reduction.{Reduction as Reducti
 use Rattle.replay_terms.specs.declared.reduction.Reduction.TheVariants as reduction
 use Rattle.replay_terms.specs.declared.sight.Indexed.{Indexed}
 use Rattle.replay_terms.specs.declared.sight.Indexed.TheVariants as indexed
-use Rattle.replay_terms.specs.declared.statics.StaticReference.{StaticReference as HeldInMemory}
-use Rattle.replay_terms.specs.declared.statics.StaticReference.TheVariants as held
+use Rattle.semantics.specs.declared.static_reference.StaticReference.{StaticReference as Held}
+use Rattle.semantics.specs.declared.static_reference.StaticReference.TheVariants as held
 use Rattle.replay_terms.specs.declared.value.Evaluated.{Evaluated}
 use Rattle.replay_terms.specs.declared.value.Evaluated.TheVariants as evaluated
 use Rattle.replay_terms.specs.declared.value.Value.{Value as ValueInMemory}
@@ -88,7 +88,10 @@ variable_view v = (v.0, content_view v.1)
 abbrev pub variables_view : Contents → Variables
 variables_view vs = map variable_view vs
 
--- what a static holds
+-- what a static holds: a global reference is known by the number of its object
+abbrev pub HeldInMemory : Type 0
+HeldInMemory = Held ℕ
+
 abbrev pub held_view : HeldInMemory → StaticReference
 held_view held.Empty = Empty
 held_view (held.Live n) = Live n

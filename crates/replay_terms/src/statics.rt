@@ -16,16 +16,8 @@ use std::alloc::{AllocError, Global};
 use std::marker::Model;
 use syntax::{Item, Name};
 
-/// What a static holds.
-#[derive(Clone, Copy)]
-pub enum StaticReference {
-    /// NULL.
-    Empty,
-    /// A global reference to an object, by its name.
-    Live(ObjectId),
-    /// A global reference that was deleted. It isn't NULL.
-    Deleted,
-}
+/// What a static holds: a global reference is known by the number of its object.
+pub type StaticReference = semantics::StaticReference<ObjectId>;
 
 /// The statics of a unit, in its order, seen as those of the definitions. A name is found in constant time.
 pub struct Statics<'a> {

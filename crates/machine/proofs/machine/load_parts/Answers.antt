@@ -21,8 +21,8 @@ use Rattle.semantics_safety.specs.Owners.{AllOwners, owners_after}
 use Rattle.machine_scenes.specs.Statics.{HaveKeys, all_held}
 use Rattle.machine_monitors.specs.Fit.{AreThere, MonitorsAgree}
 use Rattle.monitors.specs.declared.monitors.Monitor.{Monitor}
-use Rattle.machine_scenes.specs.declared.statics.StaticReference.{StaticReference}
-use Rattle.machine_scenes.specs.declared.statics.StaticReference.TheVariants.{Empty}
+use Rattle.machine_scenes.specs.Statics.{StaticReference}
+use Rattle.semantics.specs.declared.static_reference.StaticReference.TheVariants.{Empty}
 use Rattle.machine_calls.proofs.HeldStatics.{names_begin, no_keys, statics_begin}
 use Rattle.machine.proofs.machine.load_parts.Goals as goal
 

@@ -9,8 +9,8 @@ use Rattle.tables.specs.Locals.{LocalTable, without}
 use Rattle.machine_answers.specs.declared.answer.Answer.TheVariants as answer
 use Rattle.machine_calls.proofs.CarryOuts as carries
 use Rattle.machine_calls.proofs.StaticStores.{live_there}
-use Rattle.machine_scenes.specs.declared.statics.StaticReference.{StaticReference}
-use Rattle.machine_scenes.specs.declared.statics.StaticReference.TheVariants as static
+use Rattle.machine_scenes.specs.Statics.{StaticReference}
+use Rattle.semantics.specs.declared.static_reference.StaticReference.TheVariants as static
 use Rattle.std.specs.Vec.{with_items}
 use Rattle.std.proofs.lemmas.List.{with_items_is, places}
 use Rattle.machine_calls.proofs.carry_out.carry_out_references.Goals as goal

@@ -6,8 +6,8 @@ use Rattle.tables.specs.declared.fault.TableFault.{TableFault}
 use Rattle.tables.specs.declared.fault.TableFault.TheVariants.{Dead}
 use Rattle.tables.specs.Globals.{without}
 use Rattle.tables.specs.References.{address_at}
-use Rattle.machine_scenes.specs.declared.statics.StaticReference.{StaticReference}
-use Rattle.machine_scenes.specs.declared.statics.StaticReference.TheVariants.{Live}
+use Rattle.machine_scenes.specs.Statics.{StaticReference}
+use Rattle.semantics.specs.declared.static_reference.StaticReference.TheVariants.{Live}
 use Rattle.machine_scenes.proofs.statics.delete_global.Goals as goal
 
 -- the key at a place is the one that was read there

@@ -18,7 +18,7 @@ use Rattle.machine_steps.specs.declared.execute.Executed.{Executed}
 use Rattle.machine_steps.specs.declared.execute.Executed.TheVariants.{Did}
 use Rattle.machine_steps.specs.Executes.{Executes}
 use Rattle.machine_scenes.specs.Statics.{all_held, held}
-use Rattle.machine_scenes.specs.declared.statics.StaticReference.{StaticReference}
+use Rattle.machine_scenes.specs.Statics.{StaticReference}
 use Rattle.machine_calls.proofs.HeldStatics.{statics_count}
 use Rattle.machine_steps.specs.Variables.{HasSlot, nulled_statics}
 use Rattle.machine_steps.proofs.Calls.{ready, here, room, leads, one_word, positive, two_words}

@@ -30,7 +30,7 @@ use Rattle.machine_answers.specs.declared.answer.Answer.TheVariants as answers
 use Rattle.machine_answers.specs.declared.answer.Given.{Given}
 use Rattle.machine_scenes.specs.declared.buffer.Buffer.{Buffer}
 use Rattle.machine_scenes.specs.declared.buffer.Buffer.TheVariants as buffer
-use Rattle.machine_scenes.specs.declared.statics.StaticReference.{StaticReference}
+use Rattle.machine_scenes.specs.Statics.{StaticReference}
 use Rattle.machine_scenes.specs.declared.store.Store.{Store}
 use Rattle.machine_calls.proofs.CellsMade.{cells_made}
 use Rattle.machine_answers.proofs.Overlays.{length_overlaid}

@@ -1,7 +1,7 @@
 use Rattle.std.proofs.Common.{◌≡◌, ◌++◌, drop, length, replicate}
 use Rattle.syntax.specs.Parts.{statics_of}
 use Rattle.syntax.specs.Views.{unit_tree}
-use Rattle.machine_scenes.specs.declared.statics.StaticReference.TheVariants.{Empty}
+use Rattle.semantics.specs.declared.static_reference.StaticReference.TheVariants.{Empty}
 use Rattle.machine_threads.proofs.objects.empty_statics.Given as goal
 
 abbrev pub invariant-loop-item : goal.invariant-loop-item

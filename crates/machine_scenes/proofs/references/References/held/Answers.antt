@@ -9,7 +9,7 @@ use Rattle.tables.specs.References.{address_at}
 use Rattle.machine_scenes.specs.Statics.{References, all_held, held, held_at, held_or_null, static_at}
 use Rattle.machine_scenes.specs.declared.references.Held.{Held}
 use Rattle.machine_scenes.specs.declared.references.Held.TheVariants.{Empty, At}
-use Rattle.machine_scenes.specs.declared.statics.StaticReference.{StaticReference}
+use Rattle.machine_scenes.specs.Statics.{StaticReference}
 use Rattle.machine_scenes.proofs.LookUps.{copied_found}
 use Rattle.machine_scenes.proofs.references.References.held.Goals as goal
 
