@@ -1,4 +1,4 @@
--- The titles of faults and traps, those of docs/FAULTS.md; `examples/explanations write` makes this file of it.
+-- The titles of faults and traps, those of docs/FAULTS.md; `gate/explanations write` makes this file of it.
 use Rattle.std.specs.Prelude.{ℕ, ◌/◌, ◌==◌, if◌then◌else◌, List, [], ◌∷◌, Option, codes}
 use Rattle.cli_explanations.specs.Numbered.{Titles, title_in}
 

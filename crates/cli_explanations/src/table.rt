@@ -1,4 +1,4 @@
-//! What docs/FAULTS.md says of each fault and trap; `examples/explanations write` makes this file of it.
+//! What docs/FAULTS.md says of each fault and trap; `gate/explanations write` makes this file of it.
 
 ghost use Rattle.std.specs.Prelude.{◌≡◌, ◌/◌, map};
 ghost use Rattle.cli_explanations.specs.Numbered.{titled};

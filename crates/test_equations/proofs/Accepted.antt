@@ -1,4 +1,4 @@
--- The cases of texts/accepted.cases, as examples/worked_equations writes them.
+-- The cases of texts/accepted.cases, as gate/worked_equations writes them.
 use Rattle.std.specs.Prelude.{◌∷◌, true, false, [], codes, refl}
 use Rattle.base.specs.Element.{JInt}
 use Rattle.syntax.specs.Tree.{AssignElement, Binary, DeclareBuffer, Equal, FromCall, If, IfElse, JIntArray, Named, Null, Number, Perform, Return, SourceUnit, TestExpr, Value, Variable, Void}

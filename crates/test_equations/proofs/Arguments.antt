@@ -1,4 +1,4 @@
--- The cases of texts/arguments.cases, as examples/worked_equations writes them.
+-- The cases of texts/arguments.cases, as gate/worked_equations writes them.
 use Rattle.std.specs.Prelude.{◌∷◌, pos, [], Some, None, codes, refl}
 use Rattle.base.specs.Element.{JInt}
 use Rattle.syntax.specs.Tree.{Declare, FromCall, JIntArray, JIntVariable, JObject, PutJint, Return, SourceUnit, Variable, Void}

@@ -1,4 +1,4 @@
--- The cases of texts/arithmetic.cases, as examples/worked_equations writes them.
+-- The cases of texts/arithmetic.cases, as gate/worked_equations writes them.
 use Rattle.std.specs.Prelude.{◌∷◌, true, false, [], Some, None, codes, refl}
 use Rattle.syntax.specs.Tree.{Add, Binary, IntResult, Multiply, Number, Paren, Prefix, PutJint, Return, ReturnValue, SourceUnit, Subtract, ToInt, Void}
 use Rattle.semantics.specs.declared.schedule.ScheduleWord.TheVariants.{Turn}

@@ -1,4 +1,4 @@
--- The cases of texts/array_faults.cases, as examples/worked_equations writes them.
+-- The cases of texts/array_faults.cases, as gate/worked_equations writes them.
 use Rattle.std.specs.Prelude.{◌∷◌, pos, true, false, [], Some, None, codes, refl}
 use Rattle.base.specs.Element.{JInt, JShort, JByte, JChar}
 use Rattle.syntax.specs.Tree.{AssignElement, Binary, Complement, Declare, DeclareArray, DeclareBuffer, Element, Equal, FromCall, If, JArray, JByteArray, JCharArray, JShortArray, Named, NotEqual, Null, Number, Perform, Prefix, PutJint, ReferenceVariable, Return, SourceUnit, TestExpr, ToInt, Value, Variable, Void}

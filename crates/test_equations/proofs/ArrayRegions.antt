@@ -1,4 +1,4 @@
--- The cases of texts/array_regions.cases, as examples/worked_equations writes them.
+-- The cases of texts/array_regions.cases, as gate/worked_equations writes them.
 use Rattle.std.specs.Prelude.{◌∷◌, ◌++◌, pos, true, false, [], Some, None, codes, refl}
 use Rattle.base.specs.Element.{JInt, JShort, JByte, JChar}
 use Rattle.syntax.specs.Tree.{AssignElement, Complement, Declare, DeclareArray, Element, FromCall, FromExpr, JByteArray, JCharArray, JIntArray, JIntVariable, JShortArray, JString, JThrowable, Number, Perform, Prefix, PutJint, ReferenceVariable, Return, SourceUnit, ToInt, Value, Variable, Void}

@@ -1,4 +1,4 @@
--- The cases of texts/broken_rules.cases, as examples/worked_equations writes them.
+-- The cases of texts/broken_rules.cases, as gate/worked_equations writes them.
 use Rattle.std.specs.Prelude.{◌∷◌, true, false, [], codes, refl}
 use Rattle.base.specs.Element.{JInt}
 use Rattle.syntax.specs.Tree.{AssignElement, Binary, Declare, DeclareBuffer, Equal, FromCall, If, JIntArray, JIntVariable, JObject, Named, NotEqual, Null, Number, Perform, ReferenceVariable, Return, SourceUnit, TestCall, TestExpr, Value, Variable, Void}

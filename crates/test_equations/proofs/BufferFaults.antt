@@ -1,4 +1,4 @@
--- The cases of texts/buffer_faults.cases, as examples/worked_equations writes them.
+-- The cases of texts/buffer_faults.cases, as gate/worked_equations writes them.
 use Rattle.std.specs.Prelude.{◌∷◌, true, false, [], codes, refl}
 use Rattle.base.specs.Element.{JInt}
 use Rattle.syntax.specs.Tree.{Assign, AssignElement, Binary, Commit, Declare, DeclareBuffer, Element, Equal, FromCall, FromExpr, If, JIntArray, JObject, Named, NotEqual, Null, Number, Perform, PutJint, ReferenceVariable, Return, SourceUnit, TestCall, TestExpr, Value, Variable, Void}

@@ -1,4 +1,4 @@
--- The cases of texts/buffers_checked.cases, as examples/worked_equations writes them.
+-- The cases of texts/buffers_checked.cases, as gate/worked_equations writes them.
 use Rattle.std.specs.Prelude.{◌∷◌, pos, true, false, [], Some, None, codes, refl}
 use Rattle.base.specs.Element.{JInt, JShort, JChar}
 use Rattle.syntax.specs.Tree.{AssignElement, Binary, Declare, DeclareBuffer, DeclareChars, Element, Equal, FromCall, If, JClass, JIntArray, JObject, JString, LogicalAnd, Named, NotEqual, Null, Number, Perform, PutJint, ReferenceVariable, Return, SourceUnit, TestExpr, Text, Value, Variable, Void, While}

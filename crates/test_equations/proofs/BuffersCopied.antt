@@ -1,4 +1,4 @@
--- The cases of texts/buffers_copied.cases, as examples/worked_equations writes them.
+-- The cases of texts/buffers_copied.cases, as gate/worked_equations writes them.
 use Rattle.std.specs.Prelude.{◌∷◌, pos, false, [], Some, None, codes, refl}
 use Rattle.base.specs.Element.{JInt}
 use Rattle.syntax.specs.Tree.{Abort, AssignElement, Binary, Commit, Declare, DeclareArray, DeclareBuffer, FromCall, If, JIntArray, JIntVariable, JObject, Named, NotEqual, Null, Number, Perform, ReferenceVariable, Return, SourceUnit, TestExpr, Value, Variable, Void}

@@ -1,4 +1,4 @@
--- The cases of texts/buffers_pinned.cases, as examples/worked_equations writes them.
+-- The cases of texts/buffers_pinned.cases, as gate/worked_equations writes them.
 use Rattle.std.specs.Prelude.{◌∷◌, pos, false, [], Some, None, codes, refl}
 use Rattle.base.specs.Element.{JInt}
 use Rattle.syntax.specs.Tree.{Add, AssignElement, Binary, Declare, DeclareArray, DeclareBuffer, Element, FromCall, FromExpr, If, JIntArray, JIntVariable, Named, NotEqual, Null, Number, Perform, Prefix, PutJint, ReferenceVariable, Return, SourceUnit, TestExpr, ToInt, ToWord, UInt32, Value, Variable, Void}

@@ -1,4 +1,4 @@
--- The cases of texts/buffers_used.cases, as examples/worked_equations writes them.
+-- The cases of texts/buffers_used.cases, as gate/worked_equations writes them.
 use Rattle.std.specs.Prelude.{◌∷◌, pos, true, false, [], Some, None, codes, refl}
 use Rattle.base.specs.Element.{JInt, JByte, JChar}
 use Rattle.syntax.specs.Tree.{Abort, AddressOf, AssignElement, Binary, Commit, Complement, Declare, DeclareArray, DeclareBuffer, DeclareChars, Element, False, FromCall, FromExpr, If, JBoolean, JByteArray, JCharArray, JIntArray, JIntVariable, JString, Named, NotEqual, Null, Number, Perform, Prefix, PutJint, Return, SourceUnit, TestExpr, ToInt, Value, Variable, Void}

@@ -1,4 +1,4 @@
--- The cases of texts/classes.cases, as examples/worked_equations writes them.
+-- The cases of texts/classes.cases, as gate/worked_equations writes them.
 use Rattle.std.specs.Prelude.{◌∷◌, false, [], Some, None, codes, refl}
 use Rattle.syntax.specs.Tree.{Binary, Declare, Equal, FromCall, If, JBoolean, JClass, JObject, Named, Null, Number, Prefix, PutJint, ReferenceVariable, Return, SourceUnit, TestExpr, Text, ToInt, Value, Variable, Void}
 use Rattle.semantics.specs.declared.schedule.ScheduleWord.TheVariants.{Turn}

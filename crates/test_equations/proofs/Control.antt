@@ -1,4 +1,4 @@
--- The cases of texts/control.cases, as examples/worked_equations writes them.
+-- The cases of texts/control.cases, as gate/worked_equations writes them.
 use Rattle.std.specs.Prelude.{◌∷◌, true, false, [], Some, None, codes, refl}
 use Rattle.base.specs.Element.{JByte}
 use Rattle.syntax.specs.Tree.{Add, Assign, AssignElement, Binary, Declare, DeclareArray, Divide, Element, Equal, FromExpr, If, Less, LogicalAnd, Number, Prefix, PutJint, Return, SourceUnit, TestExpr, ToInt, UInt32, Variable, Void, While}

@@ -1,4 +1,4 @@
--- The cases of texts/exceptions.cases, as examples/worked_equations writes them.
+-- The cases of texts/exceptions.cases, as gate/worked_equations writes them.
 use Rattle.std.specs.Prelude.{◌∷◌, [], Some, None, codes, refl}
 use Rattle.syntax.specs.Tree.{Binary, Declare, FromCall, If, JClass, JIntVariable, Named, NotEqual, Null, ReferenceVariable, Return, SourceUnit, TestExpr, Text, Variable, Void}
 use Rattle.semantics.specs.declared.schedule.ScheduleWord.TheVariants.{Turn}

@@ -1,4 +1,4 @@
--- The cases of texts/exceptions_pending.cases, as examples/worked_equations writes them.
+-- The cases of texts/exceptions_pending.cases, as gate/worked_equations writes them.
 use Rattle.std.specs.Prelude.{◌∷◌, pos, false, [], Some, None, codes, refl}
 use Rattle.base.specs.Element.{JInt}
 use Rattle.syntax.specs.Tree.{Assign, AssignElement, Binary, Declare, DeclareBuffer, Equal, FromCall, If, JBoolean, JClass, JFieldId, JIntArray, JIntVariable, JObject, JThrowable, Named, NotEqual, Null, Number, Perform, Prefix, PutJint, ReferenceVariable, Return, SourceUnit, TestCall, TestExpr, Text, ToInt, Value, Variable, Void}

@@ -1,4 +1,4 @@
--- The cases of texts/fields.cases, as examples/worked_equations writes them.
+-- The cases of texts/fields.cases, as gate/worked_equations writes them.
 use Rattle.std.specs.Prelude.{◌∷◌, pos, true, false, [], Some, None, codes, refl}
 use Rattle.syntax.specs.Tree.{Binary, Complement, Declare, Equal, FromCall, FromExpr, If, JBoolean, JClass, JFieldId, JIntVariable, JObject, Named, Null, Number, Perform, Prefix, PutJint, ReferenceVariable, Return, SourceUnit, TestExpr, Text, ToInt, Value, Variable, Void}
 use Rattle.semantics.specs.declared.schedule.ScheduleWord.TheVariants.{Turn}

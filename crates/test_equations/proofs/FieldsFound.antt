@@ -1,4 +1,4 @@
--- The cases of texts/fields_found.cases, as examples/worked_equations writes them.
+-- The cases of texts/fields_found.cases, as gate/worked_equations writes them.
 use Rattle.std.specs.Prelude.{◌∷◌, pos, false, [], Some, None, codes, refl}
 use Rattle.syntax.specs.Tree.{Declare, FromCall, JClass, JFieldId, JObject, Number, Perform, PutJint, ReferenceVariable, Return, SourceUnit, Text, Value, Void}
 use Rattle.semantics.specs.declared.schedule.ScheduleWord.TheVariants.{Turn, Collect}

@@ -1,4 +1,4 @@
--- The cases of texts/frames.cases, as examples/worked_equations writes them.
+-- The cases of texts/frames.cases, as gate/worked_equations writes them.
 use Rattle.std.specs.Prelude.{◌∷◌, true, false, [], Some, None, codes, refl}
 use Rattle.syntax.specs.Tree.{Add, Assign, Binary, Declare, FromCall, FromExpr, If, JIntArray, JIntVariable, JObject, Less, Named, Null, Number, PutJint, ReferenceVariable, Return, SourceUnit, TestCall, UInt32, Value, Variable, Void, While}
 use Rattle.semantics.specs.declared.schedule.ScheduleWord.TheVariants.{Turn, Collect}

@@ -1,4 +1,4 @@
--- The cases of texts/globals.cases, as examples/worked_equations writes them.
+-- The cases of texts/globals.cases, as gate/worked_equations writes them.
 use Rattle.std.specs.Prelude.{◌∷◌, true, [], Some, None, codes, refl}
 use Rattle.syntax.specs.Tree.{Assign, Declare, FromCall, JIntVariable, JObject, Number, Perform, Prefix, ReferenceVariable, Return, SourceUnit, ToInt, Value, Void}
 use Rattle.semantics.specs.declared.schedule.ScheduleWord.TheVariants.{Turn}

@@ -1,4 +1,4 @@
--- The cases of texts/journals.cases, as examples/worked_equations writes them.
+-- The cases of texts/journals.cases, as gate/worked_equations writes them.
 use Rattle.std.specs.Prelude.{◌∷◌, ◌++◌, true, false, [], None, codes, refl}
 use Rattle.syntax.specs.Tree.{IntResult, Number, ReturnValue, SourceUnit}
 use Rattle.semantics.specs.World.{World}

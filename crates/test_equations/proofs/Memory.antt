@@ -1,4 +1,4 @@
--- The cases of texts/memory.cases, as examples/worked_equations writes them.
+-- The cases of texts/memory.cases, as gate/worked_equations writes them.
 use Rattle.std.specs.Prelude.{◌∷◌, ◌++◌, true, false, [], Some, None, codes, refl, replicate}
 use Rattle.syntax.specs.Tree.{Binary, Declare, Equal, FromCall, If, JBoolean, JClass, JIntArray, JIntVariable, JThrowable, Named, Null, Number, Perform, Prefix, PutJint, ReferenceVariable, Return, SourceUnit, TestExpr, Text, ToInt, Value, Variable, Void}
 use Rattle.semantics.specs.declared.schedule.ScheduleWord.TheVariants.{Turn}

@@ -1,4 +1,4 @@
--- The cases of texts/monitors.cases, as examples/worked_equations writes them.
+-- The cases of texts/monitors.cases, as gate/worked_equations writes them.
 use Rattle.std.specs.Prelude.{◌∷◌, [], Some, None, codes, refl}
 use Rattle.syntax.specs.Tree.{JObject, Perform, Return, SourceUnit, Void}
 use Rattle.semantics.specs.declared.schedule.ScheduleWord.TheVariants.{Turn}

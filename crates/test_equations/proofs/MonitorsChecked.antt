@@ -1,4 +1,4 @@
--- The cases of texts/monitors_checked.cases, as examples/worked_equations writes them.
+-- The cases of texts/monitors_checked.cases, as gate/worked_equations writes them.
 use Rattle.std.specs.Prelude.{◌∷◌, ◌++◌, true, false, [], Some, None, codes, refl}
 use Rattle.base.specs.Element.{JInt}
 use Rattle.syntax.specs.Tree.{Assign, Binary, Declare, DeclareBuffer, DeclareChars, FromCall, If, JBoolean, JClass, JIntArray, JIntVariable, JObject, JString, Named, NotEqual, Null, Number, Perform, Prefix, PutJint, ReferenceVariable, Return, SourceUnit, TestCall, TestExpr, Text, ToInt, Value, Variable, Void}

@@ -1,4 +1,4 @@
--- The cases of texts/monitors_owned.cases, as examples/worked_equations writes them.
+-- The cases of texts/monitors_owned.cases, as gate/worked_equations writes them.
 use Rattle.std.specs.Prelude.{◌∷◌, pos, [], Some, None, codes, refl}
 use Rattle.syntax.specs.Tree.{Assign, Declare, FromCall, JClass, JFieldId, JObject, Perform, PutJint, ReferenceVariable, Return, SourceUnit, Text, Variable, Void}
 use Rattle.semantics.specs.declared.schedule.ScheduleWord.TheVariants.{Turn, Collect}

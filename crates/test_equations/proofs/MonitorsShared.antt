@@ -1,4 +1,4 @@
--- The cases of texts/monitors_shared.cases, as examples/worked_equations writes them.
+-- The cases of texts/monitors_shared.cases, as gate/worked_equations writes them.
 use Rattle.std.specs.Prelude.{◌∷◌, pos, true, [], Some, None, codes, refl}
 use Rattle.syntax.specs.Tree.{Binary, Declare, Divide, FromCall, FromExpr, JClass, JIntVariable, JObject, Number, Perform, Prefix, PutJint, ReferenceVariable, Return, SourceUnit, Text, ToWord, UInt32, Variable, Void}
 use Rattle.semantics.specs.declared.schedule.ScheduleWord.TheVariants.{Turn}

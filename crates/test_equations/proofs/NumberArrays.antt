@@ -1,4 +1,4 @@
--- The cases of texts/number_arrays.cases, as examples/worked_equations writes them.
+-- The cases of texts/number_arrays.cases, as gate/worked_equations writes them.
 use Rattle.std.specs.Prelude.{◌∷◌, pos, false, [], Some, None, codes, refl}
 use Rattle.base.specs.Element.{JInt, JShort, JByte, JChar}
 use Rattle.syntax.specs.Tree.{Abort, AddressOf, Assign, AssignElement, Binary, Commit, Declare, DeclareArray, DeclareBuffer, Element, False, FromCall, FromExpr, If, JBoolean, JByteArray, JCharArray, JIntArray, JIntVariable, JShortArray, Named, NotEqual, Null, Number, Perform, Prefix, PutJint, ReferenceVariable, Return, SourceUnit, TestExpr, ToInt, True, Value, Variable, Void}

@@ -1,4 +1,4 @@
--- The cases of texts/object_arrays.cases, as examples/worked_equations writes them.
+-- The cases of texts/object_arrays.cases, as gate/worked_equations writes them.
 use Rattle.std.specs.Prelude.{◌∷◌, pos, true, false, [], Some, None, codes, refl}
 use Rattle.base.specs.Element.{JInt}
 use Rattle.syntax.specs.Tree.{Binary, Complement, Declare, Equal, FromCall, If, JBoolean, JClass, JIntArray, JIntVariable, JObject, JObjectArray, Named, Null, Number, Perform, Prefix, PutJint, ReferenceVariable, Return, SourceUnit, TestExpr, Text, ToInt, Value, Variable, Void}

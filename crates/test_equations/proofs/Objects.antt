@@ -1,4 +1,4 @@
--- The cases of texts/objects.cases, as examples/worked_equations writes them.
+-- The cases of texts/objects.cases, as gate/worked_equations writes them.
 use Rattle.std.specs.Prelude.{◌∷◌, pos, negsuc, false, [], Some, None, codes, refl}
 use Rattle.base.specs.Element.{JInt}
 use Rattle.syntax.specs.Tree.{JObject, Number, PutJint, Return, SourceUnit, Variable, Void}

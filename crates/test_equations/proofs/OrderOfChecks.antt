@@ -1,4 +1,4 @@
--- The cases of texts/order_of_checks.cases, as examples/worked_equations writes them.
+-- The cases of texts/order_of_checks.cases, as gate/worked_equations writes them.
 use Rattle.std.specs.Prelude.{◌∷◌, false, [], Some, None, codes, refl}
 use Rattle.base.specs.Element.{JInt}
 use Rattle.syntax.specs.Tree.{Assign, Declare, FromCall, If, JBoolean, JClass, JIntVariable, JObject, Named, Null, Number, Perform, ReferenceVariable, Return, SourceUnit, TestCall, Text, Value, Void}

@@ -1,4 +1,4 @@
--- The cases of texts/references.cases, as examples/worked_equations writes them.
+-- The cases of texts/references.cases, as gate/worked_equations writes them.
 use Rattle.std.specs.Prelude.{◌∷◌, true, false, [], Some, None, codes, refl}
 use Rattle.syntax.specs.Tree.{Assign, Binary, Complement, Declare, Equal, FromCall, FromExpr, If, IfElse, JBoolean, JClass, JObject, JThrowable, Named, NotEqual, Null, Number, Perform, Prefix, PutJint, ReferenceResult, ReferenceVariable, Return, ReturnValue, SourceUnit, TestCall, TestExpr, Text, ToInt, Value, Variable, Void}
 use Rattle.semantics.specs.declared.schedule.ScheduleWord.TheVariants.{Turn}

@@ -1,4 +1,4 @@
--- The cases of texts/refused_texts.cases, as examples/worked_equations writes them.
+-- The cases of texts/refused_texts.cases, as gate/worked_equations writes them.
 use Rattle.std.specs.Prelude.{◌≡◌, Err, codes, refl}
 use Rattle.world_schedules.specs.declared.fault.Rule.TheVariants.{NameTaken, Superclass, Signature, Form, Name, Limit}
 use Rattle.world_schedules.specs.ReadingSchedules.{schedule_of}

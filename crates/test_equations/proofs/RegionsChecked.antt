@@ -1,4 +1,4 @@
--- The cases of texts/regions_checked.cases, as examples/worked_equations writes them.
+-- The cases of texts/regions_checked.cases, as gate/worked_equations writes them.
 use Rattle.std.specs.Prelude.{◌∷◌, pos, true, false, [], Some, None, codes, refl}
 use Rattle.base.specs.Element.{JInt, JShort, JByte, JChar}
 use Rattle.syntax.specs.Tree.{Assign, Complement, Declare, DeclareArray, FromCall, JByteArray, JCharArray, JClass, JIntArray, JObject, JShortArray, JString, Named, Null, Number, Perform, Prefix, ReferenceVariable, Return, SourceUnit, Text, ToInt, Value, Void}

@@ -1,4 +1,4 @@
--- The cases of texts/room.cases, as examples/worked_equations writes them.
+-- The cases of texts/room.cases, as gate/worked_equations writes them.
 use Rattle.std.specs.Prelude.{◌≡◌, ◌∷◌, ◌++◌, pos, true, false, [], Some, None, Err, codes, refl, replicate}
 use Rattle.base.specs.Element.{JInt}
 use Rattle.syntax.specs.Tree.{Declare, FromCall, IntResult, JIntArray, Number, Perform, ReferenceVariable, Return, ReturnValue, SourceUnit, Value, Void}

@@ -1,4 +1,4 @@
--- The cases of texts/sort_faults.cases, as examples/worked_equations writes them.
+-- The cases of texts/sort_faults.cases, as gate/worked_equations writes them.
 use Rattle.std.specs.Prelude.{◌∷◌, true, false, [], codes, refl}
 use Rattle.base.specs.Element.{JInt}
 use Rattle.syntax.specs.Tree.{Add, Assign, AssignElement, Binary, Declare, DeclareBuffer, DeclareChars, Equal, FromCall, FromExpr, If, JIntArray, JIntVariable, JObject, JString, Named, Null, Number, Perform, PutJint, ReferenceVariable, Return, SourceUnit, TestExpr, UInt32, Value, Variable, Void}

@@ -1,4 +1,4 @@
--- The cases of texts/strings.cases, as examples/worked_equations writes them.
+-- The cases of texts/strings.cases, as gate/worked_equations writes them.
 use Rattle.std.specs.Prelude.{◌∷◌, pos, false, [], Some, None, codes, refl}
 use Rattle.base.specs.Element.{JChar}
 use Rattle.syntax.specs.Tree.{AddressOf, Binary, Declare, DeclareArray, DeclareChars, Element, False, FromCall, FromExpr, If, JBoolean, JIntVariable, JObject, JString, Named, NotEqual, Null, Number, Perform, Prefix, PutJint, ReferenceVariable, Return, SourceUnit, TestExpr, Text, ToInt, True, Value, Variable, Void}

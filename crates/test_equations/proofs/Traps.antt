@@ -1,4 +1,4 @@
--- The cases of texts/traps.cases, as examples/worked_equations writes them.
+-- The cases of texts/traps.cases, as gate/worked_equations writes them.
 use Rattle.std.specs.Prelude.{◌∷◌, pos, negsuc, true, [], Some, None, codes, refl}
 use Rattle.base.specs.Element.{JInt}
 use Rattle.syntax.specs.Tree.{Binary, Complement, Declare, DeclareArray, Divide, Element, FromCall, FromExpr, JBoolean, JClass, JObject, Number, Paren, Perform, Prefix, PutJint, ReferenceVariable, Remainder, Return, ShiftLeft, ShiftRight, SourceUnit, Text, ToInt, ToWord, UInt32, Variable, Void}

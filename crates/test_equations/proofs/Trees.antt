@@ -1,4 +1,4 @@
--- The cases of texts/trees.cases, as examples/worked_equations writes them.
+-- The cases of texts/trees.cases, as gate/worked_equations writes them.
 use Rattle.std.specs.Prelude.{◌∷◌, true, false, [], codes}
 use Rattle.base.specs.Element.{JInt}
 use Rattle.syntax.specs.Tree.{Add, Assign, Binary, Declare, DeclareBuffer, Equal, FromCall, FromExpr, If, IfElse, JIntArray, JIntVariable, JObject, Less, Named, Null, Number, Paren, Perform, PutJint, ReferenceVariable, Return, SourceUnit, TestExpr, UInt32, Value, Variable, Void, While}

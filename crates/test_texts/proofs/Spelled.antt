@@ -1,4 +1,4 @@
--- The cases of texts/spelled.cases, as examples/worked_equations writes them.
+-- The cases of texts/spelled.cases, as gate/worked_equations writes them.
 use Rattle.std.specs.Prelude.{◌∷◌, true, false, [], codes, refl}
 use Rattle.base.specs.Element.{JInt}
 use Rattle.syntax.specs.Tree.{Abort, Add, AddressOf, Assign, AssignElement, Binary, BitAnd, BitOr, Complement, Declare, DeclareArray, DeclareBuffer, Element, Equal, False, FromCall, FromExpr, If, IfElse, IntResult, JBoolean, JIntArray, JObject, JString, Less, LogicalAnd, LogicalNot, Named, NotEqual, Null, Number, Paren, Perform, Prefix, PutJint, ReferenceResult, ReferenceVariable, Return, ReturnValue, ShiftLeft, SourceUnit, TestCall, TestExpr, Text, ToInt, ToWord, UInt32, Value, Variable, Void, While}
