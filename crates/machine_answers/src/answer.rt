@@ -1,7 +1,7 @@
 //! What a function of the JNI does, as data.
 
-ghost use Rattle.std.specs.Prelude.{◌≡◌, ◌<◌, ℕ, [], Some, None, IsSome, true, false, unwrap_or, slice_get, map};
-ghost use Rattle.classes.specs.FieldViews.{field_of, find_as};
+ghost use Rattle.std.specs.Prelude.{◌≡◌, ◌<◌, ℕ, [], Some, None, true, false, unwrap_or, slice_get, map};
+ghost use Rattle.classes.specs.FieldViews.{find_as};
 ghost use Rattle.class_rules.specs.Fields.{layout, own_statics};
 ghost use Rattle.class_rules.specs.Grown.{IsGrown};
 ghost use Rattle.code.specs.Call.{call_view};
@@ -11,7 +11,7 @@ ghost use Rattle.heap.specs.Heap.{IsAddress};
 ghost use Rattle.jni.specs.Table.{function_value};
 ghost use Rattle.machine_answers.specs.CallGroups.{is_further, is_of_objects};
 ghost use Rattle.machine_answers.specs.Checked.{arguments_fit, element_wanted};
-ghost use Rattle.machine_scenes.specs.Given.{field_there, name_there, operand_at, operand_of, AreAddresses, AreHandles};
+ghost use Rattle.machine_scenes.specs.Given.{field_there, name_there, AreAddresses, AreHandles, FieldIsThere, ReferenceIsThere};
 ghost use Rattle.machine_scenes.specs.Scenes.{scene_view};
 ghost use Rattle.machine_answers.specs.WorkedOut.{address_in, class_object, count_there, declaring, deletes, deletes_global, found_class, frame_for, handle, held_reference, place, place_of_static, place_there, reference, room_for, top_word, value_there, word_in, writes_there, IsFoundField, IsWorkedOut};
 ghost use Rattle.base.specs.Element.{element_value};
@@ -34,7 +34,6 @@ use machine_scenes::new_object::{New, text_at};
 use machine_scenes::operands::{
     class_of_given, declaring, fits_there, handle_at, key_in, name_there, operand_of, reference_at,
 };
-use machine_scenes::references::References;
 use machine_scenes::scene::Scene;
 use machine_scenes::statics::StaticReference;
 use monitors::Object;
@@ -137,11 +136,11 @@ pub fn work_out(scene: &Scene<'_>, function: &Call) -> Answer
             )
         }
         JniFunction::GetObjectClass => {
-            let first = reference_of(scene, function, 0);
+            let first = argument(scene, function, 0);
             gives_class(scene.loaded, Some(class_of_given(scene.heap, first)))
         }
         JniFunction::IsInstanceOf => {
-            let first = reference_of(scene, function, 0);
+            let first = argument(scene, function, 0);
             let class = name_of(scene, function, 1);
             gives_truth(fits_there(scene.classes, scene.heap, first, class))
         }
@@ -177,11 +176,11 @@ fn work_out_further(scene: &Scene<'_>, function: &Call) -> Answer
 {
     match function.function {
         JniFunction::NewLocalRef => {
-            Answer::Gives(Given::Reference(reference_of(scene, function, 0)))
+            Answer::Gives(Given::Reference(argument(scene, function, 0)))
         }
-        JniFunction::NewGlobalRef => Answer::MakesGlobal(reference_of(scene, function, 0)),
+        JniFunction::NewGlobalRef => Answer::MakesGlobal(argument(scene, function, 0)),
         JniFunction::DeleteGlobalRef => {
-            let first = reference_of(scene, function, 0);
+            let first = argument(scene, function, 0);
             deletes_global(first, operand_of(&function.operands, 0))
         }
         JniFunction::IsSameObject => {
@@ -194,7 +193,7 @@ fn work_out_further(scene: &Scene<'_>, function: &Call) -> Answer
         }
         JniFunction::EnsureLocalCapacity => room_for(stack_number(scene.stack)),
         JniFunction::PushLocalFrame => frame_for(stack_number(scene.stack)),
-        JniFunction::PopLocalFrame => Answer::Pops(reference_of(scene, function, 0)),
+        JniFunction::PopLocalFrame => Answer::Pops(argument(scene, function, 0)),
         _ => { work_out_field(scene, function) }
     }
 }
@@ -233,7 +232,7 @@ fn work_out_field(scene: &Scene<'_>, function: &Call) -> Answer
             Answer::Gives(Given::Reference(address_in(value)))
         }
         JniFunction::SetObjectField => {
-            let value = held_reference(reference_of(scene, function, 2));
+            let value = held_reference(argument(scene, function, 2));
             writes_field(scene, function, value)
         }
         JniFunction::GetStaticField(_) => {
@@ -249,7 +248,7 @@ fn work_out_field(scene: &Scene<'_>, function: &Call) -> Answer
             Answer::Gives(Given::Reference(address_in(value)))
         }
         JniFunction::SetStaticObjectField => {
-            let value = held_reference(reference_of(scene, function, 2));
+            let value = held_reference(argument(scene, function, 2));
             writes_static(scene, function, value)
         }
         _ => work_out_array(scene, function),
@@ -258,27 +257,12 @@ fn work_out_field(scene: &Scene<'_>, function: &Call) -> Answer
 
 /// The reference of the operand at a place.
 #[inline(always)]
-pub fn argument(
-    heap: &Heap,
-    references: &References<'_>,
-    function: &Call,
-    place: usize,
-) -> Option<Addr>
-    requires { AreAddresses heap.now references.now function.now.operands.items }
-    ensures reference { result ≡ operand_at references.now (operand_of function.now.operands.items place) }
-    ensures there { (a : ℕ) → result ≡ Some a → IsAddress heap.now a }
-{
-    reference_at(heap, references, &function.operands, place)
-}
-
-/// The reference of the operand at a place, of a call that sees this.
-#[inline(always)]
-pub(crate) fn reference_of(scene: &Scene<'_>, function: &Call, place: usize) -> Option<Addr>
+pub fn argument(scene: &Scene<'_>, function: &Call, place: usize) -> Option<Addr>
     requires { AreAddresses scene.now.heap.now scene.now.references function.now.operands.items }
     ensures reference { result ≡ reference (scene_view scene.now) (call_view function.now) place }
-    ensures there { (a : ℕ) → result ≡ Some a → IsAddress scene.now.heap.now a }
+    ensures there { ReferenceIsThere scene.now.heap.now result }
 {
-    argument(scene.heap, &scene.references, function, place)
+    reference_at(&scene.references, &function.operands, place)
 }
 
 /// The name of its object, and 0 for NULL.
@@ -287,7 +271,7 @@ pub(crate) fn name_of(scene: &Scene<'_>, function: &Call, place: usize) -> usize
     requires { AreAddresses scene.now.heap.now scene.now.references function.now.operands.items }
     ensures { result ≡ name_there scene.now.heap.now (reference (scene_view scene.now) (call_view function.now) place) }
 {
-    name_there(scene.heap, reference_of(scene, function, place))
+    name_there(scene.heap, argument(scene, function, place))
 }
 
 /// The field ID of operand 1, which is NULL or that of a field.
@@ -295,9 +279,9 @@ pub(crate) fn name_of(scene: &Scene<'_>, function: &Call, place: usize) -> usize
 pub(crate) fn handle_of(scene: &Scene<'_>, function: &Call) -> Option<FieldHandle>
     requires { AreHandles scene.now.classes.now scene.now.fields.now function.now.operands.items }
     ensures field { result ≡ handle (scene_view scene.now) (call_view function.now) }
-    ensures there { (h : FieldHandle) → result ≡ Some h → IsSome (field_of scene.now.classes.now h) }
+    ensures there { FieldIsThere scene.now.classes.now result }
 {
-    handle_at(scene.classes, scene.fields, &function.operands, 1)
+    handle_at(scene.fields, &function.operands, 1)
 }
 
 /// A class object is given, or NULL.
@@ -382,7 +366,7 @@ fn find_field(classes: &ClassTable, class: ClassId, texts: &[Vec<u8>], is_static
 
 /// The number of values of an object, and 0 for NULL.
 pub(crate) fn count_there(heap: &Heap, reference: Option<Addr>) -> u32
-    requires { (a : ℕ) → reference ≡ Some a → IsAddress heap.now a }
+    requires { ReferenceIsThere heap.now reference }
     ensures { result ≡ count_there heap.now reference }
 {
     // The proof reads off these calls that no object has more values than there are cells.
@@ -404,7 +388,7 @@ fn place_of_field(scene: &Scene<'_>, function: &Call) -> usize
     ensures { (field_there scene.now.classes.now (handle (scene_view scene.now) (call_view function.now))).is_static ≡ false
         → result ≡ place (scene_view scene.now) (call_view function.now) }
 {
-    let class = class_of_given(scene.heap, reference_of(scene, function, 0));
+    let class = class_of_given(scene.heap, argument(scene, function, 0));
     field_place(scene.classes, class, handle_of(scene, function))
 }
 
@@ -413,7 +397,7 @@ fn holder_of_static(scene: &Scene<'_>, function: &Call) -> Option<Addr>
     requires { AreHandles scene.now.classes.now scene.now.fields.now function.now.operands.items }
     ensures { result ≡ declaring (scene_view scene.now) (call_view function.now) }
 {
-    let class = declaring(scene.classes, handle_of(scene, function));
+    let class = declaring(handle_of(scene, function));
     class_object(scene.loaded, Some(class))
 }
 
@@ -436,7 +420,7 @@ fn value_of_field(scene: &Scene<'_>, function: &Call) -> Option<Value>
         → result ≡ value_there scene.now.heap.now (reference (scene_view scene.now) (call_view function.now) 0)
         (place (scene_view scene.now) (call_view function.now)) }
 {
-    let first = reference_of(scene, function, 0);
+    let first = argument(scene, function, 0);
     value_there(scene.heap, first, place_of_field(scene, function))
 }
 
@@ -450,7 +434,7 @@ fn writes_field(scene: &Scene<'_>, function: &Call, value: Value) -> Answer
         → result ≡ writes_there scene.now.heap.now (reference (scene_view scene.now) (call_view function.now) 0)
         (place (scene_view scene.now) (call_view function.now)) value }
 {
-    let first = reference_of(scene, function, 0);
+    let first = argument(scene, function, 0);
     writes_there(scene.heap, first, place_of_field(scene, function), value)
 }
 
@@ -483,7 +467,7 @@ fn writes_static(scene: &Scene<'_>, function: &Call, value: Value) -> Answer
 /// The place of the field of a handle among those of a class, and 0 for NULL.
 fn field_place(classes: &ClassTable, class: ClassId, field: Option<FieldHandle>) -> usize
     requires grown { IsGrown classes.now }
-    requires there { (h : FieldHandle) → field ≡ Some h → IsSome (field_of classes.now h) }
+    requires there { FieldIsThere classes.now field }
     ensures { (field_there classes.now field).is_static ≡ false → result ≡ place_there classes.now field (layout classes.now class) }
 {
     match field {
@@ -500,7 +484,7 @@ fn field_place(classes: &ClassTable, class: ClassId, field: Option<FieldHandle>)
 
 /// The place of the static of a handle among those of the class that declares it, and 0 for NULL.
 fn static_place(classes: &ClassTable, field: Option<FieldHandle>) -> usize
-    requires { (h : FieldHandle) → field ≡ Some h → IsSome (field_of classes.now h) }
+    requires { FieldIsThere classes.now field }
     ensures { (field_there classes.now field).is_static ≡ true
         → result ≡ place_there classes.now field (own_statics classes.now (field_there classes.now field).class) }
 {
@@ -512,7 +496,7 @@ fn static_place(classes: &ClassTable, field: Option<FieldHandle>) -> usize
 
 /// A value of an object, where the object has it.
 pub(crate) fn value_there(heap: &Heap, reference: Option<Addr>, place: usize) -> Option<Value>
-    requires { (a : ℕ) → reference ≡ Some a → IsAddress heap.now a }
+    requires { ReferenceIsThere heap.now reference }
     ensures { result ≡ value_there heap.now reference place }
 {
     match reference {
@@ -561,7 +545,7 @@ pub(crate) fn writes_there(
     place: usize,
     value: Value,
 ) -> Answer
-    requires { (a : ℕ) → reference ≡ Some a → IsAddress heap.now a }
+    requires { ReferenceIsThere heap.now reference }
     ensures { result ≡ writes_there heap.now reference place value }
 {
     match reference {

@@ -13,7 +13,7 @@ ghost use Rattle.machine_scenes.specs.Given.{operand_of, AreAddresses};
 ghost use Rattle.machine_scenes.specs.Scenes.{scene_view};
 ghost use Rattle.machine_answers.specs.WorkedOut.{acquires, buffer_there, mode_of, releases, slot_of, IsWorkedOut};
 
-use crate::answer::{Answer, Given, reference_of};
+use crate::answer::{Answer, Given, argument};
 use crate::copies::word_of;
 use base::limits::MOST_VIEWS;
 use code::instr::{Call, Operand, ReleaseMode};
@@ -34,7 +34,7 @@ pub(crate) fn work_out_buffer(scene: &Scene<'_>, function: &Call) -> Answer
     requires of_buffers { is_of_buffers (function_value function.now.function) ≡ true }
     ensures { IsWorkedOut (scene_view scene.now) (call_view function.now) (function_value function.now.function) result }
 {
-    let object = reference_of(scene, function, 0);
+    let object = argument(scene, function, 0);
     match function.function {
         JniFunction::GetBuffer(access) => acquires(access, object),
         JniFunction::ReleaseBuffer(access) => {

@@ -7,11 +7,10 @@ ghost use Rattle.class_queries.specs.Kinds.{class_misfits};
 ghost use Rattle.class_rules.specs.Class.{Classes};
 ghost use Rattle.base.specs.Element.{element_value};
 ghost use Rattle.classes.specs.Views.{field_type_view};
-ghost use Rattle.heap.specs.Heap.{IsAddress};
 ghost use Rattle.code.specs.Call.{call_view, IsPrepared};
 ghost use Rattle.jni.specs.JniFunction.{is_allowed_pending, prototype};
 ghost use Rattle.jni.specs.Table.{function_value, parameter_value, result_value};
-ghost use Rattle.machine_scenes.specs.Given.{field_there, operand_at, AreAddresses, AreHandles};
+ghost use Rattle.machine_scenes.specs.Given.{field_there, operand_at, AreAddresses, AreHandles, ReferenceIsThere};
 ghost use Rattle.machine_scenes.specs.Locals.{locals_after};
 ghost use Rattle.tables.specs.Locals.{has_room};
 ghost use Rattle.machine_answers.specs.Checked.{arguments_asked, arguments_fit, element_wanted, has_field, has_static, gives_null, gives_deleted, may_be_null, some_missing, misfits, some_misfit, fits_type_there, puts_local, trap_found};
@@ -21,11 +20,10 @@ ghost use Rattle.semantics.specs.EventViews.{trap_view};
 ghost use Rattle.semantics.specs.Checks.{first_trap};
 ghost use Rattle.semantics.specs.Value.{Trap as SourceTrap};
 
-use crate::answer::{handle_of, name_of, reference_of};
+use crate::answer::{handle_of, name_of, argument};
 use class_queries::{class_misfits, holds_number, holds_reference};
 use classes::built_ins::{THROWABLE, number_array};
 use classes::class::{ElementType, FieldType};
-use code::instr;
 use code::instr::{Call, Operand, Target};
 use heap::Addr;
 use jni::{Access, JniFunction, ParameterKind, ResultKind};
@@ -115,7 +113,7 @@ fn asks_kind(parameter: ParameterKind) -> bool
 
 /// Whether an operand gives an object of another kind than the parameter.
 fn misfits(scene: &Scene<'_>, parameter: ParameterKind, operand: Operand) -> bool
-    requires { (a : ℕ) → operand_at scene.now.references operand ≡ Some a → IsAddress scene.now.heap.now a }
+    requires { ReferenceIsThere scene.now.heap.now (operand_at scene.now.references operand) }
     ensures { result ≡ misfits scene.now.classes.now scene.now.heap.now (parameter_value parameter) (operand_at scene.now.references operand) }
 {
     if !asks_kind(parameter) {
@@ -145,7 +143,7 @@ fn some_misfit(scene: &Scene<'_>, parameters: &[ParameterKind], operands: &[Oper
 
 /// Whether a reference may be stored in a field of this type.
 fn fits_type(scene: &Scene<'_>, reference: Option<Addr>, field_type: FieldType) -> bool
-    requires { (a : ℕ) → reference ≡ Some a → IsAddress scene.now.heap.now a }
+    requires { ReferenceIsThere scene.now.heap.now reference }
     ensures { result ≡ fits_type_there scene.now.classes.now scene.now.heap.now reference (field_type_view field_type) }
 {
     match field_type {
@@ -168,10 +166,9 @@ fn has_field(scene: &Scene<'_>, function: &Call) -> bool
     requires handles { AreHandles scene.now.classes.now scene.now.fields.now function.now.operands.items }
     ensures { result ≡ has_field scene.now.classes.now scene.now.heap.now scene.now.references scene.now.fields.now function.now.operands.items }
 {
-    let classes = scene.classes;
     let field = handle_of(scene, function);
-    let class = class_of_given(scene.heap, reference_of(scene, function, 0));
-    !is_static(classes, field) && classes.assignable(class, declaring(classes, field))
+    let class = class_of_given(scene.heap, argument(scene, function, 0));
+    !is_static(field) && scene.classes.assignable(class, declaring(field))
 }
 
 /// Whether operand 0 is a class that has the static of operand 1.
@@ -180,10 +177,9 @@ fn has_static(scene: &Scene<'_>, function: &Call) -> bool
     requires handles { AreHandles scene.now.classes.now scene.now.fields.now function.now.operands.items }
     ensures { result ≡ has_static scene.now.classes.now scene.now.heap.now scene.now.references scene.now.fields.now function.now.operands.items }
 {
-    let classes = scene.classes;
     let field = handle_of(scene, function);
     let class = name_of(scene, function, 0);
-    is_static(classes, field) && classes.assignable(class, declaring(classes, field))
+    is_static(field) && scene.classes.assignable(class, declaring(field))
 }
 
 /// Whether the arguments of a function, each of its kind, go together.
@@ -203,7 +199,7 @@ fn fit_together(scene: &Scene<'_>, function: &Call) -> bool
             has_field(scene, function) && holds_reference(asked_type(scene, function))
         }
         JniFunction::SetObjectField => {
-            let value = reference_of(scene, function, 2);
+            let value = argument(scene, function, 2);
             has_field(scene, function) && fits_type(scene, value, asked_type(scene, function))
         }
         JniFunction::GetStaticField(element) | JniFunction::SetStaticField(element) => {
@@ -213,20 +209,20 @@ fn fit_together(scene: &Scene<'_>, function: &Call) -> bool
             has_static(scene, function) && holds_reference(asked_type(scene, function))
         }
         JniFunction::SetStaticObjectField => {
-            let value = reference_of(scene, function, 2);
+            let value = argument(scene, function, 2);
             has_static(scene, function) && fits_type(scene, value, asked_type(scene, function))
         }
         JniFunction::NewObjectArray => {
             let class = name_of(scene, function, 1);
-            let element = reference_of(scene, function, 2);
+            let element = argument(scene, function, 2);
             !classes.is_array(class) && fits_there(classes, scene.heap, element, class)
         }
         JniFunction::GetBuffer(Access::ArrayView) => {
-            let class = class_of_given(scene.heap, reference_of(scene, function, 0));
+            let class = class_of_given(scene.heap, argument(scene, function, 0));
             class == number_array(element_wanted(function.target))
         }
         JniFunction::Throw => {
-            let class = class_of_given(scene.heap, reference_of(scene, function, 0));
+            let class = class_of_given(scene.heap, argument(scene, function, 0));
             classes.assignable(class, THROWABLE)
         }
         JniFunction::ThrowNew => classes.assignable(name_of(scene, function, 0), THROWABLE),

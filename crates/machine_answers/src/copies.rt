@@ -6,11 +6,11 @@ ghost use Rattle.heap.specs.Heap.{values_at, IsAddress};
 ghost use Rattle.jni.specs.Table.{function_value};
 ghost use Rattle.machine_answers.specs.CallGroups.{is_of_regions};
 ghost use Rattle.machine_answers.specs.Copies.{numbers_with, space_with, word_of};
-ghost use Rattle.machine_scenes.specs.Given.{operand_of, AreAddresses};
+ghost use Rattle.machine_scenes.specs.Given.{operand_of, AreAddresses, ReferenceIsThere};
 ghost use Rattle.machine_scenes.specs.Scenes.{scene_view};
 ghost use Rattle.machine_answers.specs.WorkedOut.{array_in, copies_in, copies_out, next_number, region, region_in, IsWorkedOut};
 
-use crate::answer::{Answer, reference_of};
+use crate::answer::{Answer, argument};
 use crate::arrays::stack_number;
 use class_rules::ClassId;
 use classes::built_ins::{
@@ -55,7 +55,7 @@ fn region_asked(scene: &Scene<'_>, function: &Call, array: LocalArray) -> Option
     requires array { array ≡ array_in (operand_of function.now.operands.items 3) }
     ensures { result ≡ region (scene_view scene.now) (call_view function.now) }
 {
-    let object = reference_of(scene, function, 0);
+    let object = argument(scene, function, 0);
     let start = next_number(scene.stack);
     region_in(scene.heap, object, start, stack_number(scene.stack), array)
 }
@@ -85,7 +85,7 @@ fn region_in(
     count: i32,
     array: LocalArray,
 ) -> Option<ArrayRegion>
-    requires { (a : ℕ) → reference ≡ Some a → IsAddress heap.now a }
+    requires { ReferenceIsThere heap.now reference }
     ensures { result ≡ region_in heap.now reference start count array }
 {
     match reference {

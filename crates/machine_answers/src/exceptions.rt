@@ -8,7 +8,7 @@ ghost use Rattle.machine_scenes.specs.Given.{AreAddresses};
 ghost use Rattle.machine_scenes.specs.Scenes.{scene_view};
 ghost use Rattle.machine_answers.specs.WorkedOut.{IsWorkedOut};
 
-use crate::answer::{Answer, Given, gives_truth, name_of, reference_of};
+use crate::answer::{Answer, Given, gives_truth, name_of, argument};
 use code::instr::Call;
 use jni::JniFunction;
 use machine_scenes::scene::Scene;
@@ -23,7 +23,7 @@ pub(crate) fn work_out_exception(scene: &Scene<'_>, function: &Call) -> Answer
 {
     match function.function {
         JniFunction::Throw => {
-            let exception = reference_of(scene, function, 0);
+            let exception = argument(scene, function, 0);
             Answer::Pends {
                 exception,
                 given: Given::Number(0),

@@ -8,7 +8,7 @@ ghost use Rattle.machine_scenes.specs.Given.{AreAddresses};
 ghost use Rattle.machine_scenes.specs.Scenes.{scene_view};
 ghost use Rattle.machine_answers.specs.WorkedOut.{IsWorkedOut, entered_by, left_by};
 
-use crate::answer::{Answer, Given, reference_of};
+use crate::answer::{Answer, Given, argument};
 use classes::built_ins::ILLEGAL_MONITOR_STATE_EXCEPTION;
 use code::instr::Call;
 use jni::JniFunction;
@@ -22,7 +22,7 @@ pub(crate) fn work_out_monitor(scene: &Scene<'_>, function: &Call) -> Answer
     requires of_monitors { is_of_monitors (function_value function.now.function) ≡ true }
     ensures { IsWorkedOut (scene_view scene.now) (call_view function.now) (function_value function.now.function) result }
 {
-    let Some(address) = reference_of(scene, function, 0) else {
+    let Some(address) = argument(scene, function, 0) else {
         return Answer::Gives(Given::Nothing);
     };
     let name = scene.heap.birth_of(address);

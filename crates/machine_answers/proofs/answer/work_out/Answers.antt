@@ -28,12 +28,12 @@ returns-in-GetSuperclass c =
 pub returns-in-GetObjectClass : goal.returns-in-GetObjectClass
 returns-in-GetObjectClass c =
     subst (λ (f : JniFunction). IsWorkedOut (scene_view c.args.scene.now) (call_view c.args.function.now) (function_value f) (c.gives_class-in-GetObjectClass.result)) (sym c.in-GetObjectClass.is)
-    (c.gives_class-in-GetObjectClass.ensures ∙ ap (λ (class : ℕ). Gives (Reference (class_object c.args.scene.now.loaded.now (Some class)))) (c.class_of_given.ensures ∙ ap (class_of_given c.args.scene.now.heap.now) c.reference_of-first.ensures.reference))
+    (c.gives_class-in-GetObjectClass.ensures ∙ ap (λ (class : ℕ). Gives (Reference (class_object c.args.scene.now.loaded.now (Some class)))) (c.class_of_given.ensures ∙ ap (class_of_given c.args.scene.now.heap.now) c.argument-first.ensures.reference))
 
 pub returns-in-IsInstanceOf : goal.returns-in-IsInstanceOf
 returns-in-IsInstanceOf c =
     subst (λ (f : JniFunction). IsWorkedOut (scene_view c.args.scene.now) (call_view c.args.function.now) (function_value f) (c.gives_truth.result)) (sym c.in-IsInstanceOf.is)
-    (c.gives_truth.ensures ∙ ap (λ (b : Bool). Gives (Number (truth_word b))) (c.fits_there.ensures ∙ ap₂ (fits_there c.args.scene.now.classes.now c.args.scene.now.heap.now) c.reference_of-first-in-IsInstanceOf.ensures.reference c.name_of-class.ensures))
+    (c.gives_truth.ensures ∙ ap (λ (b : Bool). Gives (Number (truth_word b))) (c.fits_there.ensures ∙ ap₂ (fits_there c.args.scene.now.classes.now c.args.scene.now.heap.now) c.argument-first-in-IsInstanceOf.ensures.reference c.name_of-class.ensures))
 
 pub returns-in-IsAssignableFrom : goal.returns-in-IsAssignableFrom
 returns-in-IsAssignableFrom c =

@@ -61,7 +61,7 @@ returns-in-SetObjectField c =
     let Passes = λ (f : JniFunction). fit_together c.args.scene.now.classes.now c.args.scene.now.heap.now c.args.scene.now.references c.args.scene.now.fields.now c.args.function.now.operands.items (element_wanted c.args.function.now.target) (function_value f) ≡ true in
     let known = is_field _ _ _ (subst Passes c.in-SetObjectField.is c.requires.passed) in
     subst (λ (f : JniFunction). IsWorkedOut (scene_view c.args.scene.now) (call_view c.args.function.now) (function_value f) (c.writes_field-in-SetObjectField.result)) (sym c.in-SetObjectField.is)
-    (c.writes_field-in-SetObjectField.ensures known ∙ ap (λ (v : Value). writes_there c.args.scene.now.heap.now (operand_at c.args.scene.now.references (operand_of c.args.function.now.operands.items 0)) (place_there c.args.scene.now.classes.now (field_at c.args.scene.now.fields.now (operand_of c.args.function.now.operands.items 1)) (layout c.args.scene.now.classes.now (class_of_given c.args.scene.now.heap.now (operand_at c.args.scene.now.references (operand_of c.args.function.now.operands.items 0))))) v) (c.held_reference-value.ensures ∙ ap held_reference c.reference_of.ensures.reference))
+    (c.writes_field-in-SetObjectField.ensures known ∙ ap (λ (v : Value). writes_there c.args.scene.now.heap.now (operand_at c.args.scene.now.references (operand_of c.args.function.now.operands.items 0)) (place_there c.args.scene.now.classes.now (field_at c.args.scene.now.fields.now (operand_of c.args.function.now.operands.items 1)) (layout c.args.scene.now.classes.now (class_of_given c.args.scene.now.heap.now (operand_at c.args.scene.now.references (operand_of c.args.function.now.operands.items 0))))) v) (c.held_reference-value.ensures ∙ ap held_reference c.argument.ensures.reference))
 
 pub returns-in-SetStaticField : goal.returns-in-SetStaticField
 returns-in-SetStaticField c =
@@ -75,4 +75,4 @@ returns-in-SetStaticObjectField c =
     let Passes = λ (f : JniFunction). fit_together c.args.scene.now.classes.now c.args.scene.now.heap.now c.args.scene.now.references c.args.scene.now.fields.now c.args.function.now.operands.items (element_wanted c.args.function.now.target) (function_value f) ≡ true in
     let known = is_static _ _ _ (subst Passes c.in-SetStaticObjectField.is c.requires.passed) in
     subst (λ (f : JniFunction). IsWorkedOut (scene_view c.args.scene.now) (call_view c.args.function.now) (function_value f) (c.writes_static-in-SetStaticObjectField.result)) (sym c.in-SetStaticObjectField.is)
-    (c.writes_static-in-SetStaticObjectField.ensures known ∙ ap (λ (v : Value). writes_there c.args.scene.now.heap.now (class_object c.args.scene.now.loaded.now (Some (field_there c.args.scene.now.classes.now (field_at c.args.scene.now.fields.now (operand_of c.args.function.now.operands.items 1))).class)) (place_there c.args.scene.now.classes.now (field_at c.args.scene.now.fields.now (operand_of c.args.function.now.operands.items 1)) (own_statics c.args.scene.now.classes.now (field_there c.args.scene.now.classes.now (field_at c.args.scene.now.fields.now (operand_of c.args.function.now.operands.items 1))).class)) v) (c.held_reference-value-in-SetStaticObjectField.ensures ∙ ap held_reference c.reference_of-in-SetStaticObjectField.ensures.reference))
+    (c.writes_static-in-SetStaticObjectField.ensures known ∙ ap (λ (v : Value). writes_there c.args.scene.now.heap.now (class_object c.args.scene.now.loaded.now (Some (field_there c.args.scene.now.classes.now (field_at c.args.scene.now.fields.now (operand_of c.args.function.now.operands.items 1))).class)) (place_there c.args.scene.now.classes.now (field_at c.args.scene.now.fields.now (operand_of c.args.function.now.operands.items 1)) (own_statics c.args.scene.now.classes.now (field_there c.args.scene.now.classes.now (field_at c.args.scene.now.fields.now (operand_of c.args.function.now.operands.items 1))).class)) v) (c.held_reference-value-in-SetStaticObjectField.ensures ∙ ap held_reference c.argument-in-SetStaticObjectField.ensures.reference))

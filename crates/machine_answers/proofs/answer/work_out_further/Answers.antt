@@ -13,23 +13,23 @@ use Rattle.machine_answers.proofs.answer.work_out_further.Goals as goal
 
 pub returns-in-NewLocalRef : goal.returns-in-NewLocalRef
 returns-in-NewLocalRef c =
-    subst (λ (f : JniFunction). IsWorkedOut (scene_view c.args.scene.now) (call_view c.args.function.now) (function_value f) (Gives (Reference c.reference_of.result))) (sym c.in-NewLocalRef.is)
-    (ap (λ (a : Option ℕ). Gives (Reference a)) c.reference_of.ensures.reference)
+    subst (λ (f : JniFunction). IsWorkedOut (scene_view c.args.scene.now) (call_view c.args.function.now) (function_value f) (Gives (Reference c.argument.result))) (sym c.in-NewLocalRef.is)
+    (ap (λ (a : Option ℕ). Gives (Reference a)) c.argument.ensures.reference)
 
 pub returns-in-NewGlobalRef : goal.returns-in-NewGlobalRef
 returns-in-NewGlobalRef c =
-    subst (λ (f : JniFunction). IsWorkedOut (scene_view c.args.scene.now) (call_view c.args.function.now) (function_value f) (MakesGlobal c.reference_of-in-NewGlobalRef.result)) (sym c.in-NewGlobalRef.is)
-    (ap (λ (a : Option ℕ). MakesGlobal a) c.reference_of-in-NewGlobalRef.ensures.reference)
+    subst (λ (f : JniFunction). IsWorkedOut (scene_view c.args.scene.now) (call_view c.args.function.now) (function_value f) (MakesGlobal c.argument-in-NewGlobalRef.result)) (sym c.in-NewGlobalRef.is)
+    (ap (λ (a : Option ℕ). MakesGlobal a) c.argument-in-NewGlobalRef.ensures.reference)
 
 pub returns-in-PopLocalFrame : goal.returns-in-PopLocalFrame
 returns-in-PopLocalFrame c =
-    subst (λ (f : JniFunction). IsWorkedOut (scene_view c.args.scene.now) (call_view c.args.function.now) (function_value f) (Pops c.reference_of-in-PopLocalFrame.result)) (sym c.in-PopLocalFrame.is)
-    (ap (λ (a : Option ℕ). Pops a) c.reference_of-in-PopLocalFrame.ensures.reference)
+    subst (λ (f : JniFunction). IsWorkedOut (scene_view c.args.scene.now) (call_view c.args.function.now) (function_value f) (Pops c.argument-in-PopLocalFrame.result)) (sym c.in-PopLocalFrame.is)
+    (ap (λ (a : Option ℕ). Pops a) c.argument-in-PopLocalFrame.ensures.reference)
 
 pub returns-in-DeleteGlobalRef : goal.returns-in-DeleteGlobalRef
 returns-in-DeleteGlobalRef c =
     subst (λ (f : JniFunction). IsWorkedOut (scene_view c.args.scene.now) (call_view c.args.function.now) (function_value f) (c.deletes_global.result)) (sym c.in-DeleteGlobalRef.is)
-    (c.deletes_global.ensures ∙ ap₂ deletes_global c.reference_of-first.ensures.reference (c.operand_of.ensures ∙ ap (λ (os : List Operand). operand_of os 0) c.deref.ensures.value))
+    (c.deletes_global.ensures ∙ ap₂ deletes_global c.argument-first.ensures.reference (c.operand_of.ensures ∙ ap (λ (os : List Operand). operand_of os 0) c.deref.ensures.value))
 
 pub returns-in-DeleteLocalRef : goal.returns-in-DeleteLocalRef
 returns-in-DeleteLocalRef c =
