@@ -9,16 +9,18 @@ ghost use Rattle.code.specs.Effect.{element_word, truth_word};
 ghost use Rattle.code_meaning.specs.Coding.{element_of};
 ghost use Rattle.heap.specs.Heap.{IsAddress};
 ghost use Rattle.jni.specs.Table.{function_value};
-ghost use Rattle.machine_answers.specs.CallGroups.{is_further, is_of_objects};
 ghost use Rattle.machine_answers.specs.Checked.{arguments_fit, element_wanted};
 ghost use Rattle.machine_scenes.specs.Given.{field_there, name_there, AreAddresses, AreHandles, FieldIsThere, ReferenceIsThere};
 ghost use Rattle.machine_scenes.specs.Scenes.{scene_view};
-ghost use Rattle.machine_answers.specs.WorkedOut.{address_in, class_object, count_there, declaring, deletes, deletes_global, found_class, frame_for, handle, held_reference, place, place_of_static, place_there, reference, room_for, top_word, value_there, word_in, writes_there, IsFoundField, IsWorkedOut};
+ghost use Rattle.machine_answers.specs.WorkedOut.{address_in, class_object, count_there, declaring, deletes, deletes_global, found_class, frame_for, handle, held_reference, place, place_of_static, place_there, reference, room_for, subject_of, top_word, value_there, word_in, writes_there, IsFoundField, IsWorkedOut};
+ghost use Rattle.machine_answers.specs.declared.answer.Subject.TheVariants as subject;
 ghost use Rattle.base.specs.Element.{element_value};
 
 use crate::arrays::{stack_number, work_out_array};
+use crate::buffers::work_out_buffer;
 use crate::exceptions::work_out_exception;
 use crate::monitor::work_out_monitor;
+use crate::regions::work_out_region;
 use class_rules::ClassId;
 use classes::built_ins::{NO_CLASS_DEF_FOUND_ERROR, NO_SUCH_FIELD_ERROR};
 use classes::class::FieldHandle;
@@ -114,6 +116,56 @@ pub enum Answer {
     Exits(u32),
 }
 
+/// What a function works on.
+#[derive(Clone, Copy)]
+pub(crate) enum Subject {
+    Classes,
+    /// Local and global references, and frames.
+    References,
+    /// The fields of objects.
+    Fields,
+    Statics,
+    /// Arrays and strings.
+    Arrays,
+    /// Arrays and strings, and local arrays.
+    Regions,
+    /// Arrays and strings, and element buffers.
+    Buffers,
+    /// The pending exception.
+    Exceptions,
+    /// The monitors of objects.
+    Monitors,
+}
+
+/// What a function works on.
+#[inline]
+fn subject_of(function: JniFunction) -> Subject
+    ensures { result ≡ subject_of (function_value function) }
+{
+    match function {
+        JniFunction::NewLocalRef | JniFunction::NewGlobalRef => Subject::References,
+        JniFunction::DeleteLocalRef | JniFunction::DeleteGlobalRef => Subject::References,
+        JniFunction::IsSameObject | JniFunction::EnsureLocalCapacity => Subject::References,
+        JniFunction::PushLocalFrame | JniFunction::PopLocalFrame => Subject::References,
+        JniFunction::GetField(_) | JniFunction::SetField(_) => Subject::Fields,
+        JniFunction::GetObjectField | JniFunction::SetObjectField => Subject::Fields,
+        JniFunction::GetStaticField(_) | JniFunction::SetStaticField(_) => Subject::Statics,
+        JniFunction::GetStaticObjectField | JniFunction::SetStaticObjectField => Subject::Statics,
+        JniFunction::GetArrayLength | JniFunction::GetStringLength => Subject::Arrays,
+        JniFunction::NewArray(_) | JniFunction::NewObjectArray => Subject::Arrays,
+        JniFunction::GetObjectArrayElement | JniFunction::SetObjectArrayElement => Subject::Arrays,
+        JniFunction::NewStringUTF => Subject::Arrays,
+        JniFunction::GetArrayRegion(_) | JniFunction::SetArrayRegion(_) => Subject::Regions,
+        JniFunction::GetStringRegion => Subject::Regions,
+        JniFunction::GetBuffer(_) | JniFunction::ReleaseBuffer(_) => Subject::Buffers,
+        JniFunction::Throw | JniFunction::ThrowNew => Subject::Exceptions,
+        JniFunction::ExceptionClear | JniFunction::FatalError => Subject::Exceptions,
+        JniFunction::ExceptionOccurred | JniFunction::ExceptionCheck => Subject::Exceptions,
+        JniFunction::MonitorEnter | JniFunction::MonitorExit => Subject::Monitors,
+        _ => Subject::Classes,
+    }
+}
+
 /// What a function does, all checks being passed. It takes no host memory.
 pub fn work_out(scene: &Scene<'_>, function: &Call) -> Answer
     requires grown { IsGrown scene.now.classes.now }
@@ -124,16 +176,34 @@ pub fn work_out(scene: &Scene<'_>, function: &Call) -> Answer
         (element_wanted function.now.target) (function_value function.now.function) ≡ true }
     ensures { IsWorkedOut (scene_view scene.now) (call_view function.now) (function_value function.now.function) result }
 {
+    match subject_of(function.function) {
+        Subject::Classes => work_out_class(scene, function),
+        Subject::References => work_out_reference(scene, function),
+        Subject::Fields => work_out_field(scene, function),
+        Subject::Statics => work_out_static(scene, function),
+        Subject::Arrays => work_out_array(scene, function),
+        Subject::Regions => work_out_region(scene, function),
+        Subject::Buffers => work_out_buffer(scene, function),
+        Subject::Exceptions => work_out_exception(scene, function),
+        Subject::Monitors => work_out_monitor(scene, function),
+    }
+}
+
+/// What a function does that works on classes.
+#[inline(always)]
+fn work_out_class(scene: &Scene<'_>, function: &Call) -> Answer
+    requires subject { subject_of (function_value function.now.function) ≡ subject.Classes }
+    requires objects { AreAddresses scene.now.heap.now scene.now.references function.now.operands.items }
+    ensures { IsWorkedOut (scene_view scene.now) (call_view function.now) (function_value function.now.function) result }
+{
     match function.function {
-        JniFunction::FindClass => found_class(
-            scene.loaded,
-            scene.classes.find(text_at(&function.texts, 0)),
-        ),
+        JniFunction::FindClass => {
+            let class = scene.classes.find(text_at(&function.texts, 0));
+            found_class(scene.loaded, class)
+        }
         JniFunction::GetSuperclass => {
-            gives_class(
-                scene.loaded,
-                scene.classes.superclass(name_of(scene, function, 0)),
-            )
+            let class = name_of(scene, function, 0);
+            gives_class(scene.loaded, scene.classes.superclass(class))
         }
         JniFunction::GetObjectClass => {
             let first = argument(scene, function, 0);
@@ -149,36 +219,32 @@ pub fn work_out(scene: &Scene<'_>, function: &Call) -> Answer
             let above = name_of(scene, function, 1);
             gives_truth(scene.classes.assignable(below, above))
         }
-        JniFunction::AllocObject => { Answer::Makes(New::Fresh(name_of(scene, function, 0))) }
-        JniFunction::Throw | JniFunction::ThrowNew | JniFunction::FatalError => {
-            work_out_exception(scene, function)
+        JniFunction::AllocObject => Answer::Makes(New::Fresh(name_of(scene, function, 0))),
+        JniFunction::GetFieldID => {
+            let class = name_of(scene, function, 0);
+            find_field(scene.classes, class, &function.texts, false)
         }
-        JniFunction::ExceptionOccurred | JniFunction::ExceptionCheck => {
-            work_out_exception(scene, function)
+        JniFunction::GetStaticFieldID => {
+            let class = name_of(scene, function, 0);
+            find_field(scene.classes, class, &function.texts, true)
         }
-        JniFunction::ExceptionClear => work_out_exception(scene, function),
-        JniFunction::MonitorEnter | JniFunction::MonitorExit => work_out_monitor(scene, function),
-        _ => work_out_further(scene, function),
+        _ => unreachable!(),
     }
 }
 
-/// What a function of references, of frames or of what objects hold does.
+/// What a function does that works on references and frames.
 #[inline(always)]
-fn work_out_further(scene: &Scene<'_>, function: &Call) -> Answer
-    requires grown { IsGrown scene.now.classes.now }
-    requires loaded { (i a : ℕ) → slice_get scene.now.loaded.now i ≡ Some a → IsAddress scene.now.heap.now a }
+fn work_out_reference(scene: &Scene<'_>, function: &Call) -> Answer
+    requires subject { subject_of (function_value function.now.function) ≡ subject.References }
     requires objects { AreAddresses scene.now.heap.now scene.now.references function.now.operands.items }
-    requires handles { AreHandles scene.now.classes.now scene.now.fields.now function.now.operands.items }
-    requires further { is_further (function_value function.now.function) ≡ true }
-    requires passed { arguments_fit (scene_view scene.now) function.now.operands.items
-        (element_wanted function.now.target) (function_value function.now.function) ≡ true }
     ensures { IsWorkedOut (scene_view scene.now) (call_view function.now) (function_value function.now.function) result }
 {
     match function.function {
-        JniFunction::NewLocalRef => {
-            Answer::Gives(Given::Reference(argument(scene, function, 0)))
-        }
+        JniFunction::NewLocalRef => Answer::Gives(Given::Reference(argument(scene, function, 0))),
         JniFunction::NewGlobalRef => Answer::MakesGlobal(argument(scene, function, 0)),
+        JniFunction::DeleteLocalRef => {
+            deletes(key_in(&scene.references, operand_of(&function.operands, 0)))
+        }
         JniFunction::DeleteGlobalRef => {
             let first = argument(scene, function, 0);
             deletes_global(first, operand_of(&function.operands, 0))
@@ -188,37 +254,26 @@ fn work_out_further(scene: &Scene<'_>, function: &Call) -> Answer
             let second = name_of(scene, function, 1);
             gives_truth(first == second)
         }
-        JniFunction::DeleteLocalRef => {
-            deletes(key_in(&scene.references, operand_of(&function.operands, 0)))
-        }
         JniFunction::EnsureLocalCapacity => room_for(stack_number(scene.stack)),
         JniFunction::PushLocalFrame => frame_for(stack_number(scene.stack)),
         JniFunction::PopLocalFrame => Answer::Pops(argument(scene, function, 0)),
-        _ => { work_out_field(scene, function) }
+        _ => unreachable!(),
     }
 }
 
-/// What a function of fields, statics, arrays or strings does.
+/// What a function does that works on the fields of an object.
 #[inline(always)]
+#[tactic(auto, using(crate::proofs::FieldKinds::no_static))]
 fn work_out_field(scene: &Scene<'_>, function: &Call) -> Answer
+    requires subject { subject_of (function_value function.now.function) ≡ subject.Fields }
     requires grown { IsGrown scene.now.classes.now }
-    requires loaded { (i a : ℕ) → slice_get scene.now.loaded.now i ≡ Some a → IsAddress scene.now.heap.now a }
     requires objects { AreAddresses scene.now.heap.now scene.now.references function.now.operands.items }
     requires handles { AreHandles scene.now.classes.now scene.now.fields.now function.now.operands.items }
-    requires of_objects { is_of_objects (function_value function.now.function) ≡ true }
     requires passed { arguments_fit (scene_view scene.now) function.now.operands.items
         (element_wanted function.now.target) (function_value function.now.function) ≡ true }
     ensures { IsWorkedOut (scene_view scene.now) (call_view function.now) (function_value function.now.function) result }
 {
     match function.function {
-        JniFunction::GetFieldID => {
-            let class = name_of(scene, function, 0);
-            find_field(scene.classes, class, &function.texts, false)
-        }
-        JniFunction::GetStaticFieldID => {
-            let class = name_of(scene, function, 0);
-            find_field(scene.classes, class, &function.texts, true)
-        }
         JniFunction::GetField(_) => {
             let value = value_of_field(scene, function);
             Answer::Gives(Given::Number(word_in(value)))
@@ -235,6 +290,23 @@ fn work_out_field(scene: &Scene<'_>, function: &Call) -> Answer
             let value = held_reference(argument(scene, function, 2));
             writes_field(scene, function, value)
         }
+        _ => unreachable!(),
+    }
+}
+
+/// What a function does that works on a static of a class.
+#[inline(always)]
+#[tactic(auto, using(crate::proofs::FieldKinds::a_static))]
+fn work_out_static(scene: &Scene<'_>, function: &Call) -> Answer
+    requires subject { subject_of (function_value function.now.function) ≡ subject.Statics }
+    requires loaded { (i a : ℕ) → slice_get scene.now.loaded.now i ≡ Some a → IsAddress scene.now.heap.now a }
+    requires objects { AreAddresses scene.now.heap.now scene.now.references function.now.operands.items }
+    requires handles { AreHandles scene.now.classes.now scene.now.fields.now function.now.operands.items }
+    requires passed { arguments_fit (scene_view scene.now) function.now.operands.items
+        (element_wanted function.now.target) (function_value function.now.function) ≡ true }
+    ensures { IsWorkedOut (scene_view scene.now) (call_view function.now) (function_value function.now.function) result }
+{
+    match function.function {
         JniFunction::GetStaticField(_) => {
             let value = value_of_static(scene, function);
             Answer::Gives(Given::Number(word_in(value)))
@@ -251,7 +323,7 @@ fn work_out_field(scene: &Scene<'_>, function: &Call) -> Answer
             let value = held_reference(argument(scene, function, 2));
             writes_static(scene, function, value)
         }
-        _ => work_out_array(scene, function),
+        _ => unreachable!(),
     }
 }
 

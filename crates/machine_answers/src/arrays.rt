@@ -1,20 +1,18 @@
 //! What functions of arrays and strings do.
 
-ghost use Rattle.std.specs.Prelude.{◌≡◌, true, Some};
+ghost use Rattle.std.specs.Prelude.{◌≡◌, Some};
 ghost use Rattle.code.specs.Call.{call_view};
 ghost use Rattle.heap.specs.Heap.{IsAddress};
 ghost use Rattle.jni.specs.Table.{function_value};
-ghost use Rattle.machine_answers.specs.CallGroups.{is_of_arrays};
 ghost use Rattle.machine_scenes.specs.Given.{AreAddresses, ReferenceIsThere};
 ghost use Rattle.machine_scenes.specs.Scenes.{scene_view};
-ghost use Rattle.machine_answers.specs.WorkedOut.{element_there, fits_element, index_there, new_array, stack_number, stores_there, IsWorkedOut};
+ghost use Rattle.machine_answers.specs.WorkedOut.{element_there, fits_element, index_there, new_array, stack_number, stores_there, subject_of, IsWorkedOut};
+ghost use Rattle.machine_answers.specs.declared.answer.Subject.TheVariants as subject;
 
 use crate::answer::{
-    Answer, Given, address_in, count_there, held_reference, name_of, argument, top_word,
+    Answer, Given, address_in, argument, count_there, held_reference, name_of, top_word,
     value_there, writes_there,
 };
-use crate::buffers::work_out_buffer;
-use crate::copies::work_out_region;
 use class_queries::{array_class_of, element_class};
 use class_rules::ClassId;
 use classes::built_ins::{
@@ -29,11 +27,11 @@ use machine_scenes::new_object::{New, NewArray};
 use machine_scenes::operands::{class_of_given, fits_there};
 use machine_scenes::scene::Scene;
 
-/// What a function of arrays or strings does.
+/// What a function does that works on arrays or strings.
 #[inline(always)]
 pub(crate) fn work_out_array(scene: &Scene<'_>, function: &Call) -> Answer
+    requires subject { subject_of (function_value function.now.function) ≡ subject.Arrays }
     requires objects { AreAddresses scene.now.heap.now scene.now.references function.now.operands.items }
-    requires of_arrays { is_of_arrays (function_value function.now.function) ≡ true }
     ensures { IsWorkedOut (scene_view scene.now) (call_view function.now) (function_value function.now.function) result }
 {
     match function.function {
@@ -61,10 +59,7 @@ pub(crate) fn work_out_array(scene: &Scene<'_>, function: &Call) -> Answer
             stores_there(scene.heap, array, fits, stack_number(scene.stack), element)
         }
         JniFunction::NewStringUTF => Answer::Makes(New::Text(0)),
-        JniFunction::GetBuffer(_) | JniFunction::ReleaseBuffer(_) => {
-            work_out_buffer(scene, function)
-        }
-        _ => work_out_region(scene, function),
+        _ => unreachable!(),
     }
 }
 

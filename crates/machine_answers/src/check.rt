@@ -20,7 +20,7 @@ ghost use Rattle.semantics.specs.EventViews.{trap_view};
 ghost use Rattle.semantics.specs.Checks.{first_trap};
 ghost use Rattle.semantics.specs.Value.{Trap as SourceTrap};
 
-use crate::answer::{handle_of, name_of, argument};
+use crate::answer::{argument, handle_of, name_of};
 use class_queries::{class_misfits, holds_number, holds_reference};
 use classes::built_ins::{THROWABLE, number_array};
 use classes::class::{ElementType, FieldType};
