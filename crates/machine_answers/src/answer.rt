@@ -167,66 +167,66 @@ fn subject_of(function: JniFunction) -> Subject
 }
 
 /// What a function does, all checks being passed. It takes no host memory.
-pub fn work_out(scene: &Scene<'_>, function: &Call) -> Answer
+pub fn work_out(scene: &Scene<'_>, call: &Call) -> Answer
     requires grown { IsGrown scene.now.classes.now }
     requires loaded { (i a : ℕ) → slice_get scene.now.loaded.now i ≡ Some a → IsAddress scene.now.heap.now a }
-    requires objects { AreAddresses scene.now.heap.now scene.now.references function.now.operands.items }
-    requires handles { AreHandles scene.now.classes.now scene.now.fields.now function.now.operands.items }
-    requires passed { arguments_fit (scene_view scene.now) function.now.operands.items
-        (element_wanted function.now.target) (function_value function.now.function) ≡ true }
-    ensures { IsWorkedOut (scene_view scene.now) (call_view function.now) (function_value function.now.function) result }
+    requires objects { AreAddresses scene.now.heap.now scene.now.references call.now.operands.items }
+    requires handles { AreHandles scene.now.classes.now scene.now.fields.now call.now.operands.items }
+    requires passed { arguments_fit (scene_view scene.now) call.now.operands.items
+        (element_wanted call.now.target) (function_value call.now.function) ≡ true }
+    ensures { IsWorkedOut (scene_view scene.now) (call_view call.now) (function_value call.now.function) result }
 {
-    match subject_of(function.function) {
-        Subject::Classes => work_out_class(scene, function),
-        Subject::References => work_out_reference(scene, function),
-        Subject::Fields => work_out_field(scene, function),
-        Subject::Statics => work_out_static(scene, function),
-        Subject::Arrays => work_out_array(scene, function),
-        Subject::Regions => work_out_region(scene, function),
-        Subject::Buffers => work_out_buffer(scene, function),
-        Subject::Exceptions => work_out_exception(scene, function),
-        Subject::Monitors => work_out_monitor(scene, function),
+    match subject_of(call.function) {
+        Subject::Classes => work_out_class(scene, call),
+        Subject::References => work_out_reference(scene, call),
+        Subject::Fields => work_out_field(scene, call),
+        Subject::Statics => work_out_static(scene, call),
+        Subject::Arrays => work_out_array(scene, call),
+        Subject::Regions => work_out_region(scene, call),
+        Subject::Buffers => work_out_buffer(scene, call),
+        Subject::Exceptions => work_out_exception(scene, call),
+        Subject::Monitors => work_out_monitor(scene, call),
     }
 }
 
 /// What a function does that works on classes.
 #[inline(always)]
-fn work_out_class(scene: &Scene<'_>, function: &Call) -> Answer
-    requires subject { subject_of (function_value function.now.function) ≡ subject.Classes }
-    requires objects { AreAddresses scene.now.heap.now scene.now.references function.now.operands.items }
-    ensures { IsWorkedOut (scene_view scene.now) (call_view function.now) (function_value function.now.function) result }
+fn work_out_class(scene: &Scene<'_>, call: &Call) -> Answer
+    requires subject { subject_of (function_value call.now.function) ≡ subject.Classes }
+    requires objects { AreAddresses scene.now.heap.now scene.now.references call.now.operands.items }
+    ensures { IsWorkedOut (scene_view scene.now) (call_view call.now) (function_value call.now.function) result }
 {
-    match function.function {
+    match call.function {
         JniFunction::FindClass => {
-            let class = scene.classes.find(text_at(&function.texts, 0));
+            let class = scene.classes.find(text_at(&call.texts, 0));
             found_class(scene.loaded, class)
         }
         JniFunction::GetSuperclass => {
-            let class = name_of(scene, function, 0);
+            let class = name_of(scene, call, 0);
             gives_class(scene.loaded, scene.classes.superclass(class))
         }
         JniFunction::GetObjectClass => {
-            let first = argument(scene, function, 0);
+            let first = argument(scene, call, 0);
             gives_class(scene.loaded, Some(class_of_given(scene.heap, first)))
         }
         JniFunction::IsInstanceOf => {
-            let first = argument(scene, function, 0);
-            let class = name_of(scene, function, 1);
+            let first = argument(scene, call, 0);
+            let class = name_of(scene, call, 1);
             gives_truth(fits_there(scene.classes, scene.heap, first, class))
         }
         JniFunction::IsAssignableFrom => {
-            let below = name_of(scene, function, 0);
-            let above = name_of(scene, function, 1);
+            let below = name_of(scene, call, 0);
+            let above = name_of(scene, call, 1);
             gives_truth(scene.classes.assignable(below, above))
         }
-        JniFunction::AllocObject => Answer::Makes(New::Fresh(name_of(scene, function, 0))),
+        JniFunction::AllocObject => Answer::Makes(New::Fresh(name_of(scene, call, 0))),
         JniFunction::GetFieldID => {
-            let class = name_of(scene, function, 0);
-            find_field(scene.classes, class, &function.texts, false)
+            let class = name_of(scene, call, 0);
+            find_field(scene.classes, class, &call.texts, false)
         }
         JniFunction::GetStaticFieldID => {
-            let class = name_of(scene, function, 0);
-            find_field(scene.classes, class, &function.texts, true)
+            let class = name_of(scene, call, 0);
+            find_field(scene.classes, class, &call.texts, true)
         }
         _ => unreachable!(),
     }
@@ -234,29 +234,29 @@ fn work_out_class(scene: &Scene<'_>, function: &Call) -> Answer
 
 /// What a function does that works on references and frames.
 #[inline(always)]
-fn work_out_reference(scene: &Scene<'_>, function: &Call) -> Answer
-    requires subject { subject_of (function_value function.now.function) ≡ subject.References }
-    requires objects { AreAddresses scene.now.heap.now scene.now.references function.now.operands.items }
-    ensures { IsWorkedOut (scene_view scene.now) (call_view function.now) (function_value function.now.function) result }
+fn work_out_reference(scene: &Scene<'_>, call: &Call) -> Answer
+    requires subject { subject_of (function_value call.now.function) ≡ subject.References }
+    requires objects { AreAddresses scene.now.heap.now scene.now.references call.now.operands.items }
+    ensures { IsWorkedOut (scene_view scene.now) (call_view call.now) (function_value call.now.function) result }
 {
-    match function.function {
-        JniFunction::NewLocalRef => Answer::Gives(Given::Reference(argument(scene, function, 0))),
-        JniFunction::NewGlobalRef => Answer::MakesGlobal(argument(scene, function, 0)),
+    match call.function {
+        JniFunction::NewLocalRef => Answer::Gives(Given::Reference(argument(scene, call, 0))),
+        JniFunction::NewGlobalRef => Answer::MakesGlobal(argument(scene, call, 0)),
         JniFunction::DeleteLocalRef => {
-            deletes(key_in(&scene.references, operand_of(&function.operands, 0)))
+            deletes(key_in(&scene.references, operand_of(&call.operands, 0)))
         }
         JniFunction::DeleteGlobalRef => {
-            let first = argument(scene, function, 0);
-            deletes_global(first, operand_of(&function.operands, 0))
+            let first = argument(scene, call, 0);
+            deletes_global(first, operand_of(&call.operands, 0))
         }
         JniFunction::IsSameObject => {
-            let first = name_of(scene, function, 0);
-            let second = name_of(scene, function, 1);
+            let first = name_of(scene, call, 0);
+            let second = name_of(scene, call, 1);
             gives_truth(first == second)
         }
         JniFunction::EnsureLocalCapacity => room_for(stack_number(scene.stack)),
         JniFunction::PushLocalFrame => frame_for(stack_number(scene.stack)),
-        JniFunction::PopLocalFrame => Answer::Pops(argument(scene, function, 0)),
+        JniFunction::PopLocalFrame => Answer::Pops(argument(scene, call, 0)),
         _ => unreachable!(),
     }
 }
@@ -264,31 +264,31 @@ fn work_out_reference(scene: &Scene<'_>, function: &Call) -> Answer
 /// What a function does that works on the fields of an object.
 #[inline(always)]
 #[tactic(auto, using(crate::proofs::FieldKinds::no_static))]
-fn work_out_field(scene: &Scene<'_>, function: &Call) -> Answer
-    requires subject { subject_of (function_value function.now.function) ≡ subject.Fields }
+fn work_out_field(scene: &Scene<'_>, call: &Call) -> Answer
+    requires subject { subject_of (function_value call.now.function) ≡ subject.Fields }
     requires grown { IsGrown scene.now.classes.now }
-    requires objects { AreAddresses scene.now.heap.now scene.now.references function.now.operands.items }
-    requires handles { AreHandles scene.now.classes.now scene.now.fields.now function.now.operands.items }
-    requires passed { arguments_fit (scene_view scene.now) function.now.operands.items
-        (element_wanted function.now.target) (function_value function.now.function) ≡ true }
-    ensures { IsWorkedOut (scene_view scene.now) (call_view function.now) (function_value function.now.function) result }
+    requires objects { AreAddresses scene.now.heap.now scene.now.references call.now.operands.items }
+    requires handles { AreHandles scene.now.classes.now scene.now.fields.now call.now.operands.items }
+    requires passed { arguments_fit (scene_view scene.now) call.now.operands.items
+        (element_wanted call.now.target) (function_value call.now.function) ≡ true }
+    ensures { IsWorkedOut (scene_view scene.now) (call_view call.now) (function_value call.now.function) result }
 {
-    match function.function {
+    match call.function {
         JniFunction::GetField(_) => {
-            let value = value_of_field(scene, function);
+            let value = value_of_field(scene, call);
             Answer::Gives(Given::Number(word_in(value)))
         }
         JniFunction::SetField(element) => {
             let value = stored(element, scene.stack);
-            writes_field(scene, function, value)
+            writes_field(scene, call, value)
         }
         JniFunction::GetObjectField => {
-            let value = value_of_field(scene, function);
+            let value = value_of_field(scene, call);
             Answer::Gives(Given::Reference(address_in(value)))
         }
         JniFunction::SetObjectField => {
-            let value = held_reference(argument(scene, function, 2));
-            writes_field(scene, function, value)
+            let value = held_reference(argument(scene, call, 2));
+            writes_field(scene, call, value)
         }
         _ => unreachable!(),
     }
@@ -297,31 +297,31 @@ fn work_out_field(scene: &Scene<'_>, function: &Call) -> Answer
 /// What a function does that works on a static of a class.
 #[inline(always)]
 #[tactic(auto, using(crate::proofs::FieldKinds::a_static))]
-fn work_out_static(scene: &Scene<'_>, function: &Call) -> Answer
-    requires subject { subject_of (function_value function.now.function) ≡ subject.Statics }
+fn work_out_static(scene: &Scene<'_>, call: &Call) -> Answer
+    requires subject { subject_of (function_value call.now.function) ≡ subject.Statics }
     requires loaded { (i a : ℕ) → slice_get scene.now.loaded.now i ≡ Some a → IsAddress scene.now.heap.now a }
-    requires objects { AreAddresses scene.now.heap.now scene.now.references function.now.operands.items }
-    requires handles { AreHandles scene.now.classes.now scene.now.fields.now function.now.operands.items }
-    requires passed { arguments_fit (scene_view scene.now) function.now.operands.items
-        (element_wanted function.now.target) (function_value function.now.function) ≡ true }
-    ensures { IsWorkedOut (scene_view scene.now) (call_view function.now) (function_value function.now.function) result }
+    requires objects { AreAddresses scene.now.heap.now scene.now.references call.now.operands.items }
+    requires handles { AreHandles scene.now.classes.now scene.now.fields.now call.now.operands.items }
+    requires passed { arguments_fit (scene_view scene.now) call.now.operands.items
+        (element_wanted call.now.target) (function_value call.now.function) ≡ true }
+    ensures { IsWorkedOut (scene_view scene.now) (call_view call.now) (function_value call.now.function) result }
 {
-    match function.function {
+    match call.function {
         JniFunction::GetStaticField(_) => {
-            let value = value_of_static(scene, function);
+            let value = value_of_static(scene, call);
             Answer::Gives(Given::Number(word_in(value)))
         }
         JniFunction::SetStaticField(element) => {
             let value = stored(element, scene.stack);
-            writes_static(scene, function, value)
+            writes_static(scene, call, value)
         }
         JniFunction::GetStaticObjectField => {
-            let value = value_of_static(scene, function);
+            let value = value_of_static(scene, call);
             Answer::Gives(Given::Reference(address_in(value)))
         }
         JniFunction::SetStaticObjectField => {
-            let value = held_reference(argument(scene, function, 2));
-            writes_static(scene, function, value)
+            let value = held_reference(argument(scene, call, 2));
+            writes_static(scene, call, value)
         }
         _ => unreachable!(),
     }
@@ -329,31 +329,31 @@ fn work_out_static(scene: &Scene<'_>, function: &Call) -> Answer
 
 /// The reference of the operand at a place.
 #[inline(always)]
-pub fn argument(scene: &Scene<'_>, function: &Call, place: usize) -> Option<Addr>
-    requires { AreAddresses scene.now.heap.now scene.now.references function.now.operands.items }
-    ensures reference { result ≡ reference (scene_view scene.now) (call_view function.now) place }
+pub fn argument(scene: &Scene<'_>, call: &Call, place: usize) -> Option<Addr>
+    requires { AreAddresses scene.now.heap.now scene.now.references call.now.operands.items }
+    ensures reference { result ≡ reference (scene_view scene.now) (call_view call.now) place }
     ensures there { ReferenceIsThere scene.now.heap.now result }
 {
-    reference_at(&scene.references, &function.operands, place)
+    reference_at(&scene.references, &call.operands, place)
 }
 
 /// The name of its object, and 0 for NULL.
 #[inline(always)]
-pub(crate) fn name_of(scene: &Scene<'_>, function: &Call, place: usize) -> usize
-    requires { AreAddresses scene.now.heap.now scene.now.references function.now.operands.items }
-    ensures { result ≡ name_there scene.now.heap.now (reference (scene_view scene.now) (call_view function.now) place) }
+pub(crate) fn name_of(scene: &Scene<'_>, call: &Call, place: usize) -> usize
+    requires { AreAddresses scene.now.heap.now scene.now.references call.now.operands.items }
+    ensures { result ≡ name_there scene.now.heap.now (reference (scene_view scene.now) (call_view call.now) place) }
 {
-    name_there(scene.heap, argument(scene, function, place))
+    name_there(scene.heap, argument(scene, call, place))
 }
 
 /// The field ID of operand 1, which is NULL or that of a field.
 #[inline(always)]
-pub(crate) fn handle_of(scene: &Scene<'_>, function: &Call) -> Option<FieldHandle>
-    requires { AreHandles scene.now.classes.now scene.now.fields.now function.now.operands.items }
-    ensures field { result ≡ handle (scene_view scene.now) (call_view function.now) }
+pub(crate) fn handle_of(scene: &Scene<'_>, call: &Call) -> Option<FieldHandle>
+    requires { AreHandles scene.now.classes.now scene.now.fields.now call.now.operands.items }
+    ensures field { result ≡ handle (scene_view scene.now) (call_view call.now) }
     ensures there { FieldIsThere scene.now.classes.now result }
 {
-    handle_at(scene.fields, &function.operands, 1)
+    handle_at(scene.fields, &call.operands, 1)
 }
 
 /// A class object is given, or NULL.
@@ -453,87 +453,87 @@ pub(crate) fn count_there(heap: &Heap, reference: Option<Addr>) -> u32
 // ---- fields
 
 /// The place of the field of operand 1 among the values of operand 0.
-fn place_of_field(scene: &Scene<'_>, function: &Call) -> usize
+fn place_of_field(scene: &Scene<'_>, call: &Call) -> usize
     requires grown { IsGrown scene.now.classes.now }
-    requires objects { AreAddresses scene.now.heap.now scene.now.references function.now.operands.items }
-    requires handles { AreHandles scene.now.classes.now scene.now.fields.now function.now.operands.items }
-    ensures { (field_there scene.now.classes.now (handle (scene_view scene.now) (call_view function.now))).is_static ≡ false
-        → result ≡ place (scene_view scene.now) (call_view function.now) }
+    requires objects { AreAddresses scene.now.heap.now scene.now.references call.now.operands.items }
+    requires handles { AreHandles scene.now.classes.now scene.now.fields.now call.now.operands.items }
+    ensures { (field_there scene.now.classes.now (handle (scene_view scene.now) (call_view call.now))).is_static ≡ false
+        → result ≡ place (scene_view scene.now) (call_view call.now) }
 {
-    let class = class_of_given(scene.heap, argument(scene, function, 0));
-    field_place(scene.classes, class, handle_of(scene, function))
+    let class = class_of_given(scene.heap, argument(scene, call, 0));
+    field_place(scene.classes, class, handle_of(scene, call))
 }
 
 /// The class object that holds the static of operand 1.
-fn holder_of_static(scene: &Scene<'_>, function: &Call) -> Option<Addr>
-    requires { AreHandles scene.now.classes.now scene.now.fields.now function.now.operands.items }
-    ensures { result ≡ declaring (scene_view scene.now) (call_view function.now) }
+fn holder_of_static(scene: &Scene<'_>, call: &Call) -> Option<Addr>
+    requires { AreHandles scene.now.classes.now scene.now.fields.now call.now.operands.items }
+    ensures { result ≡ declaring (scene_view scene.now) (call_view call.now) }
 {
-    let class = declaring(handle_of(scene, function));
+    let class = declaring(handle_of(scene, call));
     class_object(scene.loaded, Some(class))
 }
 
 /// The place of the static of operand 1 among the values of its class object.
-fn place_of_static(scene: &Scene<'_>, function: &Call) -> usize
-    requires { AreHandles scene.now.classes.now scene.now.fields.now function.now.operands.items }
-    ensures { (field_there scene.now.classes.now (handle (scene_view scene.now) (call_view function.now))).is_static ≡ true
-        → result ≡ place_of_static (scene_view scene.now) (call_view function.now) }
+fn place_of_static(scene: &Scene<'_>, call: &Call) -> usize
+    requires { AreHandles scene.now.classes.now scene.now.fields.now call.now.operands.items }
+    ensures { (field_there scene.now.classes.now (handle (scene_view scene.now) (call_view call.now))).is_static ≡ true
+        → result ≡ place_of_static (scene_view scene.now) (call_view call.now) }
 {
-    static_place(scene.classes, handle_of(scene, function))
+    static_place(scene.classes, handle_of(scene, call))
 }
 
 /// The value of the field of operand 1 in operand 0.
 #[inline(always)]
-fn value_of_field(scene: &Scene<'_>, function: &Call) -> Option<Value>
+fn value_of_field(scene: &Scene<'_>, call: &Call) -> Option<Value>
     requires grown { IsGrown scene.now.classes.now }
-    requires objects { AreAddresses scene.now.heap.now scene.now.references function.now.operands.items }
-    requires handles { AreHandles scene.now.classes.now scene.now.fields.now function.now.operands.items }
-    ensures { (field_there scene.now.classes.now (handle (scene_view scene.now) (call_view function.now))).is_static ≡ false
-        → result ≡ value_there scene.now.heap.now (reference (scene_view scene.now) (call_view function.now) 0)
-        (place (scene_view scene.now) (call_view function.now)) }
+    requires objects { AreAddresses scene.now.heap.now scene.now.references call.now.operands.items }
+    requires handles { AreHandles scene.now.classes.now scene.now.fields.now call.now.operands.items }
+    ensures { (field_there scene.now.classes.now (handle (scene_view scene.now) (call_view call.now))).is_static ≡ false
+        → result ≡ value_there scene.now.heap.now (reference (scene_view scene.now) (call_view call.now) 0)
+        (place (scene_view scene.now) (call_view call.now)) }
 {
-    let first = argument(scene, function, 0);
-    value_there(scene.heap, first, place_of_field(scene, function))
+    let first = argument(scene, call, 0);
+    value_there(scene.heap, first, place_of_field(scene, call))
 }
 
 /// The field of operand 1 in operand 0 changes to this value.
 #[inline(always)]
-fn writes_field(scene: &Scene<'_>, function: &Call, value: Value) -> Answer
+fn writes_field(scene: &Scene<'_>, call: &Call, value: Value) -> Answer
     requires grown { IsGrown scene.now.classes.now }
-    requires objects { AreAddresses scene.now.heap.now scene.now.references function.now.operands.items }
-    requires handles { AreHandles scene.now.classes.now scene.now.fields.now function.now.operands.items }
-    ensures { (field_there scene.now.classes.now (handle (scene_view scene.now) (call_view function.now))).is_static ≡ false
-        → result ≡ writes_there scene.now.heap.now (reference (scene_view scene.now) (call_view function.now) 0)
-        (place (scene_view scene.now) (call_view function.now)) value }
+    requires objects { AreAddresses scene.now.heap.now scene.now.references call.now.operands.items }
+    requires handles { AreHandles scene.now.classes.now scene.now.fields.now call.now.operands.items }
+    ensures { (field_there scene.now.classes.now (handle (scene_view scene.now) (call_view call.now))).is_static ≡ false
+        → result ≡ writes_there scene.now.heap.now (reference (scene_view scene.now) (call_view call.now) 0)
+        (place (scene_view scene.now) (call_view call.now)) value }
 {
-    let first = argument(scene, function, 0);
-    writes_there(scene.heap, first, place_of_field(scene, function), value)
+    let first = argument(scene, call, 0);
+    writes_there(scene.heap, first, place_of_field(scene, call), value)
 }
 
 /// The value of the static of operand 1.
 #[inline(always)]
-fn value_of_static(scene: &Scene<'_>, function: &Call) -> Option<Value>
+fn value_of_static(scene: &Scene<'_>, call: &Call) -> Option<Value>
     requires loaded { (i a : ℕ) → slice_get scene.now.loaded.now i ≡ Some a → IsAddress scene.now.heap.now a }
-    requires handles { AreHandles scene.now.classes.now scene.now.fields.now function.now.operands.items }
-    ensures { (field_there scene.now.classes.now (handle (scene_view scene.now) (call_view function.now))).is_static ≡ true
-        → result ≡ value_there scene.now.heap.now (declaring (scene_view scene.now) (call_view function.now))
-        (place_of_static (scene_view scene.now) (call_view function.now)) }
+    requires handles { AreHandles scene.now.classes.now scene.now.fields.now call.now.operands.items }
+    ensures { (field_there scene.now.classes.now (handle (scene_view scene.now) (call_view call.now))).is_static ≡ true
+        → result ≡ value_there scene.now.heap.now (declaring (scene_view scene.now) (call_view call.now))
+        (place_of_static (scene_view scene.now) (call_view call.now)) }
 {
-    let holder = holder_of_static(scene, function);
-    value_there(scene.heap, holder, place_of_static(scene, function))
+    let holder = holder_of_static(scene, call);
+    value_there(scene.heap, holder, place_of_static(scene, call))
 }
 
 /// The static of operand 1 changes to this value.
 #[inline(always)]
-fn writes_static(scene: &Scene<'_>, function: &Call, value: Value) -> Answer
+fn writes_static(scene: &Scene<'_>, call: &Call, value: Value) -> Answer
     requires loaded { (i a : ℕ) → slice_get scene.now.loaded.now i ≡ Some a → IsAddress scene.now.heap.now a }
-    requires handles { AreHandles scene.now.classes.now scene.now.fields.now function.now.operands.items }
-    ensures { (field_there scene.now.classes.now (handle (scene_view scene.now) (call_view function.now))).is_static ≡ true
-        → result ≡ writes_there scene.now.heap.now (declaring (scene_view scene.now) (call_view function.now))
-        (place_of_static (scene_view scene.now) (call_view function.now)) value }
+    requires handles { AreHandles scene.now.classes.now scene.now.fields.now call.now.operands.items }
+    ensures { (field_there scene.now.classes.now (handle (scene_view scene.now) (call_view call.now))).is_static ≡ true
+        → result ≡ writes_there scene.now.heap.now (declaring (scene_view scene.now) (call_view call.now))
+        (place_of_static (scene_view scene.now) (call_view call.now)) value }
 {
-    let holder = holder_of_static(scene, function);
-    writes_there(scene.heap, holder, place_of_static(scene, function), value)
+    let holder = holder_of_static(scene, call);
+    writes_there(scene.heap, holder, place_of_static(scene, call), value)
 }
 
 /// The place of the field of a handle among those of a class, and 0 for NULL.

@@ -29,14 +29,14 @@ use machine_scenes::scene::Scene;
 
 /// What a function does that works on arrays or strings.
 #[inline(always)]
-pub(crate) fn work_out_array(scene: &Scene<'_>, function: &Call) -> Answer
-    requires subject { subject_of (function_value function.now.function) ≡ subject.Arrays }
-    requires objects { AreAddresses scene.now.heap.now scene.now.references function.now.operands.items }
-    ensures { IsWorkedOut (scene_view scene.now) (call_view function.now) (function_value function.now.function) result }
+pub(crate) fn work_out_array(scene: &Scene<'_>, call: &Call) -> Answer
+    requires subject { subject_of (function_value call.now.function) ≡ subject.Arrays }
+    requires objects { AreAddresses scene.now.heap.now scene.now.references call.now.operands.items }
+    ensures { IsWorkedOut (scene_view scene.now) (call_view call.now) (function_value call.now.function) result }
 {
-    match function.function {
+    match call.function {
         JniFunction::GetArrayLength | JniFunction::GetStringLength => {
-            let first = argument(scene, function, 0);
+            let first = argument(scene, call, 0);
             Answer::Gives(Given::Number(count_there(scene.heap, first)))
         }
         JniFunction::NewArray(element) => {
@@ -44,18 +44,18 @@ pub(crate) fn work_out_array(scene: &Scene<'_>, function: &Call) -> Answer
             new_array(class, stack_number(scene.stack), Value::Number(0))
         }
         JniFunction::NewObjectArray => {
-            let class = array_class_of(scene.classes, name_of(scene, function, 1));
-            let element = held_reference(argument(scene, function, 2));
+            let class = array_class_of(scene.classes, name_of(scene, call, 1));
+            let element = held_reference(argument(scene, call, 2));
             new_array(class.unwrap_or(0), stack_number(scene.stack), element)
         }
         JniFunction::GetObjectArrayElement => {
-            let array = argument(scene, function, 0);
+            let array = argument(scene, call, 0);
             element_there(scene.heap, array, stack_number(scene.stack))
         }
         JniFunction::SetObjectArrayElement => {
-            let fits = fits_element(scene, function);
-            let element = held_reference(argument(scene, function, 2));
-            let array = argument(scene, function, 0);
+            let fits = fits_element(scene, call);
+            let element = held_reference(argument(scene, call, 2));
+            let array = argument(scene, call, 0);
             stores_there(scene.heap, array, fits, stack_number(scene.stack), element)
         }
         JniFunction::NewStringUTF => Answer::Makes(New::Text(0)),
@@ -86,13 +86,13 @@ fn new_array(class: ClassId, count: i32, value: Value) -> Answer
 }
 
 /// Whether operand 2 fits the elements of operand 0.
-fn fits_element(scene: &Scene<'_>, function: &Call) -> bool
-    requires { AreAddresses scene.now.heap.now scene.now.references function.now.operands.items }
-    ensures { result ≡ fits_element (scene_view scene.now) (call_view function.now) }
+fn fits_element(scene: &Scene<'_>, call: &Call) -> bool
+    requires { AreAddresses scene.now.heap.now scene.now.references call.now.operands.items }
+    ensures { result ≡ fits_element (scene_view scene.now) (call_view call.now) }
 {
-    let array = argument(scene, function, 0);
+    let array = argument(scene, call, 0);
     let class = element_class(scene.classes, class_of_given(scene.heap, array));
-    let element = argument(scene, function, 2);
+    let element = argument(scene, call, 2);
     fits_there(scene.classes, scene.heap, element, class)
 }
 

@@ -29,17 +29,17 @@ use tables::Elements;
 /// "Release<PrimitiveType>ArrayElements Routines", "GetPrimitiveArrayCritical, ReleasePrimitiveArrayCritical",
 /// "GetStringChars", "ReleaseStringChars" and "GetStringCritical, ReleaseStringCritical").
 #[inline(always)]
-pub(crate) fn work_out_buffer(scene: &Scene<'_>, function: &Call) -> Answer
-    requires subject { subject_of (function_value function.now.function) ≡ subject.Buffers }
-    requires objects { AreAddresses scene.now.heap.now scene.now.references function.now.operands.items }
-    ensures { IsWorkedOut (scene_view scene.now) (call_view function.now) (function_value function.now.function) result }
+pub(crate) fn work_out_buffer(scene: &Scene<'_>, call: &Call) -> Answer
+    requires subject { subject_of (function_value call.now.function) ≡ subject.Buffers }
+    requires objects { AreAddresses scene.now.heap.now scene.now.references call.now.operands.items }
+    ensures { IsWorkedOut (scene_view scene.now) (call_view call.now) (function_value call.now.function) result }
 {
-    let object = argument(scene, function, 0);
-    match function.function {
+    let object = argument(scene, call, 0);
+    match call.function {
         JniFunction::GetBuffer(access) => acquires(access, object),
         JniFunction::ReleaseBuffer(access) => {
-            let mode = mode_of(access, operand_of(&function.operands, 2));
-            let slot = slot_of(operand_of(&function.operands, 1));
+            let mode = mode_of(access, operand_of(&call.operands, 2));
+            let slot = slot_of(operand_of(&call.operands, 1));
             releases(scene.buffers, object, slot, mode)
         }
         _ => unreachable!(),

@@ -153,79 +153,79 @@ fn fits_type(scene: &Scene<'_>, reference: Option<Addr>, field_type: FieldType) 
 }
 
 /// What the field or static of operand 1 holds, and numbers for NULL.
-fn asked_type(scene: &Scene<'_>, function: &Call) -> FieldType
-    requires { AreHandles scene.now.classes.now scene.now.fields.now function.now.operands.items }
-    ensures { field_type_view result ≡ (field_there scene.now.classes.now (handle (scene_view scene.now) (call_view function.now))).field.type }
+fn asked_type(scene: &Scene<'_>, call: &Call) -> FieldType
+    requires { AreHandles scene.now.classes.now scene.now.fields.now call.now.operands.items }
+    ensures { field_type_view result ≡ (field_there scene.now.classes.now (handle (scene_view scene.now) (call_view call.now))).field.type }
 {
-    type_of(scene.classes, handle_of(scene, function))
+    type_of(scene.classes, handle_of(scene, call))
 }
 
 /// Whether operand 0 is an object that has the field of operand 1.
-fn has_field(scene: &Scene<'_>, function: &Call) -> bool
-    requires objects { AreAddresses scene.now.heap.now scene.now.references function.now.operands.items }
-    requires handles { AreHandles scene.now.classes.now scene.now.fields.now function.now.operands.items }
-    ensures { result ≡ has_field scene.now.classes.now scene.now.heap.now scene.now.references scene.now.fields.now function.now.operands.items }
+fn has_field(scene: &Scene<'_>, call: &Call) -> bool
+    requires objects { AreAddresses scene.now.heap.now scene.now.references call.now.operands.items }
+    requires handles { AreHandles scene.now.classes.now scene.now.fields.now call.now.operands.items }
+    ensures { result ≡ has_field scene.now.classes.now scene.now.heap.now scene.now.references scene.now.fields.now call.now.operands.items }
 {
-    let field = handle_of(scene, function);
-    let class = class_of_given(scene.heap, argument(scene, function, 0));
+    let field = handle_of(scene, call);
+    let class = class_of_given(scene.heap, argument(scene, call, 0));
     !is_static(field) && scene.classes.assignable(class, declaring(field))
 }
 
 /// Whether operand 0 is a class that has the static of operand 1.
-fn has_static(scene: &Scene<'_>, function: &Call) -> bool
-    requires objects { AreAddresses scene.now.heap.now scene.now.references function.now.operands.items }
-    requires handles { AreHandles scene.now.classes.now scene.now.fields.now function.now.operands.items }
-    ensures { result ≡ has_static scene.now.classes.now scene.now.heap.now scene.now.references scene.now.fields.now function.now.operands.items }
+fn has_static(scene: &Scene<'_>, call: &Call) -> bool
+    requires objects { AreAddresses scene.now.heap.now scene.now.references call.now.operands.items }
+    requires handles { AreHandles scene.now.classes.now scene.now.fields.now call.now.operands.items }
+    ensures { result ≡ has_static scene.now.classes.now scene.now.heap.now scene.now.references scene.now.fields.now call.now.operands.items }
 {
-    let field = handle_of(scene, function);
-    let class = name_of(scene, function, 0);
+    let field = handle_of(scene, call);
+    let class = name_of(scene, call, 0);
     is_static(field) && scene.classes.assignable(class, declaring(field))
 }
 
 /// Whether the arguments of a function, each of its kind, go together.
-fn fit_together(scene: &Scene<'_>, function: &Call) -> bool
-    requires objects { AreAddresses scene.now.heap.now scene.now.references function.now.operands.items }
-    requires handles { AreHandles scene.now.classes.now scene.now.fields.now function.now.operands.items }
-    ensures { result ≡ arguments_fit (scene_view scene.now) function.now.operands.items
-        (element_wanted function.now.target) (function_value function.now.function) }
+fn fit_together(scene: &Scene<'_>, call: &Call) -> bool
+    requires objects { AreAddresses scene.now.heap.now scene.now.references call.now.operands.items }
+    requires handles { AreHandles scene.now.classes.now scene.now.fields.now call.now.operands.items }
+    ensures { result ≡ arguments_fit (scene_view scene.now) call.now.operands.items
+        (element_wanted call.now.target) (function_value call.now.function) }
 {
     let classes = scene.classes;
-    match function.function {
-        JniFunction::AllocObject => !classes.has_own_making(name_of(scene, function, 0)),
+    match call.function {
+        JniFunction::AllocObject => !classes.has_own_making(name_of(scene, call, 0)),
         JniFunction::GetField(element) | JniFunction::SetField(element) => {
-            has_field(scene, function) && holds_number(element, asked_type(scene, function))
+            has_field(scene, call) && holds_number(element, asked_type(scene, call))
         }
         JniFunction::GetObjectField => {
-            has_field(scene, function) && holds_reference(asked_type(scene, function))
+            has_field(scene, call) && holds_reference(asked_type(scene, call))
         }
         JniFunction::SetObjectField => {
-            let value = argument(scene, function, 2);
-            has_field(scene, function) && fits_type(scene, value, asked_type(scene, function))
+            let value = argument(scene, call, 2);
+            has_field(scene, call) && fits_type(scene, value, asked_type(scene, call))
         }
         JniFunction::GetStaticField(element) | JniFunction::SetStaticField(element) => {
-            has_static(scene, function) && holds_number(element, asked_type(scene, function))
+            has_static(scene, call) && holds_number(element, asked_type(scene, call))
         }
         JniFunction::GetStaticObjectField => {
-            has_static(scene, function) && holds_reference(asked_type(scene, function))
+            has_static(scene, call) && holds_reference(asked_type(scene, call))
         }
         JniFunction::SetStaticObjectField => {
-            let value = argument(scene, function, 2);
-            has_static(scene, function) && fits_type(scene, value, asked_type(scene, function))
+            let value = argument(scene, call, 2);
+            has_static(scene, call) && fits_type(scene, value, asked_type(scene, call))
         }
         JniFunction::NewObjectArray => {
-            let class = name_of(scene, function, 1);
-            let element = argument(scene, function, 2);
+            let class = name_of(scene, call, 1);
+            let element = argument(scene, call, 2);
             !classes.is_array(class) && fits_there(classes, scene.heap, element, class)
         }
         JniFunction::GetBuffer(Access::ArrayView) => {
-            let class = class_of_given(scene.heap, argument(scene, function, 0));
-            class == number_array(element_wanted(function.target))
+            let class = class_of_given(scene.heap, argument(scene, call, 0));
+            class == number_array(element_wanted(call.target))
         }
         JniFunction::Throw => {
-            let class = class_of_given(scene.heap, argument(scene, function, 0));
+            let class = class_of_given(scene.heap, argument(scene, call, 0));
             classes.assignable(class, THROWABLE)
         }
-        JniFunction::ThrowNew => classes.assignable(name_of(scene, function, 0), THROWABLE),
+        JniFunction::ThrowNew => classes.assignable(name_of(scene, call, 0), THROWABLE),
         _ => true,
     }
 }
@@ -242,25 +242,25 @@ fn element_wanted(target: Target) -> ElementType
 
 /// The trap of a call for its arguments.
 #[inline(never)]
-fn check_arguments(scene: &Scene<'_>, function: &Call) -> Option<Trap>
-    requires objects { AreAddresses scene.now.heap.now scene.now.references function.now.operands.items }
-    requires handles { AreHandles scene.now.classes.now scene.now.fields.now function.now.operands.items }
+fn check_arguments(scene: &Scene<'_>, call: &Call) -> Option<Trap>
+    requires objects { AreAddresses scene.now.heap.now scene.now.references call.now.operands.items }
+    requires handles { AreHandles scene.now.classes.now scene.now.fields.now call.now.operands.items }
     ensures some { IfSome result (λ t. (rest : List (Bool × SourceTrap)) → first_trap (arguments_asked scene.now.classes.now scene.now.heap.now
-        scene.now.references scene.now.fields.now (element_wanted function.now.target) (function_value function.now.function)
-        function.now.operands.items ++ rest) ≡ Some (trap_view t)) }
+        scene.now.references scene.now.fields.now (element_wanted call.now.target) (function_value call.now.function)
+        call.now.operands.items ++ rest) ≡ Some (trap_view t)) }
     ensures none { IfNone result ((rest : List (Bool × SourceTrap)) → first_trap (arguments_asked scene.now.classes.now scene.now.heap.now
-        scene.now.references scene.now.fields.now (element_wanted function.now.target) (function_value function.now.function)
-        function.now.operands.items ++ rest) ≡ first_trap rest) }
+        scene.now.references scene.now.fields.now (element_wanted call.now.target) (function_value call.now.function)
+        call.now.operands.items ++ rest) ≡ first_trap rest) }
 {
-    let operands = &function.operands;
-    let parameters = function.function.prototype().parameters;
+    let operands = &call.operands;
+    let parameters = call.function.prototype().parameters;
     if some_deleted(&scene.references, operands) {
         return Some(Trap::DeletedReference);
     }
     if some_missing(scene, parameters, operands) {
         return Some(Trap::NullReference);
     }
-    if some_misfit(scene, parameters, operands) || !fit_together(scene, function) {
+    if some_misfit(scene, parameters, operands) || !fit_together(scene, call) {
         return Some(Trap::WrongObject);
     }
     None
@@ -268,19 +268,19 @@ fn check_arguments(scene: &Scene<'_>, function: &Call) -> Option<Trap>
 
 /// The trap of a call for its arguments, without a look at arguments of which nothing is asked.
 #[tactic(auto, using(crate::proofs::Unasked::nothing_asked))]
-fn argument_trap(scene: &Scene<'_>, function: &Call) -> Option<Trap>
-    requires prepared { IsPrepared function.now }
-    requires objects { AreAddresses scene.now.heap.now scene.now.references function.now.operands.items }
-    requires handles { AreHandles scene.now.classes.now scene.now.fields.now function.now.operands.items }
+fn argument_trap(scene: &Scene<'_>, call: &Call) -> Option<Trap>
+    requires prepared { IsPrepared call.now }
+    requires objects { AreAddresses scene.now.heap.now scene.now.references call.now.operands.items }
+    requires handles { AreHandles scene.now.classes.now scene.now.fields.now call.now.operands.items }
     ensures some { IfSome result (λ t. (rest : List (Bool × SourceTrap)) → first_trap (arguments_asked scene.now.classes.now scene.now.heap.now
-        scene.now.references scene.now.fields.now (element_wanted function.now.target) (function_value function.now.function)
-        function.now.operands.items ++ rest) ≡ Some (trap_view t)) }
+        scene.now.references scene.now.fields.now (element_wanted call.now.target) (function_value call.now.function)
+        call.now.operands.items ++ rest) ≡ Some (trap_view t)) }
     ensures none { IfNone result ((rest : List (Bool × SourceTrap)) → first_trap (arguments_asked scene.now.classes.now scene.now.heap.now
-        scene.now.references scene.now.fields.now (element_wanted function.now.target) (function_value function.now.function)
-        function.now.operands.items ++ rest) ≡ first_trap rest) }
+        scene.now.references scene.now.fields.now (element_wanted call.now.target) (function_value call.now.function)
+        call.now.operands.items ++ rest) ≡ first_trap rest) }
 {
-    if function.asks {
-        check_arguments(scene, function)
+    if call.asks {
+        check_arguments(scene, call)
     } else {
         None
     }
@@ -294,30 +294,30 @@ fn is_kept_off(pending: Option<Addr>, function: JniFunction) -> bool
 }
 
 /// Whether a call gives a local reference for which there is no room.
-fn lacks_room(locals: &Locals, function: &Call) -> bool
-    requires { IsPrepared function.now }
-    ensures { result ≡ (puts_local (prototype (function_value function.now.function)).result
-        && not (has_room (locals_after (function_value function.now.function) locals.now))) }
+fn lacks_room(locals: &Locals, call: &Call) -> bool
+    requires { IsPrepared call.now }
+    ensures { result ≡ (puts_local (prototype (function_value call.now.function)).result
+        && not (has_room (locals_after (function_value call.now.function) locals.now))) }
 {
-    puts_local(function.result) && !has_room(locals, function.function)
+    puts_local(call.result) && !has_room(locals, call.function)
 }
 
 /// The trap of a call that sees this, before it does anything. It takes no host memory.
-pub fn check(scene: &Scene<'_>, locals: &Locals, function: &Call) -> Option<Trap>
-    requires prepared { IsPrepared function.now }
-    requires objects { AreAddresses scene.now.heap.now scene.now.references function.now.operands.items }
-    requires handles { AreHandles scene.now.classes.now scene.now.fields.now function.now.operands.items }
+pub fn check(scene: &Scene<'_>, locals: &Locals, call: &Call) -> Option<Trap>
+    requires prepared { IsPrepared call.now }
+    requires objects { AreAddresses scene.now.heap.now scene.now.references call.now.operands.items }
+    requires handles { AreHandles scene.now.classes.now scene.now.fields.now call.now.operands.items }
     ensures { option_map trap_view result ≡ trap_found (scene_view scene.now)
-        (has_room (locals_after (function_value function.now.function) locals.now)) (element_wanted function.now.target)
-        (function_value function.now.function) function.now.operands.items }
+        (has_room (locals_after (function_value call.now.function) locals.now)) (element_wanted call.now.target)
+        (function_value call.now.function) call.now.operands.items }
 {
-    if is_kept_off(scene.pending, function.function) {
+    if is_kept_off(scene.pending, call.function) {
         return Some(Trap::ExceptionPending);
     }
-    if let Some(trap) = argument_trap(scene, function) {
+    if let Some(trap) = argument_trap(scene, call) {
         return Some(trap);
     }
-    if lacks_room(locals, function) {
+    if lacks_room(locals, call) {
         return Some(Trap::NoCapacity);
     }
     None

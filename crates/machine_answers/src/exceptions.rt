@@ -16,14 +16,14 @@ use semantics::Trap;
 
 /// What a function does that works on the pending exception.
 #[inline(always)]
-pub(crate) fn work_out_exception(scene: &Scene<'_>, function: &Call) -> Answer
-    requires subject { subject_of (function_value function.now.function) ≡ subject.Exceptions }
-    requires objects { AreAddresses scene.now.heap.now scene.now.references function.now.operands.items }
-    ensures { IsWorkedOut (scene_view scene.now) (call_view function.now) (function_value function.now.function) result }
+pub(crate) fn work_out_exception(scene: &Scene<'_>, call: &Call) -> Answer
+    requires subject { subject_of (function_value call.now.function) ≡ subject.Exceptions }
+    requires objects { AreAddresses scene.now.heap.now scene.now.references call.now.operands.items }
+    ensures { IsWorkedOut (scene_view scene.now) (call_view call.now) (function_value call.now.function) result }
 {
-    match function.function {
+    match call.function {
         JniFunction::Throw => {
-            let exception = argument(scene, function, 0);
+            let exception = argument(scene, call, 0);
             Answer::Pends {
                 exception,
                 given: Given::Number(0),
@@ -31,7 +31,7 @@ pub(crate) fn work_out_exception(scene: &Scene<'_>, function: &Call) -> Answer
         }
         JniFunction::ThrowNew => {
             Answer::Raises {
-                class: name_of(scene, function, 0),
+                class: name_of(scene, call, 0),
                 text: 0,
             }
         }

@@ -17,16 +17,16 @@ use monitors::{Enter, Exit, Object};
 
 /// What a function does that works on monitors.
 #[inline(always)]
-pub(crate) fn work_out_monitor(scene: &Scene<'_>, function: &Call) -> Answer
-    requires subject { subject_of (function_value function.now.function) ≡ subject.Monitors }
-    requires objects { AreAddresses scene.now.heap.now scene.now.references function.now.operands.items }
-    ensures { IsWorkedOut (scene_view scene.now) (call_view function.now) (function_value function.now.function) result }
+pub(crate) fn work_out_monitor(scene: &Scene<'_>, call: &Call) -> Answer
+    requires subject { subject_of (function_value call.now.function) ≡ subject.Monitors }
+    requires objects { AreAddresses scene.now.heap.now scene.now.references call.now.operands.items }
+    ensures { IsWorkedOut (scene_view scene.now) (call_view call.now) (function_value call.now.function) result }
 {
-    let Some(address) = argument(scene, function, 0) else {
+    let Some(address) = argument(scene, call, 0) else {
         return Answer::Gives(Given::Nothing);
     };
     let name = scene.heap.birth_of(address);
-    match function.function {
+    match call.function {
         JniFunction::MonitorEnter => {
             let came = scene.monitors.entering(name, scene.thread);
             entered_by(Object { name, address }, came)

@@ -27,14 +27,14 @@ use semantics::Trap;
 /// What a function does that works on a region (JNI Specification, chapter 4, "Get<PrimitiveType>ArrayRegion Routines",
 /// "Set<PrimitiveType>ArrayRegion Routines" and "GetStringRegion").
 #[inline(always)]
-pub(crate) fn work_out_region(scene: &Scene<'_>, function: &Call) -> Answer
-    requires subject { subject_of (function_value function.now.function) ≡ subject.Regions }
-    requires objects { AreAddresses scene.now.heap.now scene.now.references function.now.operands.items }
-    ensures { IsWorkedOut (scene_view scene.now) (call_view function.now) (function_value function.now.function) result }
+pub(crate) fn work_out_region(scene: &Scene<'_>, call: &Call) -> Answer
+    requires subject { subject_of (function_value call.now.function) ≡ subject.Regions }
+    requires objects { AreAddresses scene.now.heap.now scene.now.references call.now.operands.items }
+    ensures { IsWorkedOut (scene_view scene.now) (call_view call.now) (function_value call.now.function) result }
 {
-    let array = array_in(operand_of(&function.operands, 3));
-    let region = region_asked(scene, function, array);
-    match function.function {
+    let array = array_in(operand_of(&call.operands, 3));
+    let region = region_asked(scene, call, array);
+    match call.function {
         JniFunction::GetArrayRegion(_) => {
             copies_out(ARRAY_INDEX_OUT_OF_BOUNDS_EXCEPTION, array, region)
         }
@@ -49,12 +49,12 @@ pub(crate) fn work_out_region(scene: &Scene<'_>, function: &Call) -> Answer
 }
 
 /// The region of operand 0 that the two numbers on the stack tell, and this local array.
-fn region_asked(scene: &Scene<'_>, function: &Call, array: LocalArray) -> Option<ArrayRegion>
-    requires objects { AreAddresses scene.now.heap.now scene.now.references function.now.operands.items }
-    requires array { array ≡ array_in (operand_of function.now.operands.items 3) }
-    ensures { result ≡ region (scene_view scene.now) (call_view function.now) }
+fn region_asked(scene: &Scene<'_>, call: &Call, array: LocalArray) -> Option<ArrayRegion>
+    requires objects { AreAddresses scene.now.heap.now scene.now.references call.now.operands.items }
+    requires array { array ≡ array_in (operand_of call.now.operands.items 3) }
+    ensures { result ≡ region (scene_view scene.now) (call_view call.now) }
 {
-    let object = argument(scene, function, 0);
+    let object = argument(scene, call, 0);
     let start = next_number(scene.stack);
     region_in(scene.heap, object, start, stack_number(scene.stack), array)
 }

@@ -12,5 +12,5 @@ use Rattle.machine_answers.proofs.answer.work_out_class.Goals as goal
 pub returns-in-FindClass : goal.returns-in-FindClass
 returns-in-FindClass c =
     let text = c.text_at.ensures ∙ ap (λ (l : List (Vec ℕ)). unwrap_or (slice_get (map (λ (text : Vec ℕ). text.items) l) 0) []) c.deref.ensures.value in
-    subst (λ (f : JniFunction). IsWorkedOut (scene_view c.args.scene.now) (call_view c.args.function.now) (function_value f) c.found_class.result) (sym c.in-FindClass.is)
+    subst (λ (f : JniFunction). IsWorkedOut (scene_view c.args.scene.now) (call_view c.args.call.now) (function_value f) c.found_class.result) (sym c.in-FindClass.is)
     (c.found_class.ensures ∙ ap (found_class c.args.scene.now.loaded.now) (c.find-class.ensures ∙ ap (class_named c.args.scene.now.classes.now) text))
