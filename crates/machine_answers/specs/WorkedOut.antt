@@ -280,13 +280,17 @@ module _ (scene : Scene) (call : Call) where
   abbrev pub handle : Option FieldHandle
   handle = field_at scene.fields (operand_of call.operands 1)
 
+  -- its field
+  abbrev pub field : FieldId
+  field = field_there scene.classes handle
+
   -- its place among the fields of operand 0
   abbrev pub place : ℕ
   place = place_there scene.classes handle (layout scene.classes (class_of_given scene.space (reference 0)))
 
   -- the class that declares it
   abbrev pub class : ℕ
-  class = (field_there scene.classes handle).class
+  class = field.class
 
   -- the class object that holds the static
   abbrev pub declaring : Option ℕ

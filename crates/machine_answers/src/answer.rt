@@ -12,7 +12,7 @@ ghost use Rattle.jni.specs.Table.{function_value};
 ghost use Rattle.machine_answers.specs.Checked.{arguments_fit, element_wanted};
 ghost use Rattle.machine_scenes.specs.Given.{field_there, name_there, AreAddresses, AreHandles, FieldIsThere, ReferenceIsThere};
 ghost use Rattle.machine_scenes.specs.Scenes.{scene_view};
-ghost use Rattle.machine_answers.specs.WorkedOut.{address_in, class_object, count_there, declaring, deletes, deletes_global, found_class, frame_for, handle, held_reference, place, place_of_static, place_there, reference, room_for, subject_of, top_word, value_there, word_in, writes_there, IsFoundField, IsWorkedOut};
+ghost use Rattle.machine_answers.specs.WorkedOut.{address_in, class_object, count_there, declaring, deletes, deletes_global, field, found_class, frame_for, handle, held_reference, place, place_of_static, place_there, reference, room_for, subject_of, top_word, value_there, word_in, writes_there, IsFoundField, IsWorkedOut};
 ghost use Rattle.machine_answers.specs.declared.answer.Subject.TheVariants as subject;
 ghost use Rattle.base.specs.Element.{element_value};
 
@@ -337,7 +337,7 @@ pub fn argument(scene: &Scene<'_>, call: &Call, place: usize) -> Option<Addr>
     reference_at(&scene.references, &call.operands, place)
 }
 
-/// The name of its object, and 0 for NULL.
+/// The name of the object of the operand at a place, and 0 for NULL.
 #[inline(always)]
 pub(crate) fn name_of(scene: &Scene<'_>, call: &Call, place: usize) -> usize
     requires { AreAddresses scene.now.heap.now scene.now.references call.now.operands.items }
@@ -457,7 +457,7 @@ fn place_of_field(scene: &Scene<'_>, call: &Call) -> usize
     requires grown { IsGrown scene.now.classes.now }
     requires objects { AreAddresses scene.now.heap.now scene.now.references call.now.operands.items }
     requires handles { AreHandles scene.now.classes.now scene.now.fields.now call.now.operands.items }
-    ensures { (field_there scene.now.classes.now (handle (scene_view scene.now) (call_view call.now))).is_static ≡ false
+    ensures { (field (scene_view scene.now) (call_view call.now)).is_static ≡ false
         → result ≡ place (scene_view scene.now) (call_view call.now) }
 {
     let class = class_of_given(scene.heap, argument(scene, call, 0));
@@ -476,7 +476,7 @@ fn holder_of_static(scene: &Scene<'_>, call: &Call) -> Option<Addr>
 /// The place of the static of operand 1 among the values of its class object.
 fn place_of_static(scene: &Scene<'_>, call: &Call) -> usize
     requires { AreHandles scene.now.classes.now scene.now.fields.now call.now.operands.items }
-    ensures { (field_there scene.now.classes.now (handle (scene_view scene.now) (call_view call.now))).is_static ≡ true
+    ensures { (field (scene_view scene.now) (call_view call.now)).is_static ≡ true
         → result ≡ place_of_static (scene_view scene.now) (call_view call.now) }
 {
     static_place(scene.classes, handle_of(scene, call))
@@ -488,7 +488,7 @@ fn value_of_field(scene: &Scene<'_>, call: &Call) -> Option<Value>
     requires grown { IsGrown scene.now.classes.now }
     requires objects { AreAddresses scene.now.heap.now scene.now.references call.now.operands.items }
     requires handles { AreHandles scene.now.classes.now scene.now.fields.now call.now.operands.items }
-    ensures { (field_there scene.now.classes.now (handle (scene_view scene.now) (call_view call.now))).is_static ≡ false
+    ensures { (field (scene_view scene.now) (call_view call.now)).is_static ≡ false
         → result ≡ value_there scene.now.heap.now (reference (scene_view scene.now) (call_view call.now) 0)
         (place (scene_view scene.now) (call_view call.now)) }
 {
@@ -502,7 +502,7 @@ fn writes_field(scene: &Scene<'_>, call: &Call, value: Value) -> Answer
     requires grown { IsGrown scene.now.classes.now }
     requires objects { AreAddresses scene.now.heap.now scene.now.references call.now.operands.items }
     requires handles { AreHandles scene.now.classes.now scene.now.fields.now call.now.operands.items }
-    ensures { (field_there scene.now.classes.now (handle (scene_view scene.now) (call_view call.now))).is_static ≡ false
+    ensures { (field (scene_view scene.now) (call_view call.now)).is_static ≡ false
         → result ≡ writes_there scene.now.heap.now (reference (scene_view scene.now) (call_view call.now) 0)
         (place (scene_view scene.now) (call_view call.now)) value }
 {
@@ -515,7 +515,7 @@ fn writes_field(scene: &Scene<'_>, call: &Call, value: Value) -> Answer
 fn value_of_static(scene: &Scene<'_>, call: &Call) -> Option<Value>
     requires loaded { (i a : ℕ) → slice_get scene.now.loaded.now i ≡ Some a → IsAddress scene.now.heap.now a }
     requires handles { AreHandles scene.now.classes.now scene.now.fields.now call.now.operands.items }
-    ensures { (field_there scene.now.classes.now (handle (scene_view scene.now) (call_view call.now))).is_static ≡ true
+    ensures { (field (scene_view scene.now) (call_view call.now)).is_static ≡ true
         → result ≡ value_there scene.now.heap.now (declaring (scene_view scene.now) (call_view call.now))
         (place_of_static (scene_view scene.now) (call_view call.now)) }
 {
@@ -528,7 +528,7 @@ fn value_of_static(scene: &Scene<'_>, call: &Call) -> Option<Value>
 fn writes_static(scene: &Scene<'_>, call: &Call, value: Value) -> Answer
     requires loaded { (i a : ℕ) → slice_get scene.now.loaded.now i ≡ Some a → IsAddress scene.now.heap.now a }
     requires handles { AreHandles scene.now.classes.now scene.now.fields.now call.now.operands.items }
-    ensures { (field_there scene.now.classes.now (handle (scene_view scene.now) (call_view call.now))).is_static ≡ true
+    ensures { (field (scene_view scene.now) (call_view call.now)).is_static ≡ true
         → result ≡ writes_there scene.now.heap.now (declaring (scene_view scene.now) (call_view call.now))
         (place_of_static (scene_view scene.now) (call_view call.now)) value }
 {

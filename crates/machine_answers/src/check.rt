@@ -1,6 +1,6 @@
 //! What is checked of a call before it does anything, in one order for all functions.
 
-ghost use Rattle.std.specs.Prelude.{◌≡◌, ℕ, Bool, List, ◌++◌, ◌&&◌, not, is_some, Some, IfSome, IfNone, map, false};
+ghost use Rattle.std.specs.Prelude.{◌≡◌, ℕ, ◌&&◌, not, is_some, IfSome, IfNone, map, false};
 ghost use Rattle.std.specs.List.{list_any};
 ghost use Rattle.std.specs.Option.{option_map};
 ghost use Rattle.class_queries.specs.Kinds.{class_misfits};
@@ -10,15 +10,13 @@ ghost use Rattle.classes.specs.Views.{field_type_view};
 ghost use Rattle.code.specs.Call.{call_view, IsPrepared};
 ghost use Rattle.jni.specs.JniFunction.{is_allowed_pending, prototype};
 ghost use Rattle.jni.specs.Table.{function_value, parameter_value, result_value};
-ghost use Rattle.machine_scenes.specs.Given.{field_there, operand_at, AreAddresses, AreHandles, ReferenceIsThere};
+ghost use Rattle.machine_scenes.specs.Given.{operand_at, AreAddresses, AreHandles, ReferenceIsThere};
 ghost use Rattle.machine_scenes.specs.Locals.{locals_after};
 ghost use Rattle.tables.specs.Locals.{has_room};
-ghost use Rattle.machine_answers.specs.Checked.{arguments_asked, arguments_fit, element_wanted, has_field, has_static, gives_null, gives_deleted, may_be_null, some_missing, misfits, some_misfit, fits_type_there, puts_local, trap_found};
-ghost use Rattle.machine_answers.specs.WorkedOut.{handle};
+ghost use Rattle.machine_answers.specs.Checked.{arguments_fit, element_wanted, has_field, has_static, gives_null, gives_deleted, may_be_null, some_missing, misfits, some_misfit, fits_type_there, puts_local, trap_found, ArgumentsPass, ArgumentsTrap};
+ghost use Rattle.machine_answers.specs.WorkedOut.{field};
 ghost use Rattle.machine_scenes.specs.Scenes.{scene_view};
 ghost use Rattle.semantics.specs.EventViews.{trap_view};
-ghost use Rattle.semantics.specs.Checks.{first_trap};
-ghost use Rattle.semantics.specs.Value.{Trap as SourceTrap};
 
 use crate::answer::{argument, handle_of, name_of};
 use class_queries::{class_misfits, holds_number, holds_reference};
@@ -59,7 +57,7 @@ fn gives_deleted(references: &References<'_>, operand: Operand) -> bool
     }
 }
 
-/// Whether some operand does.
+/// Whether some operand gives a static that is marked as deleted.
 fn some_deleted(references: &References<'_>, operands: &[Operand]) -> bool
     ensures { result ≡ list_any (gives_deleted references.now) operands.now }
 {
@@ -155,7 +153,7 @@ fn fits_type(scene: &Scene<'_>, reference: Option<Addr>, field_type: FieldType) 
 /// What the field or static of operand 1 holds, and numbers for NULL.
 fn asked_type(scene: &Scene<'_>, call: &Call) -> FieldType
     requires { AreHandles scene.now.classes.now scene.now.fields.now call.now.operands.items }
-    ensures { field_type_view result ≡ (field_there scene.now.classes.now (handle (scene_view scene.now) (call_view call.now))).field.type }
+    ensures { field_type_view result ≡ (field (scene_view scene.now) (call_view call.now)).field.type }
 {
     type_of(scene.classes, handle_of(scene, call))
 }
@@ -245,12 +243,8 @@ fn element_wanted(target: Target) -> ElementType
 fn check_arguments(scene: &Scene<'_>, call: &Call) -> Option<Trap>
     requires objects { AreAddresses scene.now.heap.now scene.now.references call.now.operands.items }
     requires handles { AreHandles scene.now.classes.now scene.now.fields.now call.now.operands.items }
-    ensures some { IfSome result (λ t. (rest : List (Bool × SourceTrap)) → first_trap (arguments_asked scene.now.classes.now scene.now.heap.now
-        scene.now.references scene.now.fields.now (element_wanted call.now.target) (function_value call.now.function)
-        call.now.operands.items ++ rest) ≡ Some (trap_view t)) }
-    ensures none { IfNone result ((rest : List (Bool × SourceTrap)) → first_trap (arguments_asked scene.now.classes.now scene.now.heap.now
-        scene.now.references scene.now.fields.now (element_wanted call.now.target) (function_value call.now.function)
-        call.now.operands.items ++ rest) ≡ first_trap rest) }
+    ensures some { IfSome result (λ t. ArgumentsTrap (scene_view scene.now) (call_view call.now) (trap_view t)) }
+    ensures none { IfNone result (ArgumentsPass (scene_view scene.now) (call_view call.now)) }
 {
     let operands = &call.operands;
     let parameters = call.function.prototype().parameters;
@@ -272,12 +266,8 @@ fn argument_trap(scene: &Scene<'_>, call: &Call) -> Option<Trap>
     requires prepared { IsPrepared call.now }
     requires objects { AreAddresses scene.now.heap.now scene.now.references call.now.operands.items }
     requires handles { AreHandles scene.now.classes.now scene.now.fields.now call.now.operands.items }
-    ensures some { IfSome result (λ t. (rest : List (Bool × SourceTrap)) → first_trap (arguments_asked scene.now.classes.now scene.now.heap.now
-        scene.now.references scene.now.fields.now (element_wanted call.now.target) (function_value call.now.function)
-        call.now.operands.items ++ rest) ≡ Some (trap_view t)) }
-    ensures none { IfNone result ((rest : List (Bool × SourceTrap)) → first_trap (arguments_asked scene.now.classes.now scene.now.heap.now
-        scene.now.references scene.now.fields.now (element_wanted call.now.target) (function_value call.now.function)
-        call.now.operands.items ++ rest) ≡ first_trap rest) }
+    ensures some { IfSome result (λ t. ArgumentsTrap (scene_view scene.now) (call_view call.now) (trap_view t)) }
+    ensures none { IfNone result (ArgumentsPass (scene_view scene.now) (call_view call.now)) }
 {
     if call.asks {
         check_arguments(scene, call)

@@ -87,15 +87,11 @@ fn region_in(
     requires { ReferenceIsThere heap.now reference }
     ensures { result ≡ region_in heap.now reference start count array }
 {
-    match reference {
-        Some(object) => {
-            if start < 0 || count < 0 {
-                return None;
-            }
-            region_within(heap, object, start as u32, count as u32, array)
-        }
-        None => None,
+    let object = reference?;
+    if start < 0 || count < 0 {
+        return None;
     }
+    region_within(heap, object, start as u32, count as u32, array)
 }
 
 /// Elements of an object, from a start on, where neither number is negative; none where the object hasn't so many.
@@ -133,7 +129,7 @@ fn copies_out(exception: ClassId, array: LocalArray, region: Option<ArrayRegion>
     }
 }
 
-/// What the slots of a region hold goes into its object; else the same.
+/// What the slots of a region hold goes into its object; where it can't, the answer is that of `copies_out`.
 fn copies_in(exception: ClassId, array: LocalArray, region: Option<ArrayRegion>) -> Answer
     ensures { result ≡ copies_in exception array region }
 {
