@@ -31,7 +31,7 @@ use Rattle.machine_answers.proofs.CallOperands.{only_text}
 use Rattle.machine_answers.proofs.TwoCalls.{TwoCalls, references, fields, all, brought, Asked, Works, Does, at, agrees, name_of, built_in_class, object_given_at, number_of, class_given, counted, reference_read, value_written, held_agrees}
 
 module _ (both : TwoCalls) where
-  open both use {p, w, store, pending, call, function, others, k, shared, s, target, sound, args}
+  open both use {p, w, store, pending, activation, call, others, k, shared, s, target, sound, args}
 
   pub answers_length : Asked both GetArrayLength → (answer : Answer) → Works both GetArrayLength answer → Does both GetArrayLength answer
   unfolding call_effect
@@ -42,7 +42,7 @@ module _ (both : TwoCalls) where
   answers_string_length h answer is = subst (λ (x : Answer). Does both GetStringLength x) (sym is) (refl, refl, counted both GetStringLength h)
 
   -- a new array of equal values
-  made_array : (class : ℕ) (v : Value) (u : ObjectValue) → IsMakeable w.classes class → ValueAgrees store.heap v u → (z : ℤ) → IsAnswer w.classes (brought both) store.heap call.locals NewLocal shared s (new_array class z v) (new_array_effect shared s class z u)
+  made_array : (class : ℕ) (v : Value) (u : ObjectValue) → IsMakeable w.classes class → ValueAgrees store.heap v u → (z : ℤ) → IsAnswer w.classes (brought both) store.heap activation.locals NewLocal shared s (new_array class z v) (new_array_effect shared s class z u)
   made_array class v u makeable agree (pos n) = (refl, refl, refl, refl, record { object = (u, agree, refl); makeable = makeable })
   made_array class v u makeable agree (negsuc n) = (refl, built_in_class both negative_array_size (omega arith) (omega arith))
 
@@ -63,7 +63,7 @@ module _ (both : TwoCalls) where
   answers_new_object_array h free answer is =
       let name = name_of both NewObjectArray h 1 in
       let class = class_given both NewObjectArray (IntNumber ∷ []) (Nullable ∷ []) refl h free in
-      let passed = has_passed p w store pending call function others k shared s target NewObjectArray args h free in
+      let passed = has_passed p w store pending activation call others k shared s target NewObjectArray args h free in
       let plain : is_plain (class_kind w.classes (object_given args 1)) ≡ true = ap (λ (c : ℕ). is_plain (class_kind w.classes c)) (sym name) ∙ first_true (is_plain (class_kind w.classes (name_there store.heap (at both 1)))) (fits_there w.classes store.heap (at both 2) (name_there store.heap (at both 1))) passed in
       let array = sound.declares.arrays (object_given args 1) class.low class.high plain in
       let known = found_within w.classes (array_name (class_name w.classes (object_given args 1))) array.0 array.1 in
@@ -71,7 +71,7 @@ module _ (both : TwoCalls) where
       let found : unwrap_or (array_class_of w.classes (name_there store.heap (at both 1))) 0 ≡ array.0 = ap (λ (c : ℕ). unwrap_or (array_class_of w.classes c) 0) name ∙ ap (λ (o : Option ℕ). unwrap_or o 0) array.1 in
       let given : option_map_or (λ (c : ℕ). c) (array_class_of w.classes (object_given args 1)) 0 ≡ array.0 = ap (λ (o : Option ℕ). option_map_or (λ (c : ℕ). c) o 0) array.1 in
       subst (λ (x : Answer). Does both NewObjectArray x) (sym (is ∙ (λ i. new_array (found i) (number_of both NewObjectArray [] (ClassObject ∷ Nullable ∷ []) tt (λ e. cc, (λ e. cc, tt)) refl h i) (held_reference (at both 2)))))
-      (subst (λ (c : ℕ). IsAnswer w.classes (brought both) store.heap call.locals NewLocal shared s (new_array array.0 (number_given args 0) (held_reference (at both 2))) (new_array_effect shared s c (number_given args 0) (Refers (reference_given args 2)))) (sym given)
+      (subst (λ (c : ℕ). IsAnswer w.classes (brought both) store.heap activation.locals NewLocal shared s (new_array array.0 (number_given args 0) (held_reference (at both 2))) (new_array_effect shared s c (number_given args 0) (Refers (reference_given args 2)))) (sym given)
       (made_array array.0 (held_reference (at both 2)) (Refers (reference_given args 2)) makeable (held_agrees both (at both 2) (reference_given args 2) (agrees both NewObjectArray h 2)) (number_given args 0)))
     where
       first_true : (a b : Bool) → (a && b) ≡ true → a ≡ true
@@ -85,7 +85,7 @@ module _ (both : TwoCalls) where
 
     -- an element is read
     abbrev Reads : Answer → CallEffect → Type 0
-    Reads answer effect = IsAnswer w.classes (brought both) store.heap call.locals NewLocal shared s answer effect
+    Reads answer effect = IsAnswer w.classes (brought both) store.heap activation.locals NewLocal shared s answer effect
 
     abbrev read : ℕ → CallEffect
     read i = Leaves [] shared s (ReferenceResult (reference_in (value_at shared.heap m i)))
@@ -102,7 +102,7 @@ module _ (both : TwoCalls) where
 
     -- an element is written
     abbrev Stores : Answer → CallEffect → Type 0
-    Stores answer effect = IsAnswer w.classes (brought both) store.heap call.locals GivesNothing shared s answer effect
+    Stores answer effect = IsAnswer w.classes (brought both) store.heap activation.locals GivesNothing shared s answer effect
 
     element_written : (fits : Bool) (v : Value) (q : Reference) → ValueAgrees store.heap v (Refers q) → (z : ℤ)
         → Stores (stores_there store.heap (Some a) fits (index_there store.heap (Some a) z) v) (at_index array_index_out_of_bounds size z (store_effect shared s fits m q))
@@ -141,5 +141,5 @@ module _ (both : TwoCalls) where
   pub answers_string : Asked both NewStringUTF → (answer : Answer) → Works both NewStringUTF answer → Does both NewStringUTF answer
   unfolding call_effect
   answers_string h answer is =
-      let text : text_in function.texts 0 ≡ text_given args 0 = ap (λ (l : List (List ℕ)). text_in l 0) h.texts ∙ only_text w.classes store.heap (references both) (fields both) function.operands args h.kinds h.given in
+      let text : text_in call.texts 0 ≡ text_given args 0 = ap (λ (l : List (List ℕ)). text_in l 0) h.texts ∙ only_text w.classes store.heap (references both) (fields both) call.operands args h.kinds h.given in
       subst (λ (x : Answer). Does both NewStringUTF x) (sym is) (refl, refl, refl, refl, record { object = ap string_object (sym text); makeable = built_in_class both string_class (omega arith) (omega arith) })

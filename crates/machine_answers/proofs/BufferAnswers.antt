@@ -35,10 +35,10 @@ use Rattle.machine_answers.proofs.CallOperands.{GivenObject}
 use Rattle.machine_answers.proofs.TwoCalls.{TwoCalls, references, fields, all, in_use, brought, Asked, Works, Does, object_given_at, object_there}
 
 module _ (both : TwoCalls) where
-  open both use {p, w, store, pending, call, function, others, k, shared, s, target, sound, args}
+  open both use {p, w, store, pending, activation, call, others, k, shared, s, target, sound, args}
 
   -- the object of argument 0
-  module _ (f : JniFunction) (h : Asked both f) (g : GivenObject w.classes store.heap (references both) (fields both) function.operands args 0) where
+  module _ (f : JniFunction) (h : Asked both f) (g : GivenObject w.classes store.heap (references both) (fields both) call.operands args 0) where
     copy_acquired : IsCopyAcquired (brought both) store.heap shared s g.address (copy_effect (in_use both) shared s (object_given args 0) (numbers_of shared.heap (object_given args 0)))
     copy_acquired = record {
       name = object_given args 0;
@@ -51,9 +51,9 @@ module _ (both : TwoCalls) where
     view_acquired = record { name = object_given args 0; there = (object_there both g); is = refl }
 
     -- the buffer of argument 1 is released
-    module _ (b : GivenBuffer store.heap (brought both).buffers s.variables function.operands args) where
+    module _ (b : GivenBuffer store.heap (brought both).buffers s.variables call.operands args) where
       released : (mode : ReleaseMode) → (copies_back (mode_code mode) ≡ true → IsCopyOf shared.heap (object_given args 0) b.holds.buffer)
-          → IsAnswer w.classes (brought both) store.heap call.locals GivesNothing shared s (releases call.slots.buffers.items (Some g.address) (operand.Buffer b.slot) (mode_code mode)) (release_effect shared s (object_given args 0) (variable_given args 1) mode)
+          → IsAnswer w.classes (brought both) store.heap activation.locals GivesNothing shared s (releases activation.slots.buffers.items (Some g.address) (operand.Buffer b.slot) (mode_code mode)) (release_effect shared s (object_given args 0) (variable_given args 1) mode)
       released mode copy = (
         refl,
         record {
@@ -85,7 +85,7 @@ module _ (both : TwoCalls) where
       subst (λ (x : Answer). Does both (GetBuffer CharsView) x) (sym (is ∙ ap (acquires CharsView) g.at)) ((CharsView, refl), view_acquired (GetBuffer CharsView) h g)
 
   -- the buffer of elements that is released is a copy of the array
-  copy_there : (T : ElementType) → Asked both (ReleaseBuffer (ElementsCopy T)) → (b : GivenBuffer store.heap (brought both).buffers s.variables function.operands args) → IsCopyOf shared.heap (object_given args 0) b.holds.buffer
+  copy_there : (T : ElementType) → Asked both (ReleaseBuffer (ElementsCopy T)) → (b : GivenBuffer store.heap (brought both).buffers s.variables call.operands args) → IsCopyOf shared.heap (object_given args 0) b.holds.buffer
   copy_there T h b = by_buffer b.holds.type b.holds.buffer b.holds.is (ap came_from (sym b.holds.is) ∙ h.release (ElementsCopy T) refl)
     where
       by_buffer : (t : ElementType) (x : source.Buffer) → lookup (variable_given args 1) s.variables ≡ Some (Elements t x) → came_from (Some (Elements t x)) ≡ Some (object_given args 0) → IsCopyOf shared.heap (object_given args 0) x
@@ -97,8 +97,8 @@ module _ (both : TwoCalls) where
           (numbers_fit t zs typed.1, typed.2 ∙ ap (λ (m : ℕ). length (values_of shared.heap m)) same)
 
   -- what is released
-  buffer_given : (access : Access) (more : List ParameterKind) → (prototype (ReleaseBuffer access)).parameters ≡ owner access ∷ BufferVariable access ∷ more → Asked both (ReleaseBuffer access) → GivenBuffer store.heap (brought both).buffers s.variables function.operands args
-  buffer_given access more are h = given_buffer store.heap (brought both).buffers s.variables access (owner access) more function.operands args (subst (λ (l : List ParameterKind). AllZip OperandFits l function.operands) are h.kinds) h.buffers
+  buffer_given : (access : Access) (more : List ParameterKind) → (prototype (ReleaseBuffer access)).parameters ≡ owner access ∷ BufferVariable access ∷ more → Asked both (ReleaseBuffer access) → GivenBuffer store.heap (brought both).buffers s.variables call.operands args
+  buffer_given access more are h = given_buffer store.heap (brought both).buffers s.variables access (owner access) more call.operands args (subst (λ (l : List ParameterKind). AllZip OperandFits l call.operands) are h.kinds) h.buffers
 
   pub answers_release : (access : Access) → Asked both (ReleaseBuffer access) → trap_of_call w.classes shared s target (ReleaseBuffer access) args ≡ None → (answer : Answer) → Works both (ReleaseBuffer access) answer → Does both (ReleaseBuffer access) answer
   unfolding call_effect
@@ -106,20 +106,20 @@ module _ (both : TwoCalls) where
       let f = ReleaseBuffer (ElementsCopy T) in
       let g = object_given_at both f [] (NumberArray T) (BufferVariable (ElementsCopy T) ∷ Mode ∷ []) tt refl refl h free in
       let b = buffer_given (ElementsCopy T) (Mode ∷ []) refl h in
-      let mode = given_mode w.classes store.heap (references both) (fields both) T (NumberArray T) (BufferVariable (ElementsCopy T)) function.operands args h.kinds h.given in
-      subst (λ (x : Answer). Does both f x) (sym (is ∙ (λ i. releases call.slots.buffers.items (g.at i) (b.at i) (mode i)))) (released f h g b (mode_given args 2) (λ back. copy_there T h b))
+      let mode = given_mode w.classes store.heap (references both) (fields both) T (NumberArray T) (BufferVariable (ElementsCopy T)) call.operands args h.kinds h.given in
+      subst (λ (x : Answer). Does both f x) (sym (is ∙ (λ i. releases activation.slots.buffers.items (g.at i) (b.at i) (mode i)))) (released f h g b (mode_given args 2) (λ back. copy_there T h b))
   answers_release ArrayView h free answer is =
       let f = ReleaseBuffer ArrayView in
       let g = object_given_at both f [] NonNull (BufferVariable ArrayView ∷ Mode ∷ []) tt refl refl h free in
       let b = buffer_given ArrayView (Mode ∷ []) refl h in
-      subst (λ (x : Answer). Does both f x) (sym (is ∙ (λ i. releases call.slots.buffers.items (g.at i) (b.at i) modes.FreeUncopied))) (released f h g b FreeUncopied (λ back. absurd (cc)))
+      subst (λ (x : Answer). Does both f x) (sym (is ∙ (λ i. releases activation.slots.buffers.items (g.at i) (b.at i) modes.FreeUncopied))) (released f h g b FreeUncopied (λ back. absurd (cc)))
   answers_release CharsCopy h free answer is =
       let f = ReleaseBuffer CharsCopy in
       let g = object_given_at both f [] StringObject (BufferVariable CharsCopy ∷ []) tt refl refl h free in
       let b = buffer_given CharsCopy [] refl h in
-      subst (λ (x : Answer). Does both f x) (sym (is ∙ (λ i. releases call.slots.buffers.items (g.at i) (b.at i) modes.FreeUncopied))) (released f h g b FreeUncopied (λ back. absurd (cc)))
+      subst (λ (x : Answer). Does both f x) (sym (is ∙ (λ i. releases activation.slots.buffers.items (g.at i) (b.at i) modes.FreeUncopied))) (released f h g b FreeUncopied (λ back. absurd (cc)))
   answers_release CharsView h free answer is =
       let f = ReleaseBuffer CharsView in
       let g = object_given_at both f [] StringObject (BufferVariable CharsView ∷ []) tt refl refl h free in
       let b = buffer_given CharsView [] refl h in
-      subst (λ (x : Answer). Does both f x) (sym (is ∙ (λ i. releases call.slots.buffers.items (g.at i) (b.at i) modes.FreeUncopied))) (released f h g b FreeUncopied (λ back. absurd (cc)))
+      subst (λ (x : Answer). Does both f x) (sym (is ∙ (λ i. releases activation.slots.buffers.items (g.at i) (b.at i) modes.FreeUncopied))) (released f h g b FreeUncopied (λ back. absurd (cc)))

@@ -140,43 +140,43 @@ same_pending space None (Some n) h = absurd h
 same_pending space (Some a) None h = absurd h
 same_pending space (Some a) (Some n) h = refl
 
-module _ (p : Lowered) (w : World) (store : Store) (pending : Option ℕ) (call : Activation) (function : Call) (others : Acquired) (k : ℕ) (shared : Shared) (s : Thread) (target : Target) (f : JniFunction) (args : List Actual) (h : IsAsked p w store pending call function others k shared s target f args) where
-  pub objects_there : AreAddresses store.heap (references_of store call) function.operands
-  objects_there = all_addresses w.classes store.heap (references_of store call) call.slots.fields.items function.operands args h.given
+module _ (p : Lowered) (w : World) (store : Store) (pending : Option ℕ) (activation : Activation) (call : Call) (others : Acquired) (k : ℕ) (shared : Shared) (s : Thread) (target : Target) (f : JniFunction) (args : List Actual) (h : IsAsked p w store pending activation call others k shared s target f args) where
+  pub objects_there : AreAddresses store.heap (references_of store activation) call.operands
+  objects_there = all_addresses w.classes store.heap (references_of store activation) activation.slots.fields.items call.operands args h.given
 
-  pub handles_there : AreHandles w.classes call.slots.fields.items function.operands
-  handles_there = all_handles w.classes store.heap (references_of store call) call.slots.fields.items function.operands args h.given
+  pub handles_there : AreHandles w.classes activation.slots.fields.items call.operands
+  handles_there = all_handles w.classes store.heap (references_of store activation) activation.slots.fields.items call.operands args h.given
 
-  pub found_is : trap_found (scene_of w.classes store call k pending) (has_room (locals_after f call.locals)) (element_wanted function.target) f function.operands ≡ trap_of_call w.classes shared s target f args
+  pub found_is : trap_found (scene_of w.classes store activation k pending) (has_room (locals_after f activation.locals)) (element_wanted call.target) f call.operands ≡ trap_of_call w.classes shared s target f args
   found_is =
-      checks.found_is w.classes store.heap (references_of store call) call.slots.fields.items shared.heap h.store_agrees.heap.blocks store.loaded.items call.stack call.slots.buffers.items pending store.monitors k (has_room (locals_after f call.locals)) (element_wanted function.target) f function.operands args shared s target h.wanted refl
-      (same_pending store.heap pending s.pending h.pending_agrees) (full_where store.heap (locals_after f call.locals) (frames_after f s.frames) (frames_left store.heap f call.locals s.frames h.frames_agree)) h.fit h.given
+      checks.found_is w.classes store.heap (references_of store activation) activation.slots.fields.items shared.heap h.store_agrees.heap.blocks store.loaded.items activation.stack activation.slots.buffers.items pending store.monitors k (has_room (locals_after f activation.locals)) (element_wanted call.target) f call.operands args shared s target h.wanted refl
+      (same_pending store.heap pending s.pending h.pending_agrees) (full_where store.heap (locals_after f activation.locals) (frames_after f s.frames) (frames_left store.heap f activation.locals s.frames h.frames_agree)) h.fit h.given
 
   module _ (free : trap_of_call w.classes shared s target f args ≡ None) where
-    passed : Passed (is_some pending && not (is_allowed_pending f)) (list_any (gives_deleted (references_of store call)) function.operands) (some_missing (references_of store call) call.slots.fields.items (prototype f).parameters function.operands)
-        (some_misfit w.classes store.heap (references_of store call) (prototype f).parameters function.operands || not (fit_together w.classes store.heap (references_of store call) call.slots.fields.items function.operands (element_wanted function.target) f)) (puts_local (prototype f).result && not (has_room (locals_after f call.locals)))
-    passed = all_passed (is_some pending && not (is_allowed_pending f)) (list_any (gives_deleted (references_of store call)) function.operands) (some_missing (references_of store call) call.slots.fields.items (prototype f).parameters function.operands)
-        (some_misfit w.classes store.heap (references_of store call) (prototype f).parameters function.operands || not (fit_together w.classes store.heap (references_of store call) call.slots.fields.items function.operands (element_wanted function.target) f)) (puts_local (prototype f).result && not (has_room (locals_after f call.locals))) (found_is ∙ free)
+    passed : Passed (is_some pending && not (is_allowed_pending f)) (list_any (gives_deleted (references_of store activation)) call.operands) (some_missing (references_of store activation) activation.slots.fields.items (prototype f).parameters call.operands)
+        (some_misfit w.classes store.heap (references_of store activation) (prototype f).parameters call.operands || not (fit_together w.classes store.heap (references_of store activation) activation.slots.fields.items call.operands (element_wanted call.target) f)) (puts_local (prototype f).result && not (has_room (locals_after f activation.locals)))
+    passed = all_passed (is_some pending && not (is_allowed_pending f)) (list_any (gives_deleted (references_of store activation)) call.operands) (some_missing (references_of store activation) activation.slots.fields.items (prototype f).parameters call.operands)
+        (some_misfit w.classes store.heap (references_of store activation) (prototype f).parameters call.operands || not (fit_together w.classes store.heap (references_of store activation) activation.slots.fields.items call.operands (element_wanted call.target) f)) (puts_local (prototype f).result && not (has_room (locals_after f activation.locals))) (found_is ∙ free)
 
-    fitting : (some_misfit w.classes store.heap (references_of store call) (prototype f).parameters function.operands ≡ false) × (fit_together w.classes store.heap (references_of store call) call.slots.fields.items function.operands (element_wanted function.target) f ≡ true)
-    fitting = neither (some_misfit w.classes store.heap (references_of store call) (prototype f).parameters function.operands) (fit_together w.classes store.heap (references_of store call) call.slots.fields.items function.operands (element_wanted function.target) f) passed.wrong
+    fitting : (some_misfit w.classes store.heap (references_of store activation) (prototype f).parameters call.operands ≡ false) × (fit_together w.classes store.heap (references_of store activation) activation.slots.fields.items call.operands (element_wanted call.target) f ≡ true)
+    fitting = neither (some_misfit w.classes store.heap (references_of store activation) (prototype f).parameters call.operands) (fit_together w.classes store.heap (references_of store activation) activation.slots.fields.items call.operands (element_wanted call.target) f) passed.wrong
 
     -- the arguments go together
-    pub has_passed : fit_together w.classes store.heap (references_of store call) call.slots.fields.items function.operands (element_wanted function.target) f ≡ true
+    pub has_passed : fit_together w.classes store.heap (references_of store activation) activation.slots.fields.items call.operands (element_wanted call.target) f ≡ true
     has_passed = fitting.1
 
     -- no operand gives a static that is marked as deleted
-    pub none_deleted : list_any (gives_deleted (references_of store call)) function.operands ≡ false
+    pub none_deleted : list_any (gives_deleted (references_of store activation)) call.operands ≡ false
     none_deleted = passed.deleted
 
     -- no operand gives NULL where that isn't allowed
-    pub none_lacking : some_missing (references_of store call) call.slots.fields.items (prototype f).parameters function.operands ≡ false
+    pub none_lacking : some_missing (references_of store activation) activation.slots.fields.items (prototype f).parameters call.operands ≡ false
     none_lacking = passed.missing
 
     -- none gives an object of another kind
-    pub none_unfit : some_misfit w.classes store.heap (references_of store call) (prototype f).parameters function.operands ≡ false
+    pub none_unfit : some_misfit w.classes store.heap (references_of store activation) (prototype f).parameters call.operands ≡ false
     none_unfit = fitting.0
 
     -- a local reference has room
-    pub room_left : (puts_local (prototype f).result && not (has_room (locals_after f call.locals))) ≡ false
+    pub room_left : (puts_local (prototype f).result && not (has_room (locals_after f activation.locals))) ≡ false
     room_left = passed.room

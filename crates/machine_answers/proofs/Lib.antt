@@ -9,6 +9,7 @@ pub mod CopiedRegions
 pub mod ExceptionAnswers
 pub mod FewValues
 pub mod FieldAnswers
+pub mod FieldKinds
 pub mod FieldValues
 pub mod LongTables
 pub mod MonitorAnswers

@@ -30,14 +30,14 @@ use Rattle.machine_answers.proofs.CallOperands.{same_number}
 use Rattle.machine_answers.proofs.TwoCalls.{TwoCalls, brought, Asked, Works, Does, built_in_class, object_given_at, object_there}
 
 module _ (both : TwoCalls) where
-  open both use {p, w, store, pending, call, function, others, k, shared, s, target, sound, args}
+  open both use {p, w, store, pending, activation, call, others, k, shared, s, target, sound, args}
 
   -- thread k doesn't wait, so no other thread owns the object
   not_owned : (m : source_state.Monitor) → Asked both MonitorEnter → trap_of_call w.classes shared s target MonitorEnter args ≡ None → monitor_of shared.monitors (object_given args 0) ≡ Some m → m.owner ≡ k
   not_owned m h free is = same_number m.owner k (sym (λ i. is_none (free i) && is_owned_by_other k (is i)) ∙ h.ready)
 
   abbrev GivesNumber : Answer → CallEffect → Type 0
-  GivesNumber x effect = IsAnswer w.classes (brought both) store.heap call.locals GivesInt shared s x effect
+  GivesNumber x effect = IsAnswer w.classes (brought both) store.heap activation.locals GivesInt shared s x effect
 
   pub answers_enter : Asked both MonitorEnter → trap_of_call w.classes shared s target MonitorEnter args ≡ None → (answer : Answer) → Works both MonitorEnter answer → Does both MonitorEnter answer
   unfolding call_effect

@@ -35,15 +35,15 @@ use Rattle.machine_answers.proofs.CallOperands.{super_known, only_text, only_sta
 use Rattle.machine_answers.proofs.TwoCalls.{TwoCalls, references, fields, brought, Asked, Works, Does, at, agrees, name_of, table_of, object_of, built_in_class, object_given_at, number_of, class_given}
 
 module _ (both : TwoCalls) where
-  open both use {p, w, store, pending, call, function, others, k, shared, s, target, sound, args}
+  open both use {p, w, store, pending, activation, call, others, k, shared, s, target, sound, args}
 
   pub answers_find : Asked both FindClass → (answer : Answer) → Works both FindClass answer → Does both FindClass answer
   unfolding call_effect
   answers_find h answer is =
-      let text : unwrap_or (slice_get function.texts 0) [] ≡ text_given args 0 = ap (λ (l : List (List ℕ)). unwrap_or (slice_get l 0) []) h.texts ∙ only_text w.classes store.heap (references both) (fields both) function.operands args h.kinds h.given in
+      let text : unwrap_or (slice_get call.texts 0) [] ≡ text_given args 0 = ap (λ (l : List (List ℕ)). unwrap_or (slice_get l 0) []) h.texts ∙ only_text w.classes store.heap (references both) (fields both) call.operands args h.kinds h.given in
       subst (λ (x : Answer). Does both FindClass x) (sym (is ∙ ap (λ (l : List ℕ). found_class store.loaded.items (class_named w.classes l)) text)) (by_class (class_named w.classes (text_given args 0)) refl)
     where
-      by_class : (o : Option ℕ) → class_named w.classes (text_given args 0) ≡ o → IsAnswer w.classes (brought both) store.heap call.locals NewLocal shared s (found_class store.loaded.items o) (found_class_effect shared s no_class_def_found_error o)
+      by_class : (o : Option ℕ) → class_named w.classes (text_given args 0) ≡ o → IsAnswer w.classes (brought both) store.heap activation.locals NewLocal shared s (found_class store.loaded.items o) (found_class_effect shared s no_class_def_found_error o)
       by_class None e = (refl, built_in_class both no_class_def_found_error (omega arith) (omega arith))
       by_class (Some c) e = let known = found_within w.classes (text_given args 0) c e in (refl, refl, table_of both FindClass h c known.0 known.1)
 
@@ -94,7 +94,7 @@ module _ (both : TwoCalls) where
       let makeable : IsMakeable w.classes (object_given args 0) = record {
         low = class.low;
         high = class.high;
-        no_class = own_making w.classes (object_given args 0) (ap (λ (n : ℕ). not (has_own_making w.classes n)) (sym name) ∙ has_passed p w store pending call function others k shared s target AllocObject args h free);
+        no_class = own_making w.classes (object_given args 0) (ap (λ (n : ℕ). not (has_own_making w.classes n)) (sym name) ∙ has_passed p w store pending activation call others k shared s target AllocObject args h free);
       } in
       subst (λ (x : Answer). Does both AllocObject x) (sym is)
       (refl, refl, refl, refl, record { object = ap (fresh_object w.classes) (sym name); makeable = subst (IsMakeable w.classes) (sym name) makeable })
@@ -111,16 +111,16 @@ module _ (both : TwoCalls) where
 
   -- what is known of the key of a reference that is deleted
   abbrev pub HasKey : JniFunction → Type 0
-  HasKey f = f ≡ DeleteLocalRef → OwnKey store.heap call.locals (key_at (references both) (operand_of function.operands 0)) (reference_given args 0) (level_of (lookup (variable_given args 0) s.variables))
+  HasKey f = f ≡ DeleteLocalRef → OwnKey store.heap activation.locals (key_at (references both) (operand_of call.operands 0)) (reference_given args 0) (level_of (lookup (variable_given args 0) s.variables))
 
   pub answers_delete : HasKey DeleteLocalRef → (answer : Answer) → Works both DeleteLocalRef answer → Does both DeleteLocalRef answer
   unfolding call_effect
-  answers_delete keyed answer is = subst (λ (x : Answer). Does both DeleteLocalRef x) (sym is) (by_key (key_at (references both) (operand_of function.operands 0)) (reference_given args 0) (keyed refl))
+  answers_delete keyed answer is = subst (λ (x : Answer). Does both DeleteLocalRef x) (sym is) (by_key (key_at (references both) (operand_of call.operands 0)) (reference_given args 0) (keyed refl))
     where
       variable : Option Variable
       variable = lookup (variable_given args 0) s.variables
 
-      by_key : (key : Option ℕ) (r : Reference) → OwnKey store.heap call.locals key r (level_of variable) → IsAnswer w.classes (brought both) store.heap call.locals GivesNothing shared s (deletes key) (delete_local_effect shared s variable r)
+      by_key : (key : Option ℕ) (r : Reference) → OwnKey store.heap activation.locals key r (level_of variable) → IsAnswer w.classes (brought both) store.heap activation.locals GivesNothing shared s (deletes key) (delete_local_effect shared s variable r)
       by_key None None own = (refl, refl, tt)
       by_key None (Some n) own = absurd own
       by_key (Some key) None own = absurd own
@@ -128,17 +128,17 @@ module _ (both : TwoCalls) where
 
   -- what is known of the static whose global reference ends
   abbrev pub IsHeld : JniFunction → Type 0
-  IsHeld f = f ≡ DeleteGlobalRef → (i n : ℕ) → operand_of function.operands 0 ≡ operand.Static i → reference_given args 0 ≡ Some n → HoldsObject shared (variable_given args 0) i n
+  IsHeld f = f ≡ DeleteGlobalRef → (i n : ℕ) → operand_of call.operands 0 ≡ operand.Static i → reference_given args 0 ≡ Some n → HoldsObject shared (variable_given args 0) i n
 
   pub answers_delete_global : IsHeld DeleteGlobalRef → Asked both DeleteGlobalRef → (answer : Answer) → Works both DeleteGlobalRef answer → Does both DeleteGlobalRef answer
   unfolding call_effect
   answers_delete_global held h answer is =
       subst (λ (x : Answer). Does both DeleteGlobalRef x) (sym is)
-      (let static = only_static function.operands h.kinds in
-      subst (λ (o : Operand). IsAnswer w.classes (brought both) store.heap call.locals GivesNothing shared s (deletes_global (at both 0) o) (delete_global_effect shared s (variable_given args 0) (reference_given args 0))) (sym static.1)
+      (let static = only_static call.operands h.kinds in
+      subst (λ (o : Operand). IsAnswer w.classes (brought both) store.heap activation.locals GivesNothing shared s (deletes_global (at both 0) o) (delete_global_effect shared s (variable_given args 0) (reference_given args 0))) (sym static.1)
       (by_reference static.0 (at both 0) (reference_given args 0) (λ n given. held refl static.0 n static.1 given) (agrees both DeleteGlobalRef h 0)))
     where
-      by_reference : (i : ℕ) (o : Option ℕ) (r : Reference) → ((n : ℕ) → r ≡ Some n → HoldsObject shared (variable_given args 0) i n) → ReferenceAgrees store.heap o r → IsAnswer w.classes (brought both) store.heap call.locals GivesNothing shared s (deletes_global o (operand.Static i)) (delete_global_effect shared s (variable_given args 0) r)
+      by_reference : (i : ℕ) (o : Option ℕ) (r : Reference) → ((n : ℕ) → r ≡ Some n → HoldsObject shared (variable_given args 0) i n) → ReferenceAgrees store.heap o r → IsAnswer w.classes (brought both) store.heap activation.locals GivesNothing shared s (deletes_global o (operand.Static i)) (delete_global_effect shared s (variable_given args 0) r)
       by_reference i None None holds agree = (refl, refl, tt)
       by_reference i None (Some n) holds agree = absurd agree
       by_reference i (Some a) None holds agree = absurd agree
@@ -175,7 +175,7 @@ module _ (both : TwoCalls) where
   answers_ensure h answer is =
       subst (λ (x : Answer). Does both EnsureLocalCapacity x) (sym (is ∙ ap room_for (number_of both EnsureLocalCapacity [] [] tt tt refl h))) (by_number (number_given args 0))
     where
-      by_number : (z : ℤ) → IsAnswer w.classes (brought both) store.heap call.locals GivesInt shared s (room_for z) (ensure_effect w.classes shared s z)
+      by_number : (z : ℤ) → IsAnswer w.classes (brought both) store.heap activation.locals GivesInt shared s (room_for z) (ensure_effect w.classes shared s z)
       by_number (pos n) = (refl, refl)
       by_number (negsuc n) = (refl, refl)
 
@@ -184,7 +184,7 @@ module _ (both : TwoCalls) where
   answers_push h answer is =
       subst (λ (x : Answer). Does both PushLocalFrame x) (sym (is ∙ ap frame_for (number_of both PushLocalFrame [] [] tt tt refl h))) (by_number (number_given args 0))
     where
-      by_number : (z : ℤ) → IsAnswer w.classes (brought both) store.heap call.locals GivesInt shared s (frame_for z) (push_effect w.classes shared s z)
+      by_number : (z : ℤ) → IsAnswer w.classes (brought both) store.heap activation.locals GivesInt shared s (frame_for z) (push_effect w.classes shared s z)
       by_number (pos n) = (refl, refl)
       by_number (negsuc n) = (refl, refl)
 

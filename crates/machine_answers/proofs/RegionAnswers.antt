@@ -42,12 +42,12 @@ use Rattle.machine_answers.proofs.CallOperands.{GivenObject, is_number_array}
 use Rattle.machine_answers.proofs.TwoCalls.{TwoCalls, references, fields, all, brought, Asked, Works, Does, at, object_of, built_in_class, object_given_at, object_there, counted}
 
 module _ (both : TwoCalls) where
-  open both use {p, w, store, pending, call, function, others, k, shared, s, target, sound, args}
+  open both use {p, w, store, pending, activation, call, others, k, shared, s, target, sound, args}
 
   -- a region of an object at an address, which has so many values, and the local array that the call names
-  module _ (exception a m size : ℕ) (makeable : IsMakeable w.classes exception) (there : name_at store.heap a ≡ Some m) (count : length (values_at store.heap a) ≡ size) (agree : StoreAgrees p w store shared (all both)) (array : ArraySlots) (x : Identifier) (given : (brought both).array ≡ Some (x, array)) (has : HasElements call.slots.numbers.items array (lookup x s.variables)) where
+  module _ (exception a m size : ℕ) (makeable : IsMakeable w.classes exception) (there : name_at store.heap a ≡ Some m) (count : length (values_at store.heap a) ≡ size) (agree : StoreAgrees p w store shared (all both)) (array : ArraySlots) (x : Identifier) (given : (brought both).array ≡ Some (x, array)) (has : HasElements activation.slots.numbers.items array (lookup x s.variables)) where
     abbrev Copies : Answer → CallEffect → Type 0
-    Copies answer effect = IsAnswer w.classes (brought both) store.heap call.locals GivesNothing shared s answer effect
+    Copies answer effect = IsAnswer w.classes (brought both) store.heap activation.locals GivesNothing shared s answer effect
 
     abbrev held_elements : List ℤ
     held_elements = local_array (lookup x s.variables)
@@ -61,8 +61,8 @@ module _ (both : TwoCalls) where
     abbrev part : (start count : ℕ) → ArrayRegion
     part start k = record { object = a; start = start; slot = array.start; count = k }
 
-    slots_within : (k : ℕ) → k ≤ array.len → (j : ℕ) → j < k → array.start + j < length call.slots.numbers.items
-    slots_within k few j below = slots_there call.slots.numbers.items array has.elements has.words j (omega (arith, below, few, has.count))
+    slots_within : (k : ℕ) → k ≤ array.len → (j : ℕ) → j < k → array.start + j < length activation.slots.numbers.items
+    slots_within k few j below = slots_there activation.slots.numbers.items array has.elements has.words j (omega (arith, below, few, has.count))
 
     -- where an answer and an effect go by the same tests
     tested : (answer : Answer) (effect : CallEffect) (start k : ℕ)
@@ -124,7 +124,7 @@ module _ (both : TwoCalls) where
             within = leb-true (i + k) (length (values_at store.heap a)) inside;
             all_numbers = alone;
             numbers = take k held_elements;
-            words = subst (λ (zs : List ℤ). AreWordsOf (words_from call.slots.numbers.items (part i k)) (take k zs)) (sym elements_are) (words_brought call.slots.numbers.items array has.elements has.words k (omega (arith, leb-true k array.len few, has.count)));
+            words = subst (λ (zs : List ℤ). AreWordsOf (words_from activation.slots.numbers.items (part i k)) (take k zs)) (sym elements_are) (words_brought activation.slots.numbers.items array has.elements has.words k (omega (arith, leb-true k array.len few, has.count)));
             is = refl;
           },
         )))
@@ -135,20 +135,20 @@ module _ (both : TwoCalls) where
 
   -- what a function of regions is given
   record GivenRegion : Type 0 where
-    pub object : GivenObject w.classes store.heap (references both) (fields both) function.operands args 0
+    pub object : GivenObject w.classes store.heap (references both) (fields both) call.operands args 0
     pub two : TwoNumbers args
-    pub array : GivenArray call.slots.numbers.items s.variables function.operands args
-    pub is : region_in store.heap (at both 0) (next_number call.stack) (stack_number call.stack) (array_in (operand_of function.operands 3)) ≡ region_in store.heap (Some object.address) (number_given args 1) (number_given args 2) array.array
+    pub array : GivenArray activation.slots.numbers.items s.variables call.operands args
+    pub is : region_in store.heap (at both 0) (next_number activation.stack) (stack_number activation.stack) (array_in (operand_of call.operands 3)) ≡ region_in store.heap (Some object.address) (number_given args 1) (number_given args 2) array.array
 
   region_given : (f : JniFunction) (q : ParameterKind) (T : ElementType) → IsReferenceKind q → may_be_null q ≡ false → (prototype f).parameters ≡ q ∷ IntNumber ∷ IntNumber ∷ ArrayVariable T ∷ [] → Asked both f → trap_of_call w.classes shared s target f args ≡ None → GivenRegion
   region_given f q T kind never are h free =
-      let kinds = subst (λ (l : List ParameterKind). AllZip OperandFits l function.operands) are h.kinds in
+      let kinds = subst (λ (l : List ParameterKind). AllZip OperandFits l call.operands) are h.kinds in
       let fit = subst (λ (l : List ParameterKind). AllZip ActualFits l args) are h.fit in
       let first = object_given_at both f [] q (IntNumber ∷ IntNumber ∷ ArrayVariable T ∷ []) kind never are h free in
-      let numbers = two_numbers w.classes store.heap (references both) (fields both) q (ArrayVariable T) (λ e. subst IsReferenceKind e kind) (λ e. cc) function.operands args kinds fit h.given in
-      let given = given_array call.slots.numbers.items s.variables q IntNumber IntNumber T function.operands args kinds h.arrays in
-      let start : next_number call.stack ≡ number_given args 1 = ap next_number (h.words ∙ numbers.words) ∙ to_z-of_z {w = w32} numbers.start_fits ∙ sym numbers.start_is in
-      let count : stack_number call.stack ≡ number_given args 2 = ap stack_number (h.words ∙ numbers.words) ∙ to_z-of_z {w = w32} numbers.count_fits ∙ sym numbers.count_is in
+      let numbers = two_numbers w.classes store.heap (references both) (fields both) q (ArrayVariable T) (λ e. subst IsReferenceKind e kind) (λ e. cc) call.operands args kinds fit h.given in
+      let given = given_array activation.slots.numbers.items s.variables q IntNumber IntNumber T call.operands args kinds h.arrays in
+      let start : next_number activation.stack ≡ number_given args 1 = ap next_number (h.words ∙ numbers.words) ∙ to_z-of_z {w = w32} numbers.start_fits ∙ sym numbers.start_is in
+      let count : stack_number activation.stack ≡ number_given args 2 = ap stack_number (h.words ∙ numbers.words) ∙ to_z-of_z {w = w32} numbers.count_fits ∙ sym numbers.count_is in
       record { object = first; two = numbers; array = given; is = (λ i. region_in store.heap (first.at i) (start i) (count i) (array_in (given.at i))) }
 
   object_long : (f : JniFunction) → Asked both f → (g : GivenRegion) → length (values_at store.heap g.object.address) ≡ length (values_of shared.heap (object_given args 0))
@@ -173,8 +173,8 @@ module _ (both : TwoCalls) where
   array_of_numbers T h free g =
       let object = object_of both (SetArrayRegion T) h g.object.address g.object.name g.object.named in
       let class : class_of shared.heap g.object.name ≡ object.0.class = ap (λ (o : Option Object). option_map_or (λ (x : Object). x.class) o 0) object.1 in
-      let of_class : class_there store.heap g.object.address ≡ number_array T = is_number_array w.classes store.heap (references both) (fields both) T [] (IntNumber ∷ IntNumber ∷ ArrayVariable T ∷ []) function.operands g.object.address g.object.at
-      h.kinds (none_unfit p w store pending call function others k shared s target (SetArrayRegion T) args h free) in
+      let of_class : class_there store.heap g.object.address ≡ number_array T = is_number_array w.classes store.heap (references both) (fields both) T [] (IntNumber ∷ IntNumber ∷ ArrayVariable T ∷ []) call.operands g.object.address g.object.at
+      h.kinds (none_unfit p w store pending activation call others k shared s target (SetArrayRegion T) args h free) in
       let same : object.0.class ≡ number_array T = sym class ∙ sym (class_is w.classes store.heap (references both) (fields both) shared.heap h.store_agrees.heap.blocks g.object.address g.object.name g.object.named) ∙ of_class in
       (object.0, object.1, ap (element_type_of w.classes) same ∙ array_numbers w.classes sound.grown T)
 

@@ -54,8 +54,8 @@ pub record TwoCalls : Type 0 where
   pub sound : IsSound w
   pub store : Store
   pub pending : Option ℕ
-  pub call : Activation
-  pub function : Call
+  pub activation : Activation
+  pub call : Call
   pub others : Acquired
   pub k : ℕ
   pub shared : Shared
@@ -64,13 +64,13 @@ pub record TwoCalls : Type 0 where
   pub args : List Actual
 
 module _ (both : TwoCalls) where
-  open both use {p, w, store, pending, call, function, others, k, shared, s, target, sound, args}
+  open both use {p, w, store, pending, activation, call, others, k, shared, s, target, sound, args}
 
   abbrev pub references : References
-  references = references_of store call
+  references = references_of store activation
 
   abbrev pub fields : List (Option FieldHandle)
-  fields = call.slots.fields.items
+  fields = activation.slots.fields.items
 
   -- what the buffers of all threads take
   abbrev pub all : Acquired
@@ -80,25 +80,25 @@ module _ (both : TwoCalls) where
   in_use = in_use_of all
 
   abbrev pub brought : Brought
-  brought = brought_by store call k in_use function args
+  brought = brought_by store activation k in_use call args
 
   -- what is asked of function f
   abbrev pub Asked : JniFunction → Type 0
-  Asked f = IsAsked p w store pending call function others k shared s target f args
+  Asked f = IsAsked p w store pending activation call others k shared s target f args
 
   -- what is worked out for it
   abbrev pub Works : JniFunction → Answer → Type 0
-  Works f answer = IsWorkedOut (scene_of w.classes store call k pending) function f answer
+  Works f answer = IsWorkedOut (scene_of w.classes store activation k pending) call f answer
 
   -- the answer is what it does
   abbrev pub Does : JniFunction → Answer → Type 0
-  Does f answer = IsAnswer w.classes brought store.heap call.locals (prototype f).result shared s answer (call_effect w.classes in_use k shared s args f)
+  Does f answer = IsAnswer w.classes brought store.heap activation.locals (prototype f).result shared s answer (call_effect w.classes in_use k shared s args f)
 
   abbrev pub at : (i : ℕ) → Option ℕ
-  at i = operand_at references (operand_of function.operands i)
+  at i = operand_at references (operand_of call.operands i)
 
   pub agrees : (f : JniFunction) → Asked f → (i : ℕ) → ReferenceAgrees store.heap (at i) (reference_given args i)
-  agrees f h i = reference_at_place w.classes store.heap references fields function.operands args i h.given
+  agrees f h i = reference_at_place w.classes store.heap references fields call.operands args i h.given
 
   pub name_of : (f : JniFunction) → Asked f → (i : ℕ) → name_there store.heap (at i) ≡ object_given args i
   name_of f h i = name_is w.classes store.heap references fields shared.heap h.store_agrees.heap.blocks (at i) (reference_given args i) (agrees f h i)
@@ -122,25 +122,25 @@ module _ (both : TwoCalls) where
 
   -- the object of argument i
   pub object_given_at : (f : JniFunction) (before : List ParameterKind) (q : ParameterKind) (after : List ParameterKind) → IsReferenceKind q → may_be_null q ≡ false → (prototype f).parameters ≡ before ++ q ∷ after → Asked f
-      → trap_of_call w.classes shared s target f args ≡ None → GivenObject w.classes store.heap references fields function.operands args (length before)
+      → trap_of_call w.classes shared s target f args ≡ None → GivenObject w.classes store.heap references fields call.operands args (length before)
   object_given_at f before q after kind never are h free =
-      object_at_place w.classes store.heap references fields before q after kind never function.operands args (subst (λ (l : List ParameterKind). AllZip OperandFits l function.operands) are h.kinds) h.given
-      (none_deleted p w store pending call function others k shared s target f args h free)
-      (subst (λ (l : List ParameterKind). some_missing references fields l function.operands ≡ false) are (none_lacking p w store pending call function others k shared s target f args h free))
+      object_at_place w.classes store.heap references fields before q after kind never call.operands args (subst (λ (l : List ParameterKind). AllZip OperandFits l call.operands) are h.kinds) h.given
+      (none_deleted p w store pending activation call others k shared s target f args h free)
+      (subst (λ (l : List ParameterKind). some_missing references fields l call.operands ≡ false) are (none_lacking p w store pending activation call others k shared s target f args h free))
 
-  pub object_there : (g : GivenObject w.classes store.heap references fields function.operands args 0) → name_at store.heap g.address ≡ Some (object_given args 0)
+  pub object_there : (g : GivenObject w.classes store.heap references fields call.operands args 0) → name_at store.heap g.address ≡ Some (object_given args 0)
   object_there g = g.named ∙ ap (λ (q : Reference). Some (name_or_zero q)) (sym g.is)
 
   -- the number of an argument, which is the only one
   pub top_of : (f : JniFunction) (before after : List ParameterKind) → AllByRecursion (IsWordless w.classes store.heap references fields) before → AllByRecursion (IsWordless w.classes store.heap references fields) after
       → (prototype f).parameters ≡ before ++ IntNumber ∷ after → Asked f → OnTop w.classes store.heap references fields args (length before)
   top_of f before after none later are h =
-      on_top w.classes store.heap references fields before after function.operands args none later (subst (λ (l : List ParameterKind). AllZip OperandFits l function.operands) are h.kinds)
+      on_top w.classes store.heap references fields before after call.operands args none later (subst (λ (l : List ParameterKind). AllZip OperandFits l call.operands) are h.kinds)
       (subst (λ (l : List ParameterKind). AllZip ActualFits l args) are h.fit) h.given
 
   -- it is on the stack
   pub number_of : (f : JniFunction) (before after : List ParameterKind) → AllByRecursion (IsWordless w.classes store.heap references fields) before → AllByRecursion (IsWordless w.classes store.heap references fields) after
-      → (prototype f).parameters ≡ before ++ IntNumber ∷ after → Asked f → stack_number call.stack ≡ number_given args (length before)
+      → (prototype f).parameters ≡ before ++ IntNumber ∷ after → Asked f → stack_number activation.stack ≡ number_given args (length before)
   number_of f before after none later are h =
       let top = top_of f before after none later are h in
       ap stack_number (h.words ∙ top.words) ∙ to_z-of_z {w = w32} top.fits ∙ sym top.is
@@ -155,9 +155,9 @@ module _ (both : TwoCalls) where
       let given = object_given_at f before ClassObject after tt refl are h free in
       let object = object_of f h given.address given.name given.named in
       let class : class_of shared.heap given.name ≡ object.0.class = ap (λ (o : Option Object). option_map_or (λ (x : Object). x.class) o 0) object.1 in
-      let of_class : class_there store.heap given.address ≡ class_class = is_class w.classes store.heap references fields before after function.operands given.address given.at
-      (subst (λ (l : List ParameterKind). AllZip OperandFits l function.operands) are h.kinds)
-      (subst (λ (l : List ParameterKind). some_misfit w.classes store.heap references l function.operands ≡ false) are (none_unfit p w store pending call function others k shared s target f args h free)) in
+      let of_class : class_there store.heap given.address ≡ class_class = is_class w.classes store.heap references fields before after call.operands given.address given.at
+      (subst (λ (l : List ParameterKind). AllZip OperandFits l call.operands) are h.kinds)
+      (subst (λ (l : List ParameterKind). some_misfit w.classes store.heap references l call.operands ≡ false) are (none_unfit p w store pending activation call others k shared s target f args h free)) in
       let same : object.0.class ≡ class_class = sym class ∙ sym (class_is w.classes store.heap references fields shared.heap h.store_agrees.heap.blocks given.address given.name given.named) ∙ of_class in
       let name : object_given args (length before) ≡ given.name = ap name_or_zero given.is in
       let low = low_name given.name object.0 object.1 in
@@ -187,11 +187,11 @@ module _ (both : TwoCalls) where
 
   -- a value of an object is written
   pub value_written : (o : Option ℕ) (a n m i j : ℕ) (v v' : Value) (u u' : ObjectValue) → o ≡ Some a → name_at store.heap a ≡ Some n → m ≡ n → i ≡ j → v ≡ v' → u ≡ u' → ValueAgrees store.heap v' u' → StoreAgrees p w store shared all
-      → IsAnswer w.classes brought store.heap call.locals GivesNothing shared s (writes_there store.heap o i v) (heap_effect shared s (with_value_at shared.heap m j u))
+      → IsAnswer w.classes brought store.heap activation.locals GivesNothing shared s (writes_there store.heap o i v) (heap_effect shared s (with_value_at shared.heap m j u))
   value_written o a n m i j v v' u u' held there same place value is fits agree =
-      subst (λ (x : Answer). IsAnswer w.classes brought store.heap call.locals GivesNothing shared s x (heap_effect shared s (with_value_at shared.heap m j u))) (sym (λ k. writes_there store.heap (held k) (place k) (value k)))
-      (subst (λ (x : CallEffect). IsAnswer w.classes brought store.heap call.locals GivesNothing shared s (writes_there store.heap (Some a) j v') x) (sym (λ k. heap_effect shared s (with_value_at shared.heap (same k) j (is k))))
-      (writes p w store shared all agree brought call.locals s a n j v' u' there fits))
+      subst (λ (x : Answer). IsAnswer w.classes brought store.heap activation.locals GivesNothing shared s x (heap_effect shared s (with_value_at shared.heap m j u))) (sym (λ k. writes_there store.heap (held k) (place k) (value k)))
+      (subst (λ (x : CallEffect). IsAnswer w.classes brought store.heap activation.locals GivesNothing shared s (writes_there store.heap (Some a) j v') x) (sym (λ k. heap_effect shared s (with_value_at shared.heap (same k) j (is k))))
+      (writes p w store shared all agree brought activation.locals s a n j v' u' there fits))
 
   -- how a cell holds a reference
   pub held_agrees : (o : Option ℕ) (q : Reference) → ReferenceAgrees store.heap o q → ValueAgrees store.heap (held_reference o) (Refers q)

@@ -31,19 +31,24 @@ use Rattle.machine_scenes.specs.Statics.{References, all_held}
 
 -- the references that the operands of a call name
 abbrev pub references_of : Store → Activation → References
-references_of store call = record { keys = call.slots.references.items; locals = call.locals; statics = all_held store.globals store.statics.items }
+references_of store activation =
+    record {
+      keys = activation.slots.references.items;
+      locals = activation.locals;
+      statics = all_held store.globals store.statics.items;
+    }
 
 -- what a call of thread k sees
 abbrev pub scene_of : Classes → Store → Activation → (k : ℕ) → (pending : Option ℕ) → Scene
-scene_of classes store call k pending =
+scene_of classes store activation k pending =
     record {
       classes = classes;
       space = store.heap;
       loaded = store.loaded.items;
-      references = references_of store call;
-      fields = call.slots.fields.items;
-      buffers = call.slots.buffers.items;
-      stack = call.stack;
+      references = references_of store activation;
+      fields = activation.slots.fields.items;
+      buffers = activation.slots.buffers.items;
+      stack = activation.stack;
       pending = pending;
       monitors = store.monitors;
       thread = k;
@@ -51,34 +56,34 @@ scene_of classes store call k pending =
 
 -- the buffers of a call of thread k
 abbrev pub buffers_of : Store → Activation → (k : ℕ) → HeldBuffers
-buffers_of store call k = holding call.slots.buffers.items store.elements k
+buffers_of store activation k = holding activation.slots.buffers.items store.elements k
 
 -- what a call of a function with these arguments brings, where all buffers take this
 abbrev pub brought_by : Store → Activation → (k : ℕ) → BuffersInUse → Call → List Actual → Brought
-brought_by store call k in_use function args = bringing function.texts call.slots.numbers.items
-    (buffers_of store call k) in_use (array_given function.operands args)
+brought_by store activation k in_use call args = bringing call.texts activation.slots.numbers.items
+    (buffers_of store activation k) in_use (array_given call.operands args)
 
 -- Store, frames and pending exception of thread k agree with the source's, and each operand gives what the argument at its place is, and
 -- the target wants what the source's does. Objects and variables are typed. While the thread has a view, the function is critical, and a
 -- release names the object that its buffer came from. The thread doesn't wait for a monitor.
-pub record IsAsked (p : Lowered) (w : World) (store : Store) (pending : Option ℕ) (call : Activation) (function : Call)
+pub record IsAsked (p : Lowered) (w : World) (store : Store) (pending : Option ℕ) (activation : Activation) (call : Call)
     (others : Acquired) (k : ℕ) (shared : Shared) (s : Thread) (target : Target) (f : JniFunction)
     (args : List Actual) : Type 0 where
   pub store_agrees : StoreAgrees p w store shared (beside others (acquired_by s))
   pub pending_agrees : ReferenceAgrees store.heap pending s.pending
-  pub frames_agree : FramesAgree store.heap call.locals s.frames
-  pub same_function : function.function ≡ f
+  pub frames_agree : FramesAgree store.heap activation.locals s.frames
+  pub same_function : call.function ≡ f
   pub count : length args ≡ length (prototype f).parameters
-  pub kinds : AllZip OperandFits (prototype f).parameters function.operands
+  pub kinds : AllZip OperandFits (prototype f).parameters call.operands
   pub fit : AllZip ActualFits (prototype f).parameters args
-  pub given : AllZip (IsGiven w.classes store.heap (references_of store call) call.slots.fields.items) function.operands args
-  pub arrays : AllZip (HasArray call.slots.numbers.items s.variables) function.operands args
-  pub buffers : AllZip (HasBuffer store.heap (buffers_of store call k) s.variables) function.operands args
-  pub wanted : element_wanted function.target ≡ target_element s.variables target
+  pub given : AllZip (IsGiven w.classes store.heap (references_of store activation) activation.slots.fields.items) call.operands args
+  pub arrays : AllZip (HasArray activation.slots.numbers.items s.variables) call.operands args
+  pub buffers : AllZip (HasBuffer store.heap (buffers_of store activation k) s.variables) call.operands args
+  pub wanted : element_wanted call.target ≡ target_element s.variables target
   pub typed : AreTypedObjects w.classes shared.heap
   pub typed_variables : AreTypedVariables w.classes shared.heap s.variables
   pub critical : viewed_by s ≢ [] → is_critical_call f ≡ true
   pub release : (access : Access) → f ≡ ReleaseBuffer access → came_from (lookup (variable_given args 1) s.variables) ≡ Some (object_given args 0)
-  pub ready : waits_with w.classes k shared s (Calls function.line target f args) ≡ false
-  pub words : call.stack ≡ words_given args
-  pub texts : function.texts ≡ texts_given args
+  pub ready : waits_with w.classes k shared s (Calls call.line target f args) ≡ false
+  pub words : activation.stack ≡ words_given args
+  pub texts : call.texts ≡ texts_given args

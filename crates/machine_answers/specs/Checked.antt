@@ -1,5 +1,5 @@
 -- What is checked of a call before it does anything, by what is in memory.
-use Rattle.std.specs.Prelude.{ℕ, Bool, true, false, not, ◌&&◌, ◌||◌, ◌==◌, List, [], ◌∷◌, ◌++◌, is_none, is_some, Option, Some, None}
+use Rattle.std.specs.Prelude.{◌≡◌, ℕ, Bool, true, false, not, ◌&&◌, ◌||◌, ◌==◌, List, [], ◌∷◌, ◌++◌, is_none, is_some, Option, Some, None}
 use Rattle.std.specs.List.{list_any}
 use Rattle.base.specs.Element.{ElementType, JInt, element_value}
 use Rattle.class_queries.specs.Kinds.{class_misfits}
@@ -7,6 +7,7 @@ use Rattle.class_rules.specs.BuiltIns.{has_own_making, throwable_class, number_a
 use Rattle.class_rules.specs.Class.{Classes, FieldType, NumberField, ReferenceField, class_kind, is_plain, assignable}
 use Rattle.class_rules.specs.Fields.{FieldId}
 use Rattle.classes.specs.declared.class.FieldHandle.{FieldHandle}
+use Rattle.code.specs.Call.{Call}
 use Rattle.code.specs.declared.instr.Operand.{Operand}
 use Rattle.code.specs.declared.instr.Operand.TheVariants as operand
 use Rattle.code.specs.declared.instr.Target.{Target}
@@ -131,6 +132,16 @@ arguments_asked classes space references fields wanted f operands =
       WrongObject,
     )
     ∷ []
+
+-- what is asked of a call's arguments doesn't hold, and this is the trap, whatever is asked after it
+abbrev pub ArgumentsTrap : Scene → Call → Trap → Type 0
+ArgumentsTrap scene call trap = (rest : List (Bool × Trap)) → first_trap (arguments_asked scene.classes scene.space
+    scene.references scene.fields (element_wanted call.target) call.function call.operands ++ rest) ≡ Some trap
+
+-- it holds, so the trap is that of what is asked after it
+abbrev pub ArgumentsPass : Scene → Call → Type 0
+ArgumentsPass scene call = (rest : List (Bool × Trap)) → first_trap (arguments_asked scene.classes scene.space
+    scene.references scene.fields (element_wanted call.target) call.function call.operands ++ rest) ≡ first_trap rest
 
 -- the trap of a call that sees this, before it does anything; a buffer that it fills has elements of this type
 abbrev pub trap_found : Scene → (has_room : Bool) → (wanted : ElementType) → JniFunction → List Operand → Option Trap

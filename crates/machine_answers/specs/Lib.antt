@@ -1,7 +1,6 @@
 pub mod Checked
 pub mod Asked
 pub mod WorkedOut
-pub mod CallGroups
 pub mod Copies
 pub mod BufferChanges
 pub mod Answers

@@ -1,7 +1,7 @@
 //! What a function of the JNI does, as data.
 
-ghost use Rattle.std.specs.Prelude.{◌≡◌, ◌<◌, ℕ, [], Some, None, IsSome, true, false, unwrap_or, slice_get, map};
-ghost use Rattle.classes.specs.FieldViews.{field_of, find_as};
+ghost use Rattle.std.specs.Prelude.{◌≡◌, ◌<◌, ℕ, [], Some, None, true, false, unwrap_or, slice_get, map};
+ghost use Rattle.classes.specs.FieldViews.{find_as};
 ghost use Rattle.class_rules.specs.Fields.{layout, own_statics};
 ghost use Rattle.class_rules.specs.Grown.{IsGrown};
 ghost use Rattle.code.specs.Call.{call_view};
@@ -9,16 +9,18 @@ ghost use Rattle.code.specs.Effect.{element_word, truth_word};
 ghost use Rattle.code_meaning.specs.Coding.{element_of};
 ghost use Rattle.heap.specs.Heap.{IsAddress};
 ghost use Rattle.jni.specs.Table.{function_value};
-ghost use Rattle.machine_answers.specs.CallGroups.{is_further, is_of_objects};
 ghost use Rattle.machine_answers.specs.Checked.{arguments_fit, element_wanted};
-ghost use Rattle.machine_scenes.specs.Given.{field_there, name_there, operand_at, operand_of, AreAddresses, AreHandles};
+ghost use Rattle.machine_scenes.specs.Given.{field_there, name_there, AreAddresses, AreHandles, FieldIsThere, ReferenceIsThere};
 ghost use Rattle.machine_scenes.specs.Scenes.{scene_view};
-ghost use Rattle.machine_answers.specs.WorkedOut.{address_in, class_object, count_there, declaring, deletes, deletes_global, found_class, frame_for, handle, held_reference, place, place_of_static, place_there, reference, room_for, top_word, value_there, word_in, writes_there, IsFoundField, IsWorkedOut};
+ghost use Rattle.machine_answers.specs.WorkedOut.{address_in, class_object, count_there, declaring, deletes, deletes_global, field, found_class, frame_for, handle, held_reference, place, place_of_static, place_there, reference, room_for, subject_of, top_word, value_there, word_in, writes_there, IsFoundField, IsWorkedOut};
+ghost use Rattle.machine_answers.specs.declared.answer.Subject.TheVariants as subject;
 ghost use Rattle.base.specs.Element.{element_value};
 
 use crate::arrays::{stack_number, work_out_array};
+use crate::buffers::work_out_buffer;
 use crate::exceptions::work_out_exception;
 use crate::monitor::work_out_monitor;
+use crate::regions::work_out_region;
 use class_rules::ClassId;
 use classes::built_ins::{NO_CLASS_DEF_FOUND_ERROR, NO_SUCH_FIELD_ERROR};
 use classes::class::FieldHandle;
@@ -34,7 +36,6 @@ use machine_scenes::new_object::{New, text_at};
 use machine_scenes::operands::{
     class_of_given, declaring, fits_there, handle_at, key_in, name_there, operand_of, reference_at,
 };
-use machine_scenes::references::References;
 use machine_scenes::scene::Scene;
 use machine_scenes::statics::StaticReference;
 use monitors::Object;
@@ -115,189 +116,244 @@ pub enum Answer {
     Exits(u32),
 }
 
+/// What a function works on.
+#[derive(Clone, Copy)]
+pub(crate) enum Subject {
+    Classes,
+    /// Local and global references, and frames.
+    References,
+    /// The fields of objects.
+    Fields,
+    Statics,
+    /// Arrays and strings.
+    Arrays,
+    /// Arrays and strings, and local arrays.
+    Regions,
+    /// Arrays and strings, and element buffers.
+    Buffers,
+    /// The pending exception.
+    Exceptions,
+    /// The monitors of objects.
+    Monitors,
+}
+
+/// What a function works on.
+#[inline]
+fn subject_of(function: JniFunction) -> Subject
+    ensures { result ≡ subject_of (function_value function) }
+{
+    match function {
+        JniFunction::NewLocalRef | JniFunction::NewGlobalRef => Subject::References,
+        JniFunction::DeleteLocalRef | JniFunction::DeleteGlobalRef => Subject::References,
+        JniFunction::IsSameObject | JniFunction::EnsureLocalCapacity => Subject::References,
+        JniFunction::PushLocalFrame | JniFunction::PopLocalFrame => Subject::References,
+        JniFunction::GetField(_) | JniFunction::SetField(_) => Subject::Fields,
+        JniFunction::GetObjectField | JniFunction::SetObjectField => Subject::Fields,
+        JniFunction::GetStaticField(_) | JniFunction::SetStaticField(_) => Subject::Statics,
+        JniFunction::GetStaticObjectField | JniFunction::SetStaticObjectField => Subject::Statics,
+        JniFunction::GetArrayLength | JniFunction::GetStringLength => Subject::Arrays,
+        JniFunction::NewArray(_) | JniFunction::NewObjectArray => Subject::Arrays,
+        JniFunction::GetObjectArrayElement | JniFunction::SetObjectArrayElement => Subject::Arrays,
+        JniFunction::NewStringUTF => Subject::Arrays,
+        JniFunction::GetArrayRegion(_) | JniFunction::SetArrayRegion(_) => Subject::Regions,
+        JniFunction::GetStringRegion => Subject::Regions,
+        JniFunction::GetBuffer(_) | JniFunction::ReleaseBuffer(_) => Subject::Buffers,
+        JniFunction::Throw | JniFunction::ThrowNew => Subject::Exceptions,
+        JniFunction::ExceptionClear | JniFunction::FatalError => Subject::Exceptions,
+        JniFunction::ExceptionOccurred | JniFunction::ExceptionCheck => Subject::Exceptions,
+        JniFunction::MonitorEnter | JniFunction::MonitorExit => Subject::Monitors,
+        _ => Subject::Classes,
+    }
+}
+
 /// What a function does, all checks being passed. It takes no host memory.
-pub fn work_out(scene: &Scene<'_>, function: &Call) -> Answer
+pub fn work_out(scene: &Scene<'_>, call: &Call) -> Answer
     requires grown { IsGrown scene.now.classes.now }
     requires loaded { (i a : ℕ) → slice_get scene.now.loaded.now i ≡ Some a → IsAddress scene.now.heap.now a }
-    requires objects { AreAddresses scene.now.heap.now scene.now.references function.now.operands.items }
-    requires handles { AreHandles scene.now.classes.now scene.now.fields.now function.now.operands.items }
-    requires passed { arguments_fit (scene_view scene.now) function.now.operands.items
-        (element_wanted function.now.target) (function_value function.now.function) ≡ true }
-    ensures { IsWorkedOut (scene_view scene.now) (call_view function.now) (function_value function.now.function) result }
+    requires objects { AreAddresses scene.now.heap.now scene.now.references call.now.operands.items }
+    requires handles { AreHandles scene.now.classes.now scene.now.fields.now call.now.operands.items }
+    requires passed { arguments_fit (scene_view scene.now) call.now.operands.items
+        (element_wanted call.now.target) (function_value call.now.function) ≡ true }
+    ensures { IsWorkedOut (scene_view scene.now) (call_view call.now) (function_value call.now.function) result }
 {
-    match function.function {
-        JniFunction::FindClass => found_class(
-            scene.loaded,
-            scene.classes.find(text_at(&function.texts, 0)),
-        ),
+    match subject_of(call.function) {
+        Subject::Classes => work_out_class(scene, call),
+        Subject::References => work_out_reference(scene, call),
+        Subject::Fields => work_out_field(scene, call),
+        Subject::Statics => work_out_static(scene, call),
+        Subject::Arrays => work_out_array(scene, call),
+        Subject::Regions => work_out_region(scene, call),
+        Subject::Buffers => work_out_buffer(scene, call),
+        Subject::Exceptions => work_out_exception(scene, call),
+        Subject::Monitors => work_out_monitor(scene, call),
+    }
+}
+
+/// What a function does that works on classes.
+#[inline(always)]
+fn work_out_class(scene: &Scene<'_>, call: &Call) -> Answer
+    requires subject { subject_of (function_value call.now.function) ≡ subject.Classes }
+    requires objects { AreAddresses scene.now.heap.now scene.now.references call.now.operands.items }
+    ensures { IsWorkedOut (scene_view scene.now) (call_view call.now) (function_value call.now.function) result }
+{
+    match call.function {
+        JniFunction::FindClass => {
+            let class = scene.classes.find(text_at(&call.texts, 0));
+            found_class(scene.loaded, class)
+        }
         JniFunction::GetSuperclass => {
-            gives_class(
-                scene.loaded,
-                scene.classes.superclass(name_of(scene, function, 0)),
-            )
+            let class = name_of(scene, call, 0);
+            gives_class(scene.loaded, scene.classes.superclass(class))
         }
         JniFunction::GetObjectClass => {
-            let first = reference_of(scene, function, 0);
+            let first = argument(scene, call, 0);
             gives_class(scene.loaded, Some(class_of_given(scene.heap, first)))
         }
         JniFunction::IsInstanceOf => {
-            let first = reference_of(scene, function, 0);
-            let class = name_of(scene, function, 1);
+            let first = argument(scene, call, 0);
+            let class = name_of(scene, call, 1);
             gives_truth(fits_there(scene.classes, scene.heap, first, class))
         }
         JniFunction::IsAssignableFrom => {
-            let below = name_of(scene, function, 0);
-            let above = name_of(scene, function, 1);
+            let below = name_of(scene, call, 0);
+            let above = name_of(scene, call, 1);
             gives_truth(scene.classes.assignable(below, above))
         }
-        JniFunction::AllocObject => { Answer::Makes(New::Fresh(name_of(scene, function, 0))) }
-        JniFunction::Throw | JniFunction::ThrowNew | JniFunction::FatalError => {
-            work_out_exception(scene, function)
+        JniFunction::AllocObject => Answer::Makes(New::Fresh(name_of(scene, call, 0))),
+        JniFunction::GetFieldID => {
+            let class = name_of(scene, call, 0);
+            find_field(scene.classes, class, &call.texts, false)
         }
-        JniFunction::ExceptionOccurred | JniFunction::ExceptionCheck => {
-            work_out_exception(scene, function)
+        JniFunction::GetStaticFieldID => {
+            let class = name_of(scene, call, 0);
+            find_field(scene.classes, class, &call.texts, true)
         }
-        JniFunction::ExceptionClear => work_out_exception(scene, function),
-        JniFunction::MonitorEnter | JniFunction::MonitorExit => work_out_monitor(scene, function),
-        _ => work_out_further(scene, function),
+        _ => unreachable!(),
     }
 }
 
-/// What a function of references, of frames or of what objects hold does.
+/// What a function does that works on references and frames.
 #[inline(always)]
-fn work_out_further(scene: &Scene<'_>, function: &Call) -> Answer
-    requires grown { IsGrown scene.now.classes.now }
-    requires loaded { (i a : ℕ) → slice_get scene.now.loaded.now i ≡ Some a → IsAddress scene.now.heap.now a }
-    requires objects { AreAddresses scene.now.heap.now scene.now.references function.now.operands.items }
-    requires handles { AreHandles scene.now.classes.now scene.now.fields.now function.now.operands.items }
-    requires further { is_further (function_value function.now.function) ≡ true }
-    requires passed { arguments_fit (scene_view scene.now) function.now.operands.items
-        (element_wanted function.now.target) (function_value function.now.function) ≡ true }
-    ensures { IsWorkedOut (scene_view scene.now) (call_view function.now) (function_value function.now.function) result }
+fn work_out_reference(scene: &Scene<'_>, call: &Call) -> Answer
+    requires subject { subject_of (function_value call.now.function) ≡ subject.References }
+    requires objects { AreAddresses scene.now.heap.now scene.now.references call.now.operands.items }
+    ensures { IsWorkedOut (scene_view scene.now) (call_view call.now) (function_value call.now.function) result }
 {
-    match function.function {
-        JniFunction::NewLocalRef => {
-            Answer::Gives(Given::Reference(reference_of(scene, function, 0)))
+    match call.function {
+        JniFunction::NewLocalRef => Answer::Gives(Given::Reference(argument(scene, call, 0))),
+        JniFunction::NewGlobalRef => Answer::MakesGlobal(argument(scene, call, 0)),
+        JniFunction::DeleteLocalRef => {
+            deletes(key_in(&scene.references, operand_of(&call.operands, 0)))
         }
-        JniFunction::NewGlobalRef => Answer::MakesGlobal(reference_of(scene, function, 0)),
         JniFunction::DeleteGlobalRef => {
-            let first = reference_of(scene, function, 0);
-            deletes_global(first, operand_of(&function.operands, 0))
+            let first = argument(scene, call, 0);
+            deletes_global(first, operand_of(&call.operands, 0))
         }
         JniFunction::IsSameObject => {
-            let first = name_of(scene, function, 0);
-            let second = name_of(scene, function, 1);
+            let first = name_of(scene, call, 0);
+            let second = name_of(scene, call, 1);
             gives_truth(first == second)
-        }
-        JniFunction::DeleteLocalRef => {
-            deletes(key_in(&scene.references, operand_of(&function.operands, 0)))
         }
         JniFunction::EnsureLocalCapacity => room_for(stack_number(scene.stack)),
         JniFunction::PushLocalFrame => frame_for(stack_number(scene.stack)),
-        JniFunction::PopLocalFrame => Answer::Pops(reference_of(scene, function, 0)),
-        _ => { work_out_field(scene, function) }
+        JniFunction::PopLocalFrame => Answer::Pops(argument(scene, call, 0)),
+        _ => unreachable!(),
     }
 }
 
-/// What a function of fields, statics, arrays or strings does.
+/// What a function does that works on the fields of an object.
 #[inline(always)]
-fn work_out_field(scene: &Scene<'_>, function: &Call) -> Answer
+#[tactic(auto, using(crate::proofs::FieldKinds::no_static))]
+fn work_out_field(scene: &Scene<'_>, call: &Call) -> Answer
+    requires subject { subject_of (function_value call.now.function) ≡ subject.Fields }
     requires grown { IsGrown scene.now.classes.now }
-    requires loaded { (i a : ℕ) → slice_get scene.now.loaded.now i ≡ Some a → IsAddress scene.now.heap.now a }
-    requires objects { AreAddresses scene.now.heap.now scene.now.references function.now.operands.items }
-    requires handles { AreHandles scene.now.classes.now scene.now.fields.now function.now.operands.items }
-    requires of_objects { is_of_objects (function_value function.now.function) ≡ true }
-    requires passed { arguments_fit (scene_view scene.now) function.now.operands.items
-        (element_wanted function.now.target) (function_value function.now.function) ≡ true }
-    ensures { IsWorkedOut (scene_view scene.now) (call_view function.now) (function_value function.now.function) result }
+    requires objects { AreAddresses scene.now.heap.now scene.now.references call.now.operands.items }
+    requires handles { AreHandles scene.now.classes.now scene.now.fields.now call.now.operands.items }
+    requires passed { arguments_fit (scene_view scene.now) call.now.operands.items
+        (element_wanted call.now.target) (function_value call.now.function) ≡ true }
+    ensures { IsWorkedOut (scene_view scene.now) (call_view call.now) (function_value call.now.function) result }
 {
-    match function.function {
-        JniFunction::GetFieldID => {
-            let class = name_of(scene, function, 0);
-            find_field(scene.classes, class, &function.texts, false)
-        }
-        JniFunction::GetStaticFieldID => {
-            let class = name_of(scene, function, 0);
-            find_field(scene.classes, class, &function.texts, true)
-        }
+    match call.function {
         JniFunction::GetField(_) => {
-            let value = value_of_field(scene, function);
+            let value = value_of_field(scene, call);
             Answer::Gives(Given::Number(word_in(value)))
         }
         JniFunction::SetField(element) => {
             let value = stored(element, scene.stack);
-            writes_field(scene, function, value)
+            writes_field(scene, call, value)
         }
         JniFunction::GetObjectField => {
-            let value = value_of_field(scene, function);
+            let value = value_of_field(scene, call);
             Answer::Gives(Given::Reference(address_in(value)))
         }
         JniFunction::SetObjectField => {
-            let value = held_reference(reference_of(scene, function, 2));
-            writes_field(scene, function, value)
+            let value = held_reference(argument(scene, call, 2));
+            writes_field(scene, call, value)
         }
+        _ => unreachable!(),
+    }
+}
+
+/// What a function does that works on a static of a class.
+#[inline(always)]
+#[tactic(auto, using(crate::proofs::FieldKinds::a_static))]
+fn work_out_static(scene: &Scene<'_>, call: &Call) -> Answer
+    requires subject { subject_of (function_value call.now.function) ≡ subject.Statics }
+    requires loaded { (i a : ℕ) → slice_get scene.now.loaded.now i ≡ Some a → IsAddress scene.now.heap.now a }
+    requires objects { AreAddresses scene.now.heap.now scene.now.references call.now.operands.items }
+    requires handles { AreHandles scene.now.classes.now scene.now.fields.now call.now.operands.items }
+    requires passed { arguments_fit (scene_view scene.now) call.now.operands.items
+        (element_wanted call.now.target) (function_value call.now.function) ≡ true }
+    ensures { IsWorkedOut (scene_view scene.now) (call_view call.now) (function_value call.now.function) result }
+{
+    match call.function {
         JniFunction::GetStaticField(_) => {
-            let value = value_of_static(scene, function);
+            let value = value_of_static(scene, call);
             Answer::Gives(Given::Number(word_in(value)))
         }
         JniFunction::SetStaticField(element) => {
             let value = stored(element, scene.stack);
-            writes_static(scene, function, value)
+            writes_static(scene, call, value)
         }
         JniFunction::GetStaticObjectField => {
-            let value = value_of_static(scene, function);
+            let value = value_of_static(scene, call);
             Answer::Gives(Given::Reference(address_in(value)))
         }
         JniFunction::SetStaticObjectField => {
-            let value = held_reference(reference_of(scene, function, 2));
-            writes_static(scene, function, value)
+            let value = held_reference(argument(scene, call, 2));
+            writes_static(scene, call, value)
         }
-        _ => work_out_array(scene, function),
+        _ => unreachable!(),
     }
 }
 
 /// The reference of the operand at a place.
 #[inline(always)]
-pub fn argument(
-    heap: &Heap,
-    references: &References<'_>,
-    function: &Call,
-    place: usize,
-) -> Option<Addr>
-    requires { AreAddresses heap.now references.now function.now.operands.items }
-    ensures reference { result ≡ operand_at references.now (operand_of function.now.operands.items place) }
-    ensures there { (a : ℕ) → result ≡ Some a → IsAddress heap.now a }
+pub fn argument(scene: &Scene<'_>, call: &Call, place: usize) -> Option<Addr>
+    requires { AreAddresses scene.now.heap.now scene.now.references call.now.operands.items }
+    ensures reference { result ≡ reference (scene_view scene.now) (call_view call.now) place }
+    ensures there { ReferenceIsThere scene.now.heap.now result }
 {
-    reference_at(heap, references, &function.operands, place)
+    reference_at(&scene.references, &call.operands, place)
 }
 
-/// The reference of the operand at a place, of a call that sees this.
+/// The name of the object of the operand at a place, and 0 for NULL.
 #[inline(always)]
-pub(crate) fn reference_of(scene: &Scene<'_>, function: &Call, place: usize) -> Option<Addr>
-    requires { AreAddresses scene.now.heap.now scene.now.references function.now.operands.items }
-    ensures reference { result ≡ reference (scene_view scene.now) (call_view function.now) place }
-    ensures there { (a : ℕ) → result ≡ Some a → IsAddress scene.now.heap.now a }
+pub(crate) fn name_of(scene: &Scene<'_>, call: &Call, place: usize) -> usize
+    requires { AreAddresses scene.now.heap.now scene.now.references call.now.operands.items }
+    ensures { result ≡ name_there scene.now.heap.now (reference (scene_view scene.now) (call_view call.now) place) }
 {
-    argument(scene.heap, &scene.references, function, place)
-}
-
-/// The name of its object, and 0 for NULL.
-#[inline(always)]
-pub(crate) fn name_of(scene: &Scene<'_>, function: &Call, place: usize) -> usize
-    requires { AreAddresses scene.now.heap.now scene.now.references function.now.operands.items }
-    ensures { result ≡ name_there scene.now.heap.now (reference (scene_view scene.now) (call_view function.now) place) }
-{
-    name_there(scene.heap, reference_of(scene, function, place))
+    name_there(scene.heap, argument(scene, call, place))
 }
 
 /// The field ID of operand 1, which is NULL or that of a field.
 #[inline(always)]
-pub(crate) fn handle_of(scene: &Scene<'_>, function: &Call) -> Option<FieldHandle>
-    requires { AreHandles scene.now.classes.now scene.now.fields.now function.now.operands.items }
-    ensures field { result ≡ handle (scene_view scene.now) (call_view function.now) }
-    ensures there { (h : FieldHandle) → result ≡ Some h → IsSome (field_of scene.now.classes.now h) }
+pub(crate) fn handle_of(scene: &Scene<'_>, call: &Call) -> Option<FieldHandle>
+    requires { AreHandles scene.now.classes.now scene.now.fields.now call.now.operands.items }
+    ensures field { result ≡ handle (scene_view scene.now) (call_view call.now) }
+    ensures there { FieldIsThere scene.now.classes.now result }
 {
-    handle_at(scene.classes, scene.fields, &function.operands, 1)
+    handle_at(scene.fields, &call.operands, 1)
 }
 
 /// A class object is given, or NULL.
@@ -382,7 +438,7 @@ fn find_field(classes: &ClassTable, class: ClassId, texts: &[Vec<u8>], is_static
 
 /// The number of values of an object, and 0 for NULL.
 pub(crate) fn count_there(heap: &Heap, reference: Option<Addr>) -> u32
-    requires { (a : ℕ) → reference ≡ Some a → IsAddress heap.now a }
+    requires { ReferenceIsThere heap.now reference }
     ensures { result ≡ count_there heap.now reference }
 {
     // The proof reads off these calls that no object has more values than there are cells.
@@ -397,93 +453,93 @@ pub(crate) fn count_there(heap: &Heap, reference: Option<Addr>) -> u32
 // ---- fields
 
 /// The place of the field of operand 1 among the values of operand 0.
-fn place_of_field(scene: &Scene<'_>, function: &Call) -> usize
+fn place_of_field(scene: &Scene<'_>, call: &Call) -> usize
     requires grown { IsGrown scene.now.classes.now }
-    requires objects { AreAddresses scene.now.heap.now scene.now.references function.now.operands.items }
-    requires handles { AreHandles scene.now.classes.now scene.now.fields.now function.now.operands.items }
-    ensures { (field_there scene.now.classes.now (handle (scene_view scene.now) (call_view function.now))).is_static ≡ false
-        → result ≡ place (scene_view scene.now) (call_view function.now) }
+    requires objects { AreAddresses scene.now.heap.now scene.now.references call.now.operands.items }
+    requires handles { AreHandles scene.now.classes.now scene.now.fields.now call.now.operands.items }
+    ensures { (field (scene_view scene.now) (call_view call.now)).is_static ≡ false
+        → result ≡ place (scene_view scene.now) (call_view call.now) }
 {
-    let class = class_of_given(scene.heap, reference_of(scene, function, 0));
-    field_place(scene.classes, class, handle_of(scene, function))
+    let class = class_of_given(scene.heap, argument(scene, call, 0));
+    field_place(scene.classes, class, handle_of(scene, call))
 }
 
 /// The class object that holds the static of operand 1.
-fn holder_of_static(scene: &Scene<'_>, function: &Call) -> Option<Addr>
-    requires { AreHandles scene.now.classes.now scene.now.fields.now function.now.operands.items }
-    ensures { result ≡ declaring (scene_view scene.now) (call_view function.now) }
+fn holder_of_static(scene: &Scene<'_>, call: &Call) -> Option<Addr>
+    requires { AreHandles scene.now.classes.now scene.now.fields.now call.now.operands.items }
+    ensures { result ≡ declaring (scene_view scene.now) (call_view call.now) }
 {
-    let class = declaring(scene.classes, handle_of(scene, function));
+    let class = declaring(handle_of(scene, call));
     class_object(scene.loaded, Some(class))
 }
 
 /// The place of the static of operand 1 among the values of its class object.
-fn place_of_static(scene: &Scene<'_>, function: &Call) -> usize
-    requires { AreHandles scene.now.classes.now scene.now.fields.now function.now.operands.items }
-    ensures { (field_there scene.now.classes.now (handle (scene_view scene.now) (call_view function.now))).is_static ≡ true
-        → result ≡ place_of_static (scene_view scene.now) (call_view function.now) }
+fn place_of_static(scene: &Scene<'_>, call: &Call) -> usize
+    requires { AreHandles scene.now.classes.now scene.now.fields.now call.now.operands.items }
+    ensures { (field (scene_view scene.now) (call_view call.now)).is_static ≡ true
+        → result ≡ place_of_static (scene_view scene.now) (call_view call.now) }
 {
-    static_place(scene.classes, handle_of(scene, function))
+    static_place(scene.classes, handle_of(scene, call))
 }
 
 /// The value of the field of operand 1 in operand 0.
 #[inline(always)]
-fn value_of_field(scene: &Scene<'_>, function: &Call) -> Option<Value>
+fn value_of_field(scene: &Scene<'_>, call: &Call) -> Option<Value>
     requires grown { IsGrown scene.now.classes.now }
-    requires objects { AreAddresses scene.now.heap.now scene.now.references function.now.operands.items }
-    requires handles { AreHandles scene.now.classes.now scene.now.fields.now function.now.operands.items }
-    ensures { (field_there scene.now.classes.now (handle (scene_view scene.now) (call_view function.now))).is_static ≡ false
-        → result ≡ value_there scene.now.heap.now (reference (scene_view scene.now) (call_view function.now) 0)
-        (place (scene_view scene.now) (call_view function.now)) }
+    requires objects { AreAddresses scene.now.heap.now scene.now.references call.now.operands.items }
+    requires handles { AreHandles scene.now.classes.now scene.now.fields.now call.now.operands.items }
+    ensures { (field (scene_view scene.now) (call_view call.now)).is_static ≡ false
+        → result ≡ value_there scene.now.heap.now (reference (scene_view scene.now) (call_view call.now) 0)
+        (place (scene_view scene.now) (call_view call.now)) }
 {
-    let first = reference_of(scene, function, 0);
-    value_there(scene.heap, first, place_of_field(scene, function))
+    let first = argument(scene, call, 0);
+    value_there(scene.heap, first, place_of_field(scene, call))
 }
 
 /// The field of operand 1 in operand 0 changes to this value.
 #[inline(always)]
-fn writes_field(scene: &Scene<'_>, function: &Call, value: Value) -> Answer
+fn writes_field(scene: &Scene<'_>, call: &Call, value: Value) -> Answer
     requires grown { IsGrown scene.now.classes.now }
-    requires objects { AreAddresses scene.now.heap.now scene.now.references function.now.operands.items }
-    requires handles { AreHandles scene.now.classes.now scene.now.fields.now function.now.operands.items }
-    ensures { (field_there scene.now.classes.now (handle (scene_view scene.now) (call_view function.now))).is_static ≡ false
-        → result ≡ writes_there scene.now.heap.now (reference (scene_view scene.now) (call_view function.now) 0)
-        (place (scene_view scene.now) (call_view function.now)) value }
+    requires objects { AreAddresses scene.now.heap.now scene.now.references call.now.operands.items }
+    requires handles { AreHandles scene.now.classes.now scene.now.fields.now call.now.operands.items }
+    ensures { (field (scene_view scene.now) (call_view call.now)).is_static ≡ false
+        → result ≡ writes_there scene.now.heap.now (reference (scene_view scene.now) (call_view call.now) 0)
+        (place (scene_view scene.now) (call_view call.now)) value }
 {
-    let first = reference_of(scene, function, 0);
-    writes_there(scene.heap, first, place_of_field(scene, function), value)
+    let first = argument(scene, call, 0);
+    writes_there(scene.heap, first, place_of_field(scene, call), value)
 }
 
 /// The value of the static of operand 1.
 #[inline(always)]
-fn value_of_static(scene: &Scene<'_>, function: &Call) -> Option<Value>
+fn value_of_static(scene: &Scene<'_>, call: &Call) -> Option<Value>
     requires loaded { (i a : ℕ) → slice_get scene.now.loaded.now i ≡ Some a → IsAddress scene.now.heap.now a }
-    requires handles { AreHandles scene.now.classes.now scene.now.fields.now function.now.operands.items }
-    ensures { (field_there scene.now.classes.now (handle (scene_view scene.now) (call_view function.now))).is_static ≡ true
-        → result ≡ value_there scene.now.heap.now (declaring (scene_view scene.now) (call_view function.now))
-        (place_of_static (scene_view scene.now) (call_view function.now)) }
+    requires handles { AreHandles scene.now.classes.now scene.now.fields.now call.now.operands.items }
+    ensures { (field (scene_view scene.now) (call_view call.now)).is_static ≡ true
+        → result ≡ value_there scene.now.heap.now (declaring (scene_view scene.now) (call_view call.now))
+        (place_of_static (scene_view scene.now) (call_view call.now)) }
 {
-    let holder = holder_of_static(scene, function);
-    value_there(scene.heap, holder, place_of_static(scene, function))
+    let holder = holder_of_static(scene, call);
+    value_there(scene.heap, holder, place_of_static(scene, call))
 }
 
 /// The static of operand 1 changes to this value.
 #[inline(always)]
-fn writes_static(scene: &Scene<'_>, function: &Call, value: Value) -> Answer
+fn writes_static(scene: &Scene<'_>, call: &Call, value: Value) -> Answer
     requires loaded { (i a : ℕ) → slice_get scene.now.loaded.now i ≡ Some a → IsAddress scene.now.heap.now a }
-    requires handles { AreHandles scene.now.classes.now scene.now.fields.now function.now.operands.items }
-    ensures { (field_there scene.now.classes.now (handle (scene_view scene.now) (call_view function.now))).is_static ≡ true
-        → result ≡ writes_there scene.now.heap.now (declaring (scene_view scene.now) (call_view function.now))
-        (place_of_static (scene_view scene.now) (call_view function.now)) value }
+    requires handles { AreHandles scene.now.classes.now scene.now.fields.now call.now.operands.items }
+    ensures { (field (scene_view scene.now) (call_view call.now)).is_static ≡ true
+        → result ≡ writes_there scene.now.heap.now (declaring (scene_view scene.now) (call_view call.now))
+        (place_of_static (scene_view scene.now) (call_view call.now)) value }
 {
-    let holder = holder_of_static(scene, function);
-    writes_there(scene.heap, holder, place_of_static(scene, function), value)
+    let holder = holder_of_static(scene, call);
+    writes_there(scene.heap, holder, place_of_static(scene, call), value)
 }
 
 /// The place of the field of a handle among those of a class, and 0 for NULL.
 fn field_place(classes: &ClassTable, class: ClassId, field: Option<FieldHandle>) -> usize
     requires grown { IsGrown classes.now }
-    requires there { (h : FieldHandle) → field ≡ Some h → IsSome (field_of classes.now h) }
+    requires there { FieldIsThere classes.now field }
     ensures { (field_there classes.now field).is_static ≡ false → result ≡ place_there classes.now field (layout classes.now class) }
 {
     match field {
@@ -500,7 +556,7 @@ fn field_place(classes: &ClassTable, class: ClassId, field: Option<FieldHandle>)
 
 /// The place of the static of a handle among those of the class that declares it, and 0 for NULL.
 fn static_place(classes: &ClassTable, field: Option<FieldHandle>) -> usize
-    requires { (h : FieldHandle) → field ≡ Some h → IsSome (field_of classes.now h) }
+    requires { FieldIsThere classes.now field }
     ensures { (field_there classes.now field).is_static ≡ true
         → result ≡ place_there classes.now field (own_statics classes.now (field_there classes.now field).class) }
 {
@@ -512,7 +568,7 @@ fn static_place(classes: &ClassTable, field: Option<FieldHandle>) -> usize
 
 /// A value of an object, where the object has it.
 pub(crate) fn value_there(heap: &Heap, reference: Option<Addr>, place: usize) -> Option<Value>
-    requires { (a : ℕ) → reference ≡ Some a → IsAddress heap.now a }
+    requires { ReferenceIsThere heap.now reference }
     ensures { result ≡ value_there heap.now reference place }
 {
     match reference {
@@ -561,7 +617,7 @@ pub(crate) fn writes_there(
     place: usize,
     value: Value,
 ) -> Answer
-    requires { (a : ℕ) → reference ≡ Some a → IsAddress heap.now a }
+    requires { ReferenceIsThere heap.now reference }
     ensures { result ≡ writes_there heap.now reference place value }
 {
     match reference {

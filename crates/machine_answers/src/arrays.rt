@@ -1,20 +1,18 @@
 //! What functions of arrays and strings do.
 
-ghost use Rattle.std.specs.Prelude.{◌≡◌, ℕ, true, Some};
+ghost use Rattle.std.specs.Prelude.{◌≡◌, Some};
 ghost use Rattle.code.specs.Call.{call_view};
 ghost use Rattle.heap.specs.Heap.{IsAddress};
 ghost use Rattle.jni.specs.Table.{function_value};
-ghost use Rattle.machine_answers.specs.CallGroups.{is_of_arrays};
-ghost use Rattle.machine_scenes.specs.Given.{AreAddresses};
+ghost use Rattle.machine_scenes.specs.Given.{AreAddresses, ReferenceIsThere};
 ghost use Rattle.machine_scenes.specs.Scenes.{scene_view};
-ghost use Rattle.machine_answers.specs.WorkedOut.{element_there, fits_element, index_there, new_array, stack_number, stores_there, IsWorkedOut};
+ghost use Rattle.machine_answers.specs.WorkedOut.{element_there, fits_element, index_there, new_array, stack_number, stores_there, subject_of, IsWorkedOut};
+ghost use Rattle.machine_answers.specs.declared.answer.Subject.TheVariants as subject;
 
 use crate::answer::{
-    Answer, Given, address_in, count_there, held_reference, name_of, reference_of, top_word,
+    Answer, Given, address_in, argument, count_there, held_reference, name_of, top_word,
     value_there, writes_there,
 };
-use crate::buffers::work_out_buffer;
-use crate::copies::work_out_region;
 use class_queries::{array_class_of, element_class};
 use class_rules::ClassId;
 use classes::built_ins::{
@@ -29,16 +27,16 @@ use machine_scenes::new_object::{New, NewArray};
 use machine_scenes::operands::{class_of_given, fits_there};
 use machine_scenes::scene::Scene;
 
-/// What a function of arrays or strings does.
+/// What a function does that works on arrays or strings.
 #[inline(always)]
-pub(crate) fn work_out_array(scene: &Scene<'_>, function: &Call) -> Answer
-    requires objects { AreAddresses scene.now.heap.now scene.now.references function.now.operands.items }
-    requires of_arrays { is_of_arrays (function_value function.now.function) ≡ true }
-    ensures { IsWorkedOut (scene_view scene.now) (call_view function.now) (function_value function.now.function) result }
+pub(crate) fn work_out_array(scene: &Scene<'_>, call: &Call) -> Answer
+    requires subject { subject_of (function_value call.now.function) ≡ subject.Arrays }
+    requires objects { AreAddresses scene.now.heap.now scene.now.references call.now.operands.items }
+    ensures { IsWorkedOut (scene_view scene.now) (call_view call.now) (function_value call.now.function) result }
 {
-    match function.function {
+    match call.function {
         JniFunction::GetArrayLength | JniFunction::GetStringLength => {
-            let first = reference_of(scene, function, 0);
+            let first = argument(scene, call, 0);
             Answer::Gives(Given::Number(count_there(scene.heap, first)))
         }
         JniFunction::NewArray(element) => {
@@ -46,25 +44,22 @@ pub(crate) fn work_out_array(scene: &Scene<'_>, function: &Call) -> Answer
             new_array(class, stack_number(scene.stack), Value::Number(0))
         }
         JniFunction::NewObjectArray => {
-            let class = array_class_of(scene.classes, name_of(scene, function, 1));
-            let element = held_reference(reference_of(scene, function, 2));
+            let class = array_class_of(scene.classes, name_of(scene, call, 1));
+            let element = held_reference(argument(scene, call, 2));
             new_array(class.unwrap_or(0), stack_number(scene.stack), element)
         }
         JniFunction::GetObjectArrayElement => {
-            let array = reference_of(scene, function, 0);
+            let array = argument(scene, call, 0);
             element_there(scene.heap, array, stack_number(scene.stack))
         }
         JniFunction::SetObjectArrayElement => {
-            let fits = fits_element(scene, function);
-            let element = held_reference(reference_of(scene, function, 2));
-            let array = reference_of(scene, function, 0);
+            let fits = fits_element(scene, call);
+            let element = held_reference(argument(scene, call, 2));
+            let array = argument(scene, call, 0);
             stores_there(scene.heap, array, fits, stack_number(scene.stack), element)
         }
         JniFunction::NewStringUTF => Answer::Makes(New::Text(0)),
-        JniFunction::GetBuffer(_) | JniFunction::ReleaseBuffer(_) => {
-            work_out_buffer(scene, function)
-        }
-        _ => work_out_region(scene, function),
+        _ => unreachable!(),
     }
 }
 
@@ -91,13 +86,13 @@ fn new_array(class: ClassId, count: i32, value: Value) -> Answer
 }
 
 /// Whether operand 2 fits the elements of operand 0.
-fn fits_element(scene: &Scene<'_>, function: &Call) -> bool
-    requires { AreAddresses scene.now.heap.now scene.now.references function.now.operands.items }
-    ensures { result ≡ fits_element (scene_view scene.now) (call_view function.now) }
+fn fits_element(scene: &Scene<'_>, call: &Call) -> bool
+    requires { AreAddresses scene.now.heap.now scene.now.references call.now.operands.items }
+    ensures { result ≡ fits_element (scene_view scene.now) (call_view call.now) }
 {
-    let array = reference_of(scene, function, 0);
+    let array = argument(scene, call, 0);
     let class = element_class(scene.classes, class_of_given(scene.heap, array));
-    let element = reference_of(scene, function, 2);
+    let element = argument(scene, call, 2);
     fits_there(scene.classes, scene.heap, element, class)
 }
 
@@ -119,7 +114,7 @@ fn index_in(heap: &Heap, array: Addr, index: i32) -> Option<usize>
 
 /// An element of an array is given; an index of none is an exception.
 fn element_there(heap: &Heap, reference: Option<Addr>, index: i32) -> Answer
-    requires { (a : ℕ) → reference ≡ Some a → IsAddress heap.now a }
+    requires { ReferenceIsThere heap.now reference }
     ensures { result ≡ element_there heap.now reference (index_there heap.now reference index) }
 {
     match reference {
@@ -142,7 +137,7 @@ fn stores_there(
     index: i32,
     value: Value,
 ) -> Answer
-    requires { (a : ℕ) → reference ≡ Some a → IsAddress heap.now a }
+    requires { ReferenceIsThere heap.now reference }
     ensures { result ≡ stores_there heap.now reference fits (index_there heap.now reference index) value }
 {
     match reference {

@@ -7,13 +7,13 @@ ghost use Rattle.heap.specs.Heap.{pins_at, IsAddress};
 ghost use Rattle.jni.specs.Table.{access_value, function_value};
 ghost use Rattle.machine_answers.specs.BufferChanges.{CanCopyBack, CanGiveUp, GivesUp, MakesCopy, MakesView, MayGiveUp, copied_back, space_back};
 ghost use Rattle.machine_scenes.specs.Buffers.{copies_back, gives_up};
-ghost use Rattle.machine_answers.specs.CallGroups.{is_of_buffers};
 ghost use Rattle.machine_answers.specs.Copies.{words_at};
 ghost use Rattle.machine_scenes.specs.Given.{operand_of, AreAddresses};
 ghost use Rattle.machine_scenes.specs.Scenes.{scene_view};
-ghost use Rattle.machine_answers.specs.WorkedOut.{acquires, buffer_there, mode_of, releases, slot_of, IsWorkedOut};
+ghost use Rattle.machine_answers.specs.WorkedOut.{acquires, buffer_there, mode_of, releases, slot_of, subject_of, IsWorkedOut};
+ghost use Rattle.machine_answers.specs.declared.answer.Subject.TheVariants as subject;
 
-use crate::answer::{Answer, Given, reference_of};
+use crate::answer::{Answer, Given, argument};
 use crate::copies::word_of;
 use base::limits::MOST_VIEWS;
 use code::instr::{Call, Operand, ReleaseMode};
@@ -25,21 +25,21 @@ use machine_scenes::scene::Scene;
 use std::alloc::{AllocError, Global};
 use tables::Elements;
 
-/// What a function of buffers does (JNI Specification, chapter 4, "Get<PrimitiveType>ArrayElements Routines",
+/// What a function does that works on buffers (JNI Specification, chapter 4, "Get<PrimitiveType>ArrayElements Routines",
 /// "Release<PrimitiveType>ArrayElements Routines", "GetPrimitiveArrayCritical, ReleasePrimitiveArrayCritical",
 /// "GetStringChars", "ReleaseStringChars" and "GetStringCritical, ReleaseStringCritical").
 #[inline(always)]
-pub(crate) fn work_out_buffer(scene: &Scene<'_>, function: &Call) -> Answer
-    requires objects { AreAddresses scene.now.heap.now scene.now.references function.now.operands.items }
-    requires of_buffers { is_of_buffers (function_value function.now.function) ≡ true }
-    ensures { IsWorkedOut (scene_view scene.now) (call_view function.now) (function_value function.now.function) result }
+pub(crate) fn work_out_buffer(scene: &Scene<'_>, call: &Call) -> Answer
+    requires subject { subject_of (function_value call.now.function) ≡ subject.Buffers }
+    requires objects { AreAddresses scene.now.heap.now scene.now.references call.now.operands.items }
+    ensures { IsWorkedOut (scene_view scene.now) (call_view call.now) (function_value call.now.function) result }
 {
-    let object = reference_of(scene, function, 0);
-    match function.function {
+    let object = argument(scene, call, 0);
+    match call.function {
         JniFunction::GetBuffer(access) => acquires(access, object),
         JniFunction::ReleaseBuffer(access) => {
-            let mode = mode_of(access, operand_of(&function.operands, 2));
-            let slot = slot_of(operand_of(&function.operands, 1));
+            let mode = mode_of(access, operand_of(&call.operands, 2));
+            let slot = slot_of(operand_of(&call.operands, 1));
             releases(scene.buffers, object, slot, mode)
         }
         _ => unreachable!(),

@@ -1,31 +1,27 @@
 //! What is checked of a call before it does anything, in one order for all functions.
 
-ghost use Rattle.std.specs.Prelude.{◌≡◌, ℕ, Bool, List, ◌++◌, ◌&&◌, not, is_some, Some, IfSome, IfNone, map, false};
+ghost use Rattle.std.specs.Prelude.{◌≡◌, ℕ, ◌&&◌, not, is_some, IfSome, IfNone, map, false};
 ghost use Rattle.std.specs.List.{list_any};
 ghost use Rattle.std.specs.Option.{option_map};
 ghost use Rattle.class_queries.specs.Kinds.{class_misfits};
 ghost use Rattle.class_rules.specs.Class.{Classes};
 ghost use Rattle.base.specs.Element.{element_value};
 ghost use Rattle.classes.specs.Views.{field_type_view};
-ghost use Rattle.heap.specs.Heap.{IsAddress};
 ghost use Rattle.code.specs.Call.{call_view, IsPrepared};
 ghost use Rattle.jni.specs.JniFunction.{is_allowed_pending, prototype};
 ghost use Rattle.jni.specs.Table.{function_value, parameter_value, result_value};
-ghost use Rattle.machine_scenes.specs.Given.{field_there, operand_at, AreAddresses, AreHandles};
+ghost use Rattle.machine_scenes.specs.Given.{operand_at, AreAddresses, AreHandles, ReferenceIsThere};
 ghost use Rattle.machine_scenes.specs.Locals.{locals_after};
 ghost use Rattle.tables.specs.Locals.{has_room};
-ghost use Rattle.machine_answers.specs.Checked.{arguments_asked, arguments_fit, element_wanted, has_field, has_static, gives_null, gives_deleted, may_be_null, some_missing, misfits, some_misfit, fits_type_there, puts_local, trap_found};
-ghost use Rattle.machine_answers.specs.WorkedOut.{handle};
+ghost use Rattle.machine_answers.specs.Checked.{arguments_fit, element_wanted, has_field, has_static, gives_null, gives_deleted, may_be_null, some_missing, misfits, some_misfit, fits_type_there, puts_local, trap_found, ArgumentsPass, ArgumentsTrap};
+ghost use Rattle.machine_answers.specs.WorkedOut.{field};
 ghost use Rattle.machine_scenes.specs.Scenes.{scene_view};
 ghost use Rattle.semantics.specs.EventViews.{trap_view};
-ghost use Rattle.semantics.specs.Checks.{first_trap};
-ghost use Rattle.semantics.specs.Value.{Trap as SourceTrap};
 
-use crate::answer::{handle_of, name_of, reference_of};
+use crate::answer::{argument, handle_of, name_of};
 use class_queries::{class_misfits, holds_number, holds_reference};
 use classes::built_ins::{THROWABLE, number_array};
 use classes::class::{ElementType, FieldType};
-use code::instr;
 use code::instr::{Call, Operand, Target};
 use heap::Addr;
 use jni::{Access, JniFunction, ParameterKind, ResultKind};
@@ -61,7 +57,7 @@ fn gives_deleted(references: &References<'_>, operand: Operand) -> bool
     }
 }
 
-/// Whether some operand does.
+/// Whether some operand gives a static that is marked as deleted.
 fn some_deleted(references: &References<'_>, operands: &[Operand]) -> bool
     ensures { result ≡ list_any (gives_deleted references.now) operands.now }
 {
@@ -115,7 +111,7 @@ fn asks_kind(parameter: ParameterKind) -> bool
 
 /// Whether an operand gives an object of another kind than the parameter.
 fn misfits(scene: &Scene<'_>, parameter: ParameterKind, operand: Operand) -> bool
-    requires { (a : ℕ) → operand_at scene.now.references operand ≡ Some a → IsAddress scene.now.heap.now a }
+    requires { ReferenceIsThere scene.now.heap.now (operand_at scene.now.references operand) }
     ensures { result ≡ misfits scene.now.classes.now scene.now.heap.now (parameter_value parameter) (operand_at scene.now.references operand) }
 {
     if !asks_kind(parameter) {
@@ -145,7 +141,7 @@ fn some_misfit(scene: &Scene<'_>, parameters: &[ParameterKind], operands: &[Oper
 
 /// Whether a reference may be stored in a field of this type.
 fn fits_type(scene: &Scene<'_>, reference: Option<Addr>, field_type: FieldType) -> bool
-    requires { (a : ℕ) → reference ≡ Some a → IsAddress scene.now.heap.now a }
+    requires { ReferenceIsThere scene.now.heap.now reference }
     ensures { result ≡ fits_type_there scene.now.classes.now scene.now.heap.now reference (field_type_view field_type) }
 {
     match field_type {
@@ -155,81 +151,79 @@ fn fits_type(scene: &Scene<'_>, reference: Option<Addr>, field_type: FieldType) 
 }
 
 /// What the field or static of operand 1 holds, and numbers for NULL.
-fn asked_type(scene: &Scene<'_>, function: &Call) -> FieldType
-    requires { AreHandles scene.now.classes.now scene.now.fields.now function.now.operands.items }
-    ensures { field_type_view result ≡ (field_there scene.now.classes.now (handle (scene_view scene.now) (call_view function.now))).field.type }
+fn asked_type(scene: &Scene<'_>, call: &Call) -> FieldType
+    requires { AreHandles scene.now.classes.now scene.now.fields.now call.now.operands.items }
+    ensures { field_type_view result ≡ (field (scene_view scene.now) (call_view call.now)).field.type }
 {
-    type_of(scene.classes, handle_of(scene, function))
+    type_of(scene.classes, handle_of(scene, call))
 }
 
 /// Whether operand 0 is an object that has the field of operand 1.
-fn has_field(scene: &Scene<'_>, function: &Call) -> bool
-    requires objects { AreAddresses scene.now.heap.now scene.now.references function.now.operands.items }
-    requires handles { AreHandles scene.now.classes.now scene.now.fields.now function.now.operands.items }
-    ensures { result ≡ has_field scene.now.classes.now scene.now.heap.now scene.now.references scene.now.fields.now function.now.operands.items }
+fn has_field(scene: &Scene<'_>, call: &Call) -> bool
+    requires objects { AreAddresses scene.now.heap.now scene.now.references call.now.operands.items }
+    requires handles { AreHandles scene.now.classes.now scene.now.fields.now call.now.operands.items }
+    ensures { result ≡ has_field scene.now.classes.now scene.now.heap.now scene.now.references scene.now.fields.now call.now.operands.items }
 {
-    let classes = scene.classes;
-    let field = handle_of(scene, function);
-    let class = class_of_given(scene.heap, reference_of(scene, function, 0));
-    !is_static(classes, field) && classes.assignable(class, declaring(classes, field))
+    let field = handle_of(scene, call);
+    let class = class_of_given(scene.heap, argument(scene, call, 0));
+    !is_static(field) && scene.classes.assignable(class, declaring(field))
 }
 
 /// Whether operand 0 is a class that has the static of operand 1.
-fn has_static(scene: &Scene<'_>, function: &Call) -> bool
-    requires objects { AreAddresses scene.now.heap.now scene.now.references function.now.operands.items }
-    requires handles { AreHandles scene.now.classes.now scene.now.fields.now function.now.operands.items }
-    ensures { result ≡ has_static scene.now.classes.now scene.now.heap.now scene.now.references scene.now.fields.now function.now.operands.items }
+fn has_static(scene: &Scene<'_>, call: &Call) -> bool
+    requires objects { AreAddresses scene.now.heap.now scene.now.references call.now.operands.items }
+    requires handles { AreHandles scene.now.classes.now scene.now.fields.now call.now.operands.items }
+    ensures { result ≡ has_static scene.now.classes.now scene.now.heap.now scene.now.references scene.now.fields.now call.now.operands.items }
 {
-    let classes = scene.classes;
-    let field = handle_of(scene, function);
-    let class = name_of(scene, function, 0);
-    is_static(classes, field) && classes.assignable(class, declaring(classes, field))
+    let field = handle_of(scene, call);
+    let class = name_of(scene, call, 0);
+    is_static(field) && scene.classes.assignable(class, declaring(field))
 }
 
 /// Whether the arguments of a function, each of its kind, go together.
-fn fit_together(scene: &Scene<'_>, function: &Call) -> bool
-    requires objects { AreAddresses scene.now.heap.now scene.now.references function.now.operands.items }
-    requires handles { AreHandles scene.now.classes.now scene.now.fields.now function.now.operands.items }
-    ensures { result ≡ arguments_fit (scene_view scene.now) function.now.operands.items
-        (element_wanted function.now.target) (function_value function.now.function) }
+fn fit_together(scene: &Scene<'_>, call: &Call) -> bool
+    requires objects { AreAddresses scene.now.heap.now scene.now.references call.now.operands.items }
+    requires handles { AreHandles scene.now.classes.now scene.now.fields.now call.now.operands.items }
+    ensures { result ≡ arguments_fit (scene_view scene.now) call.now.operands.items
+        (element_wanted call.now.target) (function_value call.now.function) }
 {
     let classes = scene.classes;
-    match function.function {
-        JniFunction::AllocObject => !classes.has_own_making(name_of(scene, function, 0)),
+    match call.function {
+        JniFunction::AllocObject => !classes.has_own_making(name_of(scene, call, 0)),
         JniFunction::GetField(element) | JniFunction::SetField(element) => {
-            has_field(scene, function) && holds_number(element, asked_type(scene, function))
+            has_field(scene, call) && holds_number(element, asked_type(scene, call))
         }
         JniFunction::GetObjectField => {
-            has_field(scene, function) && holds_reference(asked_type(scene, function))
+            has_field(scene, call) && holds_reference(asked_type(scene, call))
         }
         JniFunction::SetObjectField => {
-            let value = reference_of(scene, function, 2);
-            has_field(scene, function) && fits_type(scene, value, asked_type(scene, function))
+            let value = argument(scene, call, 2);
+            has_field(scene, call) && fits_type(scene, value, asked_type(scene, call))
         }
         JniFunction::GetStaticField(element) | JniFunction::SetStaticField(element) => {
-            has_static(scene, function) && holds_number(element, asked_type(scene, function))
+            has_static(scene, call) && holds_number(element, asked_type(scene, call))
         }
         JniFunction::GetStaticObjectField => {
-            has_static(scene, function) && holds_reference(asked_type(scene, function))
+            has_static(scene, call) && holds_reference(asked_type(scene, call))
         }
         JniFunction::SetStaticObjectField => {
-            let value = reference_of(scene, function, 2);
-            has_static(scene, function) && fits_type(scene, value, asked_type(scene, function))
+            let value = argument(scene, call, 2);
+            has_static(scene, call) && fits_type(scene, value, asked_type(scene, call))
         }
         JniFunction::NewObjectArray => {
-            let class = name_of(scene, function, 1);
-            let element = reference_of(scene, function, 2);
+            let class = name_of(scene, call, 1);
+            let element = argument(scene, call, 2);
             !classes.is_array(class) && fits_there(classes, scene.heap, element, class)
         }
         JniFunction::GetBuffer(Access::ArrayView) => {
-            let class = class_of_given(scene.heap, reference_of(scene, function, 0));
-            class == number_array(element_wanted(function.target))
+            let class = class_of_given(scene.heap, argument(scene, call, 0));
+            class == number_array(element_wanted(call.target))
         }
         JniFunction::Throw => {
-            let class = class_of_given(scene.heap, reference_of(scene, function, 0));
+            let class = class_of_given(scene.heap, argument(scene, call, 0));
             classes.assignable(class, THROWABLE)
         }
-        JniFunction::ThrowNew => classes.assignable(name_of(scene, function, 0), THROWABLE),
+        JniFunction::ThrowNew => classes.assignable(name_of(scene, call, 0), THROWABLE),
         _ => true,
     }
 }
@@ -246,25 +240,21 @@ fn element_wanted(target: Target) -> ElementType
 
 /// The trap of a call for its arguments.
 #[inline(never)]
-fn check_arguments(scene: &Scene<'_>, function: &Call) -> Option<Trap>
-    requires objects { AreAddresses scene.now.heap.now scene.now.references function.now.operands.items }
-    requires handles { AreHandles scene.now.classes.now scene.now.fields.now function.now.operands.items }
-    ensures some { IfSome result (λ t. (rest : List (Bool × SourceTrap)) → first_trap (arguments_asked scene.now.classes.now scene.now.heap.now
-        scene.now.references scene.now.fields.now (element_wanted function.now.target) (function_value function.now.function)
-        function.now.operands.items ++ rest) ≡ Some (trap_view t)) }
-    ensures none { IfNone result ((rest : List (Bool × SourceTrap)) → first_trap (arguments_asked scene.now.classes.now scene.now.heap.now
-        scene.now.references scene.now.fields.now (element_wanted function.now.target) (function_value function.now.function)
-        function.now.operands.items ++ rest) ≡ first_trap rest) }
+fn check_arguments(scene: &Scene<'_>, call: &Call) -> Option<Trap>
+    requires objects { AreAddresses scene.now.heap.now scene.now.references call.now.operands.items }
+    requires handles { AreHandles scene.now.classes.now scene.now.fields.now call.now.operands.items }
+    ensures some { IfSome result (λ t. ArgumentsTrap (scene_view scene.now) (call_view call.now) (trap_view t)) }
+    ensures none { IfNone result (ArgumentsPass (scene_view scene.now) (call_view call.now)) }
 {
-    let operands = &function.operands;
-    let parameters = function.function.prototype().parameters;
+    let operands = &call.operands;
+    let parameters = call.function.prototype().parameters;
     if some_deleted(&scene.references, operands) {
         return Some(Trap::DeletedReference);
     }
     if some_missing(scene, parameters, operands) {
         return Some(Trap::NullReference);
     }
-    if some_misfit(scene, parameters, operands) || !fit_together(scene, function) {
+    if some_misfit(scene, parameters, operands) || !fit_together(scene, call) {
         return Some(Trap::WrongObject);
     }
     None
@@ -272,19 +262,15 @@ fn check_arguments(scene: &Scene<'_>, function: &Call) -> Option<Trap>
 
 /// The trap of a call for its arguments, without a look at arguments of which nothing is asked.
 #[tactic(auto, using(crate::proofs::Unasked::nothing_asked))]
-fn argument_trap(scene: &Scene<'_>, function: &Call) -> Option<Trap>
-    requires prepared { IsPrepared function.now }
-    requires objects { AreAddresses scene.now.heap.now scene.now.references function.now.operands.items }
-    requires handles { AreHandles scene.now.classes.now scene.now.fields.now function.now.operands.items }
-    ensures some { IfSome result (λ t. (rest : List (Bool × SourceTrap)) → first_trap (arguments_asked scene.now.classes.now scene.now.heap.now
-        scene.now.references scene.now.fields.now (element_wanted function.now.target) (function_value function.now.function)
-        function.now.operands.items ++ rest) ≡ Some (trap_view t)) }
-    ensures none { IfNone result ((rest : List (Bool × SourceTrap)) → first_trap (arguments_asked scene.now.classes.now scene.now.heap.now
-        scene.now.references scene.now.fields.now (element_wanted function.now.target) (function_value function.now.function)
-        function.now.operands.items ++ rest) ≡ first_trap rest) }
+fn argument_trap(scene: &Scene<'_>, call: &Call) -> Option<Trap>
+    requires prepared { IsPrepared call.now }
+    requires objects { AreAddresses scene.now.heap.now scene.now.references call.now.operands.items }
+    requires handles { AreHandles scene.now.classes.now scene.now.fields.now call.now.operands.items }
+    ensures some { IfSome result (λ t. ArgumentsTrap (scene_view scene.now) (call_view call.now) (trap_view t)) }
+    ensures none { IfNone result (ArgumentsPass (scene_view scene.now) (call_view call.now)) }
 {
-    if function.asks {
-        check_arguments(scene, function)
+    if call.asks {
+        check_arguments(scene, call)
     } else {
         None
     }
@@ -298,30 +284,30 @@ fn is_kept_off(pending: Option<Addr>, function: JniFunction) -> bool
 }
 
 /// Whether a call gives a local reference for which there is no room.
-fn lacks_room(locals: &Locals, function: &Call) -> bool
-    requires { IsPrepared function.now }
-    ensures { result ≡ (puts_local (prototype (function_value function.now.function)).result
-        && not (has_room (locals_after (function_value function.now.function) locals.now))) }
+fn lacks_room(locals: &Locals, call: &Call) -> bool
+    requires { IsPrepared call.now }
+    ensures { result ≡ (puts_local (prototype (function_value call.now.function)).result
+        && not (has_room (locals_after (function_value call.now.function) locals.now))) }
 {
-    puts_local(function.result) && !has_room(locals, function.function)
+    puts_local(call.result) && !has_room(locals, call.function)
 }
 
 /// The trap of a call that sees this, before it does anything. It takes no host memory.
-pub fn check(scene: &Scene<'_>, locals: &Locals, function: &Call) -> Option<Trap>
-    requires prepared { IsPrepared function.now }
-    requires objects { AreAddresses scene.now.heap.now scene.now.references function.now.operands.items }
-    requires handles { AreHandles scene.now.classes.now scene.now.fields.now function.now.operands.items }
+pub fn check(scene: &Scene<'_>, locals: &Locals, call: &Call) -> Option<Trap>
+    requires prepared { IsPrepared call.now }
+    requires objects { AreAddresses scene.now.heap.now scene.now.references call.now.operands.items }
+    requires handles { AreHandles scene.now.classes.now scene.now.fields.now call.now.operands.items }
     ensures { option_map trap_view result ≡ trap_found (scene_view scene.now)
-        (has_room (locals_after (function_value function.now.function) locals.now)) (element_wanted function.now.target)
-        (function_value function.now.function) function.now.operands.items }
+        (has_room (locals_after (function_value call.now.function) locals.now)) (element_wanted call.now.target)
+        (function_value call.now.function) call.now.operands.items }
 {
-    if is_kept_off(scene.pending, function.function) {
+    if is_kept_off(scene.pending, call.function) {
         return Some(Trap::ExceptionPending);
     }
-    if let Some(trap) = argument_trap(scene, function) {
+    if let Some(trap) = argument_trap(scene, call) {
         return Some(trap);
     }
-    if lacks_room(locals, function) {
+    if lacks_room(locals, call) {
         return Some(Trap::NoCapacity);
     }
     None

@@ -1,29 +1,29 @@
 //! What functions of exceptions do.
 
-ghost use Rattle.std.specs.Prelude.{◌≡◌, true};
+ghost use Rattle.std.specs.Prelude.{◌≡◌};
 ghost use Rattle.code.specs.Call.{call_view};
 ghost use Rattle.jni.specs.Table.{function_value};
-ghost use Rattle.machine_answers.specs.CallGroups.{is_of_exceptions};
 ghost use Rattle.machine_scenes.specs.Given.{AreAddresses};
 ghost use Rattle.machine_scenes.specs.Scenes.{scene_view};
-ghost use Rattle.machine_answers.specs.WorkedOut.{IsWorkedOut};
+ghost use Rattle.machine_answers.specs.WorkedOut.{subject_of, IsWorkedOut};
+ghost use Rattle.machine_answers.specs.declared.answer.Subject.TheVariants as subject;
 
-use crate::answer::{Answer, Given, gives_truth, name_of, reference_of};
+use crate::answer::{Answer, Given, argument, gives_truth, name_of};
 use code::instr::Call;
 use jni::JniFunction;
 use machine_scenes::scene::Scene;
 use semantics::Trap;
 
-/// What a function of exceptions does.
+/// What a function does that works on the pending exception.
 #[inline(always)]
-pub(crate) fn work_out_exception(scene: &Scene<'_>, function: &Call) -> Answer
-    requires objects { AreAddresses scene.now.heap.now scene.now.references function.now.operands.items }
-    requires of_exceptions { is_of_exceptions (function_value function.now.function) ≡ true }
-    ensures { IsWorkedOut (scene_view scene.now) (call_view function.now) (function_value function.now.function) result }
+pub(crate) fn work_out_exception(scene: &Scene<'_>, call: &Call) -> Answer
+    requires subject { subject_of (function_value call.now.function) ≡ subject.Exceptions }
+    requires objects { AreAddresses scene.now.heap.now scene.now.references call.now.operands.items }
+    ensures { IsWorkedOut (scene_view scene.now) (call_view call.now) (function_value call.now.function) result }
 {
-    match function.function {
+    match call.function {
         JniFunction::Throw => {
-            let exception = reference_of(scene, function, 0);
+            let exception = argument(scene, call, 0);
             Answer::Pends {
                 exception,
                 given: Given::Number(0),
@@ -31,7 +31,7 @@ pub(crate) fn work_out_exception(scene: &Scene<'_>, function: &Call) -> Answer
         }
         JniFunction::ThrowNew => {
             Answer::Raises {
-                class: name_of(scene, function, 0),
+                class: name_of(scene, call, 0),
                 text: 0,
             }
         }

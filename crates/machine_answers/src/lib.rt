@@ -8,3 +8,4 @@ pub mod check;
 pub mod copies;
 mod exceptions;
 mod monitor;
+mod regions;

@@ -1,32 +1,32 @@
 //! What functions of monitors do.
 
-ghost use Rattle.std.specs.Prelude.{◌≡◌, true};
+ghost use Rattle.std.specs.Prelude.{◌≡◌};
 ghost use Rattle.code.specs.Call.{call_view};
 ghost use Rattle.jni.specs.Table.{function_value};
-ghost use Rattle.machine_answers.specs.CallGroups.{is_of_monitors};
 ghost use Rattle.machine_scenes.specs.Given.{AreAddresses};
 ghost use Rattle.machine_scenes.specs.Scenes.{scene_view};
-ghost use Rattle.machine_answers.specs.WorkedOut.{IsWorkedOut, entered_by, left_by};
+ghost use Rattle.machine_answers.specs.WorkedOut.{entered_by, left_by, subject_of, IsWorkedOut};
+ghost use Rattle.machine_answers.specs.declared.answer.Subject.TheVariants as subject;
 
-use crate::answer::{Answer, Given, reference_of};
+use crate::answer::{Answer, Given, argument};
 use classes::built_ins::ILLEGAL_MONITOR_STATE_EXCEPTION;
 use code::instr::Call;
 use jni::JniFunction;
 use machine_scenes::scene::Scene;
 use monitors::{Enter, Exit, Object};
 
-/// What a function of monitors does.
+/// What a function does that works on monitors.
 #[inline(always)]
-pub(crate) fn work_out_monitor(scene: &Scene<'_>, function: &Call) -> Answer
-    requires objects { AreAddresses scene.now.heap.now scene.now.references function.now.operands.items }
-    requires of_monitors { is_of_monitors (function_value function.now.function) ≡ true }
-    ensures { IsWorkedOut (scene_view scene.now) (call_view function.now) (function_value function.now.function) result }
+pub(crate) fn work_out_monitor(scene: &Scene<'_>, call: &Call) -> Answer
+    requires subject { subject_of (function_value call.now.function) ≡ subject.Monitors }
+    requires objects { AreAddresses scene.now.heap.now scene.now.references call.now.operands.items }
+    ensures { IsWorkedOut (scene_view scene.now) (call_view call.now) (function_value call.now.function) result }
 {
-    let Some(address) = reference_of(scene, function, 0) else {
+    let Some(address) = argument(scene, call, 0) else {
         return Answer::Gives(Given::Nothing);
     };
     let name = scene.heap.birth_of(address);
-    match function.function {
+    match call.function {
         JniFunction::MonitorEnter => {
             let came = scene.monitors.entering(name, scene.thread);
             entered_by(Object { name, address }, came)

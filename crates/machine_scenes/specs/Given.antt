@@ -97,10 +97,14 @@ abbrev pub HasBuffer : Space → HeldBuffers → Variables → Operand → Actua
 HasBuffer space buffers vs (operand.Buffer i) actual = (x : Identifier) × (actual ≡ VariableActual x) × HoldsBuffer space buffers i (lookup x vs)
 HasBuffer space buffers vs o actual = Unit {0}
 
--- each operand is NULL or the address of a block
+-- a reference is NULL or the address of a block
+abbrev pub ReferenceIsThere : Space → Option ℕ → Type 0
+ReferenceIsThere space reference = (a : ℕ) → reference ≡ Some a → IsAddress space a
+
+-- each operand is
 abbrev pub AreAddresses : Space → References → List Operand → Type 0
 AreAddresses space references [] = Unit {0}
-AreAddresses space references (o ∷ operands) = ((a : ℕ) → operand_at references o ≡ Some a → IsAddress space a) × AreAddresses space references operands
+AreAddresses space references (o ∷ operands) = ReferenceIsThere space (operand_at references o) × AreAddresses space references operands
 
 -- an operand, and NULL where there is none
 abbrev pub operand_or_null : Option Operand → Operand
@@ -141,7 +145,11 @@ abbrev pub field_there : Classes → Option FieldHandle → FieldId
 field_there classes None = no_field
 field_there classes (Some h) = unwrap_or (field_of classes h) no_field
 
--- each operand that is a field ID is NULL or a handle of a field
+-- a field ID is NULL or a handle of a field
+abbrev pub FieldIsThere : Classes → Option FieldHandle → Type 0
+FieldIsThere classes field = (h : FieldHandle) → field ≡ Some h → IsSome (field_of classes h)
+
+-- each operand that is a field ID is
 abbrev pub AreHandles : Classes → List (Option FieldHandle) → List Operand → Type 0
 AreHandles classes fields [] = Unit {0}
-AreHandles classes fields (o ∷ operands) = ((h : FieldHandle) → field_at fields o ≡ Some h → IsSome (field_of classes h)) × AreHandles classes fields operands
+AreHandles classes fields (o ∷ operands) = FieldIsThere classes (field_at fields o) × AreHandles classes fields operands

@@ -1,11 +1,11 @@
 //! What the operands of a call give, and what is there.
 
-ghost use Rattle.std.specs.Prelude.{◌≡◌, ℕ, Some, IsSome};
-ghost use Rattle.classes.specs.FieldViews.{field_of};
+ghost use Rattle.std.specs.Prelude.{◌≡◌};
+ghost use Rattle.class_rules.specs.Class.{Classes};
 ghost use Rattle.base.specs.Element.{element_value};
 ghost use Rattle.classes.specs.Views.{field_type_view};
-ghost use Rattle.heap.specs.Heap.{IsAddress};
-ghost use Rattle.machine_scenes.specs.Given.{operand_at, key_at, field_at, operand_of, class_of_given, name_there, fits_there, field_there, AreAddresses, AreHandles};
+ghost use Rattle.heap.specs.Heap.{Space};
+ghost use Rattle.machine_scenes.specs.Given.{operand_at, key_at, field_at, operand_of, class_of_given, name_there, fits_there, field_there, AreAddresses, AreHandles, FieldIsThere, ReferenceIsThere};
 
 use crate::references::{Held, References};
 use class_rules::ClassId;
@@ -57,38 +57,28 @@ pub fn field_in(fields: &[Option<FieldHandle>], operand: Operand) -> Option<Fiel
 }
 
 /// The reference of the operand at a place, which is NULL or the address of an object.
-pub fn reference_at(
-    heap: &Heap,
-    references: &References<'_>,
-    operands: &[Operand],
-    place: usize,
-) -> Option<Addr>
-    requires { AreAddresses heap.now references.now operands.now }
+pub fn reference_at(references: &References<'_>, operands: &[Operand], place: usize) -> Option<Addr>
     ensures reference { result ≡ operand_at references.now (operand_of operands.now place) }
-    ensures there { (a : ℕ) → result ≡ Some a → IsAddress heap.now a }
+    ensures there { (space : Space) → AreAddresses space references.now operands.now → ReferenceIsThere space result }
 {
-    let _ = heap;
     reference_in(references, operand_of(operands, place))
 }
 
 /// The field ID of the operand at a place, which is NULL or that of a field.
 pub fn handle_at(
-    classes: &ClassTable,
     fields: &[Option<FieldHandle>],
     operands: &[Operand],
     place: usize,
 ) -> Option<FieldHandle>
-    requires { AreHandles classes.now fields.now operands.now }
     ensures field { result ≡ field_at fields.now (operand_of operands.now place) }
-    ensures there { (h : FieldHandle) → result ≡ Some h → IsSome (field_of classes.now h) }
+    ensures there { (classes : Classes) → AreHandles classes fields.now operands.now → FieldIsThere classes result }
 {
-    let _ = classes;
     field_in(fields, operand_of(operands, place))
 }
 
 /// The class of an object, and 0 for NULL.
 pub fn class_of_given(heap: &Heap, reference: Option<Addr>) -> ClassId
-    requires { (a : ℕ) → reference ≡ Some a → IsAddress heap.now a }
+    requires { ReferenceIsThere heap.now reference }
     ensures { result ≡ class_of_given heap.now reference }
 {
     match reference {
@@ -99,7 +89,7 @@ pub fn class_of_given(heap: &Heap, reference: Option<Addr>) -> ClassId
 
 /// The name of an object, and 0 for NULL.
 pub fn name_there(heap: &Heap, reference: Option<Addr>) -> usize
-    requires { (a : ℕ) → reference ≡ Some a → IsAddress heap.now a }
+    requires { ReferenceIsThere heap.now reference }
     ensures { result ≡ name_there heap.now reference }
 {
     match reference {
@@ -115,7 +105,7 @@ pub fn fits_there(
     reference: Option<Addr>,
     class: ClassId,
 ) -> bool
-    requires { (a : ℕ) → reference ≡ Some a → IsAddress heap.now a }
+    requires { ReferenceIsThere heap.now reference }
     ensures { result ≡ fits_there classes.now heap.now reference class }
 {
     match reference {
@@ -125,11 +115,9 @@ pub fn fits_there(
 }
 
 /// Whether the field of a handle is a static; NULL is none.
-pub fn is_static(classes: &ClassTable, field: Option<FieldHandle>) -> bool
-    requires { (h : FieldHandle) → field ≡ Some h → IsSome (field_of classes.now h) }
-    ensures { result ≡ (field_there classes.now field).is_static }
+pub fn is_static(field: Option<FieldHandle>) -> bool
+    ensures { (classes : Classes) → FieldIsThere classes field → result ≡ (field_there classes field).is_static }
 {
-    let _ = classes;
     match field {
         Some(handle) => handle.is_static,
         None => false,
@@ -137,11 +125,9 @@ pub fn is_static(classes: &ClassTable, field: Option<FieldHandle>) -> bool
 }
 
 /// The class that declares the field of a handle, and 0 for NULL.
-pub fn declaring(classes: &ClassTable, field: Option<FieldHandle>) -> ClassId
-    requires { (h : FieldHandle) → field ≡ Some h → IsSome (field_of classes.now h) }
-    ensures { result ≡ (field_there classes.now field).class }
+pub fn declaring(field: Option<FieldHandle>) -> ClassId
+    ensures { (classes : Classes) → FieldIsThere classes field → result ≡ (field_there classes field).class }
 {
-    let _ = classes;
     match field {
         Some(handle) => handle.class,
         None => 0,
@@ -150,7 +136,7 @@ pub fn declaring(classes: &ClassTable, field: Option<FieldHandle>) -> ClassId
 
 /// What the field of a handle holds, and numbers for NULL.
 pub fn type_of(classes: &ClassTable, field: Option<FieldHandle>) -> FieldType
-    requires { (h : FieldHandle) → field ≡ Some h → IsSome (field_of classes.now h) }
+    requires { FieldIsThere classes.now field }
     ensures { field_type_view result ≡ (field_there classes.now field).field.type }
 {
     match field {

@@ -94,7 +94,7 @@ fn waits_to_enter(
         → result ≡ waits_with world.now.classes thread shared s (effect_of (sight_of shared s) task) }
 {
     let scene = scene_of(world, store, pending, call, thread);
-    match argument(scene.heap, &scene.references, function, 0) {
+    match argument(&scene, function, 0) {
         Some(addr) => {
             is_busy(store.monitors.entering(store.heap.birth_of(addr), thread))
                 && check(&scene, &call.locals, function).is_none()

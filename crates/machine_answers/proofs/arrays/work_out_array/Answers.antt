@@ -14,6 +14,6 @@ returns-in-NewObjectArray c =
     let classes = c.args.scene.now.classes.now in
     let class = c.unwrap_or.ensures ∙ ap (λ (o : Option ℕ). unwrap_or o 0) (c.array_class_of-class.ensures ∙ ap (array_class_of classes) c.name_of.ensures) in
     let number : to_z w32 (of_z w32 c.stack_number-in-NewObjectArray.result) ≡ stack_number c.args.scene.now.stack.now = to_z-of_z {w = w32} (record { sfits = c.stack_number-in-NewObjectArray.type_inv }) ∙ c.stack_number-in-NewObjectArray.ensures in
-    let element = c.held_reference-element.ensures ∙ ap held_reference c.reference_of.ensures.reference in
-    subst (λ (f : JniFunction). IsWorkedOut (scene_view c.args.scene.now) (call_view c.args.function.now) (function_value f) c.new_array-in-NewObjectArray.result) (sym c.in-NewObjectArray.is)
+    let element = c.held_reference-element.ensures ∙ ap held_reference c.argument.ensures.reference in
+    subst (λ (f : JniFunction). IsWorkedOut (scene_view c.args.scene.now) (call_view c.args.call.now) (function_value f) c.new_array-in-NewObjectArray.result) (sym c.in-NewObjectArray.is)
     (c.new_array-in-NewObjectArray.ensures ∙ (λ i. new_array (class i) (number i) (element i)))

@@ -5,6 +5,6 @@ use Rattle.machine_scenes.proofs.Handles.{class_of_field}
 use Rattle.machine_scenes.proofs.operands.declaring.Goals as goal
 
 pub returns-in-Some : goal.returns-in-Some
-returns-in-Some c =
-    class_of_field c.args.classes.now c.in-Some.handle (c.requires c.in-Some.handle c.in-Some.is)
-    ∙ ap (λ (o : Option FieldHandle). (field_there c.args.classes.now o).class) (sym c.in-Some.is)
+returns-in-Some c classes there =
+    class_of_field classes c.in-Some.handle (there c.in-Some.handle c.in-Some.is)
+    ∙ ap (λ (o : Option FieldHandle). (field_there classes o).class) (sym c.in-Some.is)
