@@ -41,11 +41,11 @@ use Rattle.machine_steps.specs.Executes.{IsSteady, cells_made, in_use_with}
 use Rattle.machine_scenes.specs.Buffers.{Acquired, SameAcquired, acquired_by, beside}
 use Rattle.machine_scenes.specs.StoreAgrees.{StoreAgrees}
 use Rattle.machine_threads.specs.ThreadAgrees.{ThreadAgrees, ThreadsAgree}
-use Rattle.machine_steps.specs.Advances.{Advances, Stands}
+use Rattle.machine_steps.specs.Advances.{Advances, AdvancesAlways, HoldsAlways, Stands}
 use Rattle.machine_steps.specs.Moved.{IsSilent}
 use Rattle.machine_steps.specs.declared.advance.Advanced.{Advanced}
 use Rattle.machine_steps.specs.declared.advance.Advanced.TheVariants as advanced
-use Rattle.machine.specs.Run.{Run, AdvancesAlways, HoldsAlways, acquired, Corresponds, CouldStep, HadNoRoom, LeavesAll, TurnHolds, entry_of, event_of, is_refused, turn_after, turn_at_rest, HasEnded}
+use Rattle.machine.specs.Run.{Run, acquired, Corresponds, CouldStep, HadNoRoom, LeavesAll, TurnHolds, entry_of, event_of, is_refused, turn_after, turn_at_rest, HasEnded}
 use Rattle.machine.proofs.KeptThreads.{changed}
 use Rattle.machine.proofs.TakenBuffers.{in_use_same, joined, others, parted, taken}
 use Rattle.machine_steps.proofs.Acquisitions.{store_taken}

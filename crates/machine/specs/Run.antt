@@ -25,10 +25,10 @@ use Rattle.semantics.specs.Object.{sizes}
 use Rattle.semantics.specs.Reachable.{live_size}
 use Rattle.semantics.specs.Run.{replay, made, Follows, MarkedAreFair, UnmarkedFit}
 use Rattle.semantics.specs.State.{State, copied, thread_at, views}
-use Rattle.semantics.specs.ThreadStep.{thread_step, waits}
+use Rattle.semantics.specs.ThreadStep.{thread_step}
 use Rattle.semantics.specs.Step.{can_step, is_blocked, is_unfinished}
-use Rattle.semantics.specs.Thread.{Shared, Thread as SourceThread}
-use Rattle.semantics_safety.specs.Owners.{Owners, owners_after}
+use Rattle.semantics.specs.Thread.{Thread as SourceThread}
+use Rattle.semantics_safety.specs.Owners.{owners_after}
 use Rattle.semantics_safety.specs.StepSafe.{IsSafe}
 use Rattle.semantics_typing.specs.Law.{RunsTyped}
 use Rattle.code_meaning.specs.Lowered.{Lowered, IsLowered}
@@ -46,11 +46,11 @@ use Rattle.machine.specs.declared.turn.Turn.{Turn as Answer}
 use Rattle.machine.specs.declared.turn.Turn.TheVariants as turn
 use Rattle.semantics.specs.declared.event.Stop.{Stop}
 use Rattle.machine_scenes.specs.declared.store.Store.{Store}
-use Rattle.machine_scenes.specs.Buffers.{Acquired, acquired_by, beside}
+use Rattle.machine_scenes.specs.Buffers.{Acquired}
 use Rattle.machine_scenes.specs.StoreAgrees.{StoreAgrees}
-use Rattle.machine_steps.specs.Advances.{AdvancesBy}
-use Rattle.machine_steps.specs.Executes.{IsSteady, cells_made, in_use_with}
-use Rattle.machine_threads.specs.ThreadAgrees.{ThreadAgrees, ThreadsAgree}
+use Rattle.machine_steps.specs.Advances.{AdvancesAlways, HoldsAlways}
+use Rattle.machine_steps.specs.Executes.{cells_made, in_use_with}
+use Rattle.machine_threads.specs.ThreadAgrees.{ThreadsAgree}
 use Rattle.machine_collections.specs.Moving.{AreCollected}
 use Rattle.semantics.specs.EventViews.{stop_view}
 
@@ -103,17 +103,6 @@ abbrev pub event_of : Advanced → Event
 event_of (advanced.Did e) = e
 event_of advanced.Refused = event.Quiet
 
--- what holds of thread k with whatever state it stands for in which it doesn't wait
-abbrev pub HoldsAlways : Lowered → World → (k : ℕ) → Store → Thread → (Acquired → Owners → Shared → SourceThread → Type 0) → Type 0
-HoldsAlways p w k store t Holds =
-    (others : Acquired) (own : Owners) (shared : Shared) (s : SourceThread) → StoreAgrees p w store shared (beside others (acquired_by s))
-    → ThreadAgrees p w.classes store.heap store.elements (length (loaded_objects w)) k own shared t s
-    → IsSteady w.classes own shared s → waits w.classes k shared s ≡ false → Holds others own shared s
-
--- it took the step that the source's thread takes
-abbrev pub AdvancesAlways : Lowered → World → (k : ℕ) → (store after : Store) → Thread → Thread → Advanced → Type 0
-AdvancesAlways p w k store after t t' x = HoldsAlways p w k store t (λ others own shared s. AdvancesBy p w store after others k own shared s t' x)
-
 -- its step makes objects, if nothing is refused
 abbrev pub MakesObjects : Lowered → World → (k : ℕ) → Store → Thread → Type 0
 MakesObjects p w k store t = HoldsAlways p w k store t (λ others own shared s. 0 < cells_made shared
@@ -132,7 +121,8 @@ pub record CanAdvance (p : Lowered) (w : World) (store : Store) (threads : List 
 
 -- what a step began with: the store and the threads as they were, if nothing was refused, or what a collection left of them
 abbrev pub IsBetween : Store → List Thread → (between : Store) → List Thread → Advanced → Type 0
-IsBetween store threads between threads' x = ((between ≡ store) × (threads' ≡ threads) × (x ≢ advanced.Refused)) ⊎ AreCollected store threads between threads'
+IsBetween store threads between threads' x = ((between ≡ store) × (threads' ≡ threads) × (x ≢ advanced.Refused))
+    ⊎ AreCollected store threads between threads'
 
 -- the thread at a place took its step, with a collection before it or without one
 pub record AdvancesFrom (p : Lowered) (w : World) (store : Store) (threads : List Thread) (index : ℕ) (after : Store)

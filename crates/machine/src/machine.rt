@@ -110,19 +110,17 @@ impl<'a> Machine<'a> {
         ensures left { IfOk result (λ m. m.left ≡ world.cells - sizes (loaded_objects world)) }
         ensures fault { IfErr result (IsLoadFault (unit_tree program.entry.unit) world) }
     {
-        match load_parts(alloc, &program, &world) {
-            Ok((store, threads)) => Ok(Machine {
-                alloc,
-                program,
-                world,
-                store,
-                threads,
-                printed: Vec::new(alloc),
-                stop: None,
-                journal: Vec::new(alloc),
-            }),
-            Err(fault) => Err(fault),
-        }
+        let (store, threads) = load_parts(alloc, &program, &world)?;
+        Ok(Machine {
+            alloc,
+            program,
+            world,
+            store,
+            threads,
+            printed: Vec::new(alloc),
+            stop: None,
+            journal: Vec::new(alloc),
+        })
     }
 
     /// The steps taken so far.
@@ -160,9 +158,9 @@ impl<'a> Machine<'a> {
         &self.printed
     }
 
-    /// Moves the objects that can still be reached together; the others are gone. What is viewed can be reached, and
-    /// stays where it is, so that a view shows the present elements of its array through any collection. It gives no
-    /// entry.
+    /// Moves the objects that can still be reached together; the others are gone.
+    /// What is viewed can be reached, and stays where it is, so that a view shows the present elements of its array
+    /// through any collection. It gives no entry.
     ///
     /// An `Err` says that host memory was refused. Nothing has moved then.
     pub fn collect(&mut self) -> Result<(), AllocError>
@@ -173,11 +171,12 @@ impl<'a> Machine<'a> {
         collect_blocks(self.alloc, &mut self.store, &mut self.threads)
     }
 
-    /// Lets thread `k`, counted from 1, take one step. Where the objects that it makes have no room, the machine
-    /// collects first, and the allocation is refused where they have none then.
+    /// Lets thread `k`, counted from 1, take one step.
+    /// Where the objects that it makes have no room, the machine collects first, and the allocation is refused where
+    /// they have none then.
     ///
-    /// An `Err` says that the thread could step and the journal has room, but host memory was refused, to the step or to its
-    /// collection. Nothing has changed then, and the same turn can be asked again.
+    /// An `Err` says that the thread could step and the journal has room, but host memory was refused, to the step or
+    /// to its collection. Nothing has changed then, and the same turn can be asked again.
     #[inline(always)]
     pub fn step(&mut self, k: u8) -> Result<Turn, AllocError>
         requires counted { 0 < k }
@@ -245,8 +244,8 @@ impl<'a> Machine<'a> {
         }
     }
 
-    /// Takes the word for a collection this many times. A second one right after the first would change nothing that is seen, so
-    /// one serves for all.
+    /// Takes the word for a collection this many times.
+    /// A second one right after the first would change nothing that is seen, so one serves for all.
     fn collect_for(&mut self, times: u32) -> Result<(), RunFault>
         ensures ok { OnOk result (RunsAlong self.old self.new (replicate times ScheduleWord.Collect)) }
         ensures err { IfErr result (RunsInto self.old self.new (replicate times ScheduleWord.Collect)) }
@@ -283,17 +282,15 @@ impl<'a> Machine<'a> {
             if left == 0 {
                 return Ok(());
             }
-            match self.take_turn(k) {
-                Ok(()) => {}
-                Err(fault) => return Err(fault),
-            }
+            self.take_turn(k)?;
             left -= 1;
         }
         Ok(())
     }
 
-    /// Lets thread `k` take steps one after another, as long as its next instruction works on the stack and the number
-    /// slots alone, and the journal has memory for its entry, but no more than this many. Answers how many it took.
+    /// Lets thread `k` take steps one after another, no more than this many, and answers how many it took.
+    /// They go on as long as its next instruction works on the stack and the number slots alone, and the journal has
+    /// memory for its entry.
     #[inline(always)]
     fn run_plainly(&mut self, k: u8, most: u32) -> u32
         requires counted { 0 < k }
@@ -319,8 +316,8 @@ impl<'a> Machine<'a> {
         )
     }
 
-    /// Lets the threads take steps in the order of the schedule, with its collections between them. A collection and a turn of a
-    /// thread that the world lacks give none.
+    /// Lets the threads take steps in the order of the schedule, with its collections between them.
+    /// A collection and a turn of a thread that the world lacks give none.
     ///
     /// After an `Err` the steps of a beginning of the schedule stay, and the next word is the turn of a thread that
     /// could step, where the journal was full, or had room and host memory was refused, or it is a collection that host
@@ -333,10 +330,7 @@ impl<'a> Machine<'a> {
         // Here the proof takes up the machine's invariant.
         let _ = &self.world;
         for repetition in schedule.repetitions() {
-            match self.repeat(repetition.word, repetition.times) {
-                Ok(()) => {}
-                Err(fault) => return Err(fault),
-            }
+            self.repeat(repetition.word, repetition.times)?;
         }
         Ok(())
     }
@@ -402,10 +396,8 @@ impl<'a> Machine<'a> {
         standings
     }
 
-    /// Writes the report of the run, with the objects that can still be reached, and the line of its journal, and flushes
-    /// the sink.
-    ///
-    /// Where memory is refused, nothing is written.
+    /// Writes the report of the run and the line of its journal, and flushes the sink.
+    /// The report has the objects that can still be reached. Where memory is refused, nothing is written.
     pub fn report<S: Sink>(&self, alloc: Global, sink: &mut S) -> Result<(), ReportFault>
         requires can_fail { CanFail (S.written sink.old) }
         ensures run { ReportsRun self.now (S.written sink.old) (S.written sink.new) result }
@@ -472,10 +464,8 @@ fn load_parts(
     accepted_is_safe();
     objects_are_typed();
     let store = load_store(alloc, program.items(), world)?;
-    match load_threads(alloc, program, world) {
-        Ok(threads) => Ok((store, threads)),
-        Err(fault) => Err(fault),
-    }
+    let threads = load_threads(alloc, program, world)?;
+    Ok((store, threads))
 }
 
 /// The turn of a thread that has no step to take: a trap has stopped the machine, or the thread has ended.
@@ -504,9 +494,9 @@ fn most_entries(journal: &Vec<Entry>, most: u32) -> u32
     most.min(left as u32)
 }
 
-/// Takes steps of a thread, which is thread `k`, has not ended, and is of a machine that no trap has stopped, as long
-/// as its next instruction works on the stack and the number slots alone. It takes this many at most, for which the
-/// journal has room and memory, and answers how many. A trap is the last.
+/// Takes steps of a thread as long as its next instruction works on the stack and the number slots alone.
+/// It is thread `k`, has not ended, and is of a machine that no trap has stopped. It takes this many at most, for which
+/// the journal has room and memory, and answers how many. A trap is the last.
 #[inline(always)]
 fn take_plainly(
     program: &Program<'_>,
@@ -525,7 +515,8 @@ fn take_plainly(
     ensures most { result ≤ most }
     ensures went { (w : SourceWorld) (threads : List Thread) (index : ℕ) (printed : List Printed)
         → CanGoOn program.now w store.now threads index printed journal.old.items k thread.old
-        → WentOn program.now w store.now threads index printed journal.old.items k result thread.new stop.new journal.new.items }
+        → WentOn program.now w store.now threads index printed journal.old.items k result thread.new stop.new
+        journal.new.items }
 {
     for taken in 0..most {
         match advance_plainly(program, store, thread) {
@@ -564,10 +555,10 @@ fn make_room(printed: &mut Vec<Printed>, journal: &mut Vec<Entry>) -> Result<(),
     printed.reserve(1)
 }
 
-/// Takes one step of thread `k`, which is at this place, has not ended, and doesn't wait. Where what it makes has no
-/// room, which a step is asked for before anything has changed, there is a collection, one for all objects of the step,
-/// and then the allocation is refused where it has none still. Only a step that makes nothing takes host memory, so
-/// after the collection nothing can fail.
+/// Takes one step of thread `k`, which is at this place, has not ended, and doesn't wait.
+/// Where what it makes has no room, which a step is asked for before anything has changed, there is a collection, one
+/// for all objects of the step, and then the allocation is refused where it has none still. Only a step that makes
+/// nothing takes host memory, so after the collection nothing can fail.
 #[inline(always)]
 fn advance_or_collect(
     alloc: Global,
@@ -608,7 +599,8 @@ fn collect_and_advance(
     requires few { store.old.births + 2 < 2 ^ 32 }
     requires number { k ≡ index + 1 }
     requires stands { CanAdvance program.now world.now store.old threads.old index }
-    requires makes { (t : Thread) → slice_get threads.old index ≡ Some t → MakesObjects program.now world.now k store.old t }
+    requires makes { (t : Thread) → slice_get threads.old index ≡ Some t
+        → MakesObjects program.now world.now k store.old t }
     ensures advances { IfOk result (AdvancesFrom program.now world.now store.old threads.old index store.new threads.new) }
     ensures store { OnErr result (store.new ≡ store.old) }
     ensures threads { OnErr result (threads.new ≡ threads.old) }

@@ -14,8 +14,8 @@ use std::alloc::{AllocError, Global};
 use std::marker::Model;
 use world_values::ObjectValue;
 
-/// The objects of a heap by their names, seen as a heap of the definitions. An object whose block is gone has no class and no
-/// values there.
+/// The objects of a heap by their names, seen as a heap of the definitions.
+/// An object whose block is gone has no class and no values there.
 #[derive(Drop)]
 pub struct NamedBlocks<'a> {
     heap: &'a Heap,
@@ -74,7 +74,8 @@ pub fn named_blocks<'a>(
     births: u32,
 ) -> Result<NamedBlocks<'a>, AllocError>
     requires { (objects : SourceHeap) × HeapAgrees heap.now objects × (births ≡ length objects) × IsLaidOut heap.now }
-    ensures { IfOk result (λ named. (objects : SourceHeap) → HeapAgrees heap.now objects → births ≡ length objects → AreSeen heap.now objects named) }
+    ensures { IfOk result (λ named. (objects : SourceHeap) → HeapAgrees heap.now objects → births ≡ length objects
+        → AreSeen heap.now objects named) }
 {
     let mut addresses: Vec<Option<Addr>> = vec![in alloc; None; births as usize]?;
     for place in 0..heap.count() {

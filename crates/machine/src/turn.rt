@@ -11,7 +11,7 @@ pub enum Turn {
     Blocked(bool),
     /// The journal has no room for another entry.
     Full,
-    /// A step was taken whose allocation was refused, since too few cells are left after the highest block: its entry is marked.
+    /// A step was taken whose allocation was refused, since too few cells are left: its entry is marked.
     Short,
     /// A step was taken.
     Stepped,

@@ -1,8 +1,12 @@
 -- What carrying out an answer leaves, by the effect of the source's call.
 use Rattle.std.specs.Prelude.{◌≡◌, ◌≢◌, ℕ, ◌-◌, ◌^◌, ◌<◌, ◌≤◌, Bool, true, false, if◌then◌else◌, List, [], ◌∷◌, ◌++◌, length, slice_get, slice_set, ◌⊎◌, IsSome, Option, Some, None}
+use Rattle.base.specs.Bytes.{Identifier}
 use Rattle.class_rules.specs.Class.{Classes}
+use Rattle.code.specs.declared.instr.Call.{Call}
+use Rattle.code.specs.declared.instr.LocalArray.{LocalArray}
 use Rattle.heap.specs.Heap.{Space, left_of}
 use Rattle.jni.specs.Prototype.{ResultKind, NewLocal, NewGlobal, GivesFlag, GivesInt, GivesField, GivesBuffer}
+use Rattle.jni.specs.Table.{result_value}
 use Rattle.semantics.specs.CallEffects.{CallResult, NoResult, NullResult, ReferenceResult, BufferResult, CallEffect, Leaves, Throws, Halts, out_of_memory}
 use Rattle.semantics.specs.CallStep.{failure, makes_objects}
 use Rattle.semantics.specs.Heap.{next_name}
@@ -14,7 +18,8 @@ use Rattle.code_meaning.specs.Lowered.{Lowered}
 use Rattle.code_meaning.specs.Stands.{IsBufferResult}
 use Rattle.tables.specs.Elements.{OwnedNumbers}
 use Rattle.tables.specs.Keys.{value_at}
-use Rattle.machine_scenes.specs.Buffers.{Acquired, BufferAgrees, acquired_by, acquired_of, beside, gives_up, nothing_acquired}
+use Rattle.machine_scenes.specs.Buffers.{Acquired, BufferAgrees, acquired_by, acquired_of, beside, gives_up, holding, in_use_of, nothing_acquired}
+use Rattle.machine_scenes.specs.declared.activation.Activation.{Activation}
 use Rattle.machine_scenes.specs.declared.buffer.Buffer.{Buffer}
 use Rattle.machine_scenes.specs.declared.buffer.Buffer.TheVariants as buffer
 use Rattle.machine_answers.specs.declared.answer.Given.{Given}
@@ -26,13 +31,15 @@ use Rattle.machine_scenes.specs.Statics.{held}
 use Rattle.machine_scenes.specs.Statics.{StaticReference}
 use Rattle.semantics.specs.declared.static_reference.StaticReference.TheVariants as static
 use Rattle.machine_scenes.specs.StoreAgrees.{HeldAgrees, StoreAgrees, Keeps}
-use Rattle.machine_answers.specs.Answers.{GivenAgrees}
+use Rattle.machine_answers.specs.Answers.{Brought, GivenAgrees, IsAnswer, bringing}
 use Rattle.machine_answers.specs.declared.answer.Answer.{Answer}
 use Rattle.machine_answers.specs.declared.answer.Answer.TheVariants as answer
 use Rattle.machine_answers.specs.Copies.{numbers_with}
 use Rattle.machine_scenes.specs.Locals.{FramesAgree, IsKeyOf}
 use Rattle.tables.specs.Locals.{LocalTable}
 use Rattle.machine_scenes.specs.HeapAgrees.{ReferenceAgrees}
+use Rattle.machine_scenes.specs.NewObjects.{texts_in}
+use Rattle.machine_calls.specs.declared.carry_out.Carried.{Carried}
 
 -- the shared state after a call of this effect, or after the same with its allocation refused
 abbrev pub shared_after : Classes → (refused : Bool) → Shared → CallEffect → Shared
@@ -210,3 +217,76 @@ pub record IsPossible (p : Lowered) (w : World) (store : Store) (pending : Optio
   pub store_agrees : StoreAgrees p w store shared (beside others (acquired_by s))
   pub pending_agrees : ReferenceAgrees store.heap pending s.pending
   pub frames_agree : FramesAgree store.heap locals s.frames
+
+-- ---- what is carried out, of any call of the source that has the answer
+
+-- a call of thread k that can be carried out has this answer
+abbrev pub HasAnswer : World → Store → (pending : Option ℕ) → Activation → Call → (k : ℕ) → Answer → Type 0
+HasAnswer w store pending activation call k a =
+    (p : Lowered) × (array : Option (Identifier × LocalArray)) × (others : Acquired) × (shared : Shared) × (s : Thread)
+    × (effect : CallEffect) × IsPossible p w store pending activation.locals others shared s
+    × IsAnswer w.classes (bringing (texts_in call.texts.items) activation.slots.numbers.items
+    (holding activation.slots.buffers.items store.elements k) (in_use_of (beside others (acquired_by s))) array)
+    store.heap activation.locals (result_value call.result) shared s a effect
+
+-- what carrying it out leaves is what the call does
+abbrev pub CarriesOutAnswer : World → (old store : Store) → (pending left : Option ℕ) → (before after : Activation) → Call
+    → (k : ℕ) → Answer → Carried → Type 0
+CarriesOutAnswer w old store pending left before after call k a carried =
+    (p : Lowered) (array : Option (Identifier × LocalArray)) (others : Acquired) (shared : Shared) (s : Thread)
+    (effect : CallEffect) → IsPossible p w old pending before.locals others shared s
+    → IsAnswer w.classes (bringing (texts_in call.texts.items) before.slots.numbers.items
+    (holding before.slots.buffers.items old.elements k) (in_use_of (beside others (acquired_by s))) array)
+    old.heap before.locals (result_value call.result) shared s a effect
+    → CarriesOut p w old.heap before.locals a (result_value call.result) others k shared s effect
+    carried.refused store left after.locals carried.given
+
+-- a call of thread k, which has these buffers, has an answer of buffers, and can be carried out
+abbrev pub HasAnswerOfBuffers : World → Store → (pending : Option ℕ) → LocalTable → List Buffer → (k : ℕ) → Answer → Type 0
+HasAnswerOfBuffers w store pending locals buffers k a =
+    (p : Lowered) × (kind : ResultKind) × (brought : Brought) × (others : Acquired) × (shared : Shared) × (s : Thread)
+    × (effect : CallEffect) × IsPossible p w store pending locals others shared s
+    × IsAnswer w.classes brought store.heap locals kind shared s a effect
+    × (brought.buffers ≡ holding buffers store.elements k) × (brought.in_use ≡ in_use_of (beside others (acquired_by s)))
+
+-- what carrying that out leaves is what the call does
+abbrev pub CarriesOutBuffers : World → (old store : Store) → (pending left : Option ℕ) → (before locals : LocalTable)
+    → List Buffer → (k : ℕ) → Answer → Carried → Type 0
+CarriesOutBuffers w old store pending left before locals buffers k a carried =
+    (p : Lowered) (kind : ResultKind) (brought : Brought) (others : Acquired) (shared : Shared) (s : Thread)
+    (effect : CallEffect) → IsPossible p w old pending before others shared s
+    → IsAnswer w.classes brought old.heap before kind shared s a effect
+    → brought.buffers ≡ holding buffers old.elements k → brought.in_use ≡ in_use_of (beside others (acquired_by s))
+    → CarriesOut p w old.heap before a kind others k shared s effect carried.refused store left locals carried.given
+
+-- a call of thread k has an answer of monitors, and can be carried out
+abbrev pub HasAnswerOfMonitors : World → Store → (pending : Option ℕ) → LocalTable → (k : ℕ) → Answer → Type 0
+HasAnswerOfMonitors w store pending locals k a =
+    (p : Lowered) × (kind : ResultKind) × (brought : Brought) × (others : Acquired) × (shared : Shared) × (s : Thread)
+    × (effect : CallEffect) × IsPossible p w store pending locals others shared s
+    × IsAnswer w.classes brought store.heap locals kind shared s a effect × (brought.buffers.owner ≡ k)
+
+-- what carrying that out leaves is what the call does
+abbrev pub CarriesOutMonitors : World → (old store : Store) → (pending left : Option ℕ) → (before locals : LocalTable)
+    → (k : ℕ) → Answer → Carried → Type 0
+CarriesOutMonitors w old store pending left before locals k a carried =
+    (p : Lowered) (kind : ResultKind) (brought : Brought) (others : Acquired) (shared : Shared) (s : Thread)
+    (effect : CallEffect) → IsPossible p w old pending before others shared s
+    → IsAnswer w.classes brought old.heap before kind shared s a effect → brought.buffers.owner ≡ k
+    → CarriesOut p w old.heap before a kind others k shared s effect carried.refused store left locals carried.given
+
+-- a call has an answer of references, and can be carried out
+abbrev pub HasAnswerOfReferences : World → Store → (pending : Option ℕ) → LocalTable → Answer → Type 0
+HasAnswerOfReferences w store pending locals a =
+    (p : Lowered) × (kind : ResultKind) × (brought : Brought) × (others : Acquired) × (shared : Shared) × (s : Thread)
+    × (effect : CallEffect) × IsPossible p w store pending locals others shared s
+    × IsAnswer w.classes brought store.heap locals kind shared s a effect
+
+-- what carrying that out leaves is what the call does, whichever thread makes it
+abbrev pub CarriesOutReferences : World → (old store : Store) → (pending left : Option ℕ) → (before locals : LocalTable)
+    → Answer → Carried → Type 0
+CarriesOutReferences w old store pending left before locals a carried =
+    (p : Lowered) (kind : ResultKind) (brought : Brought) (others : Acquired) (k : ℕ) (shared : Shared) (s : Thread)
+    (effect : CallEffect) → IsPossible p w old pending before others shared s
+    → IsAnswer w.classes brought old.heap before kind shared s a effect
+    → CarriesOut p w old.heap before a kind others k shared s effect carried.refused store left locals carried.given

@@ -2,19 +2,12 @@
 
 ghost use Rattle.std.specs.Prelude.{◌≡◌, ◌+◌, ◌-◌, ◌<◌, ◌≤◌, ◌^◌, ℕ, List, Option, length, nat_le, slice_get, true, false, IfOk, OnErr};
 ghost use Rattle.base.specs.Limits.{most_references};
-ghost use Rattle.base.specs.Bytes.{Identifier};
-ghost use Rattle.code.specs.declared.instr.LocalArray.{LocalArray};
 ghost use Rattle.heap.specs.Heap.{left_of};
-ghost use Rattle.jni.specs.Prototype.{ResultKind as SourceKind};
 ghost use Rattle.jni.specs.Table.{result_value};
-ghost use Rattle.semantics.specs.CallEffects.{CallEffect};
-ghost use Rattle.semantics.specs.Thread.{Shared, Thread as SourceThread};
-ghost use Rattle.code_meaning.specs.Lowered.{Lowered};
 ghost use Rattle.tables.specs.Elements.{OwnedNumbers};
 ghost use Rattle.tables.specs.Locals.{capacities, ensured, popped};
-ghost use Rattle.machine_answers.specs.Answers.{Brought, bringing, IsAnswer, is_halt};
-ghost use Rattle.machine_scenes.specs.Buffers.{Acquired, acquired_by, beside, holding, in_use_of};
-ghost use Rattle.machine_calls.specs.CarriedOut.{CarriesOut, CopiesStay, IsNewCopy, IsPossible, buffers_after, failed, is_of_buffers, is_of_frames, is_of_monitors, is_of_references, slots_after, takes_memory};
+ghost use Rattle.machine_answers.specs.Answers.{is_halt};
+ghost use Rattle.machine_calls.specs.CarriedOut.{CarriesOutAnswer, CarriesOutBuffers, CarriesOutMonitors, CarriesOutReferences, CopiesStay, HasAnswer, HasAnswerOfBuffers, HasAnswerOfMonitors, HasAnswerOfReferences, IsNewCopy, buffers_after, failed, is_of_buffers, is_of_frames, is_of_monitors, is_of_references, slots_after, takes_memory};
 ghost use Rattle.machine_calls.specs.Made.{cells_of};
 ghost use Rattle.machine_scenes.specs.NewObjects.{texts_in};
 ghost use Rattle.machine_answers.specs.declared.answer.Given.TheVariants.{Number};
@@ -55,51 +48,48 @@ pub fn has_room(classes: &ClassTable, texts: &[Vec<u8>], heap: &Heap, answer: &A
     }
 }
 
-/// Does to the store and to an activation's frames and slots what this call of a function answers, in a thread of this
-/// number. An object or an exception is refused exactly where it has no room in the heap: then the OutOfMemoryError
-/// object is pending, and the call fails. Local arrays are in the number slots.
+/// Does to the store and to an activation's frames and slots what this call answers, in the thread of this number.
+/// An object or an exception is refused exactly where it has no room in the heap: then the OutOfMemoryError object is
+/// pending, and the call fails. Local arrays are in the number slots.
 ///
-/// An error says that host memory for a frame, a global reference or a copy of elements was refused; then all is as before.
+/// An error says that host memory for a frame, a global reference or a copy of elements was refused; then all is as
+/// before.
 pub fn carry_out(
     world: &World,
     store: &mut Store,
     pending: &mut Option<Addr>,
-    call: &mut Activation,
-    function: &Call,
+    activation: &mut Activation,
+    call: &Call,
     thread: u8,
     answer: Answer,
 ) -> Result<Carried, AllocError>
-    requires possible { (p : Lowered) × (array : Option (Identifier × LocalArray)) × (others : Acquired)
-        × (shared : Shared) × (s : SourceThread) × (effect : CallEffect)
-        × IsPossible p world.now store.old pending.old call.old.locals others shared s
-        × IsAnswer world.now.classes (bringing (texts_in function.now.texts.items) call.old.slots.numbers.items
-        (holding call.old.slots.buffers.items store.old.elements thread) (in_use_of (beside others (acquired_by s))) array)
-        store.old.heap call.old.locals (result_value function.now.result) shared s answer effect }
+    requires possible { HasAnswer world.now store.old pending.old activation.old call.now thread answer }
     requires few { store.old.births + 2 < 2 ^ 32 }
     requires runs { is_halt answer ≡ false }
-    ensures carried { IfOk result (λ carried. (p : Lowered) (array : Option (Identifier × LocalArray)) (others : Acquired)
-        (shared : Shared) (s : SourceThread) (effect : CallEffect)
-        → IsPossible p world.now store.old pending.old call.old.locals others shared s
-        → IsAnswer world.now.classes (bringing (texts_in function.now.texts.items) call.old.slots.numbers.items
-        (holding call.old.slots.buffers.items store.old.elements thread) (in_use_of (beside others (acquired_by s))) array)
-        store.old.heap call.old.locals (result_value function.now.result) shared s answer effect
-        → CarriesOut p world.now store.old.heap call.old.locals answer (result_value function.now.result) others thread shared s effect
-        carried.refused store.new pending.new call.new.locals carried.given) }
-    ensures slots { IfOk result (λ carried. call.new.slots.numbers.items ≡ slots_after store.old.heap answer call.old.slots.numbers.items) }
-    ensures buffer_slots { IfOk result (λ carried. call.new.slots.buffers.items ≡ buffers_after answer call.old.slots.buffers.items) }
-    ensures stays { IfOk result (λ carried. call.new
-        ≡ record call.old { locals = call.new.locals; slots = record call.old.slots { numbers = call.new.slots.numbers; buffers = call.new.slots.buffers } }) }
+    ensures carried { IfOk result (λ carried. CarriesOutAnswer world.now store.old store.new pending.old pending.new
+        activation.old activation.new call.now thread answer carried) }
+    ensures slots { IfOk result (λ carried. activation.new.slots.numbers.items
+        ≡ slots_after store.old.heap answer activation.old.slots.numbers.items) }
+    ensures buffer_slots { IfOk result (λ carried. activation.new.slots.buffers.items
+        ≡ buffers_after answer activation.old.slots.buffers.items) }
+    ensures stays { IfOk result (λ carried. activation.new ≡ record activation.old {
+      locals = activation.new.locals;
+      slots = record activation.old.slots {
+        numbers = activation.new.slots.numbers;
+        buffers = activation.new.slots.buffers;
+      };
+    }) }
     ensures copies { IfOk result (λ carried. CopiesStay answer store.old.elements store.new.elements) }
     ensures new_copy { IfOk result (λ carried. IsNewCopy store.old.elements carried.given) }
     ensures store { OnErr result (store.new ≡ store.old) }
     ensures pending { OnErr result (pending.new ≡ pending.old) }
-    ensures call { OnErr result (call.new ≡ call.old) }
+    ensures activation { OnErr result (activation.new ≡ activation.old) }
     ensures memory { OnErr result (takes_memory answer ≡ true) }
 {
     // Here the proof takes up what is known of a world.
     let _ = world.threads();
-    let kind = function.result;
-    let texts: &[Vec<u8>] = &function.texts;
+    let kind = call.result;
+    let texts: &[Vec<u8>] = &call.texts;
     match answer {
         Answer::Gives(given) => Ok(Carried {
             given,
@@ -146,14 +136,14 @@ pub fn carry_out(
             }
         }
         Answer::CopiesOut(region) => {
-            copy_out(&store.heap, &mut call.slots.numbers, &region);
+            copy_out(&store.heap, &mut activation.slots.numbers, &region);
             Ok(Carried {
                 given: Given::Nothing,
                 refused: false,
             })
         }
         Answer::CopiesIn(region) => {
-            copy_in(&mut store.heap, &call.slots.numbers, &region);
+            copy_in(&mut store.heap, &activation.slots.numbers, &region);
             Ok(Carried {
                 given: Given::Nothing,
                 refused: false,
@@ -170,15 +160,15 @@ pub fn carry_out(
             world,
             store,
             pending,
-            &mut call.locals,
-            &mut call.slots.buffers,
+            &mut activation.locals,
+            &mut activation.slots.buffers,
             thread,
             answer,
         ),
     }
 }
 
-/// Does to buffers, of a thread of this number, and to references what an answer of buffers, of references or of frames says.
+/// Does what an answer of buffers, of monitors, of references or of frames says, in the thread of this number.
 #[inline(always)]
 fn carry_out_buffers(
     world: &World,
@@ -190,11 +180,9 @@ fn carry_out_buffers(
     answer: Answer,
 ) -> Result<Carried, AllocError>
     requires of_buffers { is_of_buffers answer ≡ true }
-    requires possible { (p : Lowered) × (kind : SourceKind) × (brought : Brought) × (others : Acquired) × (shared : Shared) × (s : SourceThread) × (effect : CallEffect) × IsPossible p world.now store.old pending.old locals.old others shared s
-        × IsAnswer world.now.classes brought store.old.heap locals.old kind shared s answer effect × (brought.buffers ≡ holding buffers.old store.old.elements thread) × (brought.in_use ≡ in_use_of (beside others (acquired_by s))) }
-    ensures carried { IfOk result (λ carried. (p : Lowered) (kind : SourceKind) (brought : Brought) (others : Acquired) (shared : Shared) (s : SourceThread) (effect : CallEffect) → IsPossible p world.now store.old pending.old locals.old others shared s
-        → IsAnswer world.now.classes brought store.old.heap locals.old kind shared s answer effect → brought.buffers ≡ holding buffers.old store.old.elements thread → brought.in_use ≡ in_use_of (beside others (acquired_by s))
-        → CarriesOut p world.now store.old.heap locals.old answer kind others thread shared s effect carried.refused store.new pending.new locals.new carried.given) }
+    requires possible { HasAnswerOfBuffers world.now store.old pending.old locals.old buffers.old thread answer }
+    ensures carried { IfOk result (λ carried. CarriesOutBuffers world.now store.old store.new pending.old pending.new
+        locals.old locals.new buffers.old thread answer carried) }
     ensures slots { IfOk result (λ carried. buffers.new ≡ buffers_after answer buffers.old) }
     ensures copies { IfOk result (λ carried. CopiesStay answer store.old.elements store.new.elements) }
     ensures new_copy { IfOk result (λ carried. IsNewCopy store.old.elements carried.given) }
@@ -237,7 +225,7 @@ fn carry_out_buffers(
     }
 }
 
-/// Does to monitors, of a thread of this number, and to references what an answer of monitors, of references or of frames says.
+/// Does what an answer of monitors, of references or of frames says, in the thread of this number.
 #[inline(always)]
 fn carry_out_monitors(
     world: &World,
@@ -248,11 +236,9 @@ fn carry_out_monitors(
     answer: Answer,
 ) -> Result<Carried, AllocError>
     requires of_monitors { is_of_monitors answer ≡ true }
-    requires possible { (p : Lowered) × (kind : SourceKind) × (brought : Brought) × (others : Acquired) × (shared : Shared) × (s : SourceThread) × (effect : CallEffect) × IsPossible p world.now store.old pending.old locals.old others shared s
-        × IsAnswer world.now.classes brought store.old.heap locals.old kind shared s answer effect × (brought.buffers.owner ≡ thread) }
-    ensures carried { IfOk result (λ carried. (p : Lowered) (kind : SourceKind) (brought : Brought) (others : Acquired) (shared : Shared) (s : SourceThread) (effect : CallEffect) → IsPossible p world.now store.old pending.old locals.old others shared s
-        → IsAnswer world.now.classes brought store.old.heap locals.old kind shared s answer effect → brought.buffers.owner ≡ thread
-        → CarriesOut p world.now store.old.heap locals.old answer kind others thread shared s effect carried.refused store.new pending.new locals.new carried.given) }
+    requires possible { HasAnswerOfMonitors world.now store.old pending.old locals.old thread answer }
+    ensures carried { IfOk result (λ carried. CarriesOutMonitors world.now store.old store.new pending.old pending.new
+        locals.old locals.new thread answer carried) }
     ensures elements { store.new.elements ≡ store.old.elements }
     ensures new_copy { IfOk result (λ carried. (copies : List (Option OwnedNumbers)) → IsNewCopy copies carried.given) }
     ensures store { OnErr result (store.new ≡ store.old) }
@@ -289,11 +275,9 @@ fn carry_out_references(
     answer: Answer,
 ) -> Result<Carried, AllocError>
     requires of_references { is_of_references answer ≡ true }
-    requires possible { (p : Lowered) × (kind : SourceKind) × (brought : Brought) × (others : Acquired) × (shared : Shared) × (s : SourceThread) × (effect : CallEffect) × IsPossible p world.now store.old pending.old locals.old others shared s
-        × IsAnswer world.now.classes brought store.old.heap locals.old kind shared s answer effect }
-    ensures carried { IfOk result (λ carried. (p : Lowered) (kind : SourceKind) (brought : Brought) (others : Acquired) (k : ℕ) (shared : Shared) (s : SourceThread) (effect : CallEffect) → IsPossible p world.now store.old pending.old locals.old others shared s
-        → IsAnswer world.now.classes brought store.old.heap locals.old kind shared s answer effect
-        → CarriesOut p world.now store.old.heap locals.old answer kind others k shared s effect carried.refused store.new pending.new locals.new carried.given) }
+    requires possible { HasAnswerOfReferences world.now store.old pending.old locals.old answer }
+    ensures carried { IfOk result (λ carried. CarriesOutReferences world.now store.old store.new pending.old pending.new
+        locals.old locals.new answer carried) }
     ensures elements { store.new.elements ≡ store.old.elements }
     ensures new_copy { IfOk result (λ carried. (copies : List (Option OwnedNumbers)) → IsNewCopy copies carried.given) }
     ensures store { OnErr result (store.new ≡ store.old) }
@@ -336,9 +320,8 @@ fn carry_out_frames(
     answer: Answer,
 ) -> Result<Carried, AllocError>
     requires { is_of_frames answer ≡ true }
-    ensures carried { IfOk result (λ carried. (p : Lowered) (kind : SourceKind) (brought : Brought) (others : Acquired) (k : ℕ) (shared : Shared) (s : SourceThread) (effect : CallEffect) → IsPossible p world.now store.now pending.old locals.old others shared s
-        → IsAnswer world.now.classes brought store.now.heap locals.old kind shared s answer effect
-        → CarriesOut p world.now store.now.heap locals.old answer kind others k shared s effect carried.refused store.now pending.new locals.new carried.given) }
+    ensures carried { IfOk result (λ carried. CarriesOutReferences world.now store.now store.now pending.old pending.new
+        locals.old locals.new answer carried) }
     ensures new_copy { IfOk result (λ carried. (copies : List (Option OwnedNumbers)) → IsNewCopy copies carried.given) }
     ensures pending { OnErr result (pending.new ≡ pending.old) }
     ensures locals { OnErr result (locals.new ≡ locals.old) }
@@ -379,8 +362,10 @@ fn carry_out_frames(
 /// Gives the current frame, if there is one, room for this many further references. Says whether it has it.
 fn ensure_room(locals: &mut Locals, more: u32) -> bool
     ensures none { length locals.old.frames ≡ 0 → (result ≡ true) × (locals.new ≡ locals.old) }
-    ensures had { 0 < length locals.old.frames → result ≡ true → (locals.new ≡ ensured locals.old more) × (capacities (ensured locals.old more) ≤ most_references) }
-    ensures refused { result ≡ false → (0 < length locals.old.frames) × (locals.new ≡ locals.old) × (most_references < capacities (ensured locals.old more)) }
+    ensures had { 0 < length locals.old.frames → result ≡ true
+        → (locals.new ≡ ensured locals.old more) × (capacities (ensured locals.old more) ≤ most_references) }
+    ensures refused { result ≡ false → (0 < length locals.old.frames) × (locals.new ≡ locals.old)
+        × (most_references < capacities (ensured locals.old more)) }
 {
     if locals.frames() == 0 {
         return true;
@@ -432,8 +417,8 @@ fn refuse(world: &World, store: &Store, pending: &mut Option<Addr>, kind: Result
     }
 }
 
-/// What a call of this kind of result gives where it fails: NULL, -1 or nothing (JNI Specification, chapter 2, "Exceptions and
-/// Error Codes").
+/// What a call of this kind of result gives where it fails: NULL, -1 or nothing
+/// (JNI Specification, chapter 2, "Exceptions and Error Codes").
 fn failed(kind: ResultKind) -> Given
     ensures { result ≡ failed (result_value kind) }
 {

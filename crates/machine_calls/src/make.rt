@@ -17,8 +17,8 @@ use heap::{Addr, Heap, Value};
 use machine_scenes::new_object::{New, NewArray, text_at};
 use machine_scenes::store::Store;
 
-/// Makes an object for a call with these texts, if the heap has room. It takes no host memory. The cost goes by the
-/// number of its values, and the depth of its class.
+/// Makes an object for a call with these texts, if the heap has room. It takes no host memory.
+/// The cost goes by the number of its values, and the depth of its class.
 pub fn make(classes: &ClassTable, texts: &[Vec<u8>], store: &mut Store, new: New) -> Option<Addr>
     requires class { class_of_new new < 2 ^ 32 }
     requires few { store.old.births + 1 < 2 ^ 32 }
@@ -34,8 +34,8 @@ pub fn make(classes: &ClassTable, texts: &[Vec<u8>], store: &mut Store, new: New
     }
 }
 
-/// Makes a string of a text, and an exception of a class with it as message, if the heap has room for both. It takes no host
-/// memory.
+/// Makes a string of a text, and an exception of a class with it as message, if the heap has room for both.
+/// It takes no host memory.
 pub fn raise(
     classes: &ClassTable,
     texts: &[Vec<u8>],

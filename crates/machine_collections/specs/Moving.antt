@@ -22,7 +22,7 @@ abbrev pub moved_locals : (ℕ → ℕ) → LocalTable → LocalTable
 moved_locals f t = record t { slots = moved_slots f t.slots }
 
 abbrev pub moved_call : (ℕ → ℕ) → Activation → Activation
-moved_call f call = record call { locals = moved_locals f call.locals }
+moved_call f activation = record activation { locals = moved_locals f activation.locals }
 
 abbrev pub moved_thread : (ℕ → ℕ) → Thread → Thread
 moved_thread f t = record t { call = option_map (moved_call f) t.call; pending = option_map f t.pending }

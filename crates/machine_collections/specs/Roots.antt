@@ -23,7 +23,7 @@ loaded_places loaded = map (λ (a : ℕ). Some a) loaded
 -- the slots of the local references of a call in progress, or of none
 abbrev pub slots_of : Option Activation → List (Option ℕ)
 slots_of None = []
-slots_of (Some call) = call.locals.slots
+slots_of (Some activation) = activation.locals.slots
 
 -- what a thread refers to: its local references, and its pending exception
 abbrev pub thread_places : Thread → List (Option ℕ)
@@ -45,7 +45,7 @@ pinned_names (b ∷ blocks) = let rest = pinned_names blocks in if nat_lt 0 b.pi
 -- a call's local references lie frame above frame
 abbrev pub CallIsStacked : Option Activation → Type 0
 CallIsStacked None = Unit {0}
-CallIsStacked (Some call) = AreStacked call.locals
+CallIsStacked (Some activation) = AreStacked activation.locals
 
 -- those of threads do
 abbrev pub ThreadsAreStacked : List Thread → Type 0

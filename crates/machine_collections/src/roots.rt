@@ -2,7 +2,8 @@
 //! name, and moves them along. Views are no roots of a collection: what they are of is pinned, so it stays, and slots
 //! have its address yet. A report begins with them too.
 //!
-//! A kind of root has a line in `gather`, one in `put_back` and one in `root_places`, at the same place of each, and no other.
+//! A kind of root has a line in `gather`, one in `put_back` and one in `root_places`, at the same place of each, and no
+//! other.
 
 ghost use Rattle.std.specs.Prelude.{◌≡◌, ℕ, ◌+◌, ◌++◌, IfOk, OnOk, flat_map, length, map};
 ghost use Rattle.std.specs.Option.{option_map};
@@ -44,8 +45,10 @@ impl Roots for RootPlaces {
     }
 }
 
-/// The roots: the objects made at load, the global references, of each thread its local references and its pending
-/// exception, and the objects whose monitors are owned, by the places in their tables.
+/// The roots, by the places in their tables.
+///
+/// They are the objects made at load, the global references, of each thread its local references and its pending
+/// exception, and the objects whose monitors are owned.
 pub fn gather(alloc: Global, store: &Store, threads: &[Thread]) -> Result<RootPlaces, AllocError>
     ensures places { IfOk result (λ roots. roots.places.items ≡ root_places store.now threads.now) }
     ensures stacked { IfOk result (λ _. ThreadsAreStacked threads.now) }
@@ -156,7 +159,7 @@ fn push_call(places: &mut Vec<Option<Addr>>, call: &Option<Activation>) -> Resul
 {
     match call {
         None => Ok(()),
-        Some(call) => push_locals(places, &call.locals),
+        Some(activation) => push_locals(places, &activation.locals),
     }
 }
 
@@ -185,7 +188,8 @@ fn push_monitors(places: &mut Vec<Option<Addr>>, monitors: &Monitors) -> Result<
 /// Puts back the objects made at load, and tells the next place.
 fn put_loaded(loaded: &mut [Addr], roots: &RootPlaces) -> usize
     requires { (to : ℕ → ℕ) × AreMovedAt to (loaded_places loaded.old) roots.now.places.items 0 }
-    ensures moved { (to : ℕ → ℕ) → AreMovedAt to (loaded_places loaded.old) roots.now.places.items 0 → loaded.new ≡ map to loaded.old }
+    ensures moved { (to : ℕ → ℕ) → AreMovedAt to (loaded_places loaded.old) roots.now.places.items 0
+        → loaded.new ≡ map to loaded.old }
     ensures next { result ≡ length loaded.old }
 {
     for place in 0..loaded.len() {
@@ -199,7 +203,8 @@ fn put_loaded(loaded: &mut [Addr], roots: &RootPlaces) -> usize
 /// Puts back the global references, from a place on, and tells the next one.
 fn put_globals(globals: &mut Globals, roots: &RootPlaces, from: usize) -> usize
     requires { (to : ℕ → ℕ) × AreMovedAt to globals.old roots.now.places.items from }
-    ensures moved { (to : ℕ → ℕ) → AreMovedAt to globals.old roots.now.places.items from → globals.new ≡ moved_slots to globals.old }
+    ensures moved { (to : ℕ → ℕ) → AreMovedAt to globals.old roots.now.places.items from
+        → globals.new ≡ moved_slots to globals.old }
     ensures next { result ≡ from + length globals.old }
 {
     for place in 0..globals.len() {
@@ -227,7 +232,8 @@ fn put_threads(threads: &mut [Thread], roots: &RootPlaces, from: usize) -> usize
 /// Puts back what a thread refers to, from a place on, and tells the next one.
 fn put_thread(thread: &mut Thread, roots: &RootPlaces, from: usize) -> usize
     requires { (to : ℕ → ℕ) × AreMovedAt to (thread_places thread.old) roots.now.places.items from }
-    ensures moved { (to : ℕ → ℕ) → AreMovedAt to (thread_places thread.old) roots.now.places.items from → thread.new ≡ moved_thread to thread.old }
+    ensures moved { (to : ℕ → ℕ) → AreMovedAt to (thread_places thread.old) roots.now.places.items from
+        → thread.new ≡ moved_thread to thread.old }
     ensures next { result ≡ from + length (thread_places thread.old) }
 {
     let next = put_call(&mut thread.call, roots, from);
@@ -238,19 +244,21 @@ fn put_thread(thread: &mut Thread, roots: &RootPlaces, from: usize) -> usize
 /// Puts back the local references of a call in progress, from a place on, and tells the next one.
 fn put_call(call: &mut Option<Activation>, roots: &RootPlaces, from: usize) -> usize
     requires { (to : ℕ → ℕ) × AreMovedAt to (slots_of call.old) roots.now.places.items from }
-    ensures moved { (to : ℕ → ℕ) → AreMovedAt to (slots_of call.old) roots.now.places.items from → call.new ≡ option_map (moved_call to) call.old }
+    ensures moved { (to : ℕ → ℕ) → AreMovedAt to (slots_of call.old) roots.now.places.items from
+        → call.new ≡ option_map (moved_call to) call.old }
     ensures next { result ≡ from + length (slots_of call.old) }
 {
     match call {
         None => from,
-        Some(call) => put_locals(&mut call.locals, roots, from),
+        Some(activation) => put_locals(&mut activation.locals, roots, from),
     }
 }
 
 /// Puts back local references, from a place on, and tells the next one.
 fn put_locals(locals: &mut Locals, roots: &RootPlaces, from: usize) -> usize
     requires { (to : ℕ → ℕ) × AreMovedAt to locals.old.slots roots.now.places.items from }
-    ensures moved { (to : ℕ → ℕ) → AreMovedAt to locals.old.slots roots.now.places.items from → locals.new ≡ moved_locals to locals.old }
+    ensures moved { (to : ℕ → ℕ) → AreMovedAt to locals.old.slots roots.now.places.items from
+        → locals.new ≡ moved_locals to locals.old }
     ensures next { result ≡ from + length locals.old.slots }
 {
     for place in 0..locals.len() {
@@ -264,7 +272,8 @@ fn put_locals(locals: &mut Locals, roots: &RootPlaces, from: usize) -> usize
 /// Puts back the objects whose monitors are owned, from a place on.
 fn put_monitors(monitors: &mut Monitors, roots: &RootPlaces, from: usize)
     requires { (to : ℕ → ℕ) × AreMovedAt to (addresses monitors.old) roots.now.places.items from }
-    ensures { (to : ℕ → ℕ) → AreMovedAt to (addresses monitors.old) roots.now.places.items from → monitors.new ≡ moved_monitors to monitors.old }
+    ensures { (to : ℕ → ℕ) → AreMovedAt to (addresses monitors.old) roots.now.places.items from
+        → monitors.new ≡ moved_monitors to monitors.old }
 {
     for place in 0..monitors.len() {
         if let Some(addr) = roots.root(from + place) {

@@ -1,14 +1,15 @@
 -- What a step of a thread is.
 use Rattle.std.specs.Prelude.{◌≡◌, ℕ, Bool, true, false, List, [], ◌∷◌, length, Option, Some, None}
+use Rattle.heap.specs.Heap.{left_of}
 use Rattle.syntax.specs.Views.{unit_tree}
 use Rattle.semantics.specs.World.{World, loaded_objects}
 use Rattle.semantics_safety.specs.Owners.{Owners, after_advance}
 use Rattle.semantics.specs.Thread as source
 use Rattle.semantics.specs.Thread.{Shared}
-use Rattle.semantics.specs.ThreadStep.{thread_step}
+use Rattle.semantics.specs.ThreadStep.{thread_step, waits}
 use Rattle.code_meaning.specs.Lowered.{Lowered}
 use Rattle.semantics.specs.declared.event.Ending.{Ending}
-use Rattle.semantics.specs.declared.event.Ending.TheVariants.{Ended, Uncaught}
+use Rattle.semantics.specs.declared.event.Ending.TheVariants.{Ended, Uncaught, Unfinished}
 use Rattle.semantics.specs.declared.event.Event.{Event}
 use Rattle.semantics.specs.declared.event.Event.TheVariants.{Quiet}
 use Rattle.machine_steps.specs.declared.advance.Advanced.{Advanced}
@@ -20,7 +21,8 @@ use Rattle.monitors.specs.Monitors.{kept_from, monitor_of, without_owner}
 use Rattle.machine_scenes.specs.Buffers.{Acquired, KeepsCopies, acquired_by, beside}
 use Rattle.machine_calls.specs.CarriedOut.{IsShortOf}
 use Rattle.machine_scenes.specs.StoreAgrees.{StoreAgrees, Keeps}
-use Rattle.machine_steps.specs.Executes.{IsSteady, cells_made, in_use_with}
+use Rattle.machine_steps.specs.Executes.{IsHindered, IsSteady, cells_made, in_use_with}
+use Rattle.machine_steps.specs.declared.fault.StepFault.{StepFault}
 use Rattle.semantics.specs.EventViews.{event_view}
 use Rattle.machine_threads.specs.ThreadAgrees.{ThreadAgrees}
 
@@ -39,7 +41,8 @@ pub record Advances (p : Lowered) (w : World) (old store : Store) (others : Acqu
     (shared : Shared) (s : source.Thread) (t : Thread) (refused : Bool) (event : Event) : Type 0 where
   pub next_shared : Shared
   pub next : source.Thread
-  pub steps : thread_step (unit_tree p.unit) w.classes (in_use_with others s) k shared s refused ≡ source.Advances next_shared next (event_view event)
+  pub steps : thread_step (unit_tree p.unit) w.classes (in_use_with others s) k shared s refused
+      ≡ source.Advances next_shared next (event_view event)
   pub store_agrees : StoreAgrees p w store next_shared (beside others (acquired_by next))
   pub keeps : Keeps old.heap shared store.heap next_shared
   pub keeps_copies : KeepsCopies k old.elements store.elements
@@ -49,9 +52,38 @@ pub record Advances (p : Lowered) (w : World) (old store : Store) (others : Acqu
       (in_use_with others s) k shared s false)) old.heap store.heap
 
 -- the same by what is told of it
-abbrev pub AdvancesBy : Lowered → World → (old store : Store) → (others : Acquired) → (k : ℕ) → Owners → Shared → source.Thread → Thread → Advanced → Type 0
+abbrev pub AdvancesBy : Lowered → World → (old store : Store) → (others : Acquired) → (k : ℕ) → Owners → Shared
+    → source.Thread → Thread → Advanced → Type 0
 AdvancesBy p w old store others k own shared s t (advanced.Did event) = Advances p w old store others k own shared s t false event
 AdvancesBy p w old store others k own shared s t advanced.Refused = Advances p w old store others k own shared s t true Quiet
+
+-- it stands for some thread of the source that no step breaks; it has not ended, and doesn't wait for a monitor
+abbrev pub StandsReady : Lowered → World → (k : ℕ) → Store → Thread → Type 0
+StandsReady p w k store t =
+    (others : Acquired) × (own : Owners) × (shared : Shared) × (s : source.Thread)
+    × StoreAgrees p w store shared (beside others (acquired_by s))
+    × ThreadAgrees p w.classes store.heap store.elements (length (loaded_objects w)) k own shared t s
+    × (t.ending ≡ Unfinished) × IsSteady w.classes own shared s × (waits w.classes k shared s ≡ false)
+
+-- what holds of thread k with whatever state it stands for in which it doesn't wait
+abbrev pub HoldsAlways : Lowered → World → (k : ℕ) → Store → Thread
+    → (Acquired → Owners → Shared → source.Thread → Type 0) → Type 0
+HoldsAlways p w k store t Holds =
+    (others : Acquired) (own : Owners) (shared : Shared) (s : source.Thread)
+    → StoreAgrees p w store shared (beside others (acquired_by s))
+    → ThreadAgrees p w.classes store.heap store.elements (length (loaded_objects w)) k own shared t s
+    → IsSteady w.classes own shared s → waits w.classes k shared s ≡ false → Holds others own shared s
+
+-- it took the step that the source's thread takes
+abbrev pub AdvancesAlways : Lowered → World → (k : ℕ) → (store after : Store) → Thread → Thread → Advanced → Type 0
+AdvancesAlways p w k store after t t' x =
+    HoldsAlways p w k store t (λ others own shared s. AdvancesBy p w store after others k own shared s t' x)
+
+-- or this is why it didn't
+abbrev pub IsHinderedAlways : Lowered → World → (k : ℕ) → Store → Thread → (may_refuse : Bool) → StepFault → Type 0
+IsHinderedAlways p w k store t may_refuse fault =
+    HoldsAlways p w k store t (λ others own shared s. IsHindered (left_of store.heap) (cells_made shared
+    (thread_step (unit_tree p.unit) w.classes (in_use_with others s) k shared s false)) may_refuse fault)
 
 -- ---- returns
 

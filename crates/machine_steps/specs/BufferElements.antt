@@ -28,17 +28,17 @@ IsOfBlock space (held.View a) = IsAddress space a
 IsOfBlock space b = Unit {0}
 
 -- the call goes on after the instruction with these operands
-abbrev pub GoesOnWith : (stack : List ℕ) → (call after : Activation) → Event → Type 0
-GoesOnWith stack call after seen = HasMoved call after (call.place + 1) stack (values_in call) × (seen ≡ Quiet)
+abbrev pub GoesOnWith : (stack : List ℕ) → (activation after : Activation) → Event → Type 0
+GoesOnWith stack activation after seen = HasMoved activation after (activation.place + 1) stack (values_in activation) × (seen ≡ Quiet)
 
 -- a trap on this line leaves the call as it was
-abbrev pub TrapsPast : (line : ℕ) → (call after : Activation) → Event → Type 0
-TrapsPast line call after seen = (after ≡ call) × (seen ≡ Trapped OutOfRange line)
+abbrev pub TrapsPast : (line : ℕ) → (activation after : Activation) → Event → Type 0
+TrapsPast line activation after seen = (after ≡ activation) × (seen ≡ Trapped OutOfRange line)
 
 -- an element, if it is there, takes the place of its index on the stack, below which these words are
-abbrev pub LoadsElement : (line : ℕ) → (stack : List ℕ) → (element : Option ℕ) → (call after : Activation) → Event → Type 0
-LoadsElement line stack (Some word) call after seen = GoesOnWith (word ∷ stack) call after seen
-LoadsElement line stack None call after seen = TrapsPast line call after seen
+abbrev pub LoadsElement : (line : ℕ) → (stack : List ℕ) → (element : Option ℕ) → (activation after : Activation) → Event → Type 0
+LoadsElement line stack (Some word) activation after seen = GoesOnWith (word ∷ stack) activation after seen
+LoadsElement line stack None activation after seen = TrapsPast line activation after seen
 
 -- the store with another word at an index of a buffer
 abbrev pub with_word : Store → Buffer → (index word : ℕ) → Store
@@ -48,6 +48,8 @@ with_word store (held.View a) index word = record store { heap = with_value stor
 
 -- an element of a buffer is written, if it is there
 abbrev pub StoresElement : (line : ℕ) → (stack : List ℕ) → (inside : Bool) → Store → Buffer → (index word : ℕ)
-    → (after : Store) → (call after_call : Activation) → Event → Type 0
-StoresElement line stack true store b index word after call after_call seen = (after ≡ with_word store b index word) × GoesOnWith stack call after_call seen
-StoresElement line stack false store b index word after call after_call seen = (after ≡ store) × TrapsPast line call after_call seen
+    → (after : Store) → (activation after_call : Activation) → Event → Type 0
+StoresElement line stack true store b index word after activation after_call seen =
+    (after ≡ with_word store b index word) × GoesOnWith stack activation after_call seen
+StoresElement line stack false store b index word after activation after_call seen =
+    (after ≡ store) × TrapsPast line activation after_call seen

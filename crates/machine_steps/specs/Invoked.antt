@@ -4,10 +4,12 @@ use Rattle.code.specs.Call.{call_view}
 use Rattle.code.specs.Depth.{Listing}
 use Rattle.code.specs.declared.instr.Call.{Call as InMemory}
 use Rattle.code.specs.declared.instr.Instr.TheVariants as instr
+use Rattle.heap.specs.Heap.{left_of}
 use Rattle.semantics.specs.CallStep.{waits_with}
 use Rattle.semantics.specs.Effect.{effect_of}
 use Rattle.semantics.specs.Task.{Task}
 use Rattle.semantics.specs.Thread.{Shared, Thread, sight_of}
+use Rattle.semantics.specs.ThreadStep.{after_effect}
 use Rattle.semantics.specs.Value.{Trap as SourceTrap}
 use Rattle.semantics.specs.World.{World}
 use Rattle.world_values.specs.SoundWorlds.{IsSound}
@@ -20,6 +22,7 @@ use Rattle.machine_steps.specs.declared.invoke.Invoked.TheVariants as invoked
 use Rattle.semantics.specs.declared.event.Event.TheVariants.{Quiet, Trapped}
 use Rattle.machine_steps.specs.declared.execute.Executed.{Executed}
 use Rattle.machine_steps.specs.declared.execute.Executed.TheVariants.{Did, Refused}
+use Rattle.machine_steps.specs.declared.fault.StepFault.{StepFault}
 use Rattle.tables.specs.Locals.{has_room}
 use Rattle.machine_answers.specs.declared.answer.Answer.{Answer}
 use Rattle.machine_answers.specs.declared.answer.Answer.TheVariants as answer
@@ -33,45 +36,46 @@ use Rattle.machine_answers.specs.Checked.{element_wanted, trap_found}
 use Rattle.machine_scenes.specs.Locals.{locals_after}
 use Rattle.machine_scenes.specs.StoreAgrees.{StoreAgrees}
 use Rattle.machine_answers.specs.WorkedOut.{IsWorkedOut}
-use Rattle.machine_steps.specs.Executes.{IsSteady}
+use Rattle.machine_steps.specs.Executes.{Executes, IsHindered, IsSteady, cells_made, in_use_with}
 use Rattle.machine_threads.specs.InProgress.{CallStands}
 use Rattle.machine_scenes.specs.HeapAgrees.{ReferenceAgrees}
 
 -- Thread k of the source has a call as its first task, the machine is at the instruction that stands for it, and all that the
 -- call can change agrees. What is seen of buffers are their elements. The thread doesn't wait for a monitor.
-pub record AtCall (p : Lowered) (w : World) (store : Store) (pending : Option ℕ) (call : Activation)
-    (function : InMemory) (others : Acquired) (k : ℕ) (own : Owners) (shared : Shared) (s : Thread) (task : Task)
+pub record AtCall (p : Lowered) (w : World) (store : Store) (pending : Option ℕ) (activation : Activation)
+    (call : InMemory) (others : Acquired) (k : ℕ) (own : Owners) (shared : Shared) (s : Thread) (task : Task)
     (rest : List Task) : Type 0 where
   pub lowered : IsLowered p
   pub tasks : s.tasks ≡ Some (task ∷ rest)
   pub shares : StoreAgrees p w store shared (beside others (acquired_by s))
   pub pending_agrees : ReferenceAgrees store.heap pending s.pending
-  pub stands : CallStands p w.classes store.heap store.elements k call (visible_to own shared s) s.frames (task ∷ rest)
+  pub stands : CallStands p w.classes store.heap store.elements k activation (visible_to own shared s) s.frames (task ∷ rest)
   pub sees : SeesBuffers (visible_to own shared s) stands.meant.buffers
-  pub views : AreViewed store.heap call.slots.buffers.items s
+  pub views : AreViewed store.heap activation.slots.buffers.items s
   pub steady : IsSteady w.classes own shared s
   pub ready : waits_with w.classes k shared s (effect_of (sight_of shared s) task) ≡ false
   pub code : Listing
-  pub of_function : slice_get p.codes call.function ≡ Some code
-  pub at : slice_get code.instrs call.place ≡ Some (instr.Call (call_view function))
+  pub of_function : slice_get p.codes activation.function ≡ Some code
+  pub at : slice_get code.instrs activation.place ≡ Some (instr.Call (call_view call))
 
 -- the trap of a call of thread k before it does anything
 abbrev pub trap_at : World → Store → (pending : Option ℕ) → Activation → (k : ℕ) → InMemory → Option SourceTrap
-trap_at w store pending call k function =
-    trap_found (scene_of w.classes store call k pending) (has_room (locals_after
-    (function_value function.function) call.locals)) (element_wanted function.target)
-    (function_value function.function) function.operands.items
+trap_at w store pending activation k call =
+    trap_found (scene_of w.classes store activation k pending) (has_room (locals_after
+    (function_value call.function) activation.locals)) (element_wanted call.target)
+    (function_value call.function) call.operands.items
 
 -- No check stops a call of thread k, and this is what it answers.
-pub record IsAnswered (w : World) (store : Store) (pending : Option ℕ) (call : Activation) (k : ℕ) (function : InMemory) (given : Answer) : Type 0 where
+pub record IsAnswered (w : World) (store : Store) (pending : Option ℕ) (activation : Activation) (k : ℕ)
+    (call : InMemory) (given : Answer) : Type 0 where
   pub sound : IsSound w
-  pub free : trap_at w store pending call k function ≡ None
-  pub works : IsWorkedOut (scene_of w.classes store call k pending) (call_view function) (function_value function.function) given
+  pub free : trap_at w store pending activation k call ≡ None
+  pub works : IsWorkedOut (scene_of w.classes store activation k pending) (call_view call) (function_value call.function) given
 
 -- A trap stops a call: a check found it, or it is what the call does.
 abbrev pub IsStopped : World → Store → (pending : Option ℕ) → Activation → (k : ℕ) → InMemory → Trap → Type 0
-IsStopped w store pending call k function trap = (trap_at w store pending call k function ≡ Some (trap_view trap))
-    ⊎ IsAnswered w store pending call k function (answer.Halts trap)
+IsStopped w store pending activation k call trap = (trap_at w store pending activation k call ≡ Some (trap_view trap))
+    ⊎ IsAnswered w store pending activation k call (answer.Halts trap)
 
 -- what a call came to that wasn't stopped
 abbrev pub done_or_refused : (refused : Bool) → Invoked
@@ -83,3 +87,29 @@ abbrev pub executed_as : (line : ℕ) → Invoked → Executed
 executed_as line invoked.Done = Did Quiet
 executed_as line invoked.Refused = Refused
 executed_as line (invoked.Trapped trap) = Did (Trapped trap line)
+
+-- ---- a call of any thread of the source
+
+-- some thread k of the source is at this call
+abbrev pub StandsAtCall : World → Store → (pending : Option ℕ) → Activation → InMemory → (k : ℕ) → Type 0
+StandsAtCall w store pending activation call k =
+    (p : Lowered) × (others : Acquired) × (own : Owners) × (shared : Shared) × (s : Thread) × (task : Task)
+    × (rest : List Task) × AtCall p w store pending activation call others k own shared s task rest
+
+-- of each thread that is, the call does the first task
+abbrev pub DoesCall : World → (old store : Store) → (pending left : Option ℕ) → (activation after : Activation) → InMemory
+    → (k : ℕ) → Invoked → Type 0
+DoesCall w old store pending left activation after call k done =
+    (p : Lowered) (others : Acquired) (own : Owners) (shared : Shared) (s : Thread) (task : Task) (rest : List Task)
+    → AtCall p w old pending activation call others k own shared s task rest
+    → Executes p w old store others k own shared s rest after left (effect_of (sight_of shared s) task)
+    (executed_as call.line done)
+
+-- or this is why it wasn't done
+abbrev pub IsHinderedAtCall : World → Store → (pending : Option ℕ) → Activation → InMemory → (k : ℕ) → (may_refuse : Bool)
+    → StepFault → Type 0
+IsHinderedAtCall w store pending activation call k may_refuse fault =
+    (p : Lowered) (others : Acquired) (own : Owners) (shared : Shared) (s : Thread) (task : Task) (rest : List Task)
+    → AtCall p w store pending activation call others k own shared s task rest
+    → IsHindered (left_of store.heap) (cells_made shared (after_effect w.classes (in_use_with others s) k shared s rest
+    (effect_of (sight_of shared s) task))) may_refuse fault

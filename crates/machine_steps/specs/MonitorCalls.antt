@@ -19,7 +19,8 @@ changes_monitor a = false
 abbrev pub Changes : (thread : ℕ) → Answer → (before after : List Monitor) → Type 0
 Changes thread (answer.Enters o) before after =
     (came : Enter) × (came ≡ entering thread (monitor_of before o.name))
-    × (came ≡ Entered → ChangesAt before after o.name (Some (entered o thread (monitor_of before o.name)))) × AreOf (o ∷ map object_of before) after
+    × (came ≡ Entered → ChangesAt before after o.name (Some (entered o thread (monitor_of before o.name))))
+    × AreOf (o ∷ map object_of before) after
 Changes thread (answer.Exits n) before after =
     (came : Exit) × (came ≡ leaving thread (monitor_of before n))
     × (came ≡ Left → ChangesAt before after n (left (monitor_of before n))) × AreOf (map object_of before) after

@@ -13,15 +13,15 @@ use Rattle.semantics.specs.declared.event.Event.{Event}
 use Rattle.semantics.specs.declared.event.Event.TheVariants as event
 
 -- the call is at a place, with these operands, and with these values in slots, and its table as it was
-pub record HasMoved (call after : Activation) (to : ℕ) (words : List ℕ) (slots : SlotValues) : Type 0 where
-  pub function : after.function ≡ call.function
+pub record HasMoved (activation after : Activation) (to : ℕ) (words : List ℕ) (slots : SlotValues) : Type 0 where
+  pub function : after.function ≡ activation.function
   pub place : after.place ≡ to
   pub stack : after.stack ≡ words
   pub numbers : after.slots.numbers.items ≡ slots.numbers
   pub references : after.slots.references.items ≡ slots.keys
   pub fields : after.slots.fields.items ≡ slots.handles
   pub buffers : after.slots.buffers.items ≡ slots.buffers
-  pub locals : after.locals ≡ call.locals
+  pub locals : after.locals ≡ activation.locals
 
 -- the place that a way leads to; a trap stays
 abbrev pub end_of_way : (place : ℕ) → Plain → ℕ
@@ -48,10 +48,10 @@ IsReachable place (plain.Back n) = n ≤ place
 IsReachable place (plain.Trap trap line) = Unit {0}
 
 -- what an instruction on the stack and the number slots alone did to a call
-pub record MovesPlainly (i : Instr) (call after : Activation) (seen : Event) : Type 0 where
+pub record MovesPlainly (i : Instr) (activation after : Activation) (seen : Event) : Type 0 where
   pub way : Plain
   pub stack : List ℕ
   pub numbers : List ℕ
-  pub is : plain_of i call.stack call.slots.numbers.items ≡ Some (way, stack, numbers)
-  pub moved : HasMoved call after (end_of_way call.place way) stack (record (values_in call) { numbers = numbers })
+  pub is : plain_of i activation.stack activation.slots.numbers.items ≡ Some (way, stack, numbers)
+  pub moved : HasMoved activation after (end_of_way activation.place way) stack (record (values_in activation) { numbers = numbers })
   pub way_seen : WayIsSeen way seen

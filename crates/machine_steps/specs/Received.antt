@@ -88,9 +88,9 @@ HasStatic target count = Unit {0}
 
 -- the target's slot is there
 abbrev pub HasTarget : Target → Activation → Type 0
-HasTarget target call = HasNumber target (length call.slots.numbers.items)
-    × HasReference target (length call.slots.references.items) × HasField target (length call.slots.fields.items)
-    × HasBuffer target (length call.slots.buffers.items)
+HasTarget target activation = HasNumber target (length activation.slots.numbers.items)
+    × HasReference target (length activation.slots.references.items) × HasField target (length activation.slots.fields.items)
+    × HasBuffer target (length activation.slots.buffers.items)
 
 -- the slot of the flag for `isCopy`, if there is one, is among this number of slots of numbers
 abbrev pub HasTold : (told : Option ℕ) → ℕ → Type 0
@@ -103,13 +103,13 @@ HasRoom NewLocal locals = has_room locals ≡ true
 HasRoom kind locals = Unit {0}
 
 -- the call goes on after the instruction, with what is given where it belongs, once `isCopy` has been told
-pub record Receives (target : Target) (kind : ResultKind) (told : Option ℕ) (g : Given) (call after : Activation) : Type 0 where
-  pub function : after.function ≡ call.function
-  pub place : after.place ≡ call.place + 1
+pub record Receives (target : Target) (kind : ResultKind) (told : Option ℕ) (g : Given) (activation after : Activation) : Type 0 where
+  pub function : after.function ≡ activation.function
+  pub place : after.place ≡ activation.place + 1
   pub stack : after.stack ≡ stack_with target g
-  pub numbers : after.slots.numbers.items ≡ numbers_with target g (told_with told g call.slots.numbers.items)
+  pub numbers : after.slots.numbers.items ≡ numbers_with target g (told_with told g activation.slots.numbers.items)
   pub key : Option ℕ
-  pub makes : MakesLocal kind g call.locals key after.locals
-  pub references : after.slots.references.items ≡ references_with target key call.slots.references.items
-  pub fields : after.slots.fields.items ≡ fields_with target g call.slots.fields.items
-  pub buffers : after.slots.buffers.items ≡ buffers_with target g call.slots.buffers.items
+  pub makes : MakesLocal kind g activation.locals key after.locals
+  pub references : after.slots.references.items ≡ references_with target key activation.slots.references.items
+  pub fields : after.slots.fields.items ≡ fields_with target g activation.slots.fields.items
+  pub buffers : after.slots.buffers.items ≡ buffers_with target g activation.slots.buffers.items

@@ -48,7 +48,11 @@ nulled_buffers v buffers = buffers
 
 -- the slots with NULL in a variable
 abbrev pub nulled_slots : NullableVariable → SlotValues → SlotValues
-nulled_slots v slots = record slots { keys = nulled_references v slots.keys; handles = nulled_fields v slots.handles; buffers = nulled_buffers v slots.buffers }
+nulled_slots v slots = record slots {
+  keys = nulled_references v slots.keys;
+  handles = nulled_fields v slots.handles;
+  buffers = nulled_buffers v slots.buffers;
+}
 
 -- the statics with NULL in a variable
 abbrev pub nulled_statics : NullableVariable → List StaticReference → List StaticReference

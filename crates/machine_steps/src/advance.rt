@@ -3,18 +3,14 @@
 ghost use Rattle.std.specs.Prelude.{◌≡◌, ℕ, ◌+◌, ◌<◌, ◌^◌, true, false, Some, None, ◌∷◌, List, length, Ok, IfOk, IfErr, IfSome, IfNone, OnOk, OnErr};
 ghost use Rattle.std.specs.Option.{option_and_then};
 ghost use Rattle.std.specs.VecDeque.{deque_len};
-ghost use Rattle.heap.specs.Heap.{IsAddress, class_at, left_of};
-ghost use Rattle.syntax.specs.Views.{unit_tree};
+ghost use Rattle.heap.specs.Heap.{IsAddress, class_at};
 ghost use Rattle.semantics.specs.Thread.{Shared, Thread as SourceThread};
-ghost use Rattle.semantics.specs.ThreadStep.{thread_step, waits};
-ghost use Rattle.semantics.specs.World.{World as SourceWorld, loaded_objects};
+ghost use Rattle.semantics.specs.ThreadStep.{waits};
+ghost use Rattle.semantics.specs.World.{World as SourceWorld};
 ghost use Rattle.semantics_safety.specs.Owners.{Owners};
 ghost use Rattle.code_meaning.specs.Lowered.{IsLowered};
-ghost use Rattle.machine_scenes.specs.Buffers.{Acquired, acquired_by, beside};
-ghost use Rattle.machine_scenes.specs.StoreAgrees.{StoreAgrees};
-ghost use Rattle.machine_threads.specs.ThreadAgrees.{ThreadAgrees};
-ghost use Rattle.machine_steps.specs.Advances.{Advances, AdvancesBy, LeavesMonitors, Stands, calls_after, ending_after, ends_with};
-ghost use Rattle.machine_steps.specs.Executes.{IsHindered, IsSteady, cells_made, in_use_with};
+ghost use Rattle.machine_scenes.specs.Buffers.{Acquired};
+ghost use Rattle.machine_steps.specs.Advances.{Advances, AdvancesAlways, IsHinderedAlways, LeavesMonitors, Stands, StandsReady, calls_after, ending_after, ends_with};
 ghost use Rattle.machine_threads.specs.Entry.{IsReady, Begins};
 ghost use Rattle.machine_steps.specs.Moved.{IsSilent};
 
@@ -40,11 +36,12 @@ pub enum Advanced {
     Refused,
 }
 
-/// Takes one step of a thread, which has this number, has not ended and doesn't wait for a monitor. Only the entry into a call, a
-/// new frame, a new global reference, a copy of elements and a monitor that is entered take host memory.
+/// Takes one step of a thread, which has this number, has not ended and doesn't wait for a monitor.
+/// Only the entry into a call, a new frame, a new global reference, a copy of elements and a monitor that is entered
+/// take host memory.
 ///
-/// Where the step's objects have no room, its allocation is refused if it may be. Else `NoRoom` says so, before anything has
-/// changed: room can be made then, and the same step asked for again. It takes no host memory.
+/// Where the step's objects have no room, its allocation is refused if it may be. Else `NoRoom` says so, before
+/// anything has changed: room can be made then, and the same step asked for again. It takes no host memory.
 #[inline(always)]
 pub fn advance(
     program: &Program<'_>,
@@ -56,17 +53,11 @@ pub fn advance(
 ) -> Result<Advanced, StepFault>
     requires lowered { IsLowered program.now }
     requires few { store.old.births + 2 < 2 ^ 32 }
-    requires agrees { (others : Acquired) × (own : Owners) × (shared : Shared) × (s : SourceThread) × StoreAgrees program.now world.now store.old shared (beside others (acquired_by s))
-        × ThreadAgrees program.now world.now.classes store.old.heap store.old.elements (length (loaded_objects world.now)) number own shared thread.old s × (thread.old.ending ≡ Ending.Unfinished) × IsSteady world.now.classes own shared s
-        × (waits world.now.classes number shared s ≡ false) }
-    ensures advances { IfOk result (λ advanced. (others : Acquired) (own : Owners) (shared : Shared) (s : SourceThread) → StoreAgrees program.now world.now store.old shared (beside others (acquired_by s))
-        → ThreadAgrees program.now world.now.classes store.old.heap store.old.elements (length (loaded_objects world.now)) number own shared thread.old s
-        → IsSteady world.now.classes own shared s → waits world.now.classes number shared s ≡ false
-        → AdvancesBy program.now world.now store.old store.new others number own shared s thread.new advanced) }
-    ensures hindered { IfErr result (λ fault. (others : Acquired) (own : Owners) (shared : Shared) (s : SourceThread) → StoreAgrees program.now world.now store.old shared (beside others (acquired_by s))
-        → ThreadAgrees program.now world.now.classes store.old.heap store.old.elements (length (loaded_objects world.now)) number own shared thread.old s
-        → IsSteady world.now.classes own shared s → waits world.now.classes number shared s ≡ false
-        → IsHindered (left_of store.old.heap) (cells_made shared (thread_step (unit_tree program.now.unit) world.now.classes (in_use_with others s) number shared s false)) may_refuse fault) }
+    requires agrees { StandsReady program.now world.now number store.old thread.old }
+    ensures advances { IfOk result (λ advanced. AdvancesAlways program.now world.now number store.old store.new
+        thread.old thread.new advanced) }
+    ensures hindered { IfErr result (λ fault. IsHinderedAlways program.now world.now number store.old thread.old
+        may_refuse fault) }
     ensures refuses { result ≡ Ok Advanced.Refused → may_refuse ≡ true }
     ensures store { OnErr result (store.new ≡ store.old) }
     ensures thread { OnErr result (thread.new ≡ thread.old) }
@@ -76,12 +67,12 @@ pub fn advance(
             Ok(()) => Ok(Advanced::Did(Event::Quiet)),
             Err(_) => Err(StepFault::Memory),
         },
-        Some(call) => match execute(
+        Some(activation) => match execute(
             program,
             world,
             store,
             &mut thread.pending,
-            call,
+            activation,
             number,
             may_refuse,
         ) {
@@ -96,14 +87,17 @@ pub fn advance(
     }
 }
 
-/// Takes one step of a thread, if its next instruction works on the stack and the number slots alone, and answers what
-/// is seen of it. None leaves all as it was. It takes no host memory.
+/// Takes one step of a thread, if its next instruction works on the stack and the number slots alone.
+/// It answers what is seen of it. None leaves all as it was. It takes no host memory.
 #[inline(always)]
 pub fn advance_plainly(program: &Program<'_>, store: &Store, thread: &mut Thread) -> Option<Event>
     requires lowered { IsLowered program.now }
-    requires stands { (w : SourceWorld) × (others : Acquired) × (k : ℕ) × (own : Owners) × (shared : Shared) × (s : SourceThread) × Stands program.now w store.now others k own shared s thread.old }
-    ensures advances { IfSome result (λ event. (w : SourceWorld) (others : Acquired) (k : ℕ) (own : Owners) (shared : Shared) (s : SourceThread) → Stands program.now w store.now others k own shared s thread.old
-        → (waits w.classes k shared s ≡ false) × Advances program.now w store.now store.now others k own shared s thread.new false event) }
+    requires stands { (w : SourceWorld) × (others : Acquired) × (k : ℕ) × (own : Owners) × (shared : Shared)
+        × (s : SourceThread) × Stands program.now w store.now others k own shared s thread.old }
+    ensures advances { IfSome result (λ event. (w : SourceWorld) (others : Acquired) (k : ℕ) (own : Owners)
+        (shared : Shared) (s : SourceThread) → Stands program.now w store.now others k own shared s thread.old
+        → (waits w.classes k shared s ≡ false)
+        × Advances program.now w store.now store.now others k own shared s thread.new false event) }
     ensures silent { IfSome result IsSilent }
     ensures none { IfNone result (thread.new ≡ thread.old) }
     ensures ending { thread.new.ending ≡ thread.old.ending }
@@ -112,9 +106,9 @@ pub fn advance_plainly(program: &Program<'_>, store: &Store, thread: &mut Thread
     let _ = store.heap.cells();
     match &mut thread.call {
         None => None,
-        Some(call) => {
-            let code = program.code_at(call.function);
-            let instr = code.instr_at(call.place);
+        Some(activation) => {
+            let code = program.code_at(activation.function);
+            let instr = code.instr_at(activation.place);
             match instr {
                 Instr::TestNull { .. }
                 | Instr::StoreNull(_)
@@ -125,7 +119,7 @@ pub fn advance_plainly(program: &Program<'_>, store: &Store, thread: &mut Thread
                 | Instr::Return
                 | Instr::ReturnJint
                 | Instr::ReturnReference(_) => None,
-                _ => Some(run_plain(instr, call)),
+                _ => Some(run_plain(instr, activation)),
             }
         }
     }
@@ -136,18 +130,20 @@ pub fn advance_plainly(program: &Program<'_>, store: &Store, thread: &mut Thread
 fn enter(program: &Program<'_>, loaded: &[Addr], thread: &mut Thread) -> Result<(), AllocError>
     requires lowered { IsLowered program.now }
     requires some { 0 < deque_len thread.old.calls }
-    requires ready { (next : PendingCall) (rest : List PendingCall) → thread.old.calls.items ≡ next ∷ rest → IsReady program.now (length loaded.now) next }
-    ensures calls { OnOk result ((next : PendingCall) × (call : Activation) × (thread.old.calls.items ≡ next ∷ thread.new.calls.items)
-        × (thread.new.call ≡ Some call) × Begins program.now loaded.now next call) }
+    requires ready { (next : PendingCall) (rest : List PendingCall) → thread.old.calls.items ≡ next ∷ rest
+        → IsReady program.now (length loaded.now) next }
+    ensures calls { OnOk result ((next : PendingCall) × (activation : Activation)
+        × (thread.old.calls.items ≡ next ∷ thread.new.calls.items)
+        × (thread.new.call ≡ Some activation) × Begins program.now loaded.now next activation) }
     ensures pending { OnOk result (thread.new.pending ≡ thread.old.pending) }
     ensures ending { OnOk result (thread.new.ending ≡ thread.old.ending) }
     ensures err { OnErr result (thread.new ≡ thread.old) }
 {
     let next = thread.calls.front().unwrap();
     let code = program.code(next.function).unwrap();
-    let call = begin(*thread.calls.allocator(), code, loaded, next)?;
+    let activation = begin(*thread.calls.allocator(), code, loaded, next)?;
     let _ = thread.calls.pop_front();
-    thread.call = Some(call);
+    thread.call = Some(activation);
     Ok(())
 }
 
@@ -157,22 +153,28 @@ fn leave(store: &mut Store, thread: &mut Thread, number: u8)
     requires { (a : ℕ) → thread.old.pending ≡ Some a → IsAddress store.old.heap a }
     ensures call { thread.new.call ≡ None }
     ensures pending { thread.new.pending ≡ None }
-    ensures calls { thread.new.calls.items ≡ calls_after (option_and_then (class_at store.old.heap) thread.old.pending) thread.old.calls.items }
-    ensures ending { thread.new.ending ≡ ending_after (option_and_then (class_at store.old.heap) thread.old.pending) thread.old.calls.items thread.old.ending }
-    ensures monitors { LeavesMonitors (ends_with (option_and_then (class_at store.old.heap) thread.old.pending) thread.old.calls.items) number store.old store.new }
+    ensures calls { thread.new.calls.items
+        ≡ calls_after (option_and_then (class_at store.old.heap) thread.old.pending) thread.old.calls.items }
+    ensures ending { thread.new.ending ≡ ending_after (option_and_then (class_at store.old.heap) thread.old.pending)
+        thread.old.calls.items thread.old.ending }
+    ensures monitors { LeavesMonitors
+        (ends_with (option_and_then (class_at store.old.heap) thread.old.pending) thread.old.calls.items)
+        number store.old store.new }
 {
     if ends(&store.heap, thread) {
         store.monitors.drop_thread(number);
     }
 }
 
-/// Ends a call. An exception that is pending ends the thread, which drops its other calls. Answers whether the thread has ended.
+/// Ends a call, and answers whether the thread has ended. A pending exception ends it, and drops its other calls.
 fn ends(heap: &Heap, thread: &mut Thread) -> bool
     requires { (a : ℕ) → thread.old.pending ≡ Some a → IsAddress heap.now a }
     ensures call { thread.new.call ≡ None }
     ensures pending { thread.new.pending ≡ None }
-    ensures calls { thread.new.calls.items ≡ calls_after (option_and_then (class_at heap.now) thread.old.pending) thread.old.calls.items }
-    ensures ending { thread.new.ending ≡ ending_after (option_and_then (class_at heap.now) thread.old.pending) thread.old.calls.items thread.old.ending }
+    ensures calls { thread.new.calls.items
+        ≡ calls_after (option_and_then (class_at heap.now) thread.old.pending) thread.old.calls.items }
+    ensures ending { thread.new.ending ≡ ending_after (option_and_then (class_at heap.now) thread.old.pending)
+        thread.old.calls.items thread.old.ending }
     ensures ended { result ≡ ends_with (option_and_then (class_at heap.now) thread.old.pending) thread.old.calls.items }
 {
     thread.call = None;

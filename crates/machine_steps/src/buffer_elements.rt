@@ -20,21 +20,22 @@ use machine_scenes::store::Store;
 use semantics::{Event, Trap};
 use tables::{Copied, Elements};
 
-/// The element of a buffer, whose index is the topmost word, takes its place. Past the end a trap on this line leaves all as it
-/// was.
+/// Replaces the topmost word, an index, by the element of a buffer there.
+/// Past the end a trap on this line leaves all as it was.
 #[inline(never)]
-pub fn load_element(store: &Store, call: &mut Activation, slot: u32, line: u32) -> Event
-    requires operand { 0 < length call.old.stack }
-    requires place { call.old.place + 1 < 2 ^ 64 }
-    requires block { IsOfBlock store.now.heap (buffer_there call.old.slots.buffers.items slot) }
-    ensures { (index : ℕ) (stack : List ℕ) → call.old.stack ≡ index ∷ stack
-        → LoadsElement line stack (slice_get (words_held store.now (buffer_there call.old.slots.buffers.items slot)) index) call.old call.new result }
+pub fn load_element(store: &Store, activation: &mut Activation, slot: u32, line: u32) -> Event
+    requires operand { 0 < length activation.old.stack }
+    requires place { activation.old.place + 1 < 2 ^ 64 }
+    requires block { IsOfBlock store.now.heap (buffer_there activation.old.slots.buffers.items slot) }
+    ensures { (index : ℕ) (stack : List ℕ) → activation.old.stack ≡ index ∷ stack
+        → LoadsElement line stack (slice_get (words_held store.now
+        (buffer_there activation.old.slots.buffers.items slot)) index) activation.old activation.new result }
 {
-    let buffer = buffer_there(&call.slots.buffers, slot as usize);
-    match element_at(store, buffer, call.stack.top() as usize) {
+    let buffer = buffer_there(&activation.slots.buffers, slot as usize);
+    match element_at(store, buffer, activation.stack.top() as usize) {
         Some(word) => {
-            call.stack.replace_top(word);
-            call.place += 1;
+            activation.stack.replace_top(word);
+            activation.place += 1;
             Event::Quiet
         }
         None => Event::Trapped {
@@ -44,37 +45,43 @@ pub fn load_element(store: &Store, call: &mut Activation, slot: u32, line: u32) 
     }
 }
 
-/// The topmost word is converted to the type of a buffer's elements and written there, at the index that is the word
-/// below it. Past the end a trap on this line leaves all as it was.
+/// Writes the topmost word to a buffer, at the index that is the word below it, converted to the elements' type.
+/// Past the end a trap on this line leaves all as it was.
 #[inline(never)]
 pub fn store_element(
     store: &mut Store,
-    call: &mut Activation,
+    activation: &mut Activation,
     element: ElementType,
     slot: u32,
     line: u32,
 ) -> Event
-    requires operands { 1 < length call.old.stack }
-    requires place { call.old.place + 1 < 2 ^ 64 }
-    requires block { IsOfBlock store.old.heap (buffer_there call.old.slots.buffers.items slot) }
-    ensures { (word index : ℕ) (stack : List ℕ) → call.old.stack ≡ word ∷ index ∷ stack
-        → StoresElement line stack (nat_lt index (length (words_held store.old (buffer_there call.old.slots.buffers.items slot)))) store.old (buffer_there call.old.slots.buffers.items slot) index (element_word element word) store.new call.old call.new result }
+    requires operands { 1 < length activation.old.stack }
+    requires place { activation.old.place + 1 < 2 ^ 64 }
+    requires block { IsOfBlock store.old.heap (buffer_there activation.old.slots.buffers.items slot) }
+    ensures { (word index : ℕ) (stack : List ℕ) → activation.old.stack ≡ word ∷ index ∷ stack
+        → StoresElement line stack
+        (nat_lt index (length (words_held store.old (buffer_there activation.old.slots.buffers.items slot))))
+        store.old (buffer_there activation.old.slots.buffers.items slot) index (element_word element word)
+        store.new activation.old activation.new result }
 {
-    let count = count_of(store, buffer_there(&call.slots.buffers, slot as usize));
-    let word = call.stack.pop();
-    let index = call.stack.pop();
+    let count = count_of(
+        store,
+        buffer_there(&activation.slots.buffers, slot as usize),
+    );
+    let word = activation.stack.pop();
+    let index = activation.stack.pop();
     if (index as usize) < count {
         write(
             store,
-            buffer_there(&call.slots.buffers, slot as usize),
+            buffer_there(&activation.slots.buffers, slot as usize),
             index as usize,
             element_word(element, word),
         );
-        call.place += 1;
+        activation.place += 1;
         Event::Quiet
     } else {
-        call.stack.push(index);
-        call.stack.push(word);
+        activation.stack.push(index);
+        activation.stack.push(word);
         Event::Trapped {
             trap: Trap::OutOfRange,
             line: line as usize,

@@ -1,23 +1,15 @@
 //! Calls of functions of the JNI (JNI Specification, chapter 4).
 
-ghost use Rattle.std.specs.Prelude.{◌≡◌, ◌+◌, ◌<◌, ◌^◌, ◌||◌, nat_le, false, true, List, Option, Some, Ok, slice_get, IfOk, IfErr, IfSome, OnOk, OnErr};
+ghost use Rattle.std.specs.Prelude.{◌≡◌, ◌+◌, ◌<◌, ◌^◌, ◌||◌, nat_le, false, true, Option, Some, Ok, slice_get, IfOk, IfErr, IfSome, OnOk, OnErr};
 ghost use Rattle.code.specs.Call.{IsPrepared};
 ghost use Rattle.heap.specs.Heap.{left_of};
-ghost use Rattle.semantics.specs.Effect.{effect_of};
-ghost use Rattle.semantics.specs.Task.{Task};
-ghost use Rattle.semantics.specs.Thread.{Shared, Thread as SourceThread, sight_of};
-ghost use Rattle.semantics.specs.ThreadStep.{after_effect};
-ghost use Rattle.semantics_safety.specs.Owners.{Owners};
-ghost use Rattle.code_meaning.specs.Lowered.{Lowered};
-ghost use Rattle.machine_steps.specs.Executes.{Executes, IsHindered, cells_made, in_use_with};
-ghost use Rattle.machine_scenes.specs.Buffers.{Acquired};
 ghost use Rattle.machine_calls.specs.CarriedOut.{takes_memory};
 ghost use Rattle.machine_calls.specs.Made.{cells_of};
 ghost use Rattle.machine_scenes.specs.NewObjects.{texts_in};
 ghost use Rattle.machine_answers.specs.Answers.{is_halt};
 ghost use Rattle.machine_steps.specs.Received.{told_slot};
 ghost use Rattle.machine_steps.specs.MonitorCalls.{changes_monitor};
-ghost use Rattle.machine_steps.specs.Invoked.{AtCall, IsAnswered, IsStopped, done_or_refused, executed_as};
+ghost use Rattle.machine_steps.specs.Invoked.{DoesCall, IsAnswered, IsHinderedAtCall, IsStopped, StandsAtCall, done_or_refused};
 
 use crate::fault::StepFault;
 use crate::monitor::{answer_at_once, change_monitor};
@@ -44,61 +36,62 @@ pub enum Invoked {
     Trapped(Trap),
 }
 
-/// The instruction that calls a function, in the thread of this number. Only a new frame, a new global reference, a
-/// copy of elements and a monitor that is entered take host memory. Where what is made has no room, the call is refused
-/// if it may be, and else the fault says so. A call that only enters or leaves a monitor goes a shorter way.
+/// The instruction that calls a function, in the thread of this number.
+/// Only a new frame, a new global reference, a copy of elements and a monitor that is entered take host memory. Where
+/// what is made has no room, the call is refused if it may be, and else the fault says so. A call that only enters or
+/// leaves a monitor goes a shorter way.
 #[inline(always)]
 pub fn invoke(
     world: &World,
     store: &mut Store,
     pending: &mut Option<Addr>,
-    call: &mut Activation,
-    function: &Call,
+    activation: &mut Activation,
+    call: &Call,
     thread: u8,
     may_refuse: bool,
 ) -> Result<Invoked, StepFault>
-    requires at_call { (p : Lowered) × (others : Acquired) × (own : Owners) × (shared : Shared) × (s : SourceThread) × (task : Task) × (rest : List Task) × AtCall p world.now store.old pending.old call.old function.now others thread own shared s task rest }
-    requires place { call.old.place + 1 < 2 ^ 64 }
+    requires at_call { StandsAtCall world.now store.old pending.old activation.old call.now thread }
+    requires place { activation.old.place + 1 < 2 ^ 64 }
     requires few { store.old.births + 2 < 2 ^ 32 }
-    requires prepared { IsPrepared function.now }
-    ensures done { IfOk result (λ done. (p : Lowered) (others : Acquired) (own : Owners) (shared : Shared) (s : SourceThread) (task : Task) (rest : List Task) → AtCall p world.now store.old pending.old call.old function.now others thread own shared s task rest
-        → Executes p world.now store.old store.new others thread own shared s rest call.new pending.new (effect_of (sight_of shared s) task) (executed_as function.now.line done)) }
-    ensures hindered { IfErr result (λ fault. (p : Lowered) (others : Acquired) (own : Owners) (shared : Shared) (s : SourceThread) (task : Task) (rest : List Task) → AtCall p world.now store.old pending.old call.old function.now others thread own shared s task rest
-        → IsHindered (left_of store.old.heap) (cells_made shared (after_effect world.now.classes (in_use_with others s) thread shared s rest (effect_of (sight_of shared s) task))) may_refuse fault) }
+    requires prepared { IsPrepared call.now }
+    ensures done { IfOk result (λ done. DoesCall world.now store.old store.new pending.old pending.new
+        activation.old activation.new call.now thread done) }
+    ensures hindered { IfErr result (λ fault. IsHinderedAtCall world.now store.old pending.old activation.old call.now
+        thread may_refuse fault) }
     ensures refuses { result ≡ Ok Invoked.Refused → may_refuse ≡ true }
     ensures store { OnErr result (store.new ≡ store.old) }
     ensures pending { OnErr result (pending.new ≡ pending.old) }
-    ensures call { OnErr result (call.new ≡ call.old) }
+    ensures activation { OnErr result (activation.new ≡ activation.old) }
 {
-    match unchecked_answer(world, store, *pending, call, function, thread) {
+    match unchecked_answer(world, store, *pending, activation, call, thread) {
         Some(answer) => {
-            match finish_monitor(world, store, pending, call, function, thread, answer) {
+            match finish_monitor(world, store, pending, activation, call, thread, answer) {
                 Ok(()) => Ok(Invoked::Done),
                 Err(_) => Err(StepFault::Memory),
             }
         }
-        None => invoke_checked(world, store, pending, call, function, thread, may_refuse),
+        None => invoke_checked(world, store, pending, activation, call, thread, may_refuse),
     }
 }
 
-/// What a call of the thread of this number answers, where it is seen at once that it enters or leaves a monitor and
-/// that no check stops it. None says nothing of the call.
+/// What a call answers, where it is seen at once that it enters or leaves a monitor and that no check stops it.
+/// It is made by the thread of this number. None says nothing of the call.
 #[inline(always)]
 fn unchecked_answer(
     world: &World,
     store: &Store,
     pending: Option<Addr>,
-    call: &Activation,
-    function: &Call,
+    activation: &Activation,
+    call: &Call,
     thread: u8,
 ) -> Option<Answer>
-    requires at_call { (p : Lowered) × (others : Acquired) × (own : Owners) × (shared : Shared) × (s : SourceThread) × (task : Task) × (rest : List Task) × AtCall p world.now store.now pending call.now function.now others thread own shared s task rest }
-    ensures answer { IfSome result (IsAnswered world.now store.now pending call.now thread function.now) }
+    requires at_call { StandsAtCall world.now store.now pending activation.now call.now thread }
+    ensures answer { IfSome result (IsAnswered world.now store.now pending activation.now thread call.now) }
     ensures changes { IfSome result (λ answer. changes_monitor answer ≡ true) }
 {
     // Here the proof takes up what is known of a world.
     let _ = world.classes();
-    answer_at_once(store, pending, call, function, thread)
+    answer_at_once(store, pending, activation, call, thread)
 }
 
 /// The instruction that calls a function, after all checks.
@@ -107,34 +100,34 @@ fn invoke_checked(
     world: &World,
     store: &mut Store,
     pending: &mut Option<Addr>,
-    call: &mut Activation,
-    function: &Call,
+    activation: &mut Activation,
+    call: &Call,
     thread: u8,
     may_refuse: bool,
 ) -> Result<Invoked, StepFault>
-    requires at_call { (p : Lowered) × (others : Acquired) × (own : Owners) × (shared : Shared) × (s : SourceThread) × (task : Task) × (rest : List Task) × AtCall p world.now store.old pending.old call.old function.now others thread own shared s task rest }
-    requires place { call.old.place + 1 < 2 ^ 64 }
+    requires at_call { StandsAtCall world.now store.old pending.old activation.old call.now thread }
+    requires place { activation.old.place + 1 < 2 ^ 64 }
     requires few { store.old.births + 2 < 2 ^ 32 }
-    requires prepared { IsPrepared function.now }
-    ensures done { IfOk result (λ done. (p : Lowered) (others : Acquired) (own : Owners) (shared : Shared) (s : SourceThread) (task : Task) (rest : List Task) → AtCall p world.now store.old pending.old call.old function.now others thread own shared s task rest
-        → Executes p world.now store.old store.new others thread own shared s rest call.new pending.new (effect_of (sight_of shared s) task) (executed_as function.now.line done)) }
-    ensures hindered { IfErr result (λ fault. (p : Lowered) (others : Acquired) (own : Owners) (shared : Shared) (s : SourceThread) (task : Task) (rest : List Task) → AtCall p world.now store.old pending.old call.old function.now others thread own shared s task rest
-        → IsHindered (left_of store.old.heap) (cells_made shared (after_effect world.now.classes (in_use_with others s) thread shared s rest (effect_of (sight_of shared s) task))) may_refuse fault) }
+    requires prepared { IsPrepared call.now }
+    ensures done { IfOk result (λ done. DoesCall world.now store.old store.new pending.old pending.new
+        activation.old activation.new call.now thread done) }
+    ensures hindered { IfErr result (λ fault. IsHinderedAtCall world.now store.old pending.old activation.old call.now
+        thread may_refuse fault) }
     ensures refuses { result ≡ Ok Invoked.Refused → may_refuse ≡ true }
     ensures store { OnErr result (store.new ≡ store.old) }
     ensures pending { OnErr result (pending.new ≡ pending.old) }
-    ensures call { OnErr result (call.new ≡ call.old) }
+    ensures activation { OnErr result (activation.new ≡ activation.old) }
 {
-    match answer_or_trap(world, store, *pending, call, function, thread) {
+    match answer_or_trap(world, store, *pending, activation, call, thread) {
         Ok(answer) => {
             if goes_ahead(
                 world.classes(),
-                &function.texts,
+                &call.texts,
                 &store.heap,
                 &answer,
                 may_refuse,
             ) {
-                match finish(world, store, pending, call, function, thread, answer) {
+                match finish(world, store, pending, activation, call, thread, answer) {
                     Ok(invoked) => Ok(invoked),
                     Err(_) => Err(StepFault::Memory),
                 }
@@ -166,20 +159,20 @@ fn answer_or_trap(
     world: &World,
     store: &Store,
     pending: Option<Addr>,
-    call: &Activation,
-    function: &Call,
+    activation: &Activation,
+    call: &Call,
     thread: u8,
 ) -> Result<Answer, Trap>
-    requires at_call { (p : Lowered) × (others : Acquired) × (own : Owners) × (shared : Shared) × (s : SourceThread) × (task : Task) × (rest : List Task) × AtCall p world.now store.now pending call.now function.now others thread own shared s task rest }
-    requires prepared { IsPrepared function.now }
-    ensures answer { IfOk result (IsAnswered world.now store.now pending call.now thread function.now) }
+    requires at_call { StandsAtCall world.now store.now pending activation.now call.now thread }
+    requires prepared { IsPrepared call.now }
+    ensures answer { IfOk result (IsAnswered world.now store.now pending activation.now thread call.now) }
     ensures runs { IfOk result (λ answer. is_halt answer ≡ false) }
-    ensures trap { IfErr result (IsStopped world.now store.now pending call.now thread function.now) }
+    ensures trap { IfErr result (IsStopped world.now store.now pending activation.now thread call.now) }
 {
-    let scene = scene_of(world, store, pending, call, thread);
-    match check(&scene, &call.locals, function) {
+    let scene = scene_of(world, store, pending, activation, thread);
+    match check(&scene, &activation.locals, call) {
         Some(trap) => Err(trap),
-        None => running(work_out(&scene, function)),
+        None => running(work_out(&scene, call)),
     }
 }
 
@@ -202,35 +195,36 @@ fn finish(
     world: &World,
     store: &mut Store,
     pending: &mut Option<Addr>,
-    call: &mut Activation,
-    function: &Call,
+    activation: &mut Activation,
+    call: &Call,
     thread: u8,
     answer: Answer,
 ) -> Result<Invoked, AllocError>
-    requires at_call { (p : Lowered) × (others : Acquired) × (own : Owners) × (shared : Shared) × (s : SourceThread) × (task : Task) × (rest : List Task) × AtCall p world.now store.old pending.old call.old function.now others thread own shared s task rest }
-    requires place { call.old.place + 1 < 2 ^ 64 }
+    requires at_call { StandsAtCall world.now store.old pending.old activation.old call.now thread }
+    requires place { activation.old.place + 1 < 2 ^ 64 }
     requires few { store.old.births + 2 < 2 ^ 32 }
-    requires prepared { IsPrepared function.now }
-    requires answered { IsAnswered world.now store.old pending.old call.old thread function.now answer }
+    requires prepared { IsPrepared call.now }
+    requires answered { IsAnswered world.now store.old pending.old activation.old thread call.now answer }
     requires runs { is_halt answer ≡ false }
-    ensures done { IfOk result (λ done. (p : Lowered) (others : Acquired) (own : Owners) (shared : Shared) (s : SourceThread) (task : Task) (rest : List Task) → AtCall p world.now store.old pending.old call.old function.now others thread own shared s task rest
-        → Executes p world.now store.old store.new others thread own shared s rest call.new pending.new (effect_of (sight_of shared s) task) (executed_as function.now.line done)) }
-    ensures refused { result ≡ Ok Invoked.Refused → left_of store.old.heap < cells_of world.now.classes (texts_in function.now.texts.items) answer }
+    ensures done { IfOk result (λ done. DoesCall world.now store.old store.new pending.old pending.new
+        activation.old activation.new call.now thread done) }
+    ensures refused { result ≡ Ok Invoked.Refused
+        → left_of store.old.heap < cells_of world.now.classes (texts_in call.now.texts.items) answer }
     ensures memory { OnErr result (takes_memory answer ≡ true) }
     ensures store { OnErr result (store.new ≡ store.old) }
     ensures pending { OnErr result (pending.new ≡ pending.old) }
-    ensures call { OnErr result (call.new ≡ call.old) }
+    ensures activation { OnErr result (activation.new ≡ activation.old) }
 {
-    match carry_out(world, store, pending, call, function, thread, answer) {
+    match carry_out(world, store, pending, activation, call, thread, answer) {
         Ok(carried) => {
             // Here the proof takes up what is known of a table.
-            let _ = call.locals.frames();
+            let _ = activation.locals.frames();
             receive(
-                call,
+                activation,
                 &mut store.statics,
-                function.target,
-                function.result,
-                told_slot(function),
+                call.target,
+                call.result,
+                told_slot(call),
                 &carried.given,
             );
             Ok(done_or_refused(carried.refused))
@@ -245,33 +239,33 @@ fn finish_monitor(
     world: &World,
     store: &mut Store,
     pending: &Option<Addr>,
-    call: &mut Activation,
-    function: &Call,
+    activation: &mut Activation,
+    call: &Call,
     thread: u8,
     answer: Answer,
 ) -> Result<(), AllocError>
-    requires at_call { (p : Lowered) × (others : Acquired) × (own : Owners) × (shared : Shared) × (s : SourceThread) × (task : Task) × (rest : List Task) × AtCall p world.now store.old pending.now call.old function.now others thread own shared s task rest }
-    requires place { call.old.place + 1 < 2 ^ 64 }
-    requires answered { IsAnswered world.now store.old pending.now call.old thread function.now answer }
+    requires at_call { StandsAtCall world.now store.old pending.now activation.old call.now thread }
+    requires place { activation.old.place + 1 < 2 ^ 64 }
+    requires answered { IsAnswered world.now store.old pending.now activation.old thread call.now answer }
     requires changes { changes_monitor answer ≡ true }
-    ensures done { OnOk result ((p : Lowered) (others : Acquired) (own : Owners) (shared : Shared) (s : SourceThread) (task : Task) (rest : List Task) → AtCall p world.now store.old pending.now call.old function.now others thread own shared s task rest
-        → Executes p world.now store.old store.new others thread own shared s rest call.new pending.now (effect_of (sight_of shared s) task) (executed_as function.now.line Invoked.Done)) }
+    ensures done { OnOk result (DoesCall world.now store.old store.new pending.now pending.now
+        activation.old activation.new call.now thread Invoked.Done) }
     ensures store { OnErr result (store.new ≡ store.old) }
-    ensures call { OnErr result (call.new ≡ call.old) }
+    ensures activation { OnErr result (activation.new ≡ activation.old) }
 {
     let _ = world;
     change_monitor(&mut store.monitors, thread, answer)?;
     // Here the proof takes up what is known of a table.
-    let _ = call.locals.frames();
-    receive_number(call, function.target, 0);
+    let _ = activation.locals.frames();
+    receive_number(activation, call.target, 0);
     Ok(())
 }
 
 /// The slot of the flag that is given for `isCopy`, if there is one.
-fn told_slot(function: &Call) -> Option<u32>
-    ensures { result ≡ told_slot (slice_get function.now.operands.items 1) }
+fn told_slot(call: &Call) -> Option<u32>
+    ensures { result ≡ told_slot (slice_get call.now.operands.items 1) }
 {
-    match function.operands.get(1) {
+    match call.operands.get(1) {
         Some(Operand::IsCopy(slot)) => Some(*slot),
         _ => None,
     }

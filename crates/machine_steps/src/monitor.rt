@@ -23,34 +23,35 @@ use monitors::{Enter, Exit, Monitors, Object};
 use std::alloc::AllocError;
 use tables::{Local, Locals};
 
-/// What a call of the thread of this number answers, where it is seen at once that it enters or leaves a monitor and
-/// that no check stops it: no exception is pending, and its argument is a local reference to an object. None says
-/// nothing of the call.
+/// What a call answers, where it is seen at once that it enters or leaves a monitor and that no check stops it.
+/// It is made by the thread of this number, no exception is pending, and its argument is a local reference to an
+/// object. None says nothing of the call.
 #[inline(always)]
 pub(crate) fn answer_at_once(
     store: &Store,
     pending: Option<Addr>,
-    call: &Activation,
-    function: &Call,
+    activation: &Activation,
+    call: &Call,
     thread: u8,
 ) -> Option<Answer>
-    requires objects { AreAddresses store.now.heap (references_of store.now call.now) function.now.operands.items }
+    requires objects { AreAddresses store.now.heap (references_of store.now activation.now) call.now.operands.items }
     ensures free { IfSome result (λ answer. (classes : Classes) (room : Bool) (wanted : ElementType)
-        → trap_found (scene_of classes store.now call.now thread pending) room wanted (function_value function.now.function)
-        function.now.operands.items ≡ None) }
+        → trap_found (scene_of classes store.now activation.now thread pending) room wanted
+        (function_value call.now.function) call.now.operands.items ≡ None) }
     ensures works { IfSome result (λ answer. (classes : Classes)
-        → IsWorkedOut (scene_of classes store.now call.now thread pending) (call_view function.now) (function_value function.now.function) answer) }
+        → IsWorkedOut (scene_of classes store.now activation.now thread pending) (call_view call.now)
+        (function_value call.now.function) answer) }
     ensures changes { IfSome result (λ answer. changes_monitor answer ≡ true) }
 {
-    match function.function {
-        JniFunction::MonitorEnter => match object_at_once(store, pending, call, function) {
+    match call.function {
+        JniFunction::MonitorEnter => match object_at_once(store, pending, activation, call) {
             Some(object) => match store.monitors.entering(object.name, thread) {
                 Enter::Entered => Some(Answer::Enters(object)),
                 Enter::Limit | Enter::Busy => None,
             },
             None => None,
         },
-        JniFunction::MonitorExit => match object_at_once(store, pending, call, function) {
+        JniFunction::MonitorExit => match object_at_once(store, pending, activation, call) {
             Some(object) => match store.monitors.leaving(object.name, thread) {
                 Exit::Left => Some(Answer::Exits(object.name)),
                 Exit::NotOwner => None,
@@ -66,19 +67,23 @@ pub(crate) fn answer_at_once(
 fn object_at_once(
     store: &Store,
     pending: Option<Addr>,
-    call: &Activation,
-    function: &Call,
+    activation: &Activation,
+    call: &Call,
 ) -> Option<Object>
-    requires objects { AreAddresses store.now.heap (references_of store.now call.now) function.now.operands.items }
+    requires objects { AreAddresses store.now.heap (references_of store.now activation.now) call.now.operands.items }
     ensures pending { IfSome result (λ object. pending ≡ None) }
-    ensures only { IfSome result (λ object. (slot : ℕ) × (function.now.operands.items ≡ Operand.Local slot ∷ [])
-        × (operand_at (references_of store.now call.now) (Operand.Local slot) ≡ Some object.address)) }
+    ensures only { IfSome result (λ object. (slot : ℕ) × (call.now.operands.items ≡ Operand.Local slot ∷ [])
+        × (operand_at (references_of store.now activation.now) (Operand.Local slot) ≡ Some object.address)) }
     ensures named { IfSome result (λ object. name_at store.now.heap object.address ≡ Some object.name) }
 {
     if pending.is_some() {
         return None;
     }
-    match only_local(&call.slots.references, &call.locals, &function.operands) {
+    match only_local(
+        &activation.slots.references,
+        &activation.locals,
+        &call.operands,
+    ) {
         Some(address) => {
             let name = store.heap.birth_of(address);
             Some(Object { name, address })
@@ -100,6 +105,7 @@ fn only_local(keys: &[Option<Local>], locals: &Locals, operands: &[Operand]) -> 
 }
 
 /// The address that the slot of a local reference gives.
+// `References::local` does the same, but takes the statics and the global references along, which aren't looked at here.
 #[inline(always)]
 fn address_in(keys: &[Option<Local>], locals: &Locals, slot: u32) -> Option<Addr>
     ensures { result ≡ address_of locals.now (held_in (slice_get keys.now slot)) }

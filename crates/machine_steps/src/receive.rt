@@ -16,59 +16,61 @@ use machine_scenes::buffer::Buffer;
 use machine_scenes::statics::StaticReference;
 use tables::{Local, Locals};
 
-/// Puts what a function of this kind of result gives into its target, a new local reference also into the current
-/// frame, and goes on after the instruction. Before, the flag in the slot `told`, if there is one, tells a buffer that
-/// is a copy from a view (JNI Specification, chapter 4, "Get<PrimitiveType>ArrayElements Routines"). It takes no host
-/// memory.
+/// Puts what a function of this kind of result gives into its target, and goes on after the instruction.
+/// A new local reference is put into the current frame too. Before, the flag in the slot `told`, if there is one, tells
+/// a buffer that is a copy from a view (JNI Specification, chapter 4, "Get<PrimitiveType>ArrayElements Routines"). It
+/// takes no host memory.
 pub fn receive(
-    call: &mut Activation,
+    activation: &mut Activation,
     statics: &mut [StaticReference],
     target: Target,
     kind: ResultKind,
     told: Option<u32>,
     given: &Given,
 )
-    requires place { call.old.place + 1 < 2 ^ 64 }
-    requires target { HasTarget target call.old }
-    requires told { HasTold told (length call.old.slots.numbers.items) }
+    requires place { activation.old.place + 1 < 2 ^ 64 }
+    requires target { HasTarget target activation.old }
+    requires told { HasTold told (length activation.old.slots.numbers.items) }
     requires static_target { HasStatic target (length statics.old) }
-    requires room { HasRoom (result_value kind) call.old.locals }
-    ensures call { Receives target (result_value kind) told given.now call.old call.new }
+    requires room { HasRoom (result_value kind) activation.old.locals }
+    ensures activation { Receives target (result_value kind) told given.now activation.old activation.new }
     ensures statics { statics.new ≡ statics_with target given.now statics.old }
 {
-    call.stack.clear();
-    call.place += 1;
-    let key = make_local(&mut call.locals, kind, given);
-    tell_copy(&mut call.slots.numbers, told, given);
+    activation.stack.clear();
+    activation.place += 1;
+    let key = make_local(&mut activation.locals, kind, given);
+    tell_copy(&mut activation.slots.numbers, told, given);
     match target {
         Target::Dropped => {}
-        Target::Number(slot) => put_number(&mut call.slots.numbers, slot, given),
-        Target::Local(slot) => call.slots.references[slot as usize] = key,
-        Target::FieldId(slot) => put_field(&mut call.slots.fields, slot, given),
-        Target::Buffer(_, slot) => put_buffer(&mut call.slots.buffers, slot, given),
+        Target::Number(slot) => put_number(&mut activation.slots.numbers, slot, given),
+        Target::Local(slot) => activation.slots.references[slot as usize] = key,
+        Target::FieldId(slot) => put_field(&mut activation.slots.fields, slot, given),
+        Target::Buffer(_, slot) => put_buffer(&mut activation.slots.buffers, slot, given),
         Target::Static(slot) => put_static(statics, slot, given),
-        Target::Test => put_test(&mut call.stack, given),
+        Target::Test => put_test(&mut activation.stack, given),
     }
 }
 
 /// Puts a number that a function gives into its target, and goes on after the instruction. It takes no host memory.
+/// `receive` does the same once it has seen what is given: calls of monitors, which are to be fast, know that already.
 #[inline(always)]
-pub fn receive_number(call: &mut Activation, target: Target, word: u32)
-    requires place { call.old.place + 1 < 2 ^ 64 }
-    requires target { HasTarget target call.old }
-    ensures { (kind : SourceKind) (told : Option ℕ) → Receives target kind told (Given.Number word) call.old call.new }
+pub fn receive_number(activation: &mut Activation, target: Target, word: u32)
+    requires place { activation.old.place + 1 < 2 ^ 64 }
+    requires target { HasTarget target activation.old }
+    ensures { (kind : SourceKind) (told : Option ℕ)
+        → Receives target kind told (Given.Number word) activation.old activation.new }
 {
-    call.stack.clear();
-    call.place += 1;
+    activation.stack.clear();
+    activation.place += 1;
     match target {
-        Target::Number(slot) => call.slots.numbers[slot as usize] = word,
-        Target::Local(slot) => call.slots.references[slot as usize] = None,
-        Target::Test => call.stack.push(u32::from(word == 0)),
+        Target::Number(slot) => activation.slots.numbers[slot as usize] = word,
+        Target::Local(slot) => activation.slots.references[slot as usize] = None,
+        Target::Test => activation.stack.push(u32::from(word == 0)),
         Target::Dropped | Target::FieldId(_) | Target::Buffer(_, _) | Target::Static(_) => {}
     }
 }
 
-/// Makes a local reference in the current frame of what is given, where a function of this kind of result does and it isn't NULL.
+/// Makes a local reference of what is given, unless it is NULL, where a function of this kind of result does.
 fn make_local(locals: &mut Locals, kind: ResultKind, given: &Given) -> Option<Local>
     requires { HasRoom (result_value kind) locals.old }
     ensures { MakesLocal (result_value kind) given.now locals.old result locals.new }

@@ -18,10 +18,10 @@ pub(crate) fn scene_of<'a>(
     world: &'a World,
     store: &'a Store,
     pending: Option<Addr>,
-    call: &'a Activation,
+    activation: &'a Activation,
     thread: u8,
 ) -> Scene<'a>
-    ensures scene { scene_view result ≡ scene_of world.now.classes store.now call.now thread pending }
+    ensures scene { scene_view result ≡ scene_of world.now.classes store.now activation.now thread pending }
     ensures sound { IsSound world.now }
 {
     Scene {
@@ -29,14 +29,14 @@ pub(crate) fn scene_of<'a>(
         heap: &store.heap,
         loaded: &store.loaded,
         references: References::new(
-            &call.slots.references,
-            &call.locals,
+            &activation.slots.references,
+            &activation.locals,
             &store.statics,
             &store.globals,
         ),
-        fields: &call.slots.fields,
-        buffers: &call.slots.buffers,
-        stack: &call.stack,
+        fields: &activation.slots.fields,
+        buffers: &activation.slots.buffers,
+        stack: &activation.stack,
         pending,
         monitors: &store.monitors,
         thread,

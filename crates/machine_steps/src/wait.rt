@@ -17,6 +17,7 @@ ghost use Rattle.machine_scenes.specs.StoreAgrees.{StoreAgrees};
 ghost use Rattle.machine_steps.specs.Executes.{IsSteady};
 ghost use Rattle.machine_threads.specs.ThreadAgrees.{ThreadAgrees};
 ghost use Rattle.machine_steps.specs.Waiting.{MayWait, is_busy};
+ghost use Rattle.machine_steps.specs.Advances.{Stands};
 
 use crate::scene::scene_of;
 use code::instr::{Call, Instr};
@@ -31,9 +32,10 @@ use machine_threads::thread::Thread;
 use monitors::Enter;
 use world_values::World;
 
-/// Whether a thread, which has this number, waits for a monitor: its next step is a call of `MonitorEnter` that no
-/// check stops, for an object whose monitor another thread owns (JNI Specification, chapter 4, "MonitorEnter"). It
-/// takes no host memory.
+/// Whether a thread, which has this number, waits for a monitor.
+///
+/// Its next step is a call of `MonitorEnter` then that no check stops, for an object whose monitor another thread owns
+/// (JNI Specification, chapter 4, "MonitorEnter"). It takes no host memory.
 #[inline(always)]
 pub fn waits(
     program: &Program<'_>,
@@ -43,12 +45,13 @@ pub fn waits(
     number: u8,
 ) -> bool
     requires lowered { IsLowered program.now }
-    requires agrees { (others : Acquired) × (own : Owners) × (shared : Shared) × (s : SourceThread) × StoreAgrees program.now world.now store.now shared (beside others (acquired_by s))
-        × ThreadAgrees program.now world.now.classes store.now.heap store.now.elements (length (loaded_objects world.now)) number own shared thread.now s × IsSteady world.now.classes own shared s }
-    ensures { (others : Acquired) (own : Owners) (shared : Shared) (s : SourceThread) → StoreAgrees program.now world.now store.now shared (beside others (acquired_by s))
-        → ThreadAgrees program.now world.now.classes store.now.heap store.now.elements (length (loaded_objects world.now)) number own shared thread.now s
-        → IsSteady world.now.classes own shared s
-        → result ≡ waits world.now.classes number shared s }
+    requires agrees { (others : Acquired) × (own : Owners) × (shared : Shared) × (s : SourceThread)
+        × Stands program.now world.now store.now others number own shared s thread.now }
+    ensures { (others : Acquired) (own : Owners) (shared : Shared) (s : SourceThread)
+        → StoreAgrees program.now world.now store.now shared (beside others (acquired_by s))
+        → ThreadAgrees program.now world.now.classes store.now.heap store.now.elements
+        (length (loaded_objects world.now)) number own shared thread.now s
+        → IsSteady world.now.classes own shared s → result ≡ waits world.now.classes number shared s }
 {
     if store.monitors.len() == 0 {
         return false;
@@ -57,15 +60,15 @@ pub fn waits(
     let _ = store.heap.cells();
     match &thread.call {
         None => false,
-        Some(call) => {
-            let code = program.code_at(call.function);
-            let instr = code.instr_at(call.place);
+        Some(activation) => {
+            let code = program.code_at(activation.function);
+            let instr = code.instr_at(activation.place);
             match instr {
                 Instr::Call(boxed) => {
-                    let function = boxed.call();
-                    match function.function {
+                    let call = boxed.call();
+                    match call.function {
                         JniFunction::MonitorEnter => {
-                            waits_to_enter(world, store, thread.pending, call, function, number)
+                            waits_to_enter(world, store, thread.pending, activation, call, number)
                         }
                         _ => false,
                     }
@@ -76,28 +79,32 @@ pub fn waits(
     }
 }
 
-/// Whether a call of `MonitorEnter` waits, in the thread of this number. The call is checked only where another thread owns
-/// the monitor.
+/// Whether a call of `MonitorEnter` waits, in the thread of this number.
+/// It is checked only where another thread owns the monitor.
 #[inline(never)]
 fn waits_to_enter(
     world: &World,
     store: &Store,
     pending: Option<Addr>,
-    call: &Activation,
-    function: &Call,
+    activation: &Activation,
+    call: &Call,
     thread: u8,
 ) -> bool
-    requires may_wait { (p : Lowered) × (others : Acquired) × (own : Owners) × (shared : Shared) × (s : SourceThread) × (task : Task) × (rest : List Task) × MayWait p world.now store.now pending call.now function.now others thread own shared s task rest }
-    requires enters { function_value function.now.function ≡ MonitorEnter }
-    requires prepared { IsPrepared function.now }
-    ensures { (p : Lowered) (others : Acquired) (own : Owners) (shared : Shared) (s : SourceThread) (task : Task) (rest : List Task) → MayWait p world.now store.now pending call.now function.now others thread own shared s task rest
+    requires may_wait { (p : Lowered) × (others : Acquired) × (own : Owners) × (shared : Shared) × (s : SourceThread)
+        × (task : Task) × (rest : List Task)
+        × MayWait p world.now store.now pending activation.now call.now others thread own shared s task rest }
+    requires enters { function_value call.now.function ≡ MonitorEnter }
+    requires prepared { IsPrepared call.now }
+    ensures { (p : Lowered) (others : Acquired) (own : Owners) (shared : Shared) (s : SourceThread) (task : Task)
+        (rest : List Task)
+        → MayWait p world.now store.now pending activation.now call.now others thread own shared s task rest
         → result ≡ waits_with world.now.classes thread shared s (effect_of (sight_of shared s) task) }
 {
-    let scene = scene_of(world, store, pending, call, thread);
-    match argument(&scene, function, 0) {
+    let scene = scene_of(world, store, pending, activation, thread);
+    match argument(&scene, call, 0) {
         Some(addr) => {
             is_busy(store.monitors.entering(store.heap.birth_of(addr), thread))
-                && check(&scene, &call.locals, function).is_none()
+                && check(&scene, &activation.locals, call).is_none()
         }
         None => false,
     }

@@ -45,23 +45,23 @@ keys_from place (None ∷ rest) = None ∷ keys_from place rest
 keys_from place (Some a ∷ rest) = Some place ∷ keys_from (suc place) rest
 
 -- a call with this code before its first instruction
-pub record BeginsIn (code : Listing) (loaded : List ℕ) (next : PendingCall) (call : Activation) : Type 0 where
-  pub function : call.function ≡ next.function
-  pub place : call.place ≡ 0
-  pub stack : call.stack ≡ []
-  pub numbers : IsNumbersOf code.slots.numbers (map object_value_view next.arguments.items) call.slots.numbers.items
+pub record BeginsIn (code : Listing) (loaded : List ℕ) (next : PendingCall) (activation : Activation) : Type 0 where
+  pub function : activation.function ≡ next.function
+  pub place : activation.place ≡ 0
+  pub stack : activation.stack ≡ []
+  pub numbers : IsNumbersOf code.slots.numbers (map object_value_view next.arguments.items) activation.slots.numbers.items
   pub addresses : List (Option ℕ)
   pub given : IsReferencesOf code.slots.references loaded next.class (map object_value_view next.arguments.items) addresses
-  pub locals : call.locals ≡ entry_locals addresses
-  pub references : call.slots.references.items ≡ keys_from 0 addresses
-  pub fields : call.slots.fields.items ≡ replicate code.slots.field_ids None
-  pub buffers : call.slots.buffers.items ≡ replicate code.slots.buffers held.Null
+  pub locals : activation.locals ≡ entry_locals addresses
+  pub references : activation.slots.references.items ≡ keys_from 0 addresses
+  pub fields : activation.slots.fields.items ≡ replicate code.slots.field_ids None
+  pub buffers : activation.slots.buffers.items ≡ replicate code.slots.buffers held.Null
 
 -- a call of a program before its first instruction
-pub record Begins (p : Lowered) (loaded : List ℕ) (next : PendingCall) (call : Activation) : Type 0 where
+pub record Begins (p : Lowered) (loaded : List ℕ) (next : PendingCall) (activation : Activation) : Type 0 where
   pub code : Listing
   pub of_function : slice_get p.codes next.function ≡ Some code
-  pub begins : BeginsIn code loaded next call
+  pub begins : BeginsIn code loaded next activation
 
 -- the class and the arguments of a call are among this number of objects, and its code has room for them
 pub record IsReady (p : Lowered) (made : ℕ) (next : PendingCall) : Type 0 where

@@ -27,11 +27,11 @@ pub record SlotValues : Type 0 where
 
 -- what the slots of a call hold
 abbrev pub values_in : Activation → SlotValues
-values_in call = record {
-  numbers = call.slots.numbers.items;
-  keys = call.slots.references.items;
-  handles = call.slots.fields.items;
-  buffers = call.slots.buffers.items;
+values_in activation = record {
+  numbers = activation.slots.numbers.items;
+  keys = activation.slots.references.items;
+  handles = activation.slots.fields.items;
+  buffers = activation.slots.buffers.items;
 }
 
 -- what the slots of references, field IDs and buffers stand for, with the levels of the references that are variables' own
@@ -43,8 +43,8 @@ pub record Meant : Type 0 where
 
 -- the same with the numbers in slots, as the source's variables are shown
 abbrev pub slots_of : Activation → Meant → Slots
-slots_of call meant = record {
-  numbers = call.slots.numbers.items;
+slots_of activation meant = record {
+  numbers = activation.slots.numbers.items;
   references = meant.references;
   owners = meant.owners;
   fields = meant.fields;

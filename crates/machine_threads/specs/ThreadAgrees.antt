@@ -53,7 +53,7 @@ CallsAgree p classes made (n ∷ nexts) (c ∷ calls) = CallAgrees p classes mad
 -- the buffers in the slots of a call in progress, or of none
 abbrev pub buffers_of : Option Activation → List Buffer
 buffers_of None = []
-buffers_of (Some call) = call.slots.buffers.items
+buffers_of (Some activation) = activation.slots.buffers.items
 
 -- thread k stands for one of the source, with this heap and these copied lists, where this number of objects were made at load
 pub record ThreadAgrees (p : Lowered) (classes : Classes) (space : Space) (copies : List (Option OwnedNumbers))

@@ -38,7 +38,7 @@ pub fn begin(
     requires given { IsTrue (list_all (is_argument (length loaded.now)) (map object_value_view next.now.arguments.items)) }
     requires room { HasRoom code.now (map object_value_view next.now.arguments.items) }
     requires few { length next.now.arguments.items ≤ most_names }
-    ensures { IfOk result (λ call. BeginsIn code.now loaded.now next.now call) }
+    ensures { IfOk result (λ activation. BeginsIn code.now loaded.now next.now activation) }
 {
     let slots = code.slots();
     let mut fields = Vec::new(alloc);
@@ -115,8 +115,8 @@ fn addresses_given(
     Ok(slots)
 }
 
-/// Makes the first frame of a call, with references to the objects at these addresses but NULL, and room for 16 more. The keys
-/// are in the order of the addresses.
+/// Makes the first frame of a call, with references to the objects at these addresses but NULL, and room for 16 more.
+/// The keys are in the order of the addresses.
 fn make_locals(
     alloc: Global,
     locals: &mut Locals,

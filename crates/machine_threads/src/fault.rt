@@ -9,8 +9,8 @@ use thiserror::Error;
 /// Why a world was not loaded.
 #[derive(Clone, Copy, Debug, Error)]
 pub enum LoadFault {
-    /// Fault 82: the function of a call or its class is unknown, or the arguments don't fit. The line is the call's
-    /// in the world, counted from 1.
+    /// Fault 82: the function of a call or its class is unknown, or the arguments don't fit.
+    /// The line is the call's in the world, counted from 1.
     #[error("fault 82 line {0}")]
     DoesNotFit(usize),
     /// Host memory was refused.

@@ -1,6 +1,6 @@
 //! The threads of a machine before its first step.
 
-ghost use Rattle.std.specs.Prelude.{◌≡◌, ℕ, List, Option, IfOk, IfErr, OnOk, IfSome, IfNone, IsTrue, [], None, map, length, flat_map};
+ghost use Rattle.std.specs.Prelude.{◌≡◌, ℕ, List, Option, IfOk, IfErr, OnOk, IfSome, IfNone, IsTrue, [], None, length};
 ghost use Rattle.std.specs.List.{list_all};
 ghost use Rattle.syntax.specs.Limits.{IsTree};
 ghost use Rattle.syntax.specs.Views.{unit_tree};
@@ -12,10 +12,10 @@ ghost use Rattle.semantics.specs.Activation.{function_at};
 ghost use Rattle.semantics.specs.Load.{refused_calls};
 ghost use Rattle.semantics.specs.Start.{waiting_thread};
 ghost use Rattle.semantics.specs.Thread.{Shared};
-ghost use Rattle.semantics_safety.specs.Owners.{Owners, AllOwners};
+ghost use Rattle.semantics_safety.specs.Owners.{Owners};
 ghost use Rattle.tables.specs.Elements.{OwnedNumbers};
-ghost use Rattle.machine_threads.specs.ThreadAgrees.{ThreadAgrees, ThreadsAgree};
-ghost use Rattle.machine_threads.specs.Loading.{IsNumberOf, IsCallOf, IsFirstOf};
+ghost use Rattle.machine_threads.specs.ThreadAgrees.{ThreadAgrees};
+ghost use Rattle.machine_threads.specs.Loading.{AreWaiting, IsCallOf, IsFirstOf, IsNumberOf, all_refused};
 
 use crate::fault::LoadFault;
 use crate::thread::{PendingCall, Thread};
@@ -34,12 +34,9 @@ pub fn load_threads(
     program: &Program<'_>,
     world: &World,
 ) -> Result<Vec<Thread>, LoadFault>
-    ensures agree { IfOk result (λ threads. (space : Space) (copies : List (Option OwnedNumbers)) (owners : AllOwners)
-        (k : ℕ) (shared : Shared) → ThreadsAgree program.now world.now.classes space copies
-        (length (loaded_objects world.now)) owners k shared threads.items
-        (map waiting_thread world.now.threads)) }
-    ensures all { OnOk result (flat_map (refused_calls (unit_tree program.now.unit) world.now.classes) world.now.threads ≡ []) }
-    ensures refused { IfErr result (IsFirstOf (flat_map (refused_calls (unit_tree program.now.unit) world.now.classes) world.now.threads)) }
+    ensures agree { IfOk result (λ threads. AreWaiting program.now world.now threads.items) }
+    ensures all { OnOk result (all_refused (unit_tree program.now.unit) world.now ≡ []) }
+    ensures refused { IfErr result (IsFirstOf (all_refused (unit_tree program.now.unit) world.now)) }
 {
     match Functions::of(alloc, program.items()) {
         Ok(functions) => load_all(alloc, program, &functions, world),
@@ -56,19 +53,14 @@ fn load_all(
     world: &World,
 ) -> Result<Vec<Thread>, LoadFault>
     requires { functions.now ≡ program.now.unit }
-    ensures agree { IfOk result (λ threads. (space : Space) (copies : List (Option OwnedNumbers)) (owners : AllOwners)
-        (k : ℕ) (shared : Shared) → ThreadsAgree program.now world.now.classes space copies
-        (length (loaded_objects world.now)) owners k shared threads.items
-        (map waiting_thread world.now.threads)) }
-    ensures all { OnOk result (flat_map (refused_calls (unit_tree program.now.unit) world.now.classes) world.now.threads ≡ []) }
-    ensures refused { IfErr result (IsFirstOf (flat_map (refused_calls (unit_tree program.now.unit) world.now.classes) world.now.threads)) }
+    ensures agree { IfOk result (λ threads. AreWaiting program.now world.now threads.items) }
+    ensures all { OnOk result (all_refused (unit_tree program.now.unit) world.now ≡ []) }
+    ensures refused { IfErr result (IsFirstOf (all_refused (unit_tree program.now.unit) world.now)) }
 {
     let mut threads = Vec::new(alloc);
     for calls in world.threads() {
-        match load_thread(alloc, program, functions, world, calls) {
-            Ok(thread) => threads.push(thread)?,
-            Err(fault) => return Err(fault),
-        }
+        let thread = load_thread(alloc, program, functions, world, calls)?;
+        threads.push(thread)?;
     }
     Ok(threads)
 }

@@ -26,8 +26,8 @@ use syntax::Item;
 use tables::{Elements, Globals};
 use world_values::{ObjectValue, World};
 
-/// The heap with the objects that are made before the first step: the class objects, the OutOfMemoryError object and
-/// the world's, in this order, with the address of each by its name, counted from 1.
+/// The heap with the objects that are made before the first step, and the address of each by its name, counted from 1.
+/// They are the class objects, the OutOfMemoryError object and the world's, in this order.
 pub fn load_store(alloc: Global, items: &[Item], world: &World) -> Result<Store, AllocError>
     ensures made { IfOk result (λ store. AreMade store.heap store.loaded.items (loaded_objects world.now)) }
     ensures births { IfOk result (λ store. store.births ≡ length (loaded_objects world.now)) }

@@ -30,11 +30,13 @@ impl Drop for Thread {
     }
 }
 
-/// A call that a thread has still to make: its function and the function's class by their numbers, and what the function
-/// is given.
+/// A call that a thread has still to make.
 #[derive(Drop)]
 pub struct PendingCall {
+    /// The number of its function.
     pub function: usize,
+    /// The number of the function's class.
     pub class: ClassId,
+    /// What the function is given.
     pub arguments: Vec<ObjectValue>,
 }

@@ -3,7 +3,7 @@ use Rattle.std.specs.Prelude.{slice_index_or}
 use Rattle.semantics.specs.ThreadStep.{waits}
 use Rattle.semantics.specs.World.{loaded_objects}
 use Rattle.machine_threads.specs.ThreadAgrees.{ThreadAgrees}
-use Rattle.machine.specs.Run.{AdvancesAlways}
+use Rattle.machine_steps.specs.Advances.{AdvancesAlways}
 use Rattle.machine.proofs.Advancing.{can_there, found, is_ready, is_steady, lives_there, makes_something, makes_there, numbered, own, rest, shared_there, there}
 use Rattle.std.proofs.Common.{length}
 use Rattle.machine.proofs.machine.advance_or_collect.Goals as goal

@@ -6,7 +6,7 @@ use Rattle.semantics.specs.ThreadStep.{waits}
 use Rattle.semantics.specs.World.{loaded_objects}
 use Rattle.machine_threads.specs.ThreadAgrees.{ThreadAgrees}
 use Rattle.machine_collections.specs.Moving.{moved_thread}
-use Rattle.machine.specs.Run.{AdvancesAlways}
+use Rattle.machine_steps.specs.Advances.{AdvancesAlways}
 use Rattle.machine.proofs.Collected.{are_referred}
 use Rattle.machine.proofs.Advancing.{agrees_still, found, is_ready, is_steady, no_fault, numbered, own, rest, shared_there, there}
 use Rattle.machine.proofs.machine.collect_and_advance.Goals as goal

@@ -26,24 +26,24 @@ use Rattle.semantics.specs.declared.static_reference.StaticReference.TheVariants
 use Rattle.machine_calls.proofs.HeldStatics.{names_begin, no_keys, statics_begin}
 use Rattle.machine.proofs.machine.load_parts.Goals as goal
 
-pub returns-in-Ok-clause-begins : goal.returns-in-Ok-clause-begins
-returns-in-Ok-clause-begins c =
+pub returns-clause-begins : goal.returns-clause-begins
+returns-clause-begins c =
     let w = c.args.world.now in
     let s = start (unit_tree c.args.program.now.unit) w in
     let made = c.in_ok-store.ensures.made in
     let owners : AllOwners = owners_after (unit_tree c.args.program.now.unit) w [] in
-    let agree = c.in-Ok.ensures.agree c.in_ok-store.store.heap c.in_ok-store.store.elements owners 1 s.shared in
+    let agree = c.in_ok-threads.ensures.agree c.in_ok-store.store.heap c.in_ok-store.store.elements owners 1 s.shared in
     let none = none_taken w.threads in
-    let count : length c.in-Ok.threads.items ≡ length c.args.world.now.threads = agree_length _ _ _ _ _ _ _ _ _ _ agree ∙ length-map c.args.world.now.threads waiting_thread in
+    let count : length c.in_ok-threads.threads.items ≡ length c.args.world.now.threads = agree_length _ _ _ _ _ _ _ _ _ _ agree ∙ length-map c.args.world.now.threads waiting_thread in
     record {
       lowered = c.items.ensures.lowered;
       safe = c.accepted_is_safe.ensures (unit_tree c.args.program.now.unit) w
           (subst (λ (l : List Item). IsSorted (unit_tree l)) c.items.ensures.items c.items.ensures.sorted) (subst (λ (l : List Item). HasRegions (unit_tree l)) c.items.ensures.items c.items.ensures.regions)
-          (all_load (unit_tree c.args.program.now.unit) w.classes w.threads c.in-Ok.ensures.all) (all_have_calls w.threads c.threads.ensures.sound.calls);
+          (all_load (unit_tree c.args.program.now.unit) w.classes w.threads c.in_ok-threads.ensures.all) (all_have_calls w.threads c.threads.ensures.sound.calls);
       typed = c.objects_are_typed.ensures (unit_tree c.args.program.now.unit) w
           (subst (λ (l : List Item). IsSorted (unit_tree l)) c.items.ensures.items c.items.ensures.sorted) (subst (λ (l : List Item). HasRegions (unit_tree l)) c.items.ensures.items c.items.ensures.regions)
           (subst (λ (l : List Item). HasTexts (unit_tree l)) c.items.ensures.items (texts_are_bytes (unit_tree c.items.result.now) c.items.ensures.tree))
-          (all_load (unit_tree c.args.program.now.unit) w.classes w.threads c.in-Ok.ensures.all) c.threads.ensures.sound;
+          (all_load (unit_tree c.args.program.now.unit) w.classes w.threads c.in_ok-threads.ensures.all) c.threads.ensures.sound;
       state = s;
       replays = refl;
       store_agrees = record {

@@ -71,92 +71,92 @@ pub make-requires-clause-class : goal.make-requires-clause-class
 make-requires-clause-class c =
     let r = c.requires.possible in
     let w = c.args.world.now in
-    let kind = result_value c.args.function.now.result in
-    let texts = texts_in c.args.function.now.texts.items in
-    let brought = brings texts c.args.call.now.slots.numbers.items c.args.call.now.slots.buffers.items c.args.store.now c.args.thread r.2 r.4 r.1 in
+    let kind = result_value c.args.call.now.result in
+    let texts = texts_in c.args.call.now.texts.items in
+    let brought = brings texts c.args.activation.now.slots.numbers.items c.args.activation.now.slots.buffers.items c.args.store.now c.args.thread r.2 r.4 r.1 in
     small w (class_of_new c.in-Makes.new) c.threads.ensures.sound
-    (makes_it w.classes brought c.args.store.now.heap c.args.call.now.locals kind r.3 r.4 c.in-Makes.new r.5 (subst (λ (a : Answer). IsAnswer w.classes brought c.args.store.now.heap c.args.call.now.locals kind r.3 r.4 a r.5) c.in-Makes.is r.7)).describes.makeable.high
+    (makes_it w.classes brought c.args.store.now.heap c.args.activation.now.locals kind r.3 r.4 c.in-Makes.new r.5 (subst (λ (a : Answer). IsAnswer w.classes brought c.args.store.now.heap c.args.activation.now.locals kind r.3 r.4 a r.5) c.in-Makes.is r.7)).describes.makeable.high
 
 pub make-requires-in-Throws-clause-class : goal.make-requires-in-Throws-clause-class
 make-requires-in-Throws-clause-class c =
     let r = c.requires.possible in
     let w = c.args.world.now in
-    let kind = result_value c.args.function.now.result in
-    let texts = texts_in c.args.function.now.texts.items in
-    let brought = brings texts c.args.call.now.slots.numbers.items c.args.call.now.slots.buffers.items c.args.store.now c.args.thread r.2 r.4 r.1 in
+    let kind = result_value c.args.call.now.result in
+    let texts = texts_in c.args.call.now.texts.items in
+    let brought = brings texts c.args.activation.now.slots.numbers.items c.args.activation.now.slots.buffers.items c.args.store.now c.args.thread r.2 r.4 r.1 in
     small w c.in-Throws.class c.threads.ensures.sound
-    (throws_it w.classes brought c.args.store.now.heap c.args.call.now.locals kind r.3 r.4 c.in-Throws.class r.5 (subst (λ (a : Answer). IsAnswer w.classes brought c.args.store.now.heap c.args.call.now.locals kind r.3 r.4 a r.5) c.in-Throws.is r.7)).makeable.high
+    (throws_it w.classes brought c.args.store.now.heap c.args.activation.now.locals kind r.3 r.4 c.in-Throws.class r.5 (subst (λ (a : Answer). IsAnswer w.classes brought c.args.store.now.heap c.args.activation.now.locals kind r.3 r.4 a r.5) c.in-Throws.is r.7)).makeable.high
 
 pub returns-in-Writes-clause-carried : goal.returns-in-Writes-clause-carried
 returns-in-Writes-clause-carried c p array others shared s effect h does =
     let w = c.args.world.now in
-    let kind = result_value c.args.function.now.result in
-    let texts = texts_in c.args.function.now.texts.items in
-    let brought = brings texts c.args.call.now.slots.numbers.items c.args.call.now.slots.buffers.items c.args.store.now c.args.thread others s array in
+    let kind = result_value c.args.call.now.result in
+    let texts = texts_in c.args.call.now.texts.items in
+    let brought = brings texts c.args.activation.now.slots.numbers.items c.args.activation.now.slots.buffers.items c.args.store.now c.args.thread others s array in
     let old = c.args.store.now in
-    carries.by_answer p w old.heap c.args.call.now.locals kind others c.args.thread shared s effect brought c.args.answer (answer.Writes c.in-Writes.addr c.in-Writes.place c.in-Writes.value) c.in-Writes.is _ _ _ _ _ (λ writes.
-    subst (λ (space : Space). CarriesOut p w old.heap c.args.call.now.locals (answer.Writes c.in-Writes.addr c.in-Writes.place c.in-Writes.value) kind others c.args.thread shared s effect false (record old { heap = space }) c.args.pending.now c.args.call.now.locals given.Nothing) (sym c.set.ensures)
-    (carries.writes p w old c.args.pending.now c.args.call.now.locals kind others c.args.thread shared s h brought c.in-Writes.addr c.in-Writes.place c.in-Writes.value effect writes)) does
+    carries.by_answer p w old.heap c.args.activation.now.locals kind others c.args.thread shared s effect brought c.args.answer (answer.Writes c.in-Writes.addr c.in-Writes.place c.in-Writes.value) c.in-Writes.is _ _ _ _ _ (λ writes.
+    subst (λ (space : Space). CarriesOut p w old.heap c.args.activation.now.locals (answer.Writes c.in-Writes.addr c.in-Writes.place c.in-Writes.value) kind others c.args.thread shared s effect false (record old { heap = space }) c.args.pending.now c.args.activation.now.locals given.Nothing) (sym c.set.ensures)
+    (carries.writes p w old c.args.pending.now c.args.activation.now.locals kind others c.args.thread shared s h brought c.in-Writes.addr c.in-Writes.place c.in-Writes.value effect writes)) does
 
 pub returns-in-Some-clause-carried : goal.returns-in-Some-clause-carried
 returns-in-Some-clause-carried c p array others shared s effect h does =
     let w = c.args.world.now in
-    let kind = result_value c.args.function.now.result in
-    let texts = texts_in c.args.function.now.texts.items in
-    let brought = brings texts c.args.call.now.slots.numbers.items c.args.call.now.slots.buffers.items c.args.store.now c.args.thread others s array in
+    let kind = result_value c.args.call.now.result in
+    let texts = texts_in c.args.call.now.texts.items in
+    let brought = brings texts c.args.activation.now.slots.numbers.items c.args.activation.now.slots.buffers.items c.args.store.now c.args.thread others s array in
     let old = c.args.store.now in
     let made = subst (λ (l : List (Vec ℕ)). Makes c.classes.result.now (texts_in l) old c.in-Makes.new c.make.new.store c.make.result) c.deref-texts.ensures.value c.make.ensures in
-    carries.by_answer p w old.heap c.args.call.now.locals kind others c.args.thread shared s effect brought c.args.answer (answer.Makes c.in-Makes.new) c.in-Makes.is _ _ _ _ _ (λ makes.
-    carries.makes p w old c.args.pending.now c.args.call.now.locals kind others c.args.thread shared s h brought c.make.new.store c.in-Makes.new c.in-Some.addr
+    carries.by_answer p w old.heap c.args.activation.now.locals kind others c.args.thread shared s effect brought c.args.answer (answer.Makes c.in-Makes.new) c.in-Makes.is _ _ _ _ _ (λ makes.
+    carries.makes p w old c.args.pending.now c.args.activation.now.locals kind others c.args.thread shared s h brought c.make.new.store c.in-Makes.new c.in-Some.addr
     (has_made w.classes c.classes.result.now texts old c.make.new.store c.in-Makes.new c.in-Some.addr c.make.result c.classes.ensures.classes made c.in-Some.is) effect makes) does
 
 pub returns-in-None-clause-carried : goal.returns-in-None-clause-carried
 returns-in-None-clause-carried c p array others shared s effect h does =
     let w = c.args.world.now in
-    let kind = result_value c.args.function.now.result in
-    let texts = texts_in c.args.function.now.texts.items in
-    let brought = brings texts c.args.call.now.slots.numbers.items c.args.call.now.slots.buffers.items c.args.store.now c.args.thread others s array in
+    let kind = result_value c.args.call.now.result in
+    let texts = texts_in c.args.call.now.texts.items in
+    let brought = brings texts c.args.activation.now.slots.numbers.items c.args.activation.now.slots.buffers.items c.args.store.now c.args.thread others s array in
     let old = c.args.store.now in
     let made = subst (λ (l : List (Vec ℕ)). Makes c.classes.result.now (texts_in l) old c.in-Makes.new c.make.new.store c.make.result) c.deref-texts.ensures.value c.make.ensures in
-    carries.by_answer p w old.heap c.args.call.now.locals kind others c.args.thread shared s effect brought c.args.answer (answer.Makes c.in-Makes.new) c.in-Makes.is _ _ _ _ _ (λ makes.
-    refused_in p w old.heap c.args.call.now.locals (answer.Makes c.in-Makes.new) kind others c.args.thread shared s effect old c.make.new.store c.refuse.new.pending c.args.call.now.locals c.refuse.result
+    carries.by_answer p w old.heap c.args.activation.now.locals kind others c.args.thread shared s effect brought c.args.answer (answer.Makes c.in-Makes.new) c.in-Makes.is _ _ _ _ _ (λ makes.
+    refused_in p w old.heap c.args.activation.now.locals (answer.Makes c.in-Makes.new) kind others c.args.thread shared s effect old c.make.new.store c.refuse.new.pending c.args.activation.now.locals c.refuse.result
     (unchanged c.classes.result.now texts old c.make.new.store c.in-Makes.new c.make.result made c.in-None.is) c.refuse.ensures.pending c.refuse.ensures.carried
-    (carries.refuses_object p w old c.args.pending.now c.args.call.now.locals kind others c.args.thread shared s h brought c.in-Makes.new effect makes (short w.classes c.classes.result.now texts old c.make.new.store c.in-Makes.new c.make.result c.classes.ensures.classes made c.in-None.is))) does
+    (carries.refuses_object p w old c.args.pending.now c.args.activation.now.locals kind others c.args.thread shared s h brought c.in-Makes.new effect makes (short w.classes c.classes.result.now texts old c.make.new.store c.in-Makes.new c.make.result c.classes.ensures.classes made c.in-None.is))) does
 
 pub returns-in-Some-make-clause-carried : goal.returns-in-Some-make-clause-carried
 returns-in-Some-make-clause-carried c p array others shared s effect h does =
     let w = c.args.world.now in
-    let kind = result_value c.args.function.now.result in
-    let texts = texts_in c.args.function.now.texts.items in
-    let brought = brings texts c.args.call.now.slots.numbers.items c.args.call.now.slots.buffers.items c.args.store.now c.args.thread others s array in
+    let kind = result_value c.args.call.now.result in
+    let texts = texts_in c.args.call.now.texts.items in
+    let brought = brings texts c.args.activation.now.slots.numbers.items c.args.activation.now.slots.buffers.items c.args.store.now c.args.thread others s array in
     let old = c.args.store.now in
     let made = subst (λ (l : List (Vec ℕ)). Makes c.classes-in-Throws.result.now (texts_in l) old (Fresh c.in-Throws.class) c.make-in-Throws.new.store c.make-in-Throws.result) c.deref-texts.ensures.value c.make-in-Throws.ensures in
-    carries.by_answer p w old.heap c.args.call.now.locals kind others c.args.thread shared s effect brought c.args.answer (answer.Throws c.in-Throws.class) c.in-Throws.is _ _ _ _ _ (λ throws.
-    subst (λ (g : Given). CarriesOut p w old.heap c.args.call.now.locals (answer.Throws c.in-Throws.class) kind others c.args.thread shared s effect false c.make-in-Throws.new.store (Some c.in-Some-make.addr) c.args.call.now.locals g) (sym c.failed.ensures)
-    (carries.throws p w old c.args.pending.now c.args.call.now.locals kind others c.args.thread shared s h brought c.make-in-Throws.new.store c.in-Throws.class c.in-Some-make.addr
+    carries.by_answer p w old.heap c.args.activation.now.locals kind others c.args.thread shared s effect brought c.args.answer (answer.Throws c.in-Throws.class) c.in-Throws.is _ _ _ _ _ (λ throws.
+    subst (λ (g : Given). CarriesOut p w old.heap c.args.activation.now.locals (answer.Throws c.in-Throws.class) kind others c.args.thread shared s effect false c.make-in-Throws.new.store (Some c.in-Some-make.addr) c.args.activation.now.locals g) (sym c.failed.ensures)
+    (carries.throws p w old c.args.pending.now c.args.activation.now.locals kind others c.args.thread shared s h brought c.make-in-Throws.new.store c.in-Throws.class c.in-Some-make.addr
     (has_made w.classes c.classes-in-Throws.result.now texts old c.make-in-Throws.new.store (Fresh c.in-Throws.class) c.in-Some-make.addr c.make-in-Throws.result c.classes-in-Throws.ensures.classes made c.in-Some-make.is) effect throws)) does
 
 pub returns-in-None-make-clause-carried : goal.returns-in-None-make-clause-carried
 returns-in-None-make-clause-carried c p array others shared s effect h does =
     let w = c.args.world.now in
-    let kind = result_value c.args.function.now.result in
-    let texts = texts_in c.args.function.now.texts.items in
-    let brought = brings texts c.args.call.now.slots.numbers.items c.args.call.now.slots.buffers.items c.args.store.now c.args.thread others s array in
+    let kind = result_value c.args.call.now.result in
+    let texts = texts_in c.args.call.now.texts.items in
+    let brought = brings texts c.args.activation.now.slots.numbers.items c.args.activation.now.slots.buffers.items c.args.store.now c.args.thread others s array in
     let old = c.args.store.now in
     let made = subst (λ (l : List (Vec ℕ)). Makes c.classes-in-Throws.result.now (texts_in l) old (Fresh c.in-Throws.class) c.make-in-Throws.new.store c.make-in-Throws.result) c.deref-texts.ensures.value c.make-in-Throws.ensures in
-    carries.by_answer p w old.heap c.args.call.now.locals kind others c.args.thread shared s effect brought c.args.answer (answer.Throws c.in-Throws.class) c.in-Throws.is _ _ _ _ _ (λ throws.
-    refused_in p w old.heap c.args.call.now.locals (answer.Throws c.in-Throws.class) kind others c.args.thread shared s effect old c.make-in-Throws.new.store c.refuse-in-None-make.new.pending c.args.call.now.locals c.refuse-in-None-make.result
+    carries.by_answer p w old.heap c.args.activation.now.locals kind others c.args.thread shared s effect brought c.args.answer (answer.Throws c.in-Throws.class) c.in-Throws.is _ _ _ _ _ (λ throws.
+    refused_in p w old.heap c.args.activation.now.locals (answer.Throws c.in-Throws.class) kind others c.args.thread shared s effect old c.make-in-Throws.new.store c.refuse-in-None-make.new.pending c.args.activation.now.locals c.refuse-in-None-make.result
     (unchanged c.classes-in-Throws.result.now texts old c.make-in-Throws.new.store (Fresh c.in-Throws.class) c.make-in-Throws.result made c.in-None-make.is) c.refuse-in-None-make.ensures.pending c.refuse-in-None-make.ensures.carried
-    (carries.refuses_exception p w old c.args.pending.now c.args.call.now.locals kind others c.args.thread shared s h brought c.in-Throws.class effect throws (short w.classes c.classes-in-Throws.result.now texts old c.make-in-Throws.new.store (Fresh c.in-Throws.class) c.make-in-Throws.result c.classes-in-Throws.ensures.classes made c.in-None-make.is))) does
+    (carries.refuses_exception p w old c.args.pending.now c.args.activation.now.locals kind others c.args.thread shared s h brought c.in-Throws.class effect throws (short w.classes c.classes-in-Throws.result.now texts old c.make-in-Throws.new.store (Fresh c.in-Throws.class) c.make-in-Throws.result c.classes-in-Throws.ensures.classes made c.in-None-make.is))) does
 
 pub returns-in-Gives-clause-carried : goal.returns-in-Gives-clause-carried
 returns-in-Gives-clause-carried c p array others shared s effect h does =
     let w = c.args.world.now in
-    let kind = result_value c.args.function.now.result in
-    let texts = texts_in c.args.function.now.texts.items in
-    let brought = brings texts c.args.call.now.slots.numbers.items c.args.call.now.slots.buffers.items c.args.store.now c.args.thread others s array in
+    let kind = result_value c.args.call.now.result in
+    let texts = texts_in c.args.call.now.texts.items in
+    let brought = brings texts c.args.activation.now.slots.numbers.items c.args.activation.now.slots.buffers.items c.args.store.now c.args.thread others s array in
     let old = c.args.store.now in
-    carries.by_answer p w old.heap c.args.call.now.locals kind others c.args.thread shared s effect brought c.args.answer (answer.Gives c.in-Gives.given) c.in-Gives.is _ _ _ _ _ (λ gives. carries.gives p w old c.args.pending.now c.args.call.now.locals kind others c.args.thread shared s h brought c.in-Gives.given effect gives) does
+    carries.by_answer p w old.heap c.args.activation.now.locals kind others c.args.thread shared s effect brought c.args.answer (answer.Gives c.in-Gives.given) c.in-Gives.is _ _ _ _ _ (λ gives. carries.gives p w old c.args.pending.now c.args.activation.now.locals kind others c.args.thread shared s h brought c.in-Gives.given effect gives) does
 
 -- what is told of an answer of buffers, of each kind of result
 told_on : {T E : Type 0} (P Q : T → Type 0) (r : Result T E) → ((x : T) → P x → Q x) → IfOk r P → IfOk r Q
@@ -166,7 +166,7 @@ told_on P Q (Err e) f h = h
 pub returns-in_default-clause-carried : goal.returns-in_default-clause-carried
 returns-in_default-clause-carried c =
     told_on _ _ c.carry_out_buffers.result (λ carried told p array others shared s effect h does.
-    told p (result_value c.args.function.now.result) (brings (texts_in c.args.function.now.texts.items) c.args.call.now.slots.numbers.items c.args.call.now.slots.buffers.items c.args.store.now c.args.thread others s array) others shared s effect h does (ap (λ (l : List Buffer). holding l c.args.store.now.elements c.args.thread) (sym c.deref_mut-in_default.ensures.value)) refl) c.carry_out_buffers.ensures.carried
+    told p (result_value c.args.call.now.result) (brings (texts_in c.args.call.now.texts.items) c.args.activation.now.slots.numbers.items c.args.activation.now.slots.buffers.items c.args.store.now c.args.thread others s array) others shared s effect h does (ap (λ (l : List Buffer). holding l c.args.store.now.elements c.args.thread) (sym c.deref_mut-in_default.ensures.value)) refl) c.carry_out_buffers.ensures.carried
 
 -- where nothing was done the slots are as they were
 both_on_err : {T E : Type 0} (P Q R : Type 0) (r : Result T E) → (P → Q → R) → OnErr r P → OnErr r Q → OnErr r R
@@ -178,17 +178,17 @@ same_vec v l same long =
     let e : (with_items v l).items ≡ v.items = with_items_is v l long ∙ same in
     λ i. record v { items = e i; ok = is_prop→PathP (λ j. (v.len ≡ length (e j)) × (v.len ≤ v.cap)) (λ j x y n. (ℕ_set _ _ x.0 y.0 n, le_prop x.1 y.1 n)) (with_items v l).ok v.ok i }
 
-pub returns-in_default-clause-call : goal.returns-in_default-clause-call
-returns-in_default-clause-call c =
-    let call = c.args.call.now in
+pub returns-in_default-clause-activation : goal.returns-in_default-clause-activation
+returns-in_default-clause-activation c =
+    let activation = c.args.activation.now in
     both_on_err _ _ _ c.carry_out_buffers.result (λ locals buffers.
-    let slots = same_vec call.slots.buffers c.carry_out_buffers.new.buffers (buffers ∙ c.deref_mut-in_default.ensures.value) (ap length buffers ∙ c.deref_mut-in_default.ensures.len) in
-    λ i. record call { slots = record call.slots { buffers = slots i }; locals = locals i }) c.carry_out_buffers.ensures.locals c.carry_out_buffers.ensures.buffers
+    let slots = same_vec activation.slots.buffers c.carry_out_buffers.new.buffers (buffers ∙ c.deref_mut-in_default.ensures.value) (ap length buffers ∙ c.deref_mut-in_default.ensures.len) in
+    λ i. record activation { slots = record activation.slots { buffers = slots i }; locals = locals i }) c.carry_out_buffers.ensures.locals c.carry_out_buffers.ensures.buffers
 
 pub carry_out_buffers-requires-clause-possible : goal.carry_out_buffers-requires-clause-possible
 carry_out_buffers-requires-clause-possible c =
     let r = c.requires.possible in
-    (r.0, result_value c.args.function.now.result, brings (texts_in c.args.function.now.texts.items) c.args.call.now.slots.numbers.items c.args.call.now.slots.buffers.items c.args.store.now c.args.thread r.2 r.4 r.1, r.2, r.3, r.4, r.5, r.6, r.7, ap (λ (l : List Buffer). holding l c.args.store.now.elements c.args.thread) (sym c.deref_mut-in_default.ensures.value), refl)
+    (r.0, result_value c.args.call.now.result, brings (texts_in c.args.call.now.texts.items) c.args.activation.now.slots.numbers.items c.args.activation.now.slots.buffers.items c.args.store.now c.args.thread r.2 r.4 r.1, r.2, r.3, r.4, r.5, r.6, r.7, ap (λ (l : List Buffer). holding l c.args.store.now.elements c.args.thread) (sym c.deref_mut-in_default.ensures.value), refl)
 
 -- a message and an exception were made in the store of the world's classes
 both_made : (classes table : Classes) (texts : List (List ℕ)) (old after : Store) (class place a : ℕ) (o : Option ℕ) → table ≡ classes → Raises table texts old class place after o → o ≡ Some a → Raises classes texts old class place after (Some a)
@@ -201,81 +201,81 @@ pub raise-requires-clause-class : goal.raise-requires-clause-class
 raise-requires-clause-class c =
     let r = c.requires.possible in
     let w = c.args.world.now in
-    let kind = result_value c.args.function.now.result in
-    let texts = texts_in c.args.function.now.texts.items in
-    let brought = brings texts c.args.call.now.slots.numbers.items c.args.call.now.slots.buffers.items c.args.store.now c.args.thread r.2 r.4 r.1 in
-    let does = subst (λ (a : Answer). IsAnswer w.classes brought c.args.store.now.heap c.args.call.now.locals kind r.3 r.4 a r.5) c.in-Raises.is r.7 in
+    let kind = result_value c.args.call.now.result in
+    let texts = texts_in c.args.call.now.texts.items in
+    let brought = brings texts c.args.activation.now.slots.numbers.items c.args.activation.now.slots.buffers.items c.args.store.now c.args.thread r.2 r.4 r.1 in
+    let does = subst (λ (a : Answer). IsAnswer w.classes brought c.args.store.now.heap c.args.activation.now.locals kind r.3 r.4 a r.5) c.in-Raises.is r.7 in
     small w c.in-Raises.class c.threads.ensures.sound does.2.high
 
 pub returns-in-Some-raise-clause-carried : goal.returns-in-Some-raise-clause-carried
 returns-in-Some-raise-clause-carried c p array others shared s effect h does =
     let w = c.args.world.now in
-    let kind = result_value c.args.function.now.result in
-    let texts = texts_in c.args.function.now.texts.items in
-    let brought = brings texts c.args.call.now.slots.numbers.items c.args.call.now.slots.buffers.items c.args.store.now c.args.thread others s array in
+    let kind = result_value c.args.call.now.result in
+    let texts = texts_in c.args.call.now.texts.items in
+    let brought = brings texts c.args.activation.now.slots.numbers.items c.args.activation.now.slots.buffers.items c.args.store.now c.args.thread others s array in
     let old = c.args.store.now in
     let raised = subst (λ (l : List (Vec ℕ)). Raises c.classes-in-Raises.result.now (texts_in l) old c.in-Raises.class c.in-Raises.place c.raise.new.store c.raise.result) c.deref-texts.ensures.value c.raise.ensures in
     let class = c.in-Raises.class in
     let place = c.in-Raises.place in
     let made = both_made w.classes c.classes-in-Raises.result.now texts old c.raise.new.store class place c.in-Some-raise.exception c.raise.result c.classes-in-Raises.ensures.classes raised c.in-Some-raise.is in
-    carries.by_answer p w old.heap c.args.call.now.locals kind others c.args.thread shared s effect brought c.args.answer (answer.Raises class place) c.in-Raises.is _ _ _ _ _ (λ raises.
-    carries.raises p w old c.args.pending.now c.args.call.now.locals kind others c.args.thread shared s h brought class place effect raises made.0 c.raise.new.store made.1 c.in-Some-raise.exception made.2 made.3) does
+    carries.by_answer p w old.heap c.args.activation.now.locals kind others c.args.thread shared s effect brought c.args.answer (answer.Raises class place) c.in-Raises.is _ _ _ _ _ (λ raises.
+    carries.raises p w old c.args.pending.now c.args.activation.now.locals kind others c.args.thread shared s h brought class place effect raises made.0 c.raise.new.store made.1 c.in-Some-raise.exception made.2 made.3) does
 
 pub returns-in-None-raise-clause-carried : goal.returns-in-None-raise-clause-carried
 returns-in-None-raise-clause-carried c p array others shared s effect h does =
     let w = c.args.world.now in
-    let kind = result_value c.args.function.now.result in
-    let texts = texts_in c.args.function.now.texts.items in
-    let brought = brings texts c.args.call.now.slots.numbers.items c.args.call.now.slots.buffers.items c.args.store.now c.args.thread others s array in
+    let kind = result_value c.args.call.now.result in
+    let texts = texts_in c.args.call.now.texts.items in
+    let brought = brings texts c.args.activation.now.slots.numbers.items c.args.activation.now.slots.buffers.items c.args.store.now c.args.thread others s array in
     let old = c.args.store.now in
     let raised = subst (λ (l : List (Vec ℕ)). Raises c.classes-in-Raises.result.now (texts_in l) old c.in-Raises.class c.in-Raises.place c.raise.new.store c.raise.result) c.deref-texts.ensures.value c.raise.ensures in
     let class = c.in-Raises.class in
     let place = c.in-Raises.place in
     let none = none_made w.classes c.classes-in-Raises.result.now texts old c.raise.new.store class place c.raise.result c.classes-in-Raises.ensures.classes raised c.in-None-raise.is in
-    carries.by_answer p w old.heap c.args.call.now.locals kind others c.args.thread shared s effect brought c.args.answer (answer.Raises class place) c.in-Raises.is _ _ _ _ _ (λ raises.
-    refused_in p w old.heap c.args.call.now.locals (answer.Raises class place) kind others c.args.thread shared s effect old c.raise.new.store c.refuse-in-None-raise.new.pending c.args.call.now.locals c.refuse-in-None-raise.result none.0 c.refuse-in-None-raise.ensures.pending c.refuse-in-None-raise.ensures.carried
-    (carries.refuses_raise p w old c.args.pending.now c.args.call.now.locals kind others c.args.thread shared s h brought class place effect raises none.1)) does
+    carries.by_answer p w old.heap c.args.activation.now.locals kind others c.args.thread shared s effect brought c.args.answer (answer.Raises class place) c.in-Raises.is _ _ _ _ _ (λ raises.
+    refused_in p w old.heap c.args.activation.now.locals (answer.Raises class place) kind others c.args.thread shared s effect old c.raise.new.store c.refuse-in-None-raise.new.pending c.args.activation.now.locals c.refuse-in-None-raise.result none.0 c.refuse-in-None-raise.ensures.pending c.refuse-in-None-raise.ensures.carried
+    (carries.refuses_raise p w old c.args.pending.now c.args.activation.now.locals kind others c.args.thread shared s h brought class place effect raises none.1)) does
 
 pub returns-in-Pends-clause-carried : goal.returns-in-Pends-clause-carried
 returns-in-Pends-clause-carried c p array others shared s effect h does =
     let w = c.args.world.now in
-    let kind = result_value c.args.function.now.result in
-    let texts = texts_in c.args.function.now.texts.items in
-    let brought = brings texts c.args.call.now.slots.numbers.items c.args.call.now.slots.buffers.items c.args.store.now c.args.thread others s array in
+    let kind = result_value c.args.call.now.result in
+    let texts = texts_in c.args.call.now.texts.items in
+    let brought = brings texts c.args.activation.now.slots.numbers.items c.args.activation.now.slots.buffers.items c.args.store.now c.args.thread others s array in
     let old = c.args.store.now in
-    carries.by_answer p w old.heap c.args.call.now.locals kind others c.args.thread shared s effect brought c.args.answer (answer.Pends c.in-Pends.exception c.in-Pends.given) c.in-Pends.is _ _ _ _ _ (λ pends.
-    carries.pends p w old c.args.pending.now c.args.call.now.locals kind others c.args.thread shared s h brought c.in-Pends.exception c.in-Pends.given effect pends) does
+    carries.by_answer p w old.heap c.args.activation.now.locals kind others c.args.thread shared s effect brought c.args.answer (answer.Pends c.in-Pends.exception c.in-Pends.given) c.in-Pends.is _ _ _ _ _ (λ pends.
+    carries.pends p w old c.args.pending.now c.args.activation.now.locals kind others c.args.thread shared s h brought c.in-Pends.exception c.in-Pends.given effect pends) does
 
 pub returns-in-CopiesOut-clause-carried : goal.returns-in-CopiesOut-clause-carried
 returns-in-CopiesOut-clause-carried c p array others shared s effect h does =
     let w = c.args.world.now in
-    let kind = result_value c.args.function.now.result in
-    let brought = brings (texts_in c.args.function.now.texts.items) c.args.call.now.slots.numbers.items c.args.call.now.slots.buffers.items c.args.store.now c.args.thread others s array in
+    let kind = result_value c.args.call.now.result in
+    let brought = brings (texts_in c.args.call.now.texts.items) c.args.activation.now.slots.numbers.items c.args.activation.now.slots.buffers.items c.args.store.now c.args.thread others s array in
     let old = c.args.store.now in
-    carries.by_answer p w old.heap c.args.call.now.locals kind others c.args.thread shared s effect brought c.args.answer (answer.CopiesOut c.in-CopiesOut.region) c.in-CopiesOut.is _ _ _ _ _ (λ copies.
-    carries.copies_out p w old c.args.pending.now c.args.call.now.locals kind others c.args.thread shared s h brought c.in-CopiesOut.region effect copies) does
+    carries.by_answer p w old.heap c.args.activation.now.locals kind others c.args.thread shared s effect brought c.args.answer (answer.CopiesOut c.in-CopiesOut.region) c.in-CopiesOut.is _ _ _ _ _ (λ copies.
+    carries.copies_out p w old c.args.pending.now c.args.activation.now.locals kind others c.args.thread shared s h brought c.in-CopiesOut.region effect copies) does
 
 pub returns-in-CopiesIn-clause-carried : goal.returns-in-CopiesIn-clause-carried
 returns-in-CopiesIn-clause-carried c p array others shared s effect h does =
     let w = c.args.world.now in
-    let kind = result_value c.args.function.now.result in
-    let brought = brings (texts_in c.args.function.now.texts.items) c.args.call.now.slots.numbers.items c.args.call.now.slots.buffers.items c.args.store.now c.args.thread others s array in
+    let kind = result_value c.args.call.now.result in
+    let brought = brings (texts_in c.args.call.now.texts.items) c.args.activation.now.slots.numbers.items c.args.activation.now.slots.buffers.items c.args.store.now c.args.thread others s array in
     let old = c.args.store.now in
-    carries.by_answer p w old.heap c.args.call.now.locals kind others c.args.thread shared s effect brought c.args.answer (answer.CopiesIn c.in-CopiesIn.region) c.in-CopiesIn.is _ _ _ _ _ (λ copies.
-    subst (λ (space : Space). CarriesOut p w old.heap c.args.call.now.locals (answer.CopiesIn c.in-CopiesIn.region) kind others c.args.thread shared s effect false (record old { heap = space }) c.args.pending.now c.args.call.now.locals given.Nothing) (ap (space_with old.heap c.in-CopiesIn.region) (sym c.deref.ensures.value) ∙ sym c.copy_in.ensures)
-    (carries.copies_in p w old c.args.pending.now c.args.call.now.locals kind others c.args.thread shared s h brought c.in-CopiesIn.region effect copies)) does
+    carries.by_answer p w old.heap c.args.activation.now.locals kind others c.args.thread shared s effect brought c.args.answer (answer.CopiesIn c.in-CopiesIn.region) c.in-CopiesIn.is _ _ _ _ _ (λ copies.
+    subst (λ (space : Space). CarriesOut p w old.heap c.args.activation.now.locals (answer.CopiesIn c.in-CopiesIn.region) kind others c.args.thread shared s effect false (record old { heap = space }) c.args.pending.now c.args.activation.now.locals given.Nothing) (ap (space_with old.heap c.in-CopiesIn.region) (sym c.deref.ensures.value) ∙ sym c.copy_in.ensures)
+    (carries.copies_in p w old c.args.pending.now c.args.activation.now.locals kind others c.args.thread shared s h brought c.in-CopiesIn.region effect copies)) does
 
 -- what is known of a region that is copied
 pub copy_out-requires : goal.copy_out-requires
 copy_out-requires c =
     let r = c.requires.possible in
-    let brought = brings (texts_in c.args.function.now.texts.items) c.args.call.now.slots.numbers.items c.args.call.now.slots.buffers.items c.args.store.now c.args.thread r.2 r.4 r.1 in
-    let copied = (subst (λ (a : Answer). IsAnswer c.args.world.now.classes brought c.args.store.now.heap c.args.call.now.locals (result_value c.args.function.now.result) r.3 r.4 a r.5) c.in-CopiesOut.is r.7).1 in
+    let brought = brings (texts_in c.args.call.now.texts.items) c.args.activation.now.slots.numbers.items c.args.activation.now.slots.buffers.items c.args.store.now c.args.thread r.2 r.4 r.1 in
+    let copied = (subst (λ (a : Answer). IsAnswer c.args.world.now.classes brought c.args.store.now.heap c.args.activation.now.locals (result_value c.args.call.now.result) r.3 r.4 a r.5) c.in-CopiesOut.is r.7).1 in
     record { within = copied.within; slots = λ i inside. subst (λ (l : List ℕ). c.in-CopiesOut.region.slot + i < length l) (sym c.deref_mut.ensures.value) (copied.slots i inside) }
 
 pub copy_in-requires : goal.copy_in-requires
 copy_in-requires c =
     let r = c.requires.possible in
-    let brought = brings (texts_in c.args.function.now.texts.items) c.args.call.now.slots.numbers.items c.args.call.now.slots.buffers.items c.args.store.now c.args.thread r.2 r.4 r.1 in
-    let copied = (subst (λ (a : Answer). IsAnswer c.args.world.now.classes brought c.args.store.now.heap c.args.call.now.locals (result_value c.args.function.now.result) r.3 r.4 a r.5) c.in-CopiesIn.is r.7).1 in
+    let brought = brings (texts_in c.args.call.now.texts.items) c.args.activation.now.slots.numbers.items c.args.activation.now.slots.buffers.items c.args.store.now c.args.thread r.2 r.4 r.1 in
+    let copied = (subst (λ (a : Answer). IsAnswer c.args.world.now.classes brought c.args.store.now.heap c.args.activation.now.locals (result_value c.args.call.now.result) r.3 r.4 a r.5) c.in-CopiesIn.is r.7).1 in
     record { within = copied.within; slots = λ i inside. subst (λ (l : List ℕ). c.in-CopiesIn.region.slot + i < length l) (sym c.deref.ensures.value) (copied.slots i inside) }

@@ -9,4 +9,4 @@ use Rattle.machine_collections.proofs.roots.put_call.Goals as goal
 pub returns-in-Some-clause-moved : goal.returns-in-Some-clause-moved
 returns-in-Some-clause-moved c = λ to h.
     let locals = c.put_locals.ensures.moved to (subst (λ (o : Option Activation). AreMovedAt to (slots_of o) c.args.roots.now.places.items c.args.from) c.in-Some.is h) in
-    ap (λ (l : LocalTable). let call : Activation = record c.in-Some.call { locals = l } in Some call) locals ∙ sym (ap (option_map (moved_call to)) c.in-Some.is)
+    ap (λ (l : LocalTable). let activation : Activation = record c.in-Some.activation { locals = l } in Some activation) locals ∙ sym (ap (option_map (moved_call to)) c.in-Some.is)

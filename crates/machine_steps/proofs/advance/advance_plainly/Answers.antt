@@ -15,7 +15,7 @@ use Rattle.machine_steps.proofs.advance.advance_plainly.Goals as goal
 use Rattle.machine_steps.proofs.advance.advance_plainly.Goals.{After-instr_at-instr}
 
 -- what was fetched
-fetched : (c : After-instr_at-instr) → Fetched c.args.program.now c.args.store.now c.in-Some.call c.instr_at-instr.result.now
+fetched : (c : After-instr_at-instr) → Fetched c.args.program.now c.args.store.now c.in-Some.activation c.instr_at-instr.result.now
 fetched c = record {
   code = c.code_at-code.result.now;
   lowered = c.requires.lowered;
@@ -25,7 +25,7 @@ fetched c = record {
 }
 
 -- the same where nobody owns a monitor
-fetched_unowned : (c : After-instr_at-instr) → Fetched c.args.program.now (store_unowned c.args.store.now) c.in-Some.call c.instr_at-instr.result.now
+fetched_unowned : (c : After-instr_at-instr) → Fetched c.args.program.now (store_unowned c.args.store.now) c.in-Some.activation c.instr_at-instr.result.now
 fetched_unowned c = record {
   code = c.code_at-code.result.now;
   lowered = c.requires.lowered;
@@ -45,13 +45,13 @@ silent (plain.Trap trap line) (event.Printed z) h = absurd (let clash : event.Pr
 pub code_at-code-requires : goal.code_at-code-requires
 code_at-code-requires c =
     let a = c.requires.stands in
-    function_there c.args.program.now a.0 c.args.store.now a.1 a.2 a.3 a.4 c.args.thread.now a.5 c.in-Some.call a.6.0 a.6.1 c.in-Some.is a.6.2
+    function_there c.args.program.now a.0 c.args.store.now a.1 a.2 a.3 a.4 c.args.thread.now a.5 c.in-Some.activation a.6.0 a.6.1 c.in-Some.is a.6.2
 
 pub instr_at-instr-requires : goal.instr_at-instr-requires
 instr_at-instr-requires c =
     let a = c.requires.stands in
     let few : c.args.store.now.heap.cells ≤ 1048576 = omega (arith, c.cells.ensures.cells, c.cells.ensures.limit) in
-    place_there c.args.program.now a.0 c.args.store.now a.1 a.2 a.3 a.4 c.args.thread.now a.5 c.in-Some.call a.6.0 a.6.1 c.in-Some.is a.6.2 c.code_at-code.result.now c.requires.lowered c.code_at-code.ensures.code few
+    place_there c.args.program.now a.0 c.args.store.now a.1 a.2 a.3 a.4 c.args.thread.now a.5 c.in-Some.activation a.6.0 a.6.1 c.in-Some.is a.6.2 c.code_at-code.result.now c.requires.lowered c.code_at-code.ensures.code few
 
 pub run_plain-requires-clause-leads : goal.run_plain-requires-clause-leads
 unfolding fetched_unowned
@@ -60,7 +60,7 @@ run_plain-requires-clause-leads c way stack numbers is =
     let p = c.args.program.now in
     let store = c.args.store.now in
     let t = c.args.thread.now in
-    let call = c.in-Some.call in
+    let call = c.in-Some.activation in
     let i = c.instr_at-instr.result.now in
     let f = fetched_unowned (goal.at.run_plain-requires-clause-leads c).After-instr_at-instr in
     let it = work p a.0 store a.1 a.2 a.3 a.4 t a.5 call a.6.0 a.6.1 c.in-Some.is a.6.2 in
@@ -75,7 +75,7 @@ returns-in_default c = record {
       let p = c.args.program.now in
       let store = c.args.store.now in
       let t = c.args.thread.now in
-      let call = c.in-Some.call in
+      let call = c.in-Some.activation in
       let i = c.instr_at-instr.result.now in
       let at = (goal.at.returns-in_default c).After-instr_at-instr in
       let f = fetched at in
@@ -84,9 +84,9 @@ returns-in_default c = record {
       let e = executes p w store others k own shared t s call stands.0 stands.1 c.in-Some.is stands.2 free in
       let m = c.run_plain.ensures in (
         free,
-        did p w store others k own shared t s stands.1 store false c.run_plain.result it.task it.rest it.is c.run_plain.new.call t.pending
+        did p w store others k own shared t s stands.1 store false c.run_plain.result it.task it.rest it.is c.run_plain.new.activation t.pending
             (plain_executes p w store others k own shared s e.store_agrees t.pending e.pending_agrees call f.code it.task it.rest (ready_for p w store call i f t.pending others k own shared s it.task it.rest e) e.tasks e.views e.steady i f.at
-            c.run_plain.new.call c.run_plain.result m.way m.stack m.numbers m.is m.moved m.way_seen),
+            c.run_plain.new.activation c.run_plain.result m.way m.stack m.numbers m.is m.moved m.way_seen),
       );
   none = tt;
   ending = refl;

@@ -50,4 +50,4 @@ returns-clause-calls c =
     let f = in_front c.args.thread.now.calls.items c.front.result c.unwrap-next.result c.unwrap-next.ensures c.front.ensures.item.3 in
     let rest : c.pop_front.new.self.items ≡ f.0 = c.pop_front.ensures.rest ∙ ap (λ (l : List PendingCall). drop 1 l) f.1 in
     let here : slice_get c.args.program.now.codes next.function ≡ Some c.unwrap-code.result.now = sym c.code.ensures.code ∙ ap option_copied c.unwrap-code.ensures in
-    (next, c.in_ok-call.call, f.1 ∙ ap (λ (l : List PendingCall). next ∷ l) (sym rest), refl, record { code = c.unwrap-code.result.now; of_function = here; begins = c.in_ok-call.ensures })
+    (next, c.in_ok-activation.activation, f.1 ∙ ap (λ (l : List PendingCall). next ∷ l) (sym rest), refl, record { code = c.unwrap-code.result.now; of_function = here; begins = c.in_ok-activation.ensures })

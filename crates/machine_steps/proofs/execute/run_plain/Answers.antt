@@ -10,16 +10,16 @@ use Rattle.machine_steps.proofs.execute.run_plain.Goals as goal
 taken : (i : Instr) (stack numbers held left slots : List ℕ) (way taken : Plain) → held ≡ numbers → plain_of i stack held ≡ Some (way, left, slots) → way ≡ taken → plain_of i stack numbers ≡ Some (taken, left, slots)
 taken i stack numbers held left slots way ahead same is which = ap (plain_of i stack) (sym same) ∙ is ∙ ap (λ (w : Plain). let x : Answer = Some (w, left, slots) in x) which
 
-pub overflow_add-call : goal.overflow_add-call
-overflow_add-call c =
-    let place : c.args.call.now.place + 1 < 2 ^ 64 = c.requires.leads plain.Next c.plain.new.stack c.plain.new.numbers (taken c.args.instr.now c.args.call.now.stack c.args.call.now.slots.numbers.items c.deref_mut.result.now c.plain.new.stack c.plain.new.numbers c.plain.result plain.Next c.deref_mut.ensures.value c.plain.ensures c.in-Next.is) in
+pub overflow_add-activation : goal.overflow_add-activation
+overflow_add-activation c =
+    let place : c.args.activation.now.place + 1 < 2 ^ 64 = c.requires.leads plain.Next c.plain.new.stack c.plain.new.numbers (taken c.args.instr.now c.args.activation.now.stack c.args.activation.now.slots.numbers.items c.deref_mut.result.now c.plain.new.stack c.plain.new.numbers c.plain.result plain.Next c.deref_mut.ensures.value c.plain.ensures c.in-Next.is) in
     omega (arith, place)
 
-pub overflow_add-call-in-Skip-2 : goal.overflow_add-call-in-Skip-2
-overflow_add-call-in-Skip-2 c =
-    let place : c.args.call.now.place + 1 + c.in-Skip.skipped < 2 ^ 64 = c.requires.leads (plain.Skip c.in-Skip.skipped) c.plain.new.stack c.plain.new.numbers (taken c.args.instr.now c.args.call.now.stack c.args.call.now.slots.numbers.items c.deref_mut.result.now c.plain.new.stack c.plain.new.numbers c.plain.result (plain.Skip c.in-Skip.skipped) c.deref_mut.ensures.value c.plain.ensures c.in-Skip.is) in
+pub overflow_add-activation-in-Skip-2 : goal.overflow_add-activation-in-Skip-2
+overflow_add-activation-in-Skip-2 c =
+    let place : c.args.activation.now.place + 1 + c.in-Skip.skipped < 2 ^ 64 = c.requires.leads (plain.Skip c.in-Skip.skipped) c.plain.new.stack c.plain.new.numbers (taken c.args.instr.now c.args.activation.now.stack c.args.activation.now.slots.numbers.items c.deref_mut.result.now c.plain.new.stack c.plain.new.numbers c.plain.result (plain.Skip c.in-Skip.skipped) c.deref_mut.ensures.value c.plain.ensures c.in-Skip.is) in
     omega (arith, place)
 
-pub overflow_sub-call : goal.overflow_sub-call
-overflow_sub-call c =
-    c.requires.leads (plain.Back c.in-Back.back) c.plain.new.stack c.plain.new.numbers (taken c.args.instr.now c.args.call.now.stack c.args.call.now.slots.numbers.items c.deref_mut.result.now c.plain.new.stack c.plain.new.numbers c.plain.result (plain.Back c.in-Back.back) c.deref_mut.ensures.value c.plain.ensures c.in-Back.is)
+pub overflow_sub-activation : goal.overflow_sub-activation
+overflow_sub-activation c =
+    c.requires.leads (plain.Back c.in-Back.back) c.plain.new.stack c.plain.new.numbers (taken c.args.instr.now c.args.activation.now.stack c.args.activation.now.slots.numbers.items c.deref_mut.result.now c.plain.new.stack c.plain.new.numbers c.plain.result (plain.Back c.in-Back.back) c.deref_mut.ensures.value c.plain.ensures c.in-Back.is)

@@ -89,15 +89,15 @@ pub carry_out-requires-clause-possible : goal.carry_out-requires-clause-possible
 carry_out-requires-clause-possible c =
     let a = c.requires.at_call in
     let w = c.args.world.now in
-    let kind = result_value c.args.function.now.result in (
+    let kind = result_value c.args.call.now.result in (
       a.0,
-      named a.0 w c.args.store.now c.args.pending.now c.args.call.now c.args.function.now a.1 c.args.thread a.2 a.3 a.4 a.5 a.6 a.7 c.args.answer c.requires.answered kind c.requires.prepared.result,
+      named a.0 w c.args.store.now c.args.pending.now c.args.activation.now c.args.call.now a.1 c.args.thread a.2 a.3 a.4 a.5 a.6 a.7 c.args.answer c.requires.answered kind c.requires.prepared.result,
       a.1,
       a.3,
       a.4,
-      effect a.0 w c.args.store.now c.args.pending.now c.args.call.now c.args.function.now a.1 c.args.thread a.2 a.3 a.4 a.5 a.6 a.7 c.args.answer c.requires.answered,
-      can_carry a.0 w c.args.store.now c.args.pending.now c.args.call.now c.args.function.now a.1 c.args.thread a.2 a.3 a.4 a.5 a.6 a.7 c.args.answer c.requires.answered kind c.requires.prepared.result,
-      answered a.0 w c.args.store.now c.args.pending.now c.args.call.now c.args.function.now a.1 c.args.thread a.2 a.3 a.4 a.5 a.6 a.7 c.args.answer c.requires.answered kind c.requires.prepared.result,
+      effect a.0 w c.args.store.now c.args.pending.now c.args.activation.now c.args.call.now a.1 c.args.thread a.2 a.3 a.4 a.5 a.6 a.7 c.args.answer c.requires.answered,
+      can_carry a.0 w c.args.store.now c.args.pending.now c.args.activation.now c.args.call.now a.1 c.args.thread a.2 a.3 a.4 a.5 a.6 a.7 c.args.answer c.requires.answered kind c.requires.prepared.result,
+      answered a.0 w c.args.store.now c.args.pending.now c.args.activation.now c.args.call.now a.1 c.args.thread a.2 a.3 a.4 a.5 a.6 a.7 c.args.answer c.requires.answered kind c.requires.prepared.result,
     )
 
 target_left : (target : Target) (numbers references fields buffers numbers' references' fields' buffers' : ℕ) → numbers' ≡ numbers → references' ≡ references → fields' ≡ fields → buffers' ≡ buffers
@@ -108,44 +108,44 @@ target_left target numbers references fields buffers numbers' references' fields
 pub receive-requires-clause-target : goal.receive-requires-clause-target
 receive-requires-clause-target c =
     let a = c.requires.at_call in
-    let call = c.args.call.now in
+    let activation = c.args.activation.now in
     let told = c.in-Ok.ensures in
-    target_left c.args.function.now.target (length call.slots.numbers.items) (length call.slots.references.items) (length call.slots.fields.items) (length call.slots.buffers.items) _ _ _ _
-    (ap length told.slots ∙ numbers_long c.args.store.now.heap c.args.answer call.slots.numbers.items)
+    target_left c.args.call.now.target (length activation.slots.numbers.items) (length activation.slots.references.items) (length activation.slots.fields.items) (length activation.slots.buffers.items) _ _ _ _
+    (ap length told.slots ∙ numbers_long c.args.store.now.heap c.args.answer activation.slots.numbers.items)
     (ap (λ (t : Activation). length t.slots.references.items) told.stays)
     (ap (λ (t : Activation). length t.slots.fields.items) told.stays)
-    (ap length told.buffer_slots ∙ buffers_long c.args.answer call.slots.buffers.items)
-    (has_target a.0 c.args.world.now c.args.store.now c.args.pending.now call c.args.function.now a.1 c.args.thread a.2 a.3 a.4 a.5 a.6 a.7)
+    (ap length told.buffer_slots ∙ buffers_long c.args.answer activation.slots.buffers.items)
+    (has_target a.0 c.args.world.now c.args.store.now c.args.pending.now activation c.args.call.now a.1 c.args.thread a.2 a.3 a.4 a.5 a.6 a.7)
 
 pub receive-requires-clause-told : goal.receive-requires-clause-told
 receive-requires-clause-told c =
     let a = c.requires.at_call in
-    let call = c.args.call.now in
-    subst (λ (o : Option ℕ). HasTold o (length c.carry_out.new.call.slots.numbers.items)) (sym c.told_slot.ensures)
-    (subst (HasTold (told_slot (slice_get c.args.function.now.operands.items 1)))
-    (sym (ap length c.in-Ok.ensures.slots ∙ numbers_long c.args.store.now.heap c.args.answer call.slots.numbers.items))
-    (has_told a.0 c.args.world.now c.args.store.now c.args.pending.now call c.args.function.now a.1 c.args.thread a.2 a.3 a.4 a.5 a.6 a.7))
+    let activation = c.args.activation.now in
+    subst (λ (o : Option ℕ). HasTold o (length c.carry_out.new.activation.slots.numbers.items)) (sym c.told_slot.ensures)
+    (subst (HasTold (told_slot (slice_get c.args.call.now.operands.items 1)))
+    (sym (ap length c.in-Ok.ensures.slots ∙ numbers_long c.args.store.now.heap c.args.answer activation.slots.numbers.items))
+    (has_told a.0 c.args.world.now c.args.store.now c.args.pending.now activation c.args.call.now a.1 c.args.thread a.2 a.3 a.4 a.5 a.6 a.7))
 
 pub receive-requires-clause-static_target : goal.receive-requires-clause-static_target
 receive-requires-clause-static_target c =
     let a = c.requires.at_call in
     let w = c.args.world.now in
-    let kind = result_value c.args.function.now.result in
+    let kind = result_value c.args.call.now.result in
     let same = c.requires.prepared.result in
-    static_there a.0 w c.args.store.now c.args.pending.now c.args.call.now c.args.function.now a.1 c.args.thread a.2 a.3 a.4 a.5 a.6 a.7 c.args.answer c.requires.answered kind same c.in-Ok.carried.refused c.carry_out.new.store c.carry_out.new.pending c.carry_out.new.call.locals c.in-Ok.carried.given
-    (c.in-Ok.ensures.carried a.0 (named a.0 w c.args.store.now c.args.pending.now c.args.call.now c.args.function.now a.1 c.args.thread a.2 a.3 a.4 a.5 a.6 a.7 c.args.answer c.requires.answered kind same) a.1 a.3 a.4 _ (can_carry a.0 w c.args.store.now c.args.pending.now c.args.call.now c.args.function.now a.1 c.args.thread a.2 a.3 a.4 a.5 a.6 a.7 c.args.answer c.requires.answered kind same)
-    (answered a.0 w c.args.store.now c.args.pending.now c.args.call.now c.args.function.now a.1 c.args.thread a.2 a.3 a.4 a.5 a.6 a.7 c.args.answer c.requires.answered kind same))
+    static_there a.0 w c.args.store.now c.args.pending.now c.args.activation.now c.args.call.now a.1 c.args.thread a.2 a.3 a.4 a.5 a.6 a.7 c.args.answer c.requires.answered kind same c.in-Ok.carried.refused c.carry_out.new.store c.carry_out.new.pending c.carry_out.new.activation.locals c.in-Ok.carried.given
+    (c.in-Ok.ensures.carried a.0 (named a.0 w c.args.store.now c.args.pending.now c.args.activation.now c.args.call.now a.1 c.args.thread a.2 a.3 a.4 a.5 a.6 a.7 c.args.answer c.requires.answered kind same) a.1 a.3 a.4 _ (can_carry a.0 w c.args.store.now c.args.pending.now c.args.activation.now c.args.call.now a.1 c.args.thread a.2 a.3 a.4 a.5 a.6 a.7 c.args.answer c.requires.answered kind same)
+    (answered a.0 w c.args.store.now c.args.pending.now c.args.activation.now c.args.call.now a.1 c.args.thread a.2 a.3 a.4 a.5 a.6 a.7 c.args.answer c.requires.answered kind same))
     c.deref_mut.result.now c.deref_mut.ensures.value
 
 pub receive-requires-clause-room : goal.receive-requires-clause-room
 receive-requires-clause-room c =
     let a = c.requires.at_call in
     let w = c.args.world.now in
-    let kind = result_value c.args.function.now.result in
+    let kind = result_value c.args.call.now.result in
     let same = c.requires.prepared.result in
-    room_there a.0 w c.args.store.now c.args.pending.now c.args.call.now c.args.function.now a.1 c.args.thread a.2 a.3 a.4 a.5 a.6 a.7 c.args.answer c.requires.answered kind same c.in-Ok.carried.refused c.carry_out.new.store c.carry_out.new.pending c.carry_out.new.call.locals c.in-Ok.carried.given
-    (c.in-Ok.ensures.carried a.0 (named a.0 w c.args.store.now c.args.pending.now c.args.call.now c.args.function.now a.1 c.args.thread a.2 a.3 a.4 a.5 a.6 a.7 c.args.answer c.requires.answered kind same) a.1 a.3 a.4 _ (can_carry a.0 w c.args.store.now c.args.pending.now c.args.call.now c.args.function.now a.1 c.args.thread a.2 a.3 a.4 a.5 a.6 a.7 c.args.answer c.requires.answered kind same)
-    (answered a.0 w c.args.store.now c.args.pending.now c.args.call.now c.args.function.now a.1 c.args.thread a.2 a.3 a.4 a.5 a.6 a.7 c.args.answer c.requires.answered kind same))
+    room_there a.0 w c.args.store.now c.args.pending.now c.args.activation.now c.args.call.now a.1 c.args.thread a.2 a.3 a.4 a.5 a.6 a.7 c.args.answer c.requires.answered kind same c.in-Ok.carried.refused c.carry_out.new.store c.carry_out.new.pending c.carry_out.new.activation.locals c.in-Ok.carried.given
+    (c.in-Ok.ensures.carried a.0 (named a.0 w c.args.store.now c.args.pending.now c.args.activation.now c.args.call.now a.1 c.args.thread a.2 a.3 a.4 a.5 a.6 a.7 c.args.answer c.requires.answered kind same) a.1 a.3 a.4 _ (can_carry a.0 w c.args.store.now c.args.pending.now c.args.activation.now c.args.call.now a.1 c.args.thread a.2 a.3 a.4 a.5 a.6 a.7 c.args.answer c.requires.answered kind same)
+    (answered a.0 w c.args.store.now c.args.pending.now c.args.activation.now c.args.call.now a.1 c.args.thread a.2 a.3 a.4 a.5 a.6 a.7 c.args.answer c.requires.answered kind same))
 
 -- it was refused
 was_refused : (refused : Bool) (x : Invoked) → x ≡ done_or_refused refused → x ≡ invoked.Refused → refused ≡ true
@@ -157,14 +157,14 @@ returns-in-Ok-clause-refused c is =
     let a = c.requires.at_call in
     let w = c.args.world.now in
     let store = c.args.store.now in
-    let kind = result_value c.args.function.now.result in
+    let kind = result_value c.args.call.now.result in
     let same = c.requires.prepared.result in
-    let does = effect a.0 w store c.args.pending.now c.args.call.now c.args.function.now a.1 c.args.thread a.2 a.3 a.4 a.5 a.6 a.7 c.args.answer c.requires.answered in
-    let answer = answered a.0 w store c.args.pending.now c.args.call.now c.args.function.now a.1 c.args.thread a.2 a.3 a.4 a.5 a.6 a.7 c.args.answer c.requires.answered kind same in
-    let carried = c.in-Ok.ensures.carried a.0 (named a.0 w store c.args.pending.now c.args.call.now c.args.function.now a.1 c.args.thread a.2 a.3 a.4 a.5 a.6 a.7 c.args.answer c.requires.answered kind same) a.1 a.3 a.4 does (can_carry a.0 w store c.args.pending.now c.args.call.now c.args.function.now a.1 c.args.thread a.2 a.3 a.4 a.5 a.6 a.7 c.args.answer c.requires.answered kind same) answer in
+    let does = effect a.0 w store c.args.pending.now c.args.activation.now c.args.call.now a.1 c.args.thread a.2 a.3 a.4 a.5 a.6 a.7 c.args.answer c.requires.answered in
+    let answer = answered a.0 w store c.args.pending.now c.args.activation.now c.args.call.now a.1 c.args.thread a.2 a.3 a.4 a.5 a.6 a.7 c.args.answer c.requires.answered kind same in
+    let carried = c.in-Ok.ensures.carried a.0 (named a.0 w store c.args.pending.now c.args.activation.now c.args.call.now a.1 c.args.thread a.2 a.3 a.4 a.5 a.6 a.7 c.args.answer c.requires.answered kind same) a.1 a.3 a.4 does (can_carry a.0 w store c.args.pending.now c.args.activation.now c.args.call.now a.1 c.args.thread a.2 a.3 a.4 a.5 a.6 a.7 c.args.answer c.requires.answered kind same) answer in
     let refused = was_refused c.in-Ok.carried.refused c.done_or_refused.result c.done_or_refused.ensures (cc (is)) in
     let short = subst (λ (b : Bool). GoesByRoom b (sizes (made_by w.classes does)) store.heap c.carry_out.new.store.heap) refused carried.room in
-    omega (arith, short.0, cells_made w.classes (brings a.0 w store c.args.pending.now c.args.call.now c.args.function.now a.1 c.args.thread a.2 a.3 a.4 a.5 a.6 a.7 c.args.answer c.requires.answered) store.heap c.args.call.now.locals kind a.3 a.4 c.args.answer does answer)
+    omega (arith, short.0, cells_made w.classes (brings a.0 w store c.args.pending.now c.args.activation.now c.args.call.now a.1 c.args.thread a.2 a.3 a.4 a.5 a.6 a.7 c.args.answer c.requires.answered) store.heap c.args.activation.now.locals kind a.3 a.4 c.args.answer does answer)
 
 -- what a call came to, by whether its allocation was refused
 executes : (p : Lowered) (w : World) (old store : Store) (others : Acquired) (k : ℕ) (own : Owners) (shared : Shared) (s : Thread) (rest : List Task) (call : Activation) (pending : Option ℕ) (e : Effect) (line : ℕ) (refused : Bool)
@@ -177,30 +177,30 @@ returns-in-Ok-clause-done c p others own shared s task rest h =
     let w = c.args.world.now in
     let store = c.args.store.now in
     let pending = c.args.pending.now in
+    let activation = c.args.activation.now in
     let call = c.args.call.now in
-    let function = c.args.function.now in
     let k = c.args.thread in
-    let kind = result_value function.result in
+    let kind = result_value call.result in
     let same = c.requires.prepared.result in
     let refused = c.in-Ok.carried.refused in
     let g = c.in-Ok.carried.given in
-    let is = kind_is p w store pending call function others k own shared s task rest h c.args.answer c.requires.answered kind same in
-    let does = effect p w store pending call function others k own shared s task rest h c.args.answer c.requires.answered in
-    let answer = answered p w store pending call function others k own shared s task rest h c.args.answer c.requires.answered kind same in
-    let carried = c.in-Ok.ensures.carried p (named p w store pending call function others k own shared s task rest h c.args.answer c.requires.answered kind same) others shared s does (can_carry p w store pending call function others k own shared s task rest h c.args.answer c.requires.answered kind same) answer in
-    let left = c.carry_out.new.call in
+    let is = kind_is p w store pending activation call others k own shared s task rest h c.args.answer c.requires.answered kind same in
+    let does = effect p w store pending activation call others k own shared s task rest h c.args.answer c.requires.answered in
+    let answer = answered p w store pending activation call others k own shared s task rest h c.args.answer c.requires.answered kind same in
+    let carried = c.in-Ok.ensures.carried p (named p w store pending activation call others k own shared s task rest h c.args.answer c.requires.answered kind same) others shared s does (can_carry p w store pending activation call others k own shared s task rest h c.args.answer c.requires.answered kind same) answer in
+    let left = c.carry_out.new.activation in
     let after = with_items c.carry_out.new.store.statics c.receive.new.statics in
     let final : Store = record c.carry_out.new.store { statics = after } in
-    subst (λ (done : Executed). Executes p w store final others k own shared s rest c.receive.new.call c.carry_out.new.pending (effect_of (sight_of shared s) task) done) (ap (executed_as function.line) (sym c.done_or_refused.ensures))
-    (executes p w store final others k own shared s rest c.receive.new.call c.carry_out.new.pending (effect_of (sight_of shared s) task) function.line refused
-    (goes_on p w store pending call function others k own shared s task rest h c.args.answer (worked p w store pending call function others k own shared s task rest h c.args.answer c.requires.answered) c.requires.answered.sound c.requires.runs
-    (free p w store pending call function others k own shared s task rest h c.args.answer c.requires.answered)
-    (subst (λ (x : ResultKind). IsAnswer w.classes (brings p w store pending call function others k own shared s task rest h c.args.answer c.requires.answered) store.heap call.locals x shared s c.args.answer does) is answer)
-    refused c.carry_out.new.store c.carry_out.new.pending c.carry_out.new.call.locals g
-    (carried_as p w store pending call function others k own shared s task rest h c.args.answer c.requires.answered kind same refused c.carry_out.new.store c.carry_out.new.pending c.carry_out.new.call.locals g carried)
+    subst (λ (done : Executed). Executes p w store final others k own shared s rest c.receive.new.activation c.carry_out.new.pending (effect_of (sight_of shared s) task) done) (ap (executed_as call.line) (sym c.done_or_refused.ensures))
+    (executes p w store final others k own shared s rest c.receive.new.activation c.carry_out.new.pending (effect_of (sight_of shared s) task) call.line refused
+    (goes_on p w store pending activation call others k own shared s task rest h c.args.answer (worked p w store pending activation call others k own shared s task rest h c.args.answer c.requires.answered) c.requires.answered.sound c.requires.runs
+    (free p w store pending activation call others k own shared s task rest h c.args.answer c.requires.answered)
+    (subst (λ (x : ResultKind). IsAnswer w.classes (brings p w store pending activation call others k own shared s task rest h c.args.answer c.requires.answered) store.heap activation.locals x shared s c.args.answer does) is answer)
+    refused c.carry_out.new.store c.carry_out.new.pending c.carry_out.new.activation.locals g
+    (carried_as p w store pending activation call others k own shared s task rest h c.args.answer c.requires.answered kind same refused c.carry_out.new.store c.carry_out.new.pending c.carry_out.new.activation.locals g carried)
     c.frames.ensures.stacked c.in-Ok.ensures.copies c.in-Ok.ensures.new_copy
-    left.slots.numbers left.slots.buffers c.in-Ok.ensures.slots c.in-Ok.ensures.buffer_slots c.receive.new.call after
-    (subst (λ (x : ResultKind). Receives function.target x (told_slot (slice_get (call_view function).operands 1)) g (record call { locals = left.locals; slots = record call.slots { numbers = left.slots.numbers; buffers = left.slots.buffers } }) c.receive.new.call) is
-    (subst (λ (t : Activation). Receives function.target kind (told_slot (slice_get (call_view function).operands 1)) g t c.receive.new.call) c.in-Ok.ensures.stays
-    (subst (λ (o : Option ℕ). Receives function.target kind o g left c.receive.new.call) c.told_slot.ensures c.receive.ensures.call)))
-    (with_items_is c.carry_out.new.store.statics c.receive.new.statics (search (rules, places)) ∙ c.receive.ensures.statics ∙ ap (λ (l : List StaticReference). statics_with function.target g l) c.deref_mut.ensures.value)))
+    left.slots.numbers left.slots.buffers c.in-Ok.ensures.slots c.in-Ok.ensures.buffer_slots c.receive.new.activation after
+    (subst (λ (x : ResultKind). Receives call.target x (told_slot (slice_get (call_view call).operands 1)) g (record activation { locals = left.locals; slots = record activation.slots { numbers = left.slots.numbers; buffers = left.slots.buffers } }) c.receive.new.activation) is
+    (subst (λ (t : Activation). Receives call.target kind (told_slot (slice_get (call_view call).operands 1)) g t c.receive.new.activation) c.in-Ok.ensures.stays
+    (subst (λ (o : Option ℕ). Receives call.target kind o g left c.receive.new.activation) c.told_slot.ensures c.receive.ensures.activation)))
+    (with_items_is c.carry_out.new.store.statics c.receive.new.statics (search (rules, places)) ∙ c.receive.ensures.statics ∙ ap (λ (l : List StaticReference). statics_with call.target g l) c.deref_mut.ensures.value)))

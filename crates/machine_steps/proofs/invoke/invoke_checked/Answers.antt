@@ -21,13 +21,13 @@ returns-in-Err-clause-done c p others own shared s task rest h =
     let w = c.args.world.now in
     let store = c.args.store.now in
     let pending = c.args.pending.now in
+    let activation = c.args.activation.now in
     let call = c.args.call.now in
-    let function = c.args.function.now in
     let trap = c.in-Err.trap in
-    traps p w store pending call function others c.args.thread own shared s task rest h trap function.line refl
+    traps p w store pending activation call others c.args.thread own shared s task rest h trap call.line refl
     (⊎_elim
-    (λ (found : trap_at w store pending call c.args.thread function ≡ Some (trap_view trap)). found_trap p w store pending call function others c.args.thread own shared s task rest h trap (sym (trap_is p w store pending call function others c.args.thread own shared s task rest h) ∙ found))
-    (λ (halted : IsAnswered w store pending call c.args.thread function (answer.Halts trap)). halts p w store pending call function others c.args.thread own shared s task rest h trap halted)
+    (λ (found : trap_at w store pending activation c.args.thread call ≡ Some (trap_view trap)). found_trap p w store pending activation call others c.args.thread own shared s task rest h trap (sym (trap_is p w store pending activation call others c.args.thread own shared s task rest h) ∙ found))
+    (λ (halted : IsAnswered w store pending activation c.args.thread call (answer.Halts trap)). halts p w store pending activation call others c.args.thread own shared s task rest h trap halted)
     c.in-Err.ensures.trap)
 
 -- what may not be refused is not carried out where it has no room
@@ -38,10 +38,10 @@ held_back goes false table classes texts answer left cells is stays same asked =
 pub returns-else-goes_ahead-clause-hindered : goal.returns-else-goes_ahead-clause-hindered
 returns-else-goes_ahead-clause-hindered c p others own shared s task rest h =
     held_back c.goes_ahead.result c.args.may_refuse c.classes.result.now c.args.world.now.classes (texts_in c.deref.result.now) c.in-Ok.answer (left_of c.args.store.now.heap) _ c.goes_ahead.ensures c.if-goes_ahead.false c.classes.ensures.classes
-    (cells_asked p c.args.world.now c.args.store.now c.args.pending.now c.args.call.now c.args.function.now others c.args.thread own shared s task rest h c.in-Ok.answer c.in-Ok.ensures.answer (result_value c.args.function.now.result) c.requires.prepared.result
+    (cells_asked p c.args.world.now c.args.store.now c.args.pending.now c.args.activation.now c.args.call.now others c.args.thread own shared s task rest h c.in-Ok.answer c.in-Ok.ensures.answer (result_value c.args.call.now.result) c.requires.prepared.result
     ∙ ap (λ (l : List (Vec ℕ)). cells_of c.args.world.now.classes (texts_in l) c.in-Ok.answer) (sym c.deref.ensures.value))
 
 pub returns-in-Err-finish-clause-hindered : goal.returns-in-Err-finish-clause-hindered
 returns-in-Err-finish-clause-hindered c p others own shared s task rest h =
-    cells_asked p c.args.world.now c.args.store.now c.args.pending.now c.args.call.now c.args.function.now others c.args.thread own shared s task rest h c.in-Ok.answer c.in-Ok.ensures.answer (result_value c.args.function.now.result) c.requires.prepared.result
-    ∙ memory_free c.args.world.now.classes (texts_in c.args.function.now.texts.items) c.in-Ok.answer c.in-Err-finish.ensures.memory
+    cells_asked p c.args.world.now c.args.store.now c.args.pending.now c.args.activation.now c.args.call.now others c.args.thread own shared s task rest h c.in-Ok.answer c.in-Ok.ensures.answer (result_value c.args.call.now.result) c.requires.prepared.result
+    ∙ memory_free c.args.world.now.classes (texts_in c.args.call.now.texts.items) c.in-Ok.answer c.in-Err-finish.ensures.memory

@@ -21,20 +21,20 @@ known P Q R None f p q = tt
 pub answer_at_once-requires : goal.answer_at_once-requires
 answer_at_once-requires c =
     let a = c.requires.at_call in
-    record { objects = addresses_seen a.0 c.args.world.now c.args.store.now c.args.pending c.args.call.now c.args.function.now a.1 c.args.thread a.2 a.3 a.4 a.5 a.6 a.7 c.args.store.now.monitors (scene_of c.args.world.now.classes c.args.store.now c.args.call.now c.args.thread c.args.pending) refl }
+    record { objects = addresses_seen a.0 c.args.world.now c.args.store.now c.args.pending c.args.activation.now c.args.call.now a.1 c.args.thread a.2 a.3 a.4 a.5 a.6 a.7 c.args.store.now.monitors (scene_of c.args.world.now.classes c.args.store.now c.args.activation.now c.args.thread c.args.pending) refl }
 
 pub returns-clause-answer : goal.returns-clause-answer
 returns-clause-answer c =
-    let function = c.args.function.now in
+    let call = c.args.call.now in
     let w = c.args.world.now in
     known
-    (λ (x : Answer). (classes : Classes) (room : Bool) (wanted : ElementType) → trap_found (scene_of classes c.args.store.now c.args.call.now c.args.thread c.args.pending) room wanted (function_value function.function) function.operands.items ≡ None)
-    (λ (x : Answer). (classes : Classes) → IsWorkedOut (scene_of classes c.args.store.now c.args.call.now c.args.thread c.args.pending) (call_view function) (function_value function.function) x)
+    (λ (x : Answer). (classes : Classes) (room : Bool) (wanted : ElementType) → trap_found (scene_of classes c.args.store.now c.args.activation.now c.args.thread c.args.pending) room wanted (function_value call.function) call.operands.items ≡ None)
+    (λ (x : Answer). (classes : Classes) → IsWorkedOut (scene_of classes c.args.store.now c.args.activation.now c.args.thread c.args.pending) (call_view call) (function_value call.function) x)
     _ c.answer_at_once.result
     (λ (x : Answer) free works.
     record {
       sound = c.classes.ensures.sound;
-      free = free w.classes (has_room (locals_after (function_value function.function) c.args.call.now.locals)) (element_wanted function.target);
+      free = free w.classes (has_room (locals_after (function_value call.function) c.args.activation.now.locals)) (element_wanted call.target);
       works = works w.classes;
     })
     c.answer_at_once.ensures.free

@@ -1,8 +1,9 @@
-use Rattle.std.proofs.Common.{◌≡◌, ℕ, ◌+◌, true, List, Some, length, map, refl, sym, ap, ◌∙◌, subst}
+use Rattle.std.proofs.Common.{◌≡◌, ℕ, ◌+◌, true, Err, List, Some, length, map, refl, sym, ap, ◌∙◌, subst}
 use Rattle.std.specs.Global.{Vec}
 use Rattle.std.specs.List.{list_all}
 use Rattle.std.specs.Option.{option_map}
 use Rattle.std.specs.Prelude.{flat_map, slice_get}
+use Rattle.std.proofs.lemmas.Result.{err_from_is_err_and}
 use Rattle.std.proofs.lemmas.Option.{slice_get_read, slice_get-map}
 use Rattle.syntax.specs.Views.{unit_tree}
 use Rattle.world_values.proofs.LoadedWorlds.{calls_given, thread_calls}
@@ -24,15 +25,16 @@ thread_at ts threads k t is at =
     ∙ slice_get-map (λ (v : Vec Invocation). v.items) ts k
     ∙ ap (option_map (λ (v : Vec Invocation). v.items)) at
 
-pub returns-in-Err-clause-refused : goal.returns-in-Err-clause-refused
-returns-in-Err-clause-refused c =
+pub returns-in_err-thread-clause-refused : goal.returns-in_err-thread-clause-refused
+returns-in_err-thread-clause-refused c =
     let unit = unit_tree c.args.program.now.unit in
     let classes = c.args.world.now.classes in
     let items = c.threads-calls-items.result.now in
     let at = slice_get_read items (length items) c.loop-calls.calls-index c.calls-item.result refl c.loop-calls-test.true c.calls-item.is in
-    let first = subst (λ (cs : List Invocation). IsFirstOf (refused_calls unit classes cs) c.in-Err.fault) c.deref.ensures.value c.in-Err.ensures.refused in
-    subst (λ (cs : List (List Invocation)). IsFirstOf (flat_map (refused_calls unit classes) cs) c.in-Err.fault) c.threads-calls-items.ensures.calls
-    (subst (λ (l : List Invocation). IsFirstOf l c.in-Err.fault) (sym c.loop-calls.invariant.all) (refused_at unit classes items c.loop-calls.calls-index c.calls-item.result at c.in-Err.fault first))
+    let first = subst (λ (cs : List Invocation). IsFirstOf (refused_calls unit classes cs) c.in_err-thread.field-0.0) c.deref.ensures.value c.in_err-thread.ensures.refused in
+    let p = err_from_is_err_and c.from_residual.result c.from_residual.ensures.1 in
+    rw (p.1 ∙ ap Err p.2) (subst (λ (cs : List (List Invocation)). IsFirstOf (flat_map (refused_calls unit classes) cs) c.in_err-thread.field-0.0) c.threads-calls-items.ensures.calls
+    (subst (λ (l : List Invocation). IsFirstOf l c.in_err-thread.field-0.0) (sym c.loop-calls.invariant.all) (refused_at unit classes items c.loop-calls.calls-index c.calls-item.result at c.in_err-thread.field-0.0 first)))
 
 pub load_thread-requires-clause-some : goal.load_thread-requires-clause-some
 load_thread-requires-clause-some c =
@@ -75,9 +77,9 @@ loop-calls-preserved c =
     let k = c.loop-calls.calls-index in
     let at = slice_get_read items (length items) k c.calls-item.result refl c.loop-calls-test.true c.calls-item.is in
     record {
-      agree = λ space copies shared. subst (λ (ts : List Thread). AgreeSoFar p classes space copies made shared items (k + 1) ts) (sym c.in_ok-push-in-Ok.ensures.items)
-          (one_more p classes space copies made shared items k c.calls-item.result c.in-Ok.thread c.loop-calls.threads.items at
-          (λ j own. subst (λ (cs : List Invocation). ThreadAgrees p classes space copies made j own shared c.in-Ok.thread (waiting_thread cs)) c.deref.ensures.value (c.in-Ok.ensures.agrees space copies j own shared))
+      agree = λ space copies shared. subst (λ (ts : List Thread). AgreeSoFar p classes space copies made shared items (k + 1) ts) (sym c.in_ok-push.ensures.items)
+          (one_more p classes space copies made shared items k c.calls-item.result c.in_ok-thread.thread c.loop-calls.threads.items at
+          (λ j own. subst (λ (cs : List Invocation). ThreadAgrees p classes space copies made j own shared c.in_ok-thread.thread (waiting_thread cs)) c.deref.ensures.value (c.in_ok-thread.ensures.agrees space copies j own shared))
           (c.loop-calls.invariant.agree space copies shared));
-      all = c.loop-calls.invariant.all ∙ loads_at (unit_tree p.unit) classes items k c.calls-item.result at (ap (refused_calls (unit_tree p.unit) classes) (sym c.deref.ensures.value) ∙ c.in-Ok.ensures.all);
+      all = c.loop-calls.invariant.all ∙ loads_at (unit_tree p.unit) classes items k c.calls-item.result at (ap (refused_calls (unit_tree p.unit) classes) (sym c.deref.ensures.value) ∙ c.in_ok-thread.ensures.all);
     }

@@ -1,4 +1,5 @@
-use Rattle.std.proofs.Common.{◌≡◌, ℕ, ◌+◌, ◌≤◌, ◌-◌, ◌∷◌, ◌∙◌, [], length, sym, subst, replicate, arith, IsSome, refl}
+use Rattle.std.proofs.Common.{◌≡◌, ℕ, ◌+◌, ◌≤◌, ◌-◌, ◌∷◌, ◌∙◌, Err, ap, [], length, sym, subst, replicate, arith, IsSome, refl}
+use Rattle.std.proofs.lemmas.Result.{err_from_is_err_and}
 use Rattle.semantics.specs.Schedule.{Schedule}
 use Rattle.semantics.specs.World.{World}
 use Rattle.semantics.specs.declared.schedule.ScheduleWord.{ScheduleWord}
@@ -43,18 +44,19 @@ returns-then-left-eq0-clause-ok c =
     subst (λ (n : ℕ). RunsAlong c.args.self.now c.run_plainly-left.new.self (replicate n c.args.word)) all
     (so_far c.args.self.now l.self c.run_plainly-left.new.self c.args.word c.in-Some.k c.args.times l.left taken (sym c.in-Some.ensures.turn.0) l.invariant.most c.run_plainly-left.ensures.most l.invariant.along c.run_plainly-left.ensures.along)
 
-pub returns-in-Err-clause-err : goal.returns-in-Err-clause-err
-returns-in-Err-clause-err c =
+pub returns-in_err-take_turn-clause-err : goal.returns-in_err-take_turn-clause-err
+returns-in_err-take_turn-clause-err c =
     let l = c.loop-left in
     let taken = c.run_plainly-left.result in
     let i = c.args.times - (l.left - taken) in
     let turn : Turn c.in-Some.k ≡ c.args.word = sym c.in-Some.ensures.turn.0 in
     let along = so_far c.args.self.now l.self c.run_plainly-left.new.self c.args.word c.in-Some.k c.args.times l.left taken turn l.invariant.most c.run_plainly-left.ensures.most l.invariant.along c.run_plainly-left.ensures.along in
-    let same = sym c.in-Err.ensures.err.0 in
+    let same = sym c.in_err-take_turn.ensures.err.0 in
     let here = subst (λ (r : Run). RunsAlong c.args.self.now r (replicate i c.args.word)) same along in
-    let ends = subst (λ (w : ScheduleWord). EndsAt c.take_turn.new.self c.in-Err.fault w) turn (subst (λ (r : Run). EndsAt r c.in-Err.fault (Turn c.in-Some.k)) same c.in-Err.ensures.err.1) in
-    subst (λ (w : Schedule). RunsInto c.args.self.now c.take_turn.new.self w c.in-Err.fault) (sym (replicate_rest c.args.word i c.args.times (omega (arith, c.if-left-eq0.false, l.invariant.most, c.run_plainly-left.ensures.most))))
-    (begun c.args.self.now c.take_turn.new.self (replicate i c.args.word) c.args.word (replicate (c.args.times - i - 1) c.args.word) c.in-Err.fault here ends)
+    let ends = subst (λ (w : ScheduleWord). EndsAt c.take_turn.new.self c.in_err-take_turn.field-0.0 w) turn (subst (λ (r : Run). EndsAt r c.in_err-take_turn.field-0.0 (Turn c.in-Some.k)) same c.in_err-take_turn.ensures.err.1) in
+    let p = err_from_is_err_and c.from_residual.result c.from_residual.ensures.1 in
+    rw (p.1 ∙ ap Err p.2) (subst (λ (w : Schedule). RunsInto c.args.self.now c.take_turn.new.self w c.in_err-take_turn.field-0.0) (sym (replicate_rest c.args.word i c.args.times (omega (arith, c.if-left-eq0.false, l.invariant.most, c.run_plainly-left.ensures.most))))
+    (begun c.args.self.now c.take_turn.new.self (replicate i c.args.word) c.args.word (replicate (c.args.times - i - 1) c.args.word) c.in_err-take_turn.field-0.0 here ends))
 
 pub loop-left-preserved : goal.loop-left-preserved
 loop-left-preserved c =
@@ -67,8 +69,8 @@ loop-left-preserved c =
     record {
       most = omega (arith, l.invariant.most);
       along = subst (λ (n : ℕ). RunsAlong c.args.self.now c.take_turn.new.self (replicate n c.args.word)) count
-          (taken_more c.args.self.now c.run_plainly-left.new.self c.take_turn.new.self c.args.word i 1 along (subst (λ (w : ScheduleWord). RunsAlong c.run_plainly-left.new.self c.take_turn.new.self (w ∷ [])) turn c.in-Ok.ensures.ok));
-      runs = c.in-Ok.ensures.runs;
+          (taken_more c.args.self.now c.run_plainly-left.new.self c.take_turn.new.self c.args.word i 1 along (subst (λ (w : ScheduleWord). RunsAlong c.run_plainly-left.new.self c.take_turn.new.self (w ∷ [])) turn c.in_ok-take_turn.ensures.ok));
+      runs = c.in_ok-take_turn.ensures.runs;
     }
 
 pub returns-clause-ok : goal.returns-clause-ok

@@ -18,7 +18,8 @@ use Rattle.semantics.specs.EventViews.{ending_view, printed_after, stop_after, s
 use Rattle.machine_threads.specs.declared.thread.Thread.{Thread}
 use Rattle.machine_steps.specs.declared.advance.Advanced.{Advanced}
 use Rattle.machine_steps.specs.declared.advance.Advanced.TheVariants as advanced
-use Rattle.machine.specs.Run.{AdvancesAlways, AdvancesFrom, CanAdvance, Corresponds, Run, InState, CouldStep, HadNoRoom, LeavesAll, TurnHolds, Waits, turn_at_rest, replay_of, can_turn, event_of, is_refused}
+use Rattle.machine_steps.specs.Advances.{AdvancesAlways}
+use Rattle.machine.specs.Run.{AdvancesFrom, CanAdvance, Corresponds, Run, InState, CouldStep, HadNoRoom, LeavesAll, TurnHolds, Waits, turn_at_rest, replay_of, can_turn, event_of, is_refused}
 use Rattle.machine_scenes.specs.declared.store.Store.{Store}
 use Rattle.semantics.specs.Object.{sizes}
 use Rattle.semantics.specs.Reachable.{live_size}

@@ -23,9 +23,7 @@ waits-requires-clause-agrees c =
       owners _ _ _ _ _ _ _ c.self.invariant c.args.k i t (number a) (there a) c.args.k,
       c.self.invariant.state.shared,
       f.source,
-      shared_agrees _ _ _ _ _ _ _ c.self.invariant c.args.k i t (number a) (there a),
-      f.agrees,
-      steady _ _ _ _ _ _ _ c.self.invariant c.args.k i t (number a) (there a),
+      (shared_agrees _ _ _ _ _ _ _ c.self.invariant c.args.k i t (number a) (there a), f.agrees, steady _ _ _ _ _ _ _ c.self.invariant c.args.k i t (number a) (there a)),
     )
 
 pub returns : goal.returns
