@@ -14,10 +14,7 @@ ghost use Rattle.parse.specs.Reading.{head_at, body_at, signature_at, function_a
 use crate::parameters::{NAMES, parameters};
 use base::limits::{MOST_FUNCTIONS, MOST_STATICS};
 use parse_expressions::expect_two;
-use parse_lexemes::{
-    Cursor, Fixed, ParseError, ParseRule, Source, expect, fault_at, line_at, name_at,
-    reference_type, rest_of, result_type, start, starts_with, unexpected,
-};
+use parse_lexemes::{Cursor, Fixed, ParseError, ParseRule, Source};
 use parse_statements::block;
 use scan::{Mark, Token, Word, one_spelling};
 use std::alloc::{AllocError, Global};
@@ -62,11 +59,11 @@ fn body(alloc: Global, free: usize, lexemes: Cursor<'_>) -> Result<(Block, Curso
 fn exported(lexemes: Cursor<'_>) -> Result<(ResultType, Cursor<'_>), ParseError>
     ensures { Gives (λ x. (result_tree x.0, views x.1)) result (exported_at (views lexemes.entry)) }
 {
-    let rest = expect(Fixed::Word(Word::JniExport), lexemes)?;
-    let Some(result) = result_type(rest) else {
-        return Err(unexpected(rest));
+    let rest = lexemes.expect(Fixed::Word(Word::JniExport))?;
+    let Some(result) = rest.result_type() else {
+        return Err(rest.unexpected());
     };
-    match expect(Fixed::Word(Word::JniCall), rest_of(rest)) {
+    match rest.skip().expect(Fixed::Word(Word::JniCall)) {
         Ok(rest) => Ok((result, rest)),
         Err(fault) => Err(fault),
     }
@@ -78,9 +75,9 @@ fn signature(lexemes: Cursor<'_>) -> Result<(ResultType, &[u8], &[u8], Cursor<'_
     ensures { Gives (λ x. (result_tree x.0, x.1.now, x.2.now, views x.3)) result (signature_at (views lexemes.entry)) }
 {
     let (result, rest) = exported(lexemes)?;
-    let (name, rest) = name_at(rest)?;
+    let (name, rest) = rest.name()?;
     let rest = head(rest)?;
-    match name_at(rest) {
+    match rest.name() {
         Ok((class_name, rest)) => Ok((result, name, class_name, rest)),
         Err(fault) => Err(fault),
     }
@@ -91,7 +88,7 @@ fn signature(lexemes: Cursor<'_>) -> Result<(ResultType, &[u8], &[u8], Cursor<'_
 fn function(alloc: Global, lexemes: Cursor<'_>) -> Result<(Function, Cursor<'_>), ParseError>
     ensures { Gives (λ x. (function_tree x.0, views x.1)) result (function_at (views lexemes.entry)) }
 {
-    let line = line_at(lexemes);
+    let line = lexemes.line();
     let (result, name, class_name, rest) = signature(lexemes)?;
     let (parameters, rest) = parameters(alloc, rest)?;
     let (body, rest) = body(alloc, NAMES - parameters.len(), rest)?;
@@ -139,12 +136,12 @@ fn made(
 fn static_head(lexemes: Cursor<'_>) -> Result<(ReferenceType, &[u8], Cursor<'_>), ParseError>
     ensures { Gives (λ x. (reference_tree x.0, x.1.now, views x.2)) result (static_head_at (views lexemes.entry)) }
 {
-    let rest = expect(Fixed::Word(Word::Static), lexemes)?;
-    let Some(kind) = reference_type(rest) else {
-        return Err(unexpected(rest));
+    let rest = lexemes.expect(Fixed::Word(Word::Static))?;
+    let Some(kind) = rest.reference_type() else {
+        return Err(rest.unexpected());
     };
-    let (name, rest) = name_at(rest_of(rest))?;
-    match expect(Fixed::Mark(Mark::Assign), rest) {
+    let (name, rest) = rest.skip().name()?;
+    match rest.expect(Fixed::Mark(Mark::Assign)) {
         Ok(rest) => Ok((kind, name, rest)),
         Err(fault) => Err(fault),
     }
@@ -155,7 +152,7 @@ fn static_head(lexemes: Cursor<'_>) -> Result<(ReferenceType, &[u8], Cursor<'_>)
 fn static_reference(alloc: Global, lexemes: Cursor<'_>) -> Result<(Static, Cursor<'_>), ParseError>
     ensures { Gives (λ x. (static_tree x.0, views x.1)) result (static_at (views lexemes.entry)) }
 {
-    let line = line_at(lexemes);
+    let line = lexemes.line();
     let (kind, name, rest) = static_head(lexemes)?;
     let rest = expect_two(Fixed::Word(Word::Null), Fixed::Mark(Mark::Semicolon), rest)?;
     let Ok(name) = Name::new(alloc, name) else {
@@ -179,7 +176,7 @@ fn function_item(
     ensures { Gives (λ x. (item_tree x.0, x.1, x.2, views x.3)) result (function_item_at functions statics (views lexemes.entry)) }
 {
     if functions == 0 {
-        return Err(fault_at(ParseRule::TooMany, lexemes));
+        return Err(lexemes.fault(ParseRule::TooMany));
     }
     match function(alloc, lexemes) {
         Ok((function, rest)) => Ok((Item::Function(function), functions - 1, statics, rest)),
@@ -199,7 +196,7 @@ fn static_item(
     ensures { Gives (λ x. (item_tree x.0, x.1, x.2, views x.3)) result (static_item_at functions statics (views lexemes.entry)) }
 {
     if statics == 0 {
-        return Err(fault_at(ParseRule::TooMany, lexemes));
+        return Err(lexemes.fault(ParseRule::TooMany));
     }
     match static_reference(alloc, lexemes) {
         Ok((shared, rest)) => Ok((Item::Static(shared), functions, statics - 1, rest)),
@@ -217,13 +214,13 @@ fn item(
 ) -> Result<ReadItem<'_>, ParseError>
     ensures { Gives (λ x. (item_tree x.0, x.1, x.2, views x.3)) result (item_at functions statics (views lexemes.entry)) }
 {
-    if starts_with(Fixed::Word(Word::JniExport), lexemes) {
+    if lexemes.starts_with(Fixed::Word(Word::JniExport)) {
         return function_item(alloc, functions, statics, lexemes);
     }
-    if starts_with(Fixed::Word(Word::Static), lexemes) {
+    if lexemes.starts_with(Fixed::Word(Word::Static)) {
         return static_item(alloc, functions, statics, lexemes);
     }
-    Err(unexpected(lexemes))
+    Err(lexemes.unexpected())
 }
 
 /// All items.
@@ -234,7 +231,7 @@ fn items(alloc: Global, lexemes: Cursor<'_>) -> Result<Vec<Item>, ParseError>
     let mut rest = lexemes;
     let mut functions = MOST_FUNCTIONS;
     let mut statics = MOST_STATICS;
-    'items: while !starts_with(Fixed::End, rest) {
+    'items: while !rest.starts_with(Fixed::End) {
         let (item, functions_left, statics_left, after) = item(alloc, functions, statics, rest)?;
         items.push(item)?;
         functions = functions_left;
@@ -257,7 +254,7 @@ pub fn parse(alloc: Global, text: &[u8], tokens: &[Token]) -> Result<Unit, Parse
 {
     one_spelling();
     let source = Source { text, tokens };
-    let items = items(alloc, start(&source))?;
+    let items = items(alloc, Cursor::start(&source))?;
     Ok(Unit::new(items))
 }
 

@@ -7,10 +7,7 @@ ghost use Rattle.parse_lexemes.specs.Lexemes.{views};
 ghost use Rattle.parse.specs.Reading.{parameter_at, parameters_at};
 
 use parse_expressions::owned_name;
-use parse_lexemes::{
-    Cursor, Fixed, ParseError, ParseRule, fault_at, parameter_type, rest_of, starts_with,
-    unexpected,
-};
+use parse_lexemes::{Cursor, Fixed, ParseError, ParseRule};
 use scan::Mark;
 use std::alloc::Global;
 use syntax::Parameter;
@@ -23,10 +20,10 @@ pub(crate) const NAMES: usize = 255;
 fn parameter(alloc: Global, lexemes: Cursor<'_>) -> Result<(Parameter, Cursor<'_>), ParseError>
     ensures { Gives (λ x. (parameter_tree x.0, views x.1)) result (parameter_at (views lexemes.entry)) }
 {
-    let Some(kind) = parameter_type(lexemes) else {
-        return Err(unexpected(lexemes));
+    let Some(kind) = lexemes.parameter_type() else {
+        return Err(lexemes.unexpected());
     };
-    match owned_name(alloc, rest_of(lexemes)) {
+    match owned_name(alloc, lexemes.skip()) {
         Ok((name, rest)) => Ok((Parameter { kind, name }, rest)),
         Err(fault) => Err(fault),
     }
@@ -42,11 +39,11 @@ pub(crate) fn parameters(
 {
     let mut parameters = Vec::new(alloc);
     let mut rest = lexemes;
-    'parameters: while starts_with(Fixed::Mark(Mark::Comma), rest) {
+    'parameters: while rest.starts_with(Fixed::Mark(Mark::Comma)) {
         if parameters.len() == NAMES {
-            return Err(fault_at(ParseRule::TooMany, rest));
+            return Err(rest.fault(ParseRule::TooMany));
         }
-        let (parameter, after) = parameter(alloc, rest_of(rest))?;
+        let (parameter, after) = parameter(alloc, rest.skip())?;
         parameters.push(parameter)?;
         rest = after;
     }

@@ -9,9 +9,7 @@ ghost use Rattle.parse_lexemes.specs.Lexemes.{views, expect};
 ghost use Rattle.parse_expressions.specs.Reading.{interface_at, value_at, argument_at, arguments_at, call_at, starts_call, right_at, setting_at, test_at};
 
 use crate::expressions::{expect_two, expression, owned_name, right_expression};
-use parse_lexemes::{
-    Cursor, Fixed, ParseError, expect, name_at, number_at, rest_of, starts_with, text_at,
-};
+use parse_lexemes::{Cursor, Fixed, ParseError};
 use scan::{Mark, Word};
 use std::alloc::Global;
 use syntax::{Argument, Call, Name, RightSide, Test};
@@ -26,7 +24,7 @@ fn interface(lexemes: Cursor<'_>) -> Result<Cursor<'_>, ParseError>
         lexemes,
     )?;
     let rest = expect_two(Fixed::Word(Word::Env), Fixed::Mark(Mark::CloseParen), rest)?;
-    expect(Fixed::Mark(Mark::Arrow), rest)
+    rest.expect(Fixed::Mark(Mark::Arrow))
 }
 
 /// An argument that is no string.
@@ -39,8 +37,8 @@ fn value(
     requires { room ≤ 32 }
     ensures { Gives (λ x. (argument_tree x.0, views x.1)) result (value_at room (views lexemes.entry)) }
 {
-    if starts_with(Fixed::Mark(Mark::Ampersand), lexemes) {
-        return match owned_name(alloc, rest_of(lexemes)) {
+    if lexemes.starts_with(Fixed::Mark(Mark::Ampersand)) {
+        return match owned_name(alloc, lexemes.skip()) {
             Ok((name, rest)) => Ok((Argument::AddressOf(name), rest)),
             Err(fault) => Err(fault),
         };
@@ -61,12 +59,12 @@ fn argument(
     requires { room ≤ 32 }
     ensures { Gives (λ x. (argument_tree x.0, views x.1)) result (argument_at room (views lexemes.entry)) }
 {
-    match text_at(lexemes) {
+    match lexemes.text() {
         Some(bytes) => {
             let Ok(bytes) = Vec::from_slice(alloc, bytes) else {
                 return Err(ParseError::Memory);
             };
-            Ok((Argument::Text(bytes), rest_of(lexemes)))
+            Ok((Argument::Text(bytes), lexemes.skip()))
         }
         None => value(alloc, room, lexemes),
     }
@@ -83,8 +81,8 @@ fn arguments(
 {
     let mut arguments = Vec::new(alloc);
     let mut rest = lexemes;
-    'arguments: while starts_with(Fixed::Mark(Mark::Comma), rest) {
-        let (argument, after) = argument(alloc, room, rest_of(rest))?;
+    'arguments: while rest.starts_with(Fixed::Mark(Mark::Comma)) {
+        let (argument, after) = argument(alloc, room, rest.skip())?;
         arguments.push(argument)?;
         rest = after;
     }
@@ -108,7 +106,7 @@ fn called<'t>(
           after,
         ))) }
 {
-    let rest = expect(paren, lexemes)?;
+    let rest = lexemes.expect(paren)?;
     let Ok(function) = Name::new(alloc, function) else {
         return Err(ParseError::Memory);
     };
@@ -127,7 +125,7 @@ fn function(lexemes: Cursor<'_>) -> Result<(&[u8], Cursor<'_>), ParseError>
     ensures { Gives (λ x. (x.0.now, views x.1)) result (function_at (views lexemes.entry)) }
 {
     let rest = interface(lexemes)?;
-    name_at(rest)
+    rest.name()
 }
 
 /// A call.
@@ -151,8 +149,8 @@ pub fn call(alloc: Global, room: u32, lexemes: Cursor<'_>) -> Result<(Call, Curs
 fn starts_call(lexemes: Cursor<'_>) -> bool
     ensures { result ≡ starts_call (views lexemes.entry) }
 {
-    starts_with(Fixed::Mark(Mark::OpenParen), lexemes)
-        && starts_with(Fixed::Mark(Mark::Star), rest_of(lexemes))
+    lexemes.starts_with(Fixed::Mark(Mark::OpenParen))
+        && lexemes.skip().starts_with(Fixed::Mark(Mark::Star))
 }
 
 /// An expression or a call.
@@ -205,7 +203,7 @@ fn ended_name<'t>(
 ) -> Result<(Name, Cursor<'t>), ParseError>
     ensures { Gives (λ x. (x.0, views x.1)) result (made_of {B = ReadName} (expect end (views lexemes.entry)) (λ rest. (name.now, rest))) }
 {
-    let rest = expect(end, lexemes)?;
+    let rest = lexemes.expect(end)?;
     let Ok(name) = Name::new(alloc, name) else {
         return Err(ParseError::Memory);
     };
@@ -222,8 +220,8 @@ pub fn setting(
     requires { room ≤ 32 }
     ensures { Gives (λ x. (x.0, right_side_tree x.1, views x.2)) result (setting_at room (views lexemes.entry)) }
 {
-    let (name, rest) = name_at(lexemes)?;
-    let rest = expect(Fixed::Mark(Mark::Assign), rest)?;
+    let (name, rest) = lexemes.name()?;
+    let rest = rest.expect(Fixed::Mark(Mark::Assign))?;
     let (right, rest) = right_side(alloc, room, rest)?;
     set_to(alloc, name, right, Fixed::Mark(Mark::Semicolon), rest)
 }
@@ -234,8 +232,8 @@ pub fn setting(
 fn zero(lexemes: Cursor<'_>) -> Result<Cursor<'_>, ParseError>
     ensures { Gives views result (zero_at (views lexemes.entry)) }
 {
-    let rest = expect(Fixed::Mark(Mark::Equal), lexemes)?;
-    match number_at(0, 0, rest) {
+    let rest = lexemes.expect(Fixed::Mark(Mark::Equal))?;
+    match rest.number(0, 0) {
         Ok((_, rest)) => Ok(rest),
         Err(fault) => Err(fault),
     }

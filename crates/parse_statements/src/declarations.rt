@@ -10,10 +10,7 @@ ghost use Rattle.parse_statements.specs.Reading.{zeros_at, array_at, is_array, a
 
 use base::limits::MOST_ELEMENTS;
 use parse_expressions::{expect_two, setting};
-use parse_lexemes::{
-    Cursor, Fixed, ParseError, element_type, expect, line_at, name_at, number_at, rest_of,
-    starts_with, variable_type,
-};
+use parse_lexemes::{Cursor, Fixed, ParseError};
 use scan::{Mark, Word};
 use std::alloc::Global;
 use syntax::{ElementType, Form, Name, Stmt, VariableType};
@@ -28,7 +25,7 @@ fn zeros(lexemes: Cursor<'_>) -> Result<Cursor<'_>, ParseError>
         Fixed::Mark(Mark::OpenBrace),
         lexemes,
     )?;
-    let (_, rest) = number_at(0, 0, rest)?;
+    let (_, rest) = rest.number(0, 0)?;
     expect_two(
         Fixed::Mark(Mark::CloseBrace),
         Fixed::Mark(Mark::Semicolon),
@@ -42,10 +39,10 @@ fn zeros(lexemes: Cursor<'_>) -> Result<Cursor<'_>, ParseError>
 fn array_head(lexemes: Cursor<'_>) -> Result<(&[u8], u32, Cursor<'_>), ParseError>
     ensures { Gives (λ x. (x.0.now, x.1, views x.2)) result (array_head_at (views lexemes.entry)) }
 {
-    let (name, rest) = name_at(lexemes)?;
-    let rest = expect(Fixed::Mark(Mark::OpenBracket), rest)?;
-    let (size, rest) = number_at(1, MOST_ELEMENTS, rest)?;
-    match expect(Fixed::Mark(Mark::CloseBracket), rest) {
+    let (name, rest) = lexemes.name()?;
+    let rest = rest.expect(Fixed::Mark(Mark::OpenBracket))?;
+    let (size, rest) = rest.number(1, MOST_ELEMENTS)?;
+    match rest.expect(Fixed::Mark(Mark::CloseBracket)) {
         Ok(rest) => Ok((name, size, rest)),
         Err(fault) => Err(fault),
     }
@@ -75,7 +72,7 @@ fn is_array(element: ElementType, lexemes: Cursor<'_>) -> bool
     ensures { result ≡ is_array (element_value element) (views lexemes.entry) }
 {
     match element {
-        ElementType::Int => starts_with(Fixed::Mark(Mark::OpenBracket), rest_of(lexemes)),
+        ElementType::Int => lexemes.skip().starts_with(Fixed::Mark(Mark::OpenBracket)),
         ElementType::Short | ElementType::Byte | ElementType::Char => true,
     }
 }
@@ -92,8 +89,8 @@ fn after_element(
     requires { room ≤ 32 }
     ensures { Gives (λ x. (stmt_tree x.0, views x.1)) result (after_element room line (element_value element) (views lexemes.entry)) }
 {
-    if starts_with(Fixed::Mark(Mark::Star), lexemes) {
-        return match setting(alloc, room, rest_of(lexemes)) {
+    if lexemes.starts_with(Fixed::Mark(Mark::Star)) {
+        return match setting(alloc, room, lexemes.skip()) {
             Ok((name, right, rest)) => {
                 let form = Form::DeclareBuffer(element, name, right);
                 Ok((Stmt { line, form }, rest))
@@ -159,21 +156,21 @@ pub(crate) fn declared(
     requires { room ≤ 32 }
     ensures { Gives (λ x. (stmt_tree x.0, views x.1)) result (declared_at room (views lexemes.entry)) }
 {
-    let line = line_at(lexemes);
-    if let Some(element) = element_type(lexemes) {
-        return after_element(alloc, room, line, element, rest_of(lexemes));
+    let line = lexemes.line();
+    if let Some(element) = lexemes.element_type() {
+        return after_element(alloc, room, line, element, lexemes.skip());
     }
-    if let Some(kind) = variable_type(lexemes) {
-        return after_variable(alloc, room, line, kind, rest_of(lexemes));
+    if let Some(kind) = lexemes.variable_type() {
+        return after_variable(alloc, room, line, kind, lexemes.skip());
     }
-    after_const(alloc, room, line, rest_of(lexemes))
+    after_const(alloc, room, line, lexemes.skip())
 }
 
 /// Whether a declaration comes next.
 pub(crate) fn starts_declaration(lexemes: Cursor<'_>) -> bool
     ensures { result ≡ starts_declaration (views lexemes.entry) }
 {
-    element_type(lexemes).is_some()
-        || variable_type(lexemes).is_some()
-        || starts_with(Fixed::Word(Word::Const), lexemes)
+    lexemes.element_type().is_some()
+        || lexemes.variable_type().is_some()
+        || lexemes.starts_with(Fixed::Word(Word::Const))
 }

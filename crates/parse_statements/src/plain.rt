@@ -8,7 +8,7 @@ ghost use Rattle.parse_lexemes.specs.Lexemes.{views};
 ghost use Rattle.parse_statements.specs.Reading.{put_at, return_at, perform_at, set_element_at, set_at, plain_at};
 
 use parse_expressions::{call, closed, expression, index, setting, starts_element};
-use parse_lexemes::{Cursor, Fixed, ParseError, expect, line_at, name_at, rest_of, starts_with};
+use parse_lexemes::{Cursor, Fixed, ParseError};
 use scan::{Mark, Word};
 use std::alloc::Global;
 use syntax::{Expr, Form, Name, Stmt};
@@ -43,7 +43,7 @@ pub(crate) fn parenthesized(
     requires { room ≤ 32 }
     ensures { Gives (λ x. (expr_tree x.0, views x.1)) result (parenthesized_at room end (views lexemes.entry)) }
 {
-    let rest = expect(Fixed::Mark(Mark::OpenParen), lexemes)?;
+    let rest = lexemes.expect(Fixed::Mark(Mark::OpenParen))?;
     let (operand, rest) = ended(alloc, room, Fixed::Mark(Mark::CloseParen), rest)?;
     match closed(end, operand, 0, rest) {
         Ok((operand, _, rest)) => Ok((operand, rest)),
@@ -82,9 +82,9 @@ fn returned(
     requires { room ≤ 32 }
     ensures { Gives (λ x. (stmt_tree x.0, views x.1)) result (return_at room line (views lexemes.entry)) }
 {
-    if starts_with(Fixed::Mark(Mark::Semicolon), lexemes) {
+    if lexemes.starts_with(Fixed::Mark(Mark::Semicolon)) {
         let form = Form::Return(None);
-        return Ok((Stmt { line, form }, rest_of(lexemes)));
+        return Ok((Stmt { line, form }, lexemes.skip()));
     }
     match ended(alloc, room, Fixed::Mark(Mark::Semicolon), lexemes) {
         Ok((operand, rest)) => {
@@ -107,7 +107,7 @@ fn perform(
     ensures { Gives (λ x. (stmt_tree x.0, views x.1)) result (perform_at room line (views lexemes.entry)) }
 {
     let (call, rest) = call(alloc, room, lexemes)?;
-    match expect(Fixed::Mark(Mark::Semicolon), rest) {
+    match rest.expect(Fixed::Mark(Mark::Semicolon)) {
         Ok(rest) => {
             let form = Form::Perform(call);
             Ok((Stmt { line, form }, rest))
@@ -123,7 +123,7 @@ fn assigned(alloc: Global, room: u32, lexemes: Cursor<'_>) -> Result<(Expr, Curs
     requires { room ≤ 32 }
     ensures { Gives (λ x. (expr_tree x.0, views x.1)) result (assigned_at room (views lexemes.entry)) }
 {
-    let rest = expect(Fixed::Mark(Mark::Assign), lexemes)?;
+    let rest = lexemes.expect(Fixed::Mark(Mark::Assign))?;
     ended(alloc, room, Fixed::Mark(Mark::Semicolon), rest)
 }
 
@@ -160,7 +160,7 @@ fn set_element(
     requires { room ≤ 32 }
     ensures { Gives (λ x. (stmt_tree x.0, views x.1)) result (set_element_at room line (views lexemes.entry)) }
 {
-    let (name, rest) = name_at(lexemes)?;
+    let (name, rest) = lexemes.name()?;
     let (index, _, rest) = index(alloc, room, rest)?;
     let Ok(name) = Name::new(alloc, name) else {
         return Err(ParseError::Memory);
@@ -201,14 +201,14 @@ pub(crate) fn plain(
     requires { room ≤ 32 }
     ensures { Gives (λ x. (stmt_tree x.0, views x.1)) result (plain_at room (views lexemes.entry)) }
 {
-    let line = line_at(lexemes);
-    if starts_with(Fixed::Word(Word::PutJint), lexemes) {
-        return put(alloc, room, line, rest_of(lexemes));
+    let line = lexemes.line();
+    if lexemes.starts_with(Fixed::Word(Word::PutJint)) {
+        return put(alloc, room, line, lexemes.skip());
     }
-    if starts_with(Fixed::Word(Word::Return), lexemes) {
-        return returned(alloc, room, line, rest_of(lexemes));
+    if lexemes.starts_with(Fixed::Word(Word::Return)) {
+        return returned(alloc, room, line, lexemes.skip());
     }
-    if starts_with(Fixed::Mark(Mark::OpenParen), lexemes) {
+    if lexemes.starts_with(Fixed::Mark(Mark::OpenParen)) {
         return perform(alloc, room, line, lexemes);
     }
     set(alloc, room, line, lexemes)

@@ -13,9 +13,7 @@ ghost use Rattle.parse_statements.specs.Reading.{simple_at, inner, if_test_at, w
 use crate::declarations::{declared, starts_declaration};
 use crate::plain::{parenthesized, plain};
 use parse_expressions::{expect_two, test};
-use parse_lexemes::{
-    Cursor, Fixed, ParseError, ParseRule, expect, fault_at, line_at, missing, rest_of, starts_with,
-};
+use parse_lexemes::{Cursor, Fixed, ParseError, ParseRule};
 use scan::{Mark, Word};
 use std::alloc::Global;
 use syntax::{Block, Expr, Form, Stmt, Test};
@@ -52,7 +50,7 @@ fn simple(
 {
     if starts_declaration(lexemes) {
         if free == 0 {
-            return Err(fault_at(ParseRule::TooMany, lexemes));
+            return Err(lexemes.fault(ParseRule::TooMany));
         }
         return match declared(alloc, room, lexemes) {
             Ok((stmt, rest)) => Ok((stmt, free - 1, rest)),
@@ -92,7 +90,7 @@ fn if_test(alloc: Global, room: u32, lexemes: Cursor<'_>) -> Result<(Test, Curso
     requires { room ≤ 32 }
     ensures { Gives (λ x. (test_tree x.0, views x.1)) result (if_test_at room (views lexemes.entry)) }
 {
-    let rest = expect(Fixed::Mark(Mark::OpenParen), lexemes)?;
+    let rest = lexemes.expect(Fixed::Mark(Mark::OpenParen))?;
     let (test, rest) = test(alloc, room, rest)?;
     tested(test, rest)
 }
@@ -122,16 +120,16 @@ fn nested_head(
     ensures gives { Gives (option_map (λ x. (head_view x.0, views x.1))) result (nested_head_at room (views lexemes.entry)) }
 {
     if room == 0 && starts_nested(lexemes) {
-        return Err(fault_at(ParseRule::TooHigh, lexemes));
+        return Err(lexemes.fault(ParseRule::TooHigh));
     }
-    if starts_with(Fixed::Word(Word::If), lexemes) {
-        return match if_test(alloc, room, rest_of(lexemes)) {
+    if lexemes.starts_with(Fixed::Word(Word::If)) {
+        return match if_test(alloc, room, lexemes.skip()) {
             Ok((test, rest)) => Ok(Some((Head::If(test), rest))),
             Err(fault) => Err(fault),
         };
     }
-    if starts_with(Fixed::Word(Word::While), lexemes) {
-        return match while_test(alloc, room, rest_of(lexemes)) {
+    if lexemes.starts_with(Fixed::Word(Word::While)) {
+        return match while_test(alloc, room, lexemes.skip()) {
             Ok((test, rest)) => Ok(Some((Head::While(test), rest))),
             Err(fault) => Err(fault),
         };
@@ -143,7 +141,7 @@ fn nested_head(
 fn starts_nested(lexemes: Cursor<'_>) -> bool
     ensures { result ≡ starts_nested (views lexemes.entry) }
 {
-    starts_with(Fixed::Word(Word::If), lexemes) || starts_with(Fixed::Word(Word::While), lexemes)
+    lexemes.starts_with(Fixed::Word(Word::If)) || lexemes.starts_with(Fixed::Word(Word::While))
 }
 
 /// Whether a second block may come after the first.
@@ -250,10 +248,10 @@ fn other_block(
     requires bound { room ≤ 32 }
     ensures { Gives (λ x. (option_map block_tree x.0, x.1, views x.2)) result (other_at (inner room) free otherwise (views lexemes.entry)) }
 {
-    if !otherwise || !starts_with(Fixed::Word(Word::Else), lexemes) {
+    if !otherwise || !lexemes.starts_with(Fixed::Word(Word::Else)) {
         return Ok((None, free, lexemes));
     }
-    let rest = expect(Fixed::Mark(Mark::OpenBrace), rest_of(lexemes))?;
+    let rest = lexemes.skip().expect(Fixed::Mark(Mark::OpenBrace))?;
     second(block(alloc, room - 1, free, rest))
 }
 
@@ -272,7 +270,7 @@ fn statement(
         return simple(alloc, room, free, lexemes);
     };
     let ways = ways(alloc, room, free, takes_other(&head), rest);
-    nested(line_at(lexemes), head, ways)
+    nested(lexemes.line(), head, ways)
 }
 
 /// Statements up to the closing brace, where `names` more names may be declared.
@@ -290,9 +288,9 @@ pub fn block(
     let mut rest = lexemes;
     let mut free = names;
     let mut returned = false;
-    'statements: while !starts_with(Fixed::Mark(Mark::CloseBrace), rest) {
+    'statements: while !rest.starts_with(Fixed::Mark(Mark::CloseBrace)) {
         if returned {
-            return Err(missing(Fixed::Mark(Mark::CloseBrace), rest));
+            return Err(rest.missing(Fixed::Mark(Mark::CloseBrace)));
         }
         let (stmt, left, after) = statement(alloc, room, free, rest)?;
         returned = is_return(&stmt);
@@ -300,10 +298,10 @@ pub fn block(
         statements.push(stmt)?;
         rest = after;
     }
-    let end_line = line_at(rest);
+    let end_line = rest.line();
     let block = Block {
         statements,
         end_line,
     };
-    Ok((block, free, rest_of(rest)))
+    Ok((block, free, rest.skip()))
 }
