@@ -47,10 +47,8 @@ fn body(alloc: Global, free: usize, lexemes: Cursor<'_>) -> Result<(Block, Curso
         Fixed::Mark(Mark::OpenBrace),
         lexemes,
     )?;
-    match block(alloc, ROOM, free, rest) {
-        Ok((body, _, rest)) => Ok((body, rest)),
-        Err(fault) => Err(fault),
-    }
+    let (body, _, rest) = block(alloc, ROOM, free, rest)?;
+    Ok((body, rest))
 }
 
 /// The result of a function, up to its name.
@@ -63,10 +61,8 @@ fn exported(lexemes: Cursor<'_>) -> Result<(ResultType, Cursor<'_>), ParseError>
     let Some(result) = rest.result_type() else {
         return Err(rest.unexpected());
     };
-    match rest.skip().expect(Fixed::Word(Word::JniCall)) {
-        Ok(rest) => Ok((result, rest)),
-        Err(fault) => Err(fault),
-    }
+    let rest = rest.skip().expect(Fixed::Word(Word::JniCall))?;
+    Ok((result, rest))
 }
 
 /// The result, the name and the class of a function, and what comes after them.
@@ -77,10 +73,8 @@ fn signature(lexemes: Cursor<'_>) -> Result<(ResultType, &[u8], &[u8], Cursor<'_
     let (result, rest) = exported(lexemes)?;
     let (name, rest) = rest.name()?;
     let rest = head(rest)?;
-    match rest.name() {
-        Ok((class_name, rest)) => Ok((result, name, class_name, rest)),
-        Err(fault) => Err(fault),
-    }
+    let (class_name, rest) = rest.name()?;
+    Ok((result, name, class_name, rest))
 }
 
 /// A function (JNI Specification, chapter 2, "Native Method Arguments").
@@ -141,10 +135,8 @@ fn static_head(lexemes: Cursor<'_>) -> Result<(ReferenceType, &[u8], Cursor<'_>)
         return Err(rest.unexpected());
     };
     let (name, rest) = rest.skip().name()?;
-    match rest.expect(Fixed::Mark(Mark::Assign)) {
-        Ok(rest) => Ok((kind, name, rest)),
-        Err(fault) => Err(fault),
-    }
+    let rest = rest.expect(Fixed::Mark(Mark::Assign))?;
+    Ok((kind, name, rest))
 }
 
 /// A reference that all functions share.
@@ -178,10 +170,8 @@ fn function_item(
     if functions == 0 {
         return Err(lexemes.fault(ParseRule::TooMany));
     }
-    match function(alloc, lexemes) {
-        Ok((function, rest)) => Ok((Item::Function(function), functions - 1, statics, rest)),
-        Err(fault) => Err(fault),
-    }
+    let (function, rest) = function(alloc, lexemes)?;
+    Ok((Item::Function(function), functions - 1, statics, rest))
 }
 
 /// A static, where there may be this many more functions and statics.
@@ -198,10 +188,8 @@ fn static_item(
     if statics == 0 {
         return Err(lexemes.fault(ParseRule::TooMany));
     }
-    match static_reference(alloc, lexemes) {
-        Ok((shared, rest)) => Ok((Item::Static(shared), functions, statics - 1, rest)),
-        Err(fault) => Err(fault),
-    }
+    let (shared, rest) = static_reference(alloc, lexemes)?;
+    Ok((Item::Static(shared), functions, statics - 1, rest))
 }
 
 /// An item, where there may be this many more functions and statics.

@@ -23,10 +23,8 @@ fn parameter(alloc: Global, lexemes: Cursor<'_>) -> Result<(Parameter, Cursor<'_
     let Some(kind) = lexemes.parameter_type() else {
         return Err(lexemes.unexpected());
     };
-    match owned_name(alloc, lexemes.skip()) {
-        Ok((name, rest)) => Ok((Parameter { kind, name }, rest)),
-        Err(fault) => Err(fault),
-    }
+    let (name, rest) = owned_name(alloc, lexemes.skip())?;
+    Ok((Parameter { kind, name }, rest))
 }
 
 /// The parameters after the class, each with the comma before it.

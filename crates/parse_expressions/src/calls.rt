@@ -38,15 +38,11 @@ fn value(
     ensures { Gives (λ x. (argument_tree x.0, views x.1)) result (value_at room (views lexemes.entry)) }
 {
     if lexemes.starts_with(Fixed::Mark(Mark::Ampersand)) {
-        return match owned_name(alloc, lexemes.skip()) {
-            Ok((name, rest)) => Ok((Argument::AddressOf(name), rest)),
-            Err(fault) => Err(fault),
-        };
+        let (name, rest) = owned_name(alloc, lexemes.skip())?;
+        return Ok((Argument::AddressOf(name), rest));
     }
-    match expression(alloc, room, 0, lexemes) {
-        Ok((value, _, rest)) => Ok((Argument::Value(value), rest)),
-        Err(fault) => Err(fault),
-    }
+    let (value, _, rest) = expression(alloc, room, 0, lexemes)?;
+    Ok((Argument::Value(value), rest))
 }
 
 /// An argument.
@@ -164,15 +160,11 @@ pub(crate) fn right_side(
     ensures { Gives (λ x. (right_side_tree x.0, views x.1)) result (right_at room (views lexemes.entry)) }
 {
     if starts_call(lexemes) {
-        return match call(alloc, room, lexemes) {
-            Ok((call, rest)) => Ok((RightSide::Call(call), rest)),
-            Err(fault) => Err(fault),
-        };
+        let (call, rest) = call(alloc, room, lexemes)?;
+        return Ok((RightSide::Call(call), rest));
     }
-    match right_expression(alloc, room, lexemes) {
-        Ok((value, _, rest)) => Ok((RightSide::Expr(value), rest)),
-        Err(fault) => Err(fault),
-    }
+    let (value, _, rest) = right_expression(alloc, room, lexemes)?;
+    Ok((RightSide::Expr(value), rest))
 }
 
 /// A name with what it is set to, and what comes after the semicolon.
@@ -187,10 +179,8 @@ fn set_to<'t>(
         (made_of {B = ReadSetting} (expect semicolon (views lexemes.entry))
         (λ rest. (name.now, right_side_tree right, rest))) }
 {
-    match ended_name(alloc, name, semicolon, lexemes) {
-        Ok((name, rest)) => Ok((name, right, rest)),
-        Err(fault) => Err(fault),
-    }
+    let (name, rest) = ended_name(alloc, name, semicolon, lexemes)?;
+    Ok((name, right, rest))
 }
 
 /// A name, and what comes after this lexeme, which ends it.
@@ -233,10 +223,8 @@ fn zero(lexemes: Cursor<'_>) -> Result<Cursor<'_>, ParseError>
     ensures { Gives views result (zero_at (views lexemes.entry)) }
 {
     let rest = lexemes.expect(Fixed::Mark(Mark::Equal))?;
-    match rest.number(0, 0) {
-        Ok((_, rest)) => Ok(rest),
-        Err(fault) => Err(fault),
-    }
+    let (_, rest) = rest.number(0, 0)?;
+    Ok(rest)
 }
 
 /// A call with what tests it for 0, which comes next.
@@ -245,10 +233,8 @@ fn called_test(call: Call, lexemes: Cursor<'_>) -> Result<(Test, Cursor<'_>), Pa
     ensures { Gives (λ x. (test_tree x.0, views x.1)) result (made_of {B = ReadTest} (zero_at (views lexemes.entry))
         (λ rest. (TestCall (call_tree call), rest))) }
 {
-    match zero(lexemes) {
-        Ok(rest) => Ok((Test::Call(call), rest)),
-        Err(fault) => Err(fault),
-    }
+    let rest = zero(lexemes)?;
+    Ok((Test::Call(call), rest))
 }
 
 /// An expression, or a call that is tested for 0.
@@ -261,8 +247,6 @@ pub fn test(alloc: Global, room: u32, lexemes: Cursor<'_>) -> Result<(Test, Curs
         let (call, rest) = call(alloc, room, lexemes)?;
         return called_test(call, rest);
     }
-    match expression(alloc, room, 0, lexemes) {
-        Ok((value, _, rest)) => Ok((Test::Expr(value), rest)),
-        Err(fault) => Err(fault),
-    }
+    let (value, _, rest) = expression(alloc, room, 0, lexemes)?;
+    Ok((Test::Expr(value), rest))
 }

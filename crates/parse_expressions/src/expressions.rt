@@ -83,10 +83,7 @@ fn binary_of(mark: Mark) -> Option<BinaryOp>
 fn operator(rest: Cursor<'_>) -> Option<BinaryOp>
     ensures { option_map binary_tree result ≡ operator_at (views rest.entry) }
 {
-    match rest.mark() {
-        Some(mark) => binary_of(mark),
-        None => None,
-    }
+    binary_of(rest.mark()?)
 }
 
 /// The named constant of a word.
@@ -150,10 +147,10 @@ fn primary(alloc: Global, lexemes: Cursor<'_>) -> Result<ReadExpr<'_>, ParseErro
         Shape::Number { value, unsigned } => {
             Ok((Expr::Number { value, unsigned }, 0, lexemes.skip()))
         }
-        Shape::Name => match owned_name(alloc, lexemes) {
-            Ok((name, rest)) => Ok((Expr::Variable(name), 0, rest)),
-            Err(fault) => Err(fault),
-        },
+        Shape::Name => {
+            let (name, rest) = owned_name(alloc, lexemes)?;
+            Ok((Expr::Variable(name), 0, rest))
+        }
         Shape::Fixed(Fixed::Word(word)) => named(word, lexemes),
         _ => Err(lexemes.unexpected()),
     }
@@ -183,10 +180,8 @@ pub fn closed(
     ensures gives { Gives (λ x. (expr_tree x.0, x.1, views x.2)) result
         (made_of {B = ReadExpr} (expect end (views lexemes.entry)) (λ after. (expr_tree inside, height, after))) }
 {
-    match lexemes.expect(end) {
-        Ok(rest) => Ok((inside, height, rest)),
-        Err(fault) => Err(fault),
-    }
+    let rest = lexemes.expect(end)?;
+    Ok((inside, height, rest))
 }
 
 /// What is read of an expression, and what comes after the next lexeme, which ends it.
@@ -291,10 +286,8 @@ pub fn starts_element(lexemes: Cursor<'_>) -> bool
 fn cast(op: PrefixOp, lexemes: Cursor<'_>) -> Result<ReadOpening<'_>, ParseError>
     ensures { Gives (option_map (λ x. (opening_view x.0, views x.1))) result (cast_at (prefix_tree op) (views lexemes.entry)) }
 {
-    match lexemes.expect(Fixed::Mark(Mark::CloseParen)) {
-        Ok(rest) => Ok(Some((Opening::Prefix(op), rest))),
-        Err(fault) => Err(fault),
-    }
+    let rest = lexemes.expect(Fixed::Mark(Mark::CloseParen))?;
+    Ok(Some((Opening::Prefix(op), rest)))
 }
 
 /// What opens with a parenthesis: a cast, or an expression.
@@ -333,10 +326,8 @@ fn element_opening(room: u32, lexemes: Cursor<'_>) -> Result<ReadOpening<'_>, Pa
     ensures gives { Gives (option_map (λ x. (opening_view x.0, views x.1))) result (element_opening_at room (views lexemes.entry)) }
 {
     let (name, rest) = lexemes.name()?;
-    match bracket(room, rest) {
-        Ok(rest) => Ok(Some((Opening::Element(name), rest))),
-        Err(fault) => Err(fault),
-    }
+    let rest = bracket(room, rest)?;
+    Ok(Some((Opening::Element(name), rest)))
 }
 
 /// How an operand opens that has an expression inside, for which there is room, and what comes after that.

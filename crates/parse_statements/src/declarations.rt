@@ -42,10 +42,8 @@ fn array_head(lexemes: Cursor<'_>) -> Result<(&[u8], u32, Cursor<'_>), ParseErro
     let (name, rest) = lexemes.name()?;
     let rest = rest.expect(Fixed::Mark(Mark::OpenBracket))?;
     let (size, rest) = rest.number(1, MOST_ELEMENTS)?;
-    match rest.expect(Fixed::Mark(Mark::CloseBracket)) {
-        Ok(rest) => Ok((name, size, rest)),
-        Err(fault) => Err(fault),
-    }
+    let rest = rest.expect(Fixed::Mark(Mark::CloseBracket))?;
+    Ok((name, size, rest))
 }
 
 /// The name, the size and the zeros of a local array.
@@ -90,13 +88,9 @@ fn after_element(
     ensures { Gives (λ x. (stmt_tree x.0, views x.1)) result (after_element room line (element_value element) (views lexemes.entry)) }
 {
     if lexemes.starts_with(Fixed::Mark(Mark::Star)) {
-        return match setting(alloc, room, lexemes.skip()) {
-            Ok((name, right, rest)) => {
-                let form = Form::DeclareBuffer(element, name, right);
-                Ok((Stmt { line, form }, rest))
-            }
-            Err(fault) => Err(fault),
-        };
+        let (name, right, rest) = setting(alloc, room, lexemes.skip())?;
+        let form = Form::DeclareBuffer(element, name, right);
+        return Ok((Stmt { line, form }, rest));
     }
     if is_array(element, lexemes) {
         return array(alloc, line, element, lexemes);
@@ -116,13 +110,9 @@ fn after_variable(
     requires { room ≤ 32 }
     ensures { Gives (λ x. (stmt_tree x.0, views x.1)) result (after_variable room line (variable_type_tree kind) (views lexemes.entry)) }
 {
-    match setting(alloc, room, lexemes) {
-        Ok((name, right, rest)) => {
-            let form = Form::Declare(kind, name, right);
-            Ok((Stmt { line, form }, rest))
-        }
-        Err(fault) => Err(fault),
-    }
+    let (name, right, rest) = setting(alloc, room, lexemes)?;
+    let form = Form::Declare(kind, name, right);
+    Ok((Stmt { line, form }, rest))
 }
 
 /// What comes after `const`.
@@ -137,13 +127,9 @@ fn after_const(
     ensures { Gives (λ x. (stmt_tree x.0, views x.1)) result (after_const room line (views lexemes.entry)) }
 {
     let rest = expect_two(Fixed::Word(Word::Jchar), Fixed::Mark(Mark::Star), lexemes)?;
-    match setting(alloc, room, rest) {
-        Ok((name, right, rest)) => {
-            let form = Form::DeclareChars(name, right);
-            Ok((Stmt { line, form }, rest))
-        }
-        Err(fault) => Err(fault),
-    }
+    let (name, right, rest) = setting(alloc, room, rest)?;
+    let form = Form::DeclareChars(name, right);
+    Ok((Stmt { line, form }, rest))
 }
 
 /// A declaration.

@@ -26,10 +26,8 @@ fn ended(
     ensures { Gives (λ x. (expr_tree x.0, views x.1)) result (ended_at room end (views lexemes.entry)) }
 {
     let (operand, height, rest) = expression(alloc, room, 0, lexemes)?;
-    match closed(end, operand, height, rest) {
-        Ok((operand, _, rest)) => Ok((operand, rest)),
-        Err(fault) => Err(fault),
-    }
+    let (operand, _, rest) = closed(end, operand, height, rest)?;
+    Ok((operand, rest))
 }
 
 /// An expression in parentheses, and what comes after this lexeme, which follows them.
@@ -45,10 +43,8 @@ pub(crate) fn parenthesized(
 {
     let rest = lexemes.expect(Fixed::Mark(Mark::OpenParen))?;
     let (operand, rest) = ended(alloc, room, Fixed::Mark(Mark::CloseParen), rest)?;
-    match closed(end, operand, 0, rest) {
-        Ok((operand, _, rest)) => Ok((operand, rest)),
-        Err(fault) => Err(fault),
-    }
+    let (operand, _, rest) = closed(end, operand, 0, rest)?;
+    Ok((operand, rest))
 }
 
 /// What comes after the `put_jint` of this line.
@@ -62,13 +58,9 @@ fn put(
     requires { room ≤ 32 }
     ensures { Gives (λ x. (stmt_tree x.0, views x.1)) result (put_at room line (views lexemes.entry)) }
 {
-    match parenthesized(alloc, room, Fixed::Mark(Mark::Semicolon), lexemes) {
-        Ok((operand, rest)) => {
-            let form = Form::PutJint(operand);
-            Ok((Stmt { line, form }, rest))
-        }
-        Err(fault) => Err(fault),
-    }
+    let (operand, rest) = parenthesized(alloc, room, Fixed::Mark(Mark::Semicolon), lexemes)?;
+    let form = Form::PutJint(operand);
+    Ok((Stmt { line, form }, rest))
 }
 
 /// What comes after the `return` of this line.
@@ -86,13 +78,9 @@ fn returned(
         let form = Form::Return(None);
         return Ok((Stmt { line, form }, lexemes.skip()));
     }
-    match ended(alloc, room, Fixed::Mark(Mark::Semicolon), lexemes) {
-        Ok((operand, rest)) => {
-            let form = Form::Return(Some(operand));
-            Ok((Stmt { line, form }, rest))
-        }
-        Err(fault) => Err(fault),
-    }
+    let (operand, rest) = ended(alloc, room, Fixed::Mark(Mark::Semicolon), lexemes)?;
+    let form = Form::Return(Some(operand));
+    Ok((Stmt { line, form }, rest))
 }
 
 /// A call whose result is dropped.
@@ -107,13 +95,9 @@ fn perform(
     ensures { Gives (λ x. (stmt_tree x.0, views x.1)) result (perform_at room line (views lexemes.entry)) }
 {
     let (call, rest) = call(alloc, room, lexemes)?;
-    match rest.expect(Fixed::Mark(Mark::Semicolon)) {
-        Ok(rest) => {
-            let form = Form::Perform(call);
-            Ok((Stmt { line, form }, rest))
-        }
-        Err(fault) => Err(fault),
-    }
+    let rest = rest.expect(Fixed::Mark(Mark::Semicolon))?;
+    let form = Form::Perform(call);
+    Ok((Stmt { line, form }, rest))
 }
 
 /// What comes after an equals sign up to the semicolon.
@@ -140,13 +124,9 @@ fn set_to(
     requires { room ≤ 32 }
     ensures { Gives (λ x. (stmt_tree x.0, views x.1)) result (element_set_at room line name (expr_tree index) (views lexemes.entry)) }
 {
-    match assigned(alloc, room, lexemes) {
-        Ok((value, rest)) => {
-            let form = Form::AssignElement(name, index, value);
-            Ok((Stmt { line, form }, rest))
-        }
-        Err(fault) => Err(fault),
-    }
+    let (value, rest) = assigned(alloc, room, lexemes)?;
+    let form = Form::AssignElement(name, index, value);
+    Ok((Stmt { line, form }, rest))
 }
 
 /// An assignment to an element.
@@ -182,13 +162,9 @@ fn set(
     if starts_element(lexemes) {
         return set_element(alloc, room, line, lexemes);
     }
-    match setting(alloc, room, lexemes) {
-        Ok((name, right, rest)) => {
-            let form = Form::Assign(name, right);
-            Ok((Stmt { line, form }, rest))
-        }
-        Err(fault) => Err(fault),
-    }
+    let (name, right, rest) = setting(alloc, room, lexemes)?;
+    let form = Form::Assign(name, right);
+    Ok((Stmt { line, form }, rest))
 }
 
 /// A statement that declares no name and has no block.

@@ -52,15 +52,11 @@ fn simple(
         if free == 0 {
             return Err(lexemes.fault(ParseRule::TooMany));
         }
-        return match declared(alloc, room, lexemes) {
-            Ok((stmt, rest)) => Ok((stmt, free - 1, rest)),
-            Err(fault) => Err(fault),
-        };
+        let (stmt, rest) = declared(alloc, room, lexemes)?;
+        return Ok((stmt, free - 1, rest));
     }
-    match plain(alloc, room, lexemes) {
-        Ok((stmt, rest)) => Ok((stmt, free, rest)),
-        Err(fault) => Err(fault),
-    }
+    let (stmt, rest) = plain(alloc, room, lexemes)?;
+    Ok((stmt, free, rest))
 }
 
 /// Whether a statement is a return, which ends its block.
@@ -78,10 +74,8 @@ fn tested(test: Test, lexemes: Cursor<'_>) -> Result<(Test, Cursor<'_>), ParseEr
         (λ after. (test_tree test, after))) }
 {
     let paren = Fixed::Mark(Mark::CloseParen);
-    match expect_two(paren, Fixed::Mark(Mark::OpenBrace), lexemes) {
-        Ok(rest) => Ok((test, rest)),
-        Err(fault) => Err(fault),
-    }
+    let rest = expect_two(paren, Fixed::Mark(Mark::OpenBrace), lexemes)?;
+    Ok((test, rest))
 }
 
 /// What an `if` tests, in its parentheses, and what comes after the brace of its block.
@@ -123,16 +117,12 @@ fn nested_head(
         return Err(lexemes.fault(ParseRule::TooHigh));
     }
     if lexemes.starts_with(Fixed::Word(Word::If)) {
-        return match if_test(alloc, room, lexemes.skip()) {
-            Ok((test, rest)) => Ok(Some((Head::If(test), rest))),
-            Err(fault) => Err(fault),
-        };
+        let (test, rest) = if_test(alloc, room, lexemes.skip())?;
+        return Ok(Some((Head::If(test), rest)));
     }
     if lexemes.starts_with(Fixed::Word(Word::While)) {
-        return match while_test(alloc, room, lexemes.skip()) {
-            Ok((test, rest)) => Ok(Some((Head::While(test), rest))),
-            Err(fault) => Err(fault),
-        };
+        let (test, rest) = while_test(alloc, room, lexemes.skip())?;
+        return Ok(Some((Head::While(test), rest)));
     }
     Ok(None)
 }
@@ -178,13 +168,9 @@ fn nested<'t>(
         → Gives (λ x. (block_tree x.0, option_map block_tree x.1, x.2, views x.3)) ways.entry read
         → Gives (λ x. (stmt_tree x.0, x.1, views x.2)) result (nested_of line (head_view head) read) }
 {
-    match ways {
-        Ok((body, other, free, rest)) => {
-            let form = nested_form(head, body, other);
-            Ok((Stmt { line, form }, free, rest))
-        }
-        Err(fault) => Err(fault),
-    }
+    let (body, other, free, rest) = ways?;
+    let form = nested_form(head, body, other);
+    Ok((Stmt { line, form }, free, rest))
 }
 
 /// The first block, and what was read after it.
@@ -198,10 +184,8 @@ fn both<'t>(
         → Gives (λ x. (block_tree x.0, option_map block_tree x.1, x.2, views x.3)) result
         (both_of (block_tree body) read) }
 {
-    match other {
-        Ok((other, free, rest)) => Ok((body, other, free, rest)),
-        Err(fault) => Err(fault),
-    }
+    let (other, free, rest) = other?;
+    Ok((body, other, free, rest))
 }
 
 /// The blocks of a statement, of which `otherwise` says whether there may be a second one.
@@ -228,10 +212,8 @@ fn second(read: Result<ReadBlock<'_>, ParseError>) -> Result<ReadOther<'_>, Pars
     ensures { (from : Result BlockRead ParseError) → Gives (λ x. (block_tree x.0, x.1, views x.2)) read.entry from
         → Gives (λ x. (option_map block_tree x.0, x.1, views x.2)) result (second_of from) }
 {
-    match read {
-        Ok((other, free, rest)) => Ok((Some(other), free, rest)),
-        Err(fault) => Err(fault),
-    }
+    let (other, free, rest) = read?;
+    Ok((Some(other), free, rest))
 }
 
 /// The second block, where there may be one and `else` comes next.
