@@ -86,9 +86,7 @@ fn function(alloc: Global, lexemes: Cursor<'_>) -> Result<(Function, Cursor<'_>)
     let (result, name, class_name, rest) = signature(lexemes)?;
     let (parameters, rest) = parameters(alloc, rest)?;
     let (body, rest) = body(alloc, NAMES - parameters.len(), rest)?;
-    let Ok(function) = made(alloc, line, result, name, class_name, parameters, body) else {
-        return Err(ParseError::Memory);
-    };
+    let function = made(alloc, line, result, name, class_name, parameters, body)?;
     Ok((function, rest))
 }
 
@@ -147,9 +145,7 @@ fn static_reference(alloc: Global, lexemes: Cursor<'_>) -> Result<(Static, Curso
     let line = lexemes.line();
     let (kind, name, rest) = static_head(lexemes)?;
     let rest = expect_two(Fixed::Word(Word::Null), Fixed::Mark(Mark::Semicolon), rest)?;
-    let Ok(name) = Name::new(alloc, name) else {
-        return Err(ParseError::Memory);
-    };
+    let name = Name::new(alloc, name)?;
     Ok((Static { line, kind, name }, rest))
 }
 
@@ -211,7 +207,7 @@ fn item(
     Err(lexemes.unexpected())
 }
 
-/// All items.
+/// All items of a program.
 fn items(alloc: Global, lexemes: Cursor<'_>) -> Result<Vec<Item>, ParseError>
     ensures { Gives (λ v. map item_tree v.items) result (items_at (length (views lexemes.entry) + 1) most_functions most_statics (views lexemes.entry)) }
 {

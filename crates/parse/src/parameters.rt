@@ -6,6 +6,7 @@ ghost use Rattle.parse_lexemes.specs.Results.{Gives};
 ghost use Rattle.parse_lexemes.specs.Lexemes.{views};
 ghost use Rattle.parse.specs.Reading.{parameter_at, parameters_at};
 
+use base::limits::MOST_NAMES;
 use parse_expressions::owned_name;
 use parse_lexemes::{Cursor, Fixed, ParseError, ParseRule};
 use scan::Mark;
@@ -13,7 +14,7 @@ use std::alloc::Global;
 use syntax::Parameter;
 
 /// How many names a function may have after that of its class.
-pub(crate) const NAMES: usize = 255;
+pub(crate) const NAMES: usize = MOST_NAMES - 1;
 
 /// A parameter after its comma.
 #[tactic(auto, unfolding(crate::specs::Reading::parameter_at))]

@@ -57,9 +57,7 @@ fn argument(
 {
     match lexemes.text() {
         Some(bytes) => {
-            let Ok(bytes) = Vec::from_slice(alloc, bytes) else {
-                return Err(ParseError::Memory);
-            };
+            let bytes = Vec::from_slice(alloc, bytes)?;
             Ok((Argument::Text(bytes), lexemes.skip()))
         }
         None => value(alloc, room, lexemes),
@@ -103,9 +101,7 @@ fn called<'t>(
         ))) }
 {
     let rest = lexemes.expect(paren)?;
-    let Ok(function) = Name::new(alloc, function) else {
-        return Err(ParseError::Memory);
-    };
+    let function = Name::new(alloc, function)?;
     Ok((
         Call {
             function,
@@ -124,7 +120,7 @@ fn function(lexemes: Cursor<'_>) -> Result<(&[u8], Cursor<'_>), ParseError>
     rest.name()
 }
 
-/// A call.
+/// A call of a JNI function, and what comes after it.
 pub fn call(alloc: Global, room: u32, lexemes: Cursor<'_>) -> Result<(Call, Cursor<'_>), ParseError>
     requires { room ≤ 32 }
     ensures { Gives (λ x. (call_tree x.0, views x.1)) result (call_at room (views lexemes.entry)) }
@@ -141,7 +137,7 @@ pub fn call(alloc: Global, room: u32, lexemes: Cursor<'_>) -> Result<(Call, Curs
     )
 }
 
-/// Whether a call comes next, since no expression begins so.
+/// Whether a call comes next: no expression begins with `(*`.
 fn starts_call(lexemes: Cursor<'_>) -> bool
     ensures { result ≡ starts_call (views lexemes.entry) }
 {
@@ -194,9 +190,7 @@ fn ended_name<'t>(
     ensures { Gives (λ x. (x.0, views x.1)) result (made_of {B = ReadName} (expect end (views lexemes.entry)) (λ rest. (name.now, rest))) }
 {
     let rest = lexemes.expect(end)?;
-    let Ok(name) = Name::new(alloc, name) else {
-        return Err(ParseError::Memory);
-    };
+    let name = Name::new(alloc, name)?;
     Ok((name, rest))
 }
 

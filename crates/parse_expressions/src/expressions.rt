@@ -31,10 +31,10 @@ enum Opening<'t> {
 /// How an operand opens that has an expression inside, and what comes after that.
 type ReadOpening<'t> = Option<(Opening<'t>, Cursor<'t>)>;
 
-/// Prefixes bind tighter than all operators.
+/// The level of prefixes, which bind tighter than all operators between two operands.
 const PREFIX_LEVEL: u32 = 11;
 
-/// How tightly an operator holds its operands.
+/// The level of an operator between two operands: the higher, the tighter it binds.
 fn level(op: BinaryOp) -> u32
     ensures { result ≡ operator_level (binary_tree op) }
 {
@@ -105,13 +105,11 @@ pub fn owned_name(alloc: Global, lexemes: Cursor<'_>) -> Result<(Name, Cursor<'_
     ensures { Gives (λ x. (x.0, views x.1)) result (name_at (views lexemes.entry)) }
 {
     let (name, rest) = lexemes.name()?;
-    let Ok(name) = Name::new(alloc, name) else {
-        return Err(ParseError::Memory);
-    };
+    let name = Name::new(alloc, name)?;
     Ok((name, rest))
 }
 
-/// Two lexemes, and what comes after them.
+/// What comes after these two lexemes, which have to come next.
 #[inline(always)]
 pub fn expect_two(
     first: Fixed,
@@ -224,13 +222,11 @@ fn operand_of<'t>(
         (operand_of (opening_view opening.entry) (expr_tree inside.entry.0, inside.entry.1, views inside.entry.2)) }
 {
     let (inside, height, rest) = ended_as(opening, inside)?;
-    let Ok(operand) = around(alloc, opening, inside) else {
-        return Err(ParseError::Memory);
-    };
+    let operand = around(alloc, opening, inside)?;
     Ok((operand, 1 + height, rest))
 }
 
-/// What is to the left of an operator, and what was read after it.
+/// An operator with what is to its left, and what was read to its right.
 #[inline(always)]
 fn joined<'t>(
     alloc: Global,
@@ -281,7 +277,7 @@ pub fn starts_element(lexemes: Cursor<'_>) -> bool
     lexemes.starts_name() && lexemes.skip().starts_with(Fixed::Mark(Mark::OpenBracket))
 }
 
-/// A cast to a type, of which the closing parenthesis is read.
+/// A cast, of which all but the closing parenthesis is read already.
 #[inline(always)]
 fn cast(op: PrefixOp, lexemes: Cursor<'_>) -> Result<ReadOpening<'_>, ParseError>
     ensures { Gives (option_map (λ x. (opening_view x.0, views x.1))) result (cast_at (prefix_tree op) (views lexemes.entry)) }
@@ -305,7 +301,7 @@ fn paren_opening(lexemes: Cursor<'_>) -> Result<ReadOpening<'_>, ParseError>
     Ok(Some((Opening::Paren, lexemes)))
 }
 
-/// What comes after the opening bracket of an index, which counts one.
+/// What comes after the opening bracket of an index, which counts one of the height.
 #[inline(always)]
 #[tactic(auto, unfolding(crate::specs::Steps::bracket_at))]
 fn bracket(room: u32, lexemes: Cursor<'_>) -> Result<Cursor<'_>, ParseError>
@@ -388,7 +384,7 @@ pub fn expression(
     Ok(read)
 }
 
-/// What comes after this operator, whose left operand has this height.
+/// The right operand of an operator whose left one has this height.
 #[cycle(expressions)]
 fn right_operand(
     alloc: Global,
@@ -407,7 +403,7 @@ fn right_operand(
     expression(alloc, room - 1, level(op) + 1, lexemes.skip())
 }
 
-/// A prefix with its operand, parentheses, an element, or what holds best.
+/// A prefix with its operand, parentheses, an element, or a primary expression.
 #[cycle(expressions)]
 fn operand(alloc: Global, room: u32, lexemes: Cursor<'_>) -> Result<ReadExpr<'_>, ParseError>
     requires { room ≤ 32 }
@@ -421,7 +417,7 @@ fn operand(alloc: Global, room: u32, lexemes: Cursor<'_>) -> Result<ReadExpr<'_>
     operand_of(alloc, opening, inside)
 }
 
-/// An index in its brackets, which counts one.
+/// An index in its brackets, which counts one of the height.
 pub fn index(alloc: Global, room: u32, lexemes: Cursor<'_>) -> Result<ReadExpr<'_>, ParseError>
     requires { room ≤ 32 }
     ensures low { IfOk result (λ x. x.1 < room) }

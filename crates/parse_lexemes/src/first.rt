@@ -1,4 +1,4 @@
-//! Tokens with what they stand for and their lines, and reading single ones.
+//! What lexemes stand for, and reading single ones.
 
 ghost use Rattle.std.specs.Prelude.{◌≡◌, ◌≤◌, ◌<◌, ◌+◌, length, get_or, slice_range};
 ghost use Rattle.parse_lexemes.specs.declared.fault.ParseRule.TheVariants.{NoForm};
@@ -16,7 +16,7 @@ use crate::telling::fixed_words;
 use details::{Fault, Spot};
 use scan::{Kind, Mark, Token, Word};
 
-/// What always stands for itself.
+/// A lexeme that stands for itself.
 #[derive(Clone, Copy)]
 pub enum Fixed {
     Mark(Mark),
@@ -51,7 +51,7 @@ impl Shape {
         }
     }
 
-    /// Whether this is such a lexeme.
+    /// Whether this is the shape of such a lexeme.
     #[inline(always)]
     fn is(self, fixed: Fixed) -> bool
         ensures { result ≡ is_shape self fixed }
@@ -64,7 +64,7 @@ impl Shape {
         }
     }
 
-    /// The mark, where this is one.
+    /// The mark that a lexeme of this shape is.
     #[inline(always)]
     fn mark(self) -> Option<Mark>
         ensures { result ≡ mark_of_shape self }
@@ -75,7 +75,7 @@ impl Shape {
         }
     }
 
-    /// The reserved word, where this is one.
+    /// The reserved word that a lexeme of this shape is.
     #[inline(always)]
     fn word(self) -> Option<Word>
         ensures { result ≡ word_of_shape self }
@@ -86,7 +86,7 @@ impl Shape {
         }
     }
 
-    /// Whether this is a name.
+    /// Whether a lexeme of this shape is a name.
     #[inline(always)]
     fn is_name(self) -> bool
         ensures { result ≡ is_name_shape self }
@@ -122,7 +122,7 @@ fn part_of(text: &[u8], token: Token) -> &[u8]
     &text[token.start as usize..token.end as usize]
 }
 
-/// The place after this one, which is past the end already where that is passed.
+/// The place after this one. Past the end it may stay, so that it can't overflow.
 #[inline(always)]
 fn next(tokens: &[Token], at: usize) -> usize
     ensures within { at ≤ length tokens.now → result ≡ at + 1 }
@@ -134,7 +134,7 @@ fn next(tokens: &[Token], at: usize) -> usize
     at
 }
 
-/// The line of the end, which is the last token's, where it comes next.
+/// The line of the end, which is the last token's, or 1 where there is none. After the end there is no line.
 fn line_of_end(tokens: &[Token], at: usize) -> usize
     requires { length tokens.now ≤ at }
     ensures { result ≡ line_of_end tokens.now at }
@@ -149,7 +149,7 @@ fn line_of_end(tokens: &[Token], at: usize) -> usize
 }
 
 impl<'t> Cursor<'t> {
-    /// The lexemes of a text with its tokens.
+    /// All lexemes of a text.
     pub fn start(source: &'t Source<'t>) -> Cursor<'t>
         ensures { views result ≡ lexemes source.now.text.now 1 source.now.tokens.now }
     {
@@ -220,7 +220,7 @@ impl<'t> Cursor<'t> {
         })
     }
 
-    /// What comes after this lexeme, which has to come next.
+    /// The lexemes after this one, which has to come next.
     #[inline(always)]
     #[tactic(auto, unfolding(crate::specs::Lexemes::expect))]
     pub fn expect(self, fixed: Fixed) -> Result<Cursor<'t>, ParseError>

@@ -58,9 +58,7 @@ fn array(
 {
     let (name, size, rest) = array_head(lexemes)?;
     let rest = zeros(rest)?;
-    let Ok(name) = Name::new(alloc, name) else {
-        return Err(ParseError::Memory);
-    };
+    let name = Name::new(alloc, name)?;
     let form = Form::DeclareArray(element, name, size);
     Ok((Stmt { line, form }, rest))
 }
@@ -75,7 +73,7 @@ fn is_array(element: ElementType, lexemes: Cursor<'_>) -> bool
     }
 }
 
-/// What comes after an element's type.
+/// A declaration whose first word, of an element's type, is read.
 #[tactic(auto, unfolding(crate::specs::Reading::after_element, crate::specs::Reading::after_variable))]
 fn after_element(
     alloc: Global,
@@ -98,7 +96,7 @@ fn after_element(
     after_variable(alloc, room, line, VariableType::Jint, lexemes)
 }
 
-/// What comes after another variable's type.
+/// A declaration of a variable whose type is read.
 #[tactic(auto, unfolding(crate::specs::Reading::after_variable))]
 fn after_variable(
     alloc: Global,
@@ -115,7 +113,7 @@ fn after_variable(
     Ok((Stmt { line, form }, rest))
 }
 
-/// What comes after `const`.
+/// A declaration whose `const` is read.
 #[tactic(auto, using(crate::proofs::Regrouped::const_is))]
 fn after_const(
     alloc: Global,

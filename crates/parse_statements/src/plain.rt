@@ -47,7 +47,7 @@ pub(crate) fn parenthesized(
     Ok((operand, rest))
 }
 
-/// What comes after the `put_jint` of this line.
+/// A statement whose `put_jint`, in this line, is read.
 #[tactic(auto, using(crate::proofs::Regrouped::put_is))]
 fn put(
     alloc: Global,
@@ -63,7 +63,7 @@ fn put(
     Ok((Stmt { line, form }, rest))
 }
 
-/// What comes after the `return` of this line.
+/// A statement whose `return`, in this line, is read.
 #[tactic(auto, using(crate::proofs::Regrouped::return_is))]
 fn returned(
     alloc: Global,
@@ -142,9 +142,7 @@ fn set_element(
 {
     let (name, rest) = lexemes.name()?;
     let (index, _, rest) = index(alloc, room, rest)?;
-    let Ok(name) = Name::new(alloc, name) else {
-        return Err(ParseError::Memory);
-    };
+    let name = Name::new(alloc, name)?;
     set_to(alloc, room, line, name, index, rest)
 }
 
