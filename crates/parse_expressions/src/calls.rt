@@ -4,7 +4,7 @@ ghost use Rattle.std.specs.Prelude.{◌≡◌, ◌≤◌, ◌+◌, length, map};
 ghost use Rattle.syntax.specs.Tree.{TestCall};
 ghost use Rattle.syntax.specs.Views.{argument_tree, call_tree, right_side_tree, test_tree};
 ghost use Rattle.parse_lexemes.specs.Results.{Gives};
-ghost use Rattle.parse_expressions.specs.Steps.{ReadCall, ReadName, ReadSetting, ReadTest, made_of, function_at, zero_at};
+ghost use Rattle.parse_expressions.specs.Steps.{ReadCall, ReadSetting, ReadTest, made_of, function_at, zero_at};
 ghost use Rattle.parse_lexemes.specs.Lexemes.{views, expect};
 ghost use Rattle.parse_expressions.specs.Reading.{interface_at, value_at, argument_at, arguments_at, call_at, starts_call, right_at, setting_at, test_at};
 
@@ -88,11 +88,10 @@ fn called<'t>(
     alloc: Global,
     function: &[u8],
     arguments: Vec<Argument>,
-    paren: Fixed,
     lexemes: Cursor<'t>,
 ) -> Result<(Call, Cursor<'t>), ParseError>
     ensures { Gives (λ x. (call_tree x.0, views x.1)) result (made_of {B = ReadCall}
-        (expect paren (views lexemes.entry)) (λ after. (
+        (expect (Fixed.Mark Mark.CloseParen) (views lexemes.entry)) (λ after. (
           record {
             function = function.now;
             arguments = map argument_tree arguments.items;
@@ -100,7 +99,7 @@ fn called<'t>(
           after,
         ))) }
 {
-    let rest = lexemes.expect(paren)?;
+    let rest = lexemes.expect(Fixed::Mark(Mark::CloseParen))?;
     let function = Name::new(alloc, function)?;
     Ok((
         Call {
@@ -128,13 +127,7 @@ pub fn call(alloc: Global, room: u32, lexemes: Cursor<'_>) -> Result<(Call, Curs
     let (function, rest) = function(lexemes)?;
     let rest = expect_two(Fixed::Mark(Mark::OpenParen), Fixed::Word(Word::Env), rest)?;
     let (arguments, rest) = arguments(alloc, room, rest)?;
-    called(
-        alloc,
-        function,
-        arguments,
-        Fixed::Mark(Mark::CloseParen),
-        rest,
-    )
+    called(alloc, function, arguments, rest)
 }
 
 /// Whether a call comes next: no expression begins with `(*`.
@@ -168,30 +161,14 @@ fn set_to<'t>(
     alloc: Global,
     name: &[u8],
     right: RightSide,
-    semicolon: Fixed,
     lexemes: Cursor<'t>,
 ) -> Result<(Name, RightSide, Cursor<'t>), ParseError>
     ensures { Gives (λ x. (x.0, right_side_tree x.1, views x.2)) result
-        (made_of {B = ReadSetting} (expect semicolon (views lexemes.entry))
+        (made_of {B = ReadSetting} (expect (Fixed.Mark Mark.Semicolon) (views lexemes.entry))
         (λ rest. (name.now, right_side_tree right, rest))) }
 {
-    let (name, rest) = ended_name(alloc, name, semicolon, lexemes)?;
-    Ok((name, right, rest))
-}
-
-/// A name, and what comes after this lexeme, which ends it.
-#[inline(always)]
-fn ended_name<'t>(
-    alloc: Global,
-    name: &[u8],
-    end: Fixed,
-    lexemes: Cursor<'t>,
-) -> Result<(Name, Cursor<'t>), ParseError>
-    ensures { Gives (λ x. (x.0, views x.1)) result (made_of {B = ReadName} (expect end (views lexemes.entry)) (λ rest. (name.now, rest))) }
-{
-    let rest = lexemes.expect(end)?;
-    let name = Name::new(alloc, name)?;
-    Ok((name, rest))
+    let rest = lexemes.expect(Fixed::Mark(Mark::Semicolon))?;
+    Ok((Name::new(alloc, name)?, right, rest))
 }
 
 /// A name, what it is set to, and what comes after the semicolon.
@@ -207,7 +184,7 @@ pub fn setting(
     let (name, rest) = lexemes.name()?;
     let rest = rest.expect(Fixed::Mark(Mark::Assign))?;
     let (right, rest) = right_side(alloc, room, rest)?;
-    set_to(alloc, name, right, Fixed::Mark(Mark::Semicolon), rest)
+    set_to(alloc, name, right, rest)
 }
 
 /// What comes after `== 0`.
