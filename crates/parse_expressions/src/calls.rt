@@ -4,7 +4,7 @@ ghost use Rattle.std.specs.Prelude.{◌≡◌, ◌≤◌, ◌+◌, length, map};
 ghost use Rattle.syntax.specs.Tree.{TestCall};
 ghost use Rattle.syntax.specs.Views.{argument_tree, call_tree, right_side_tree, test_tree};
 ghost use Rattle.parse_lexemes.specs.Results.{Gives};
-ghost use Rattle.parse_expressions.specs.Steps.{ReadCall, ReadSetting, ReadTest, made_of, function_at, zero_at};
+ghost use Rattle.parse_expressions.specs.Steps.{ReadTest, made_of, function_at, zero_at};
 ghost use Rattle.parse_lexemes.specs.Lexemes.{views, expect};
 ghost use Rattle.parse_expressions.specs.Reading.{interface_at, value_at, argument_at, arguments_at, call_at, starts_call, right_at, setting_at, test_at};
 
@@ -83,33 +83,6 @@ fn arguments(
     Ok((arguments, rest))
 }
 
-/// A call with its arguments, and what comes after its closing parenthesis.
-fn called<'t>(
-    alloc: Global,
-    function: &[u8],
-    arguments: Vec<Argument>,
-    lexemes: Cursor<'t>,
-) -> Result<(Call, Cursor<'t>), ParseError>
-    ensures { Gives (λ x. (call_tree x.0, views x.1)) result (made_of {B = ReadCall}
-        (expect (Fixed.Mark Mark.CloseParen) (views lexemes.entry)) (λ after. (
-          record {
-            function = function.now;
-            arguments = map argument_tree arguments.items;
-          },
-          after,
-        ))) }
-{
-    let rest = lexemes.expect(Fixed::Mark(Mark::CloseParen))?;
-    let function = Name::new(alloc, function)?;
-    Ok((
-        Call {
-            function,
-            arguments,
-        },
-        rest,
-    ))
-}
-
 /// The name of the function that is called.
 #[inline(always)]
 fn function(lexemes: Cursor<'_>) -> Result<(&[u8], Cursor<'_>), ParseError>
@@ -127,7 +100,15 @@ pub fn call(alloc: Global, room: u32, lexemes: Cursor<'_>) -> Result<(Call, Curs
     let (function, rest) = function(lexemes)?;
     let rest = expect_two(Fixed::Mark(Mark::OpenParen), Fixed::Word(Word::Env), rest)?;
     let (arguments, rest) = arguments(alloc, room, rest)?;
-    called(alloc, function, arguments, rest)
+    let rest = rest.expect(Fixed::Mark(Mark::CloseParen))?;
+    let function = Name::new(alloc, function)?;
+    Ok((
+        Call {
+            function,
+            arguments,
+        },
+        rest,
+    ))
 }
 
 /// Whether a call comes next: no expression begins with `(*`.
@@ -156,21 +137,6 @@ pub(crate) fn right_side(
     Ok((RightSide::Expr(value), rest))
 }
 
-/// A name with what it is set to, and what comes after the semicolon.
-fn set_to<'t>(
-    alloc: Global,
-    name: &[u8],
-    right: RightSide,
-    lexemes: Cursor<'t>,
-) -> Result<(Name, RightSide, Cursor<'t>), ParseError>
-    ensures { Gives (λ x. (x.0, right_side_tree x.1, views x.2)) result
-        (made_of {B = ReadSetting} (expect (Fixed.Mark Mark.Semicolon) (views lexemes.entry))
-        (λ rest. (name.now, right_side_tree right, rest))) }
-{
-    let rest = lexemes.expect(Fixed::Mark(Mark::Semicolon))?;
-    Ok((Name::new(alloc, name)?, right, rest))
-}
-
 /// A name, what it is set to, and what comes after the semicolon.
 #[tactic(auto, unfolding(crate::specs::Reading::setting_at))]
 pub fn setting(
@@ -184,7 +150,8 @@ pub fn setting(
     let (name, rest) = lexemes.name()?;
     let rest = rest.expect(Fixed::Mark(Mark::Assign))?;
     let (right, rest) = right_side(alloc, room, rest)?;
-    set_to(alloc, name, right, rest)
+    let rest = rest.expect(Fixed::Mark(Mark::Semicolon))?;
+    Ok((Name::new(alloc, name)?, right, rest))
 }
 
 /// What comes after `== 0`.
