@@ -14,10 +14,7 @@ ghost use Rattle.parse.specs.Reading.{head_at, body_at, signature_at, function_a
 use crate::parameters::{NAMES, parameters};
 use base::limits::{MOST_FUNCTIONS, MOST_STATICS};
 use parse_expressions::expect_two;
-use parse_lexemes::{
-    Cursor, Fixed, ParseError, ParseRule, Source, expect, fault_at, line_at, name_at,
-    reference_type, rest_of, result_type, start, starts_with, unexpected,
-};
+use parse_lexemes::{Cursor, Fixed, ParseError, ParseRule, Source};
 use parse_statements::block;
 use scan::{Mark, Token, Word, one_spelling};
 use std::alloc::{AllocError, Global};
@@ -50,10 +47,8 @@ fn body(alloc: Global, free: usize, lexemes: Cursor<'_>) -> Result<(Block, Curso
         Fixed::Mark(Mark::OpenBrace),
         lexemes,
     )?;
-    match block(alloc, ROOM, free, rest) {
-        Ok((body, _, rest)) => Ok((body, rest)),
-        Err(fault) => Err(fault),
-    }
+    let (body, _, rest) = block(alloc, ROOM, free, rest)?;
+    Ok((body, rest))
 }
 
 /// The result of a function, up to its name.
@@ -62,14 +57,12 @@ fn body(alloc: Global, free: usize, lexemes: Cursor<'_>) -> Result<(Block, Curso
 fn exported(lexemes: Cursor<'_>) -> Result<(ResultType, Cursor<'_>), ParseError>
     ensures { Gives (λ x. (result_tree x.0, views x.1)) result (exported_at (views lexemes.entry)) }
 {
-    let rest = expect(Fixed::Word(Word::JniExport), lexemes)?;
-    let Some(result) = result_type(rest) else {
-        return Err(unexpected(rest));
+    let rest = lexemes.expect(Fixed::Word(Word::JniExport))?;
+    let Some(result) = rest.result_type() else {
+        return Err(rest.unexpected());
     };
-    match expect(Fixed::Word(Word::JniCall), rest_of(rest)) {
-        Ok(rest) => Ok((result, rest)),
-        Err(fault) => Err(fault),
-    }
+    let rest = rest.skip().expect(Fixed::Word(Word::JniCall))?;
+    Ok((result, rest))
 }
 
 /// The result, the name and the class of a function, and what comes after them.
@@ -78,12 +71,10 @@ fn signature(lexemes: Cursor<'_>) -> Result<(ResultType, &[u8], &[u8], Cursor<'_
     ensures { Gives (λ x. (result_tree x.0, x.1.now, x.2.now, views x.3)) result (signature_at (views lexemes.entry)) }
 {
     let (result, rest) = exported(lexemes)?;
-    let (name, rest) = name_at(rest)?;
+    let (name, rest) = rest.name()?;
     let rest = head(rest)?;
-    match name_at(rest) {
-        Ok((class_name, rest)) => Ok((result, name, class_name, rest)),
-        Err(fault) => Err(fault),
-    }
+    let (class_name, rest) = rest.name()?;
+    Ok((result, name, class_name, rest))
 }
 
 /// A function (JNI Specification, chapter 2, "Native Method Arguments").
@@ -91,13 +82,11 @@ fn signature(lexemes: Cursor<'_>) -> Result<(ResultType, &[u8], &[u8], Cursor<'_
 fn function(alloc: Global, lexemes: Cursor<'_>) -> Result<(Function, Cursor<'_>), ParseError>
     ensures { Gives (λ x. (function_tree x.0, views x.1)) result (function_at (views lexemes.entry)) }
 {
-    let line = line_at(lexemes);
+    let line = lexemes.line();
     let (result, name, class_name, rest) = signature(lexemes)?;
     let (parameters, rest) = parameters(alloc, rest)?;
     let (body, rest) = body(alloc, NAMES - parameters.len(), rest)?;
-    let Ok(function) = made(alloc, line, result, name, class_name, parameters, body) else {
-        return Err(ParseError::Memory);
-    };
+    let function = made(alloc, line, result, name, class_name, parameters, body)?;
     Ok((function, rest))
 }
 
@@ -139,15 +128,13 @@ fn made(
 fn static_head(lexemes: Cursor<'_>) -> Result<(ReferenceType, &[u8], Cursor<'_>), ParseError>
     ensures { Gives (λ x. (reference_tree x.0, x.1.now, views x.2)) result (static_head_at (views lexemes.entry)) }
 {
-    let rest = expect(Fixed::Word(Word::Static), lexemes)?;
-    let Some(kind) = reference_type(rest) else {
-        return Err(unexpected(rest));
+    let rest = lexemes.expect(Fixed::Word(Word::Static))?;
+    let Some(kind) = rest.reference_type() else {
+        return Err(rest.unexpected());
     };
-    let (name, rest) = name_at(rest_of(rest))?;
-    match expect(Fixed::Mark(Mark::Assign), rest) {
-        Ok(rest) => Ok((kind, name, rest)),
-        Err(fault) => Err(fault),
-    }
+    let (name, rest) = rest.skip().name()?;
+    let rest = rest.expect(Fixed::Mark(Mark::Assign))?;
+    Ok((kind, name, rest))
 }
 
 /// A reference that all functions share.
@@ -155,12 +142,10 @@ fn static_head(lexemes: Cursor<'_>) -> Result<(ReferenceType, &[u8], Cursor<'_>)
 fn static_reference(alloc: Global, lexemes: Cursor<'_>) -> Result<(Static, Cursor<'_>), ParseError>
     ensures { Gives (λ x. (static_tree x.0, views x.1)) result (static_at (views lexemes.entry)) }
 {
-    let line = line_at(lexemes);
+    let line = lexemes.line();
     let (kind, name, rest) = static_head(lexemes)?;
     let rest = expect_two(Fixed::Word(Word::Null), Fixed::Mark(Mark::Semicolon), rest)?;
-    let Ok(name) = Name::new(alloc, name) else {
-        return Err(ParseError::Memory);
-    };
+    let name = Name::new(alloc, name)?;
     Ok((Static { line, kind, name }, rest))
 }
 
@@ -179,12 +164,10 @@ fn function_item(
     ensures { Gives (λ x. (item_tree x.0, x.1, x.2, views x.3)) result (function_item_at functions statics (views lexemes.entry)) }
 {
     if functions == 0 {
-        return Err(fault_at(ParseRule::TooMany, lexemes));
+        return Err(lexemes.fault(ParseRule::TooMany));
     }
-    match function(alloc, lexemes) {
-        Ok((function, rest)) => Ok((Item::Function(function), functions - 1, statics, rest)),
-        Err(fault) => Err(fault),
-    }
+    let (function, rest) = function(alloc, lexemes)?;
+    Ok((Item::Function(function), functions - 1, statics, rest))
 }
 
 /// A static, where there may be this many more functions and statics.
@@ -199,12 +182,10 @@ fn static_item(
     ensures { Gives (λ x. (item_tree x.0, x.1, x.2, views x.3)) result (static_item_at functions statics (views lexemes.entry)) }
 {
     if statics == 0 {
-        return Err(fault_at(ParseRule::TooMany, lexemes));
+        return Err(lexemes.fault(ParseRule::TooMany));
     }
-    match static_reference(alloc, lexemes) {
-        Ok((shared, rest)) => Ok((Item::Static(shared), functions, statics - 1, rest)),
-        Err(fault) => Err(fault),
-    }
+    let (shared, rest) = static_reference(alloc, lexemes)?;
+    Ok((Item::Static(shared), functions, statics - 1, rest))
 }
 
 /// An item, where there may be this many more functions and statics.
@@ -217,16 +198,16 @@ fn item(
 ) -> Result<ReadItem<'_>, ParseError>
     ensures { Gives (λ x. (item_tree x.0, x.1, x.2, views x.3)) result (item_at functions statics (views lexemes.entry)) }
 {
-    if starts_with(Fixed::Word(Word::JniExport), lexemes) {
+    if lexemes.starts_with(Fixed::Word(Word::JniExport)) {
         return function_item(alloc, functions, statics, lexemes);
     }
-    if starts_with(Fixed::Word(Word::Static), lexemes) {
+    if lexemes.starts_with(Fixed::Word(Word::Static)) {
         return static_item(alloc, functions, statics, lexemes);
     }
-    Err(unexpected(lexemes))
+    Err(lexemes.unexpected())
 }
 
-/// All items.
+/// All items of a program.
 fn items(alloc: Global, lexemes: Cursor<'_>) -> Result<Vec<Item>, ParseError>
     ensures { Gives (λ v. map item_tree v.items) result (items_at (length (views lexemes.entry) + 1) most_functions most_statics (views lexemes.entry)) }
 {
@@ -234,7 +215,7 @@ fn items(alloc: Global, lexemes: Cursor<'_>) -> Result<Vec<Item>, ParseError>
     let mut rest = lexemes;
     let mut functions = MOST_FUNCTIONS;
     let mut statics = MOST_STATICS;
-    'items: while !starts_with(Fixed::End, rest) {
+    'items: while !rest.starts_with(Fixed::End) {
         let (item, functions_left, statics_left, after) = item(alloc, functions, statics, rest)?;
         items.push(item)?;
         functions = functions_left;
@@ -257,7 +238,7 @@ pub fn parse(alloc: Global, text: &[u8], tokens: &[Token]) -> Result<Unit, Parse
 {
     one_spelling();
     let source = Source { text, tokens };
-    let items = items(alloc, start(&source))?;
+    let items = items(alloc, Cursor::start(&source))?;
     Ok(Unit::new(items))
 }
 

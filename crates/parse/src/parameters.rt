@@ -6,30 +6,26 @@ ghost use Rattle.parse_lexemes.specs.Results.{Gives};
 ghost use Rattle.parse_lexemes.specs.Lexemes.{views};
 ghost use Rattle.parse.specs.Reading.{parameter_at, parameters_at};
 
+use base::limits::MOST_NAMES;
 use parse_expressions::owned_name;
-use parse_lexemes::{
-    Cursor, Fixed, ParseError, ParseRule, fault_at, parameter_type, rest_of, starts_with,
-    unexpected,
-};
+use parse_lexemes::{Cursor, Fixed, ParseError, ParseRule};
 use scan::Mark;
 use std::alloc::Global;
 use syntax::Parameter;
 
 /// How many names a function may have after that of its class.
-pub(crate) const NAMES: usize = 255;
+pub(crate) const NAMES: usize = MOST_NAMES - 1;
 
 /// A parameter after its comma.
 #[tactic(auto, unfolding(crate::specs::Reading::parameter_at))]
 fn parameter(alloc: Global, lexemes: Cursor<'_>) -> Result<(Parameter, Cursor<'_>), ParseError>
     ensures { Gives (λ x. (parameter_tree x.0, views x.1)) result (parameter_at (views lexemes.entry)) }
 {
-    let Some(kind) = parameter_type(lexemes) else {
-        return Err(unexpected(lexemes));
+    let Some(kind) = lexemes.parameter_type() else {
+        return Err(lexemes.unexpected());
     };
-    match owned_name(alloc, rest_of(lexemes)) {
-        Ok((name, rest)) => Ok((Parameter { kind, name }, rest)),
-        Err(fault) => Err(fault),
-    }
+    let (name, rest) = owned_name(alloc, lexemes.skip())?;
+    Ok((Parameter { kind, name }, rest))
 }
 
 /// The parameters after the class, each with the comma before it.
@@ -42,11 +38,11 @@ pub(crate) fn parameters(
 {
     let mut parameters = Vec::new(alloc);
     let mut rest = lexemes;
-    'parameters: while starts_with(Fixed::Mark(Mark::Comma), rest) {
+    'parameters: while rest.starts_with(Fixed::Mark(Mark::Comma)) {
         if parameters.len() == NAMES {
-            return Err(fault_at(ParseRule::TooMany, rest));
+            return Err(rest.fault(ParseRule::TooMany));
         }
-        let (parameter, after) = parameter(alloc, rest_of(rest))?;
+        let (parameter, after) = parameter(alloc, rest.skip())?;
         parameters.push(parameter)?;
         rest = after;
     }

@@ -4,14 +4,12 @@ ghost use Rattle.std.specs.Prelude.{◌≡◌, ◌≤◌, ◌+◌, length, map};
 ghost use Rattle.syntax.specs.Tree.{TestCall};
 ghost use Rattle.syntax.specs.Views.{argument_tree, call_tree, right_side_tree, test_tree};
 ghost use Rattle.parse_lexemes.specs.Results.{Gives};
-ghost use Rattle.parse_expressions.specs.Steps.{ReadCall, ReadName, ReadSetting, ReadTest, made_of, function_at, zero_at};
+ghost use Rattle.parse_expressions.specs.Steps.{ReadTest, made_of, function_at, zero_at};
 ghost use Rattle.parse_lexemes.specs.Lexemes.{views, expect};
 ghost use Rattle.parse_expressions.specs.Reading.{interface_at, value_at, argument_at, arguments_at, call_at, starts_call, right_at, setting_at, test_at};
 
 use crate::expressions::{expect_two, expression, owned_name, right_expression};
-use parse_lexemes::{
-    Cursor, Fixed, ParseError, expect, name_at, number_at, rest_of, starts_with, text_at,
-};
+use parse_lexemes::{Cursor, Fixed, ParseError};
 use scan::{Mark, Word};
 use std::alloc::Global;
 use syntax::{Argument, Call, Name, RightSide, Test};
@@ -26,7 +24,7 @@ fn interface(lexemes: Cursor<'_>) -> Result<Cursor<'_>, ParseError>
         lexemes,
     )?;
     let rest = expect_two(Fixed::Word(Word::Env), Fixed::Mark(Mark::CloseParen), rest)?;
-    expect(Fixed::Mark(Mark::Arrow), rest)
+    rest.expect(Fixed::Mark(Mark::Arrow))
 }
 
 /// An argument that is no string.
@@ -39,16 +37,12 @@ fn value(
     requires { room ≤ 32 }
     ensures { Gives (λ x. (argument_tree x.0, views x.1)) result (value_at room (views lexemes.entry)) }
 {
-    if starts_with(Fixed::Mark(Mark::Ampersand), lexemes) {
-        return match owned_name(alloc, rest_of(lexemes)) {
-            Ok((name, rest)) => Ok((Argument::AddressOf(name), rest)),
-            Err(fault) => Err(fault),
-        };
+    if lexemes.starts_with(Fixed::Mark(Mark::Ampersand)) {
+        let (name, rest) = owned_name(alloc, lexemes.skip())?;
+        return Ok((Argument::AddressOf(name), rest));
     }
-    match expression(alloc, room, 0, lexemes) {
-        Ok((value, _, rest)) => Ok((Argument::Value(value), rest)),
-        Err(fault) => Err(fault),
-    }
+    let (value, _, rest) = expression(alloc, room, 0, lexemes)?;
+    Ok((Argument::Value(value), rest))
 }
 
 /// An argument.
@@ -61,12 +55,10 @@ fn argument(
     requires { room ≤ 32 }
     ensures { Gives (λ x. (argument_tree x.0, views x.1)) result (argument_at room (views lexemes.entry)) }
 {
-    match text_at(lexemes) {
+    match lexemes.text() {
         Some(bytes) => {
-            let Ok(bytes) = Vec::from_slice(alloc, bytes) else {
-                return Err(ParseError::Memory);
-            };
-            Ok((Argument::Text(bytes), rest_of(lexemes)))
+            let bytes = Vec::from_slice(alloc, bytes)?;
+            Ok((Argument::Text(bytes), lexemes.skip()))
         }
         None => value(alloc, room, lexemes),
     }
@@ -83,35 +75,33 @@ fn arguments(
 {
     let mut arguments = Vec::new(alloc);
     let mut rest = lexemes;
-    'arguments: while starts_with(Fixed::Mark(Mark::Comma), rest) {
-        let (argument, after) = argument(alloc, room, rest_of(rest))?;
+    'arguments: while rest.starts_with(Fixed::Mark(Mark::Comma)) {
+        let (argument, after) = argument(alloc, room, rest.skip())?;
         arguments.push(argument)?;
         rest = after;
     }
     Ok((arguments, rest))
 }
 
-/// A call with its arguments, and what comes after its closing parenthesis.
-fn called<'t>(
-    alloc: Global,
-    function: &[u8],
-    arguments: Vec<Argument>,
-    paren: Fixed,
-    lexemes: Cursor<'t>,
-) -> Result<(Call, Cursor<'t>), ParseError>
-    ensures { Gives (λ x. (call_tree x.0, views x.1)) result (made_of {B = ReadCall}
-        (expect paren (views lexemes.entry)) (λ after. (
-          record {
-            function = function.now;
-            arguments = map argument_tree arguments.items;
-          },
-          after,
-        ))) }
+/// The name of the function that is called.
+#[inline(always)]
+fn function(lexemes: Cursor<'_>) -> Result<(&[u8], Cursor<'_>), ParseError>
+    ensures { Gives (λ x. (x.0.now, views x.1)) result (function_at (views lexemes.entry)) }
 {
-    let rest = expect(paren, lexemes)?;
-    let Ok(function) = Name::new(alloc, function) else {
-        return Err(ParseError::Memory);
-    };
+    let rest = interface(lexemes)?;
+    rest.name()
+}
+
+/// A call of a JNI function, and what comes after it.
+pub fn call(alloc: Global, room: u32, lexemes: Cursor<'_>) -> Result<(Call, Cursor<'_>), ParseError>
+    requires { room ≤ 32 }
+    ensures { Gives (λ x. (call_tree x.0, views x.1)) result (call_at room (views lexemes.entry)) }
+{
+    let (function, rest) = function(lexemes)?;
+    let rest = expect_two(Fixed::Mark(Mark::OpenParen), Fixed::Word(Word::Env), rest)?;
+    let (arguments, rest) = arguments(alloc, room, rest)?;
+    let rest = rest.expect(Fixed::Mark(Mark::CloseParen))?;
+    let function = Name::new(alloc, function)?;
     Ok((
         Call {
             function,
@@ -121,38 +111,12 @@ fn called<'t>(
     ))
 }
 
-/// The name of the function that is called.
-#[inline(always)]
-fn function(lexemes: Cursor<'_>) -> Result<(&[u8], Cursor<'_>), ParseError>
-    ensures { Gives (λ x. (x.0.now, views x.1)) result (function_at (views lexemes.entry)) }
-{
-    let rest = interface(lexemes)?;
-    name_at(rest)
-}
-
-/// A call.
-pub fn call(alloc: Global, room: u32, lexemes: Cursor<'_>) -> Result<(Call, Cursor<'_>), ParseError>
-    requires { room ≤ 32 }
-    ensures { Gives (λ x. (call_tree x.0, views x.1)) result (call_at room (views lexemes.entry)) }
-{
-    let (function, rest) = function(lexemes)?;
-    let rest = expect_two(Fixed::Mark(Mark::OpenParen), Fixed::Word(Word::Env), rest)?;
-    let (arguments, rest) = arguments(alloc, room, rest)?;
-    called(
-        alloc,
-        function,
-        arguments,
-        Fixed::Mark(Mark::CloseParen),
-        rest,
-    )
-}
-
-/// Whether a call comes next, since no expression begins so.
+/// Whether a call comes next: no expression begins with `(*`.
 fn starts_call(lexemes: Cursor<'_>) -> bool
     ensures { result ≡ starts_call (views lexemes.entry) }
 {
-    starts_with(Fixed::Mark(Mark::OpenParen), lexemes)
-        && starts_with(Fixed::Mark(Mark::Star), rest_of(lexemes))
+    lexemes.starts_with(Fixed::Mark(Mark::OpenParen))
+        && lexemes.skip().starts_with(Fixed::Mark(Mark::Star))
 }
 
 /// An expression or a call.
@@ -166,50 +130,11 @@ pub(crate) fn right_side(
     ensures { Gives (λ x. (right_side_tree x.0, views x.1)) result (right_at room (views lexemes.entry)) }
 {
     if starts_call(lexemes) {
-        return match call(alloc, room, lexemes) {
-            Ok((call, rest)) => Ok((RightSide::Call(call), rest)),
-            Err(fault) => Err(fault),
-        };
+        let (call, rest) = call(alloc, room, lexemes)?;
+        return Ok((RightSide::Call(call), rest));
     }
-    match right_expression(alloc, room, lexemes) {
-        Ok((value, _, rest)) => Ok((RightSide::Expr(value), rest)),
-        Err(fault) => Err(fault),
-    }
-}
-
-/// A name with what it is set to, and what comes after the semicolon.
-fn set_to<'t>(
-    alloc: Global,
-    name: &[u8],
-    right: RightSide,
-    semicolon: Fixed,
-    lexemes: Cursor<'t>,
-) -> Result<(Name, RightSide, Cursor<'t>), ParseError>
-    ensures { Gives (λ x. (x.0, right_side_tree x.1, views x.2)) result
-        (made_of {B = ReadSetting} (expect semicolon (views lexemes.entry))
-        (λ rest. (name.now, right_side_tree right, rest))) }
-{
-    match ended_name(alloc, name, semicolon, lexemes) {
-        Ok((name, rest)) => Ok((name, right, rest)),
-        Err(fault) => Err(fault),
-    }
-}
-
-/// A name, and what comes after this lexeme, which ends it.
-#[inline(always)]
-fn ended_name<'t>(
-    alloc: Global,
-    name: &[u8],
-    end: Fixed,
-    lexemes: Cursor<'t>,
-) -> Result<(Name, Cursor<'t>), ParseError>
-    ensures { Gives (λ x. (x.0, views x.1)) result (made_of {B = ReadName} (expect end (views lexemes.entry)) (λ rest. (name.now, rest))) }
-{
-    let rest = expect(end, lexemes)?;
-    let Ok(name) = Name::new(alloc, name) else {
-        return Err(ParseError::Memory);
-    };
-    Ok((name, rest))
+    let (value, _, rest) = right_expression(alloc, room, lexemes)?;
+    Ok((RightSide::Expr(value), rest))
 }
 
 /// A name, what it is set to, and what comes after the semicolon.
@@ -222,10 +147,11 @@ pub fn setting(
     requires { room ≤ 32 }
     ensures { Gives (λ x. (x.0, right_side_tree x.1, views x.2)) result (setting_at room (views lexemes.entry)) }
 {
-    let (name, rest) = name_at(lexemes)?;
-    let rest = expect(Fixed::Mark(Mark::Assign), rest)?;
+    let (name, rest) = lexemes.name()?;
+    let rest = rest.expect(Fixed::Mark(Mark::Assign))?;
     let (right, rest) = right_side(alloc, room, rest)?;
-    set_to(alloc, name, right, Fixed::Mark(Mark::Semicolon), rest)
+    let rest = rest.expect(Fixed::Mark(Mark::Semicolon))?;
+    Ok((Name::new(alloc, name)?, right, rest))
 }
 
 /// What comes after `== 0`.
@@ -234,11 +160,9 @@ pub fn setting(
 fn zero(lexemes: Cursor<'_>) -> Result<Cursor<'_>, ParseError>
     ensures { Gives views result (zero_at (views lexemes.entry)) }
 {
-    let rest = expect(Fixed::Mark(Mark::Equal), lexemes)?;
-    match number_at(0, 0, rest) {
-        Ok((_, rest)) => Ok(rest),
-        Err(fault) => Err(fault),
-    }
+    let rest = lexemes.expect(Fixed::Mark(Mark::Equal))?;
+    let (_, rest) = rest.number(0, 0)?;
+    Ok(rest)
 }
 
 /// A call with what tests it for 0, which comes next.
@@ -247,10 +171,8 @@ fn called_test(call: Call, lexemes: Cursor<'_>) -> Result<(Test, Cursor<'_>), Pa
     ensures { Gives (λ x. (test_tree x.0, views x.1)) result (made_of {B = ReadTest} (zero_at (views lexemes.entry))
         (λ rest. (TestCall (call_tree call), rest))) }
 {
-    match zero(lexemes) {
-        Ok(rest) => Ok((Test::Call(call), rest)),
-        Err(fault) => Err(fault),
-    }
+    let rest = zero(lexemes)?;
+    Ok((Test::Call(call), rest))
 }
 
 /// An expression, or a call that is tested for 0.
@@ -263,8 +185,6 @@ pub fn test(alloc: Global, room: u32, lexemes: Cursor<'_>) -> Result<(Test, Curs
         let (call, rest) = call(alloc, room, lexemes)?;
         return called_test(call, rest);
     }
-    match expression(alloc, room, 0, lexemes) {
-        Ok((value, _, rest)) => Ok((Test::Expr(value), rest)),
-        Err(fault) => Err(fault),
-    }
+    let (value, _, rest) = expression(alloc, room, 0, lexemes)?;
+    Ok((Test::Expr(value), rest))
 }

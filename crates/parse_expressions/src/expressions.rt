@@ -11,10 +11,7 @@ ghost use Rattle.parse_lexemes.specs.Lexemes.{views, expect, name_at};
 ghost use Rattle.parse_expressions.specs.Reading.{ReadExpr, operator_at, binary_of_mark, named_of, primary_at, starts_element, starts_inside, index_at, operand_at, expr_at, right_expr_at, deeper};
 ghost use Rattle.parse_lexemes.specs.Reading.{constant_of_word, rest_of};
 
-use parse_lexemes::{
-    Cursor, Fixed, ParseError, ParseRule, Shape, expect, fault_at, mark_at, name_at, rest_of,
-    shape_at, starts_name, starts_with, unexpected,
-};
+use parse_lexemes::{Cursor, Fixed, ParseError, ParseRule, Shape};
 use scan::{Mark, Word};
 use std::alloc::{AllocError, Global};
 use syntax::{BinaryOp, Constant, Expr, Name, PrefixOp};
@@ -34,10 +31,10 @@ enum Opening<'t> {
 /// How an operand opens that has an expression inside, and what comes after that.
 type ReadOpening<'t> = Option<(Opening<'t>, Cursor<'t>)>;
 
-/// Prefixes bind tighter than all operators.
+/// The level of prefixes, which bind tighter than all operators between two operands.
 const PREFIX_LEVEL: u32 = 11;
 
-/// How tightly an operator holds its operands.
+/// The level of an operator between two operands: the higher, the tighter it binds.
 fn level(op: BinaryOp) -> u32
     ensures { result ≡ operator_level (binary_tree op) }
 {
@@ -86,10 +83,7 @@ fn binary_of(mark: Mark) -> Option<BinaryOp>
 fn operator(rest: Cursor<'_>) -> Option<BinaryOp>
     ensures { option_map binary_tree result ≡ operator_at (views rest.entry) }
 {
-    match mark_at(rest) {
-        Some(mark) => binary_of(mark),
-        None => None,
-    }
+    binary_of(rest.mark()?)
 }
 
 /// The named constant of a word.
@@ -110,14 +104,12 @@ fn constant_of(word: Word) -> Option<Constant>
 pub fn owned_name(alloc: Global, lexemes: Cursor<'_>) -> Result<(Name, Cursor<'_>), ParseError>
     ensures { Gives (λ x. (x.0, views x.1)) result (name_at (views lexemes.entry)) }
 {
-    let (name, rest) = name_at(lexemes)?;
-    let Ok(name) = Name::new(alloc, name) else {
-        return Err(ParseError::Memory);
-    };
+    let (name, rest) = lexemes.name()?;
+    let name = Name::new(alloc, name)?;
     Ok((name, rest))
 }
 
-/// Two lexemes, and what comes after them.
+/// What comes after these two lexemes, which have to come next.
 #[inline(always)]
 pub fn expect_two(
     first: Fixed,
@@ -126,8 +118,8 @@ pub fn expect_two(
 ) -> Result<Cursor<'_>, ParseError>
     ensures { Gives views result (two first second (views lexemes.entry)) }
 {
-    let rest = expect(first, lexemes)?;
-    expect(second, rest)
+    let rest = lexemes.expect(first)?;
+    rest.expect(second)
 }
 
 /// A named constant.
@@ -138,8 +130,8 @@ fn named(word: Word, lexemes: Cursor<'_>) -> Result<ReadExpr<'_>, ParseError>
         (named_of (constant_of_word word) (views lexemes.entry) (rest_of (views lexemes.entry))) }
 {
     match constant_of(word) {
-        Some(constant) => Ok((Expr::Named(constant), 0, rest_of(lexemes))),
-        None => Err(unexpected(lexemes)),
+        Some(constant) => Ok((Expr::Named(constant), 0, lexemes.skip())),
+        None => Err(lexemes.unexpected()),
     }
 }
 
@@ -149,16 +141,16 @@ fn primary(alloc: Global, lexemes: Cursor<'_>) -> Result<ReadExpr<'_>, ParseErro
     ensures low { IfOk result (λ x. x.1 ≡ 0) }
     ensures gives { Gives (λ x. (expr_tree x.0, x.1, views x.2)) result (primary_at (views lexemes.entry)) }
 {
-    match shape_at(lexemes) {
+    match lexemes.shape() {
         Shape::Number { value, unsigned } => {
-            Ok((Expr::Number { value, unsigned }, 0, rest_of(lexemes)))
+            Ok((Expr::Number { value, unsigned }, 0, lexemes.skip()))
         }
-        Shape::Name => match owned_name(alloc, lexemes) {
-            Ok((name, rest)) => Ok((Expr::Variable(name), 0, rest)),
-            Err(fault) => Err(fault),
-        },
+        Shape::Name => {
+            let (name, rest) = owned_name(alloc, lexemes)?;
+            Ok((Expr::Variable(name), 0, rest))
+        }
         Shape::Fixed(Fixed::Word(word)) => named(word, lexemes),
-        _ => Err(unexpected(lexemes)),
+        _ => Err(lexemes.unexpected()),
     }
 }
 
@@ -186,10 +178,8 @@ pub fn closed(
     ensures gives { Gives (λ x. (expr_tree x.0, x.1, views x.2)) result
         (made_of {B = ReadExpr} (expect end (views lexemes.entry)) (λ after. (expr_tree inside, height, after))) }
 {
-    match expect(end, lexemes) {
-        Ok(rest) => Ok((inside, height, rest)),
-        Err(fault) => Err(fault),
-    }
+    let rest = lexemes.expect(end)?;
+    Ok((inside, height, rest))
 }
 
 /// What is read of an expression, and what comes after the next lexeme, which ends it.
@@ -232,13 +222,11 @@ fn operand_of<'t>(
         (operand_of (opening_view opening.entry) (expr_tree inside.entry.0, inside.entry.1, views inside.entry.2)) }
 {
     let (inside, height, rest) = ended_as(opening, inside)?;
-    let Ok(operand) = around(alloc, opening, inside) else {
-        return Err(ParseError::Memory);
-    };
+    let operand = around(alloc, opening, inside)?;
     Ok((operand, 1 + height, rest))
 }
 
-/// What is to the left of an operator, and what was read after it.
+/// An operator with what is to its left, and what was read to its right.
 #[inline(always)]
 fn joined<'t>(
     alloc: Global,
@@ -277,27 +265,25 @@ fn operator_within(least: u32, rest: Cursor<'_>) -> Option<BinaryOp>
 fn starts_deep(lexemes: Cursor<'_>) -> bool
     ensures { result ≡ starts_deep (views lexemes.entry) }
 {
-    starts_with(Fixed::Mark(Mark::Tilde), lexemes)
-        || starts_with(Fixed::Mark(Mark::Exclamation), lexemes)
-        || starts_with(Fixed::Mark(Mark::OpenParen), lexemes)
+    lexemes.starts_with(Fixed::Mark(Mark::Tilde))
+        || lexemes.starts_with(Fixed::Mark(Mark::Exclamation))
+        || lexemes.starts_with(Fixed::Mark(Mark::OpenParen))
 }
 
 /// Whether a name with an index comes next.
 pub fn starts_element(lexemes: Cursor<'_>) -> bool
     ensures { result ≡ starts_element (views lexemes.entry) }
 {
-    starts_name(lexemes) && starts_with(Fixed::Mark(Mark::OpenBracket), rest_of(lexemes))
+    lexemes.starts_name() && lexemes.skip().starts_with(Fixed::Mark(Mark::OpenBracket))
 }
 
-/// A cast to a type, of which the closing parenthesis is read.
+/// A cast, of which all but the closing parenthesis is read already.
 #[inline(always)]
 fn cast(op: PrefixOp, lexemes: Cursor<'_>) -> Result<ReadOpening<'_>, ParseError>
     ensures { Gives (option_map (λ x. (opening_view x.0, views x.1))) result (cast_at (prefix_tree op) (views lexemes.entry)) }
 {
-    match expect(Fixed::Mark(Mark::CloseParen), lexemes) {
-        Ok(rest) => Ok(Some((Opening::Prefix(op), rest))),
-        Err(fault) => Err(fault),
-    }
+    let rest = lexemes.expect(Fixed::Mark(Mark::CloseParen))?;
+    Ok(Some((Opening::Prefix(op), rest)))
 }
 
 /// What opens with a parenthesis: a cast, or an expression.
@@ -306,16 +292,16 @@ fn cast(op: PrefixOp, lexemes: Cursor<'_>) -> Result<ReadOpening<'_>, ParseError
 fn paren_opening(lexemes: Cursor<'_>) -> Result<ReadOpening<'_>, ParseError>
     ensures { Gives (option_map (λ x. (opening_view x.0, views x.1))) result (paren_opening_at (views lexemes.entry)) }
 {
-    if starts_with(Fixed::Word(Word::Uint32), lexemes) {
-        return cast(PrefixOp::ToWord, rest_of(lexemes));
+    if lexemes.starts_with(Fixed::Word(Word::Uint32)) {
+        return cast(PrefixOp::ToWord, lexemes.skip());
     }
-    if starts_with(Fixed::Word(Word::Jint), lexemes) {
-        return cast(PrefixOp::ToInt, rest_of(lexemes));
+    if lexemes.starts_with(Fixed::Word(Word::Jint)) {
+        return cast(PrefixOp::ToInt, lexemes.skip());
     }
     Ok(Some((Opening::Paren, lexemes)))
 }
 
-/// What comes after the opening bracket of an index, which counts one.
+/// What comes after the opening bracket of an index, which counts one of the height.
 #[inline(always)]
 #[tactic(auto, unfolding(crate::specs::Steps::bracket_at))]
 fn bracket(room: u32, lexemes: Cursor<'_>) -> Result<Cursor<'_>, ParseError>
@@ -323,9 +309,9 @@ fn bracket(room: u32, lexemes: Cursor<'_>) -> Result<Cursor<'_>, ParseError>
     ensures gives { Gives views result (bracket_at room (views lexemes.entry)) }
 {
     if room == 0 {
-        return Err(fault_at(ParseRule::TooHigh, lexemes));
+        return Err(lexemes.fault(ParseRule::TooHigh));
     }
-    expect(Fixed::Mark(Mark::OpenBracket), lexemes)
+    lexemes.expect(Fixed::Mark(Mark::OpenBracket))
 }
 
 /// The name of an element, and its opening bracket.
@@ -335,11 +321,9 @@ fn element_opening(room: u32, lexemes: Cursor<'_>) -> Result<ReadOpening<'_>, Pa
     ensures some { IfOk result (λ _. 1 ≤ room) }
     ensures gives { Gives (option_map (λ x. (opening_view x.0, views x.1))) result (element_opening_at room (views lexemes.entry)) }
 {
-    let (name, rest) = name_at(lexemes)?;
-    match bracket(room, rest) {
-        Ok(rest) => Ok(Some((Opening::Element(name), rest))),
-        Err(fault) => Err(fault),
-    }
+    let (name, rest) = lexemes.name()?;
+    let rest = bracket(room, rest)?;
+    Ok(Some((Opening::Element(name), rest)))
 }
 
 /// How an operand opens that has an expression inside, for which there is room, and what comes after that.
@@ -350,18 +334,18 @@ fn operand_opening(room: u32, lexemes: Cursor<'_>) -> Result<ReadOpening<'_>, Pa
     ensures gives { Gives (option_map (λ x. (opening_view x.0, views x.1))) result (opening_at room (views lexemes.entry)) }
 {
     if room == 0 && starts_deep(lexemes) {
-        return Err(fault_at(ParseRule::TooHigh, lexemes));
+        return Err(lexemes.fault(ParseRule::TooHigh));
     }
-    if starts_with(Fixed::Mark(Mark::Tilde), lexemes) {
+    if lexemes.starts_with(Fixed::Mark(Mark::Tilde)) {
         let prefix = Opening::Prefix(PrefixOp::Complement);
-        return Ok(Some((prefix, rest_of(lexemes))));
+        return Ok(Some((prefix, lexemes.skip())));
     }
-    if starts_with(Fixed::Mark(Mark::Exclamation), lexemes) {
+    if lexemes.starts_with(Fixed::Mark(Mark::Exclamation)) {
         let prefix = Opening::Prefix(PrefixOp::LogicalNot);
-        return Ok(Some((prefix, rest_of(lexemes))));
+        return Ok(Some((prefix, lexemes.skip())));
     }
-    if starts_with(Fixed::Mark(Mark::OpenParen), lexemes) {
-        return paren_opening(rest_of(lexemes));
+    if lexemes.starts_with(Fixed::Mark(Mark::OpenParen)) {
+        return paren_opening(lexemes.skip());
     }
     if starts_element(lexemes) {
         return element_opening(room, lexemes);
@@ -400,7 +384,7 @@ pub fn expression(
     Ok(read)
 }
 
-/// What comes after this operator, whose left operand has this height.
+/// The right operand of an operator whose left one has this height.
 #[cycle(expressions)]
 fn right_operand(
     alloc: Global,
@@ -414,12 +398,12 @@ fn right_operand(
     ensures gives { Gives (λ x. (expr_tree x.0, x.1, views x.2)) result (right_by (deeper room) room height (binary_tree op) (views lexemes.entry)) }
 {
     if height >= room {
-        return Err(fault_at(ParseRule::TooHigh, lexemes));
+        return Err(lexemes.fault(ParseRule::TooHigh));
     }
-    expression(alloc, room - 1, level(op) + 1, rest_of(lexemes))
+    expression(alloc, room - 1, level(op) + 1, lexemes.skip())
 }
 
-/// A prefix with its operand, parentheses, an element, or what holds best.
+/// A prefix with its operand, parentheses, an element, or a primary expression.
 #[cycle(expressions)]
 fn operand(alloc: Global, room: u32, lexemes: Cursor<'_>) -> Result<ReadExpr<'_>, ParseError>
     requires { room ≤ 32 }
@@ -433,7 +417,7 @@ fn operand(alloc: Global, room: u32, lexemes: Cursor<'_>) -> Result<ReadExpr<'_>
     operand_of(alloc, opening, inside)
 }
 
-/// An index in its brackets, which counts one.
+/// An index in its brackets, which counts one of the height.
 pub fn index(alloc: Global, room: u32, lexemes: Cursor<'_>) -> Result<ReadExpr<'_>, ParseError>
     requires { room ≤ 32 }
     ensures low { IfOk result (λ x. x.1 < room) }
@@ -449,7 +433,7 @@ pub fn index(alloc: Global, room: u32, lexemes: Cursor<'_>) -> Result<ReadExpr<'
 fn starts_primary(lexemes: Cursor<'_>) -> bool
     ensures { result ≡ is_ok (primary_at (views lexemes.entry)) }
 {
-    match shape_at(lexemes) {
+    match lexemes.shape() {
         Shape::Number { .. } | Shape::Name => true,
         Shape::Fixed(Fixed::Word(word)) => constant_of(word).is_some(),
         _ => false,
@@ -462,11 +446,11 @@ fn starts_inside(lexemes: Cursor<'_>) -> bool
     ensures { result ≡ starts_inside (views lexemes.entry) }
 {
     starts_primary(lexemes)
-        || starts_with(Fixed::Mark(Mark::OpenParen), lexemes)
-        || starts_with(Fixed::Mark(Mark::Tilde), lexemes)
-        || starts_with(Fixed::Mark(Mark::Exclamation), lexemes)
-        || starts_with(Fixed::Word(Word::Uint32), lexemes)
-        || starts_with(Fixed::Word(Word::Jint), lexemes)
+        || lexemes.starts_with(Fixed::Mark(Mark::OpenParen))
+        || lexemes.starts_with(Fixed::Mark(Mark::Tilde))
+        || lexemes.starts_with(Fixed::Mark(Mark::Exclamation))
+        || lexemes.starts_with(Fixed::Word(Word::Uint32))
+        || lexemes.starts_with(Fixed::Word(Word::Jint))
 }
 
 /// The expression of a right side. Where no height is left, its parenthesis may still be that of a
@@ -480,12 +464,12 @@ pub(crate) fn right_expression(
     requires { room ≤ 32 }
     ensures { Gives (λ x. (expr_tree x.0, x.1, views x.2)) result (right_expr_at room (views lexemes.entry)) }
 {
-    if starts_with(Fixed::Mark(Mark::OpenParen), lexemes) && room == 0 {
-        let rest = rest_of(lexemes);
+    if lexemes.starts_with(Fixed::Mark(Mark::OpenParen)) && room == 0 {
+        let rest = lexemes.skip();
         if starts_inside(rest) {
-            return Err(fault_at(ParseRule::TooHigh, rest));
+            return Err(rest.fault(ParseRule::TooHigh));
         }
-        return Err(unexpected(rest));
+        return Err(rest.unexpected());
     }
     expression(alloc, room, 0, lexemes)
 }

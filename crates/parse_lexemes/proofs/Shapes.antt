@@ -1,24 +1,20 @@
 -- What is known of the first lexeme by its token, or by its shape.
-use Rattle.std.proofs.Common.{◌≡◌, ℕ, zero, suc, ◌+◌, ◌-◌, ◌<◌, ◌≤◌, true, false, List, [], ◌∷◌, length, get_or, drop, Some, None, Result, Ok, Err, refl, sym, ap, ◌∙◌, arith, inl, inr}
-use Rattle.std.specs.Prelude.{slice_range, if◌then◌else◌, nat_lt}
+use Rattle.std.proofs.Common.{◌≡◌, ℕ, zero, suc, ◌+◌, ◌-◌, ◌<◌, ◌≤◌, List, [], ◌∷◌, length, get_or, drop, refl, sym, ap, ◌∙◌, arith, inl, inr}
+use Rattle.std.specs.Prelude.{slice_range}
 use Rattle.std.proofs.lemmas.Bool.{cases_lt, lt-ltb, le-ltb}
 use Rattle.std.proofs.lemmas.List.{drop_more, drop_all}
 use Rattle.scan.specs.declared.token.Token.{Token}
 use Rattle.scan.specs.declared.token.Kind.{Kind}
 use Rattle.scan.specs.declared.token.Kind.TheVariants as kinds
-use Rattle.parse_lexemes.specs.declared.fault.ParseRule.TheVariants.{NoForm}
-use Rattle.parse_lexemes.specs.declared.fault.ParseError.{ParseError}
-use Rattle.parse_lexemes.specs.Faults.{breaks}
 use Rattle.parse_lexemes.specs.declared.first.Fixed.{Fixed}
 use Rattle.parse_lexemes.specs.declared.first.Fixed.TheVariants as fixed
-use Rattle.parse_lexemes.specs.declared.first.Shape.{Shape}
 use Rattle.parse_lexemes.specs.declared.first.Shape.TheVariants as shapes
 use Rattle.parse_lexemes.specs.declared.cursor.Cursor.{Cursor}
 use Rattle.parse_lexemes.specs.Order.{IsInside, AreInside}
-use Rattle.parse_lexemes.specs.Meaning.{Meaning, Fixed', Name', Number', Text', between_quotes, meaning_of, token_meaning}
-use Rattle.parse_lexemes.specs.Lexemes.{Lexed, lexemes, views, line_at, fault_at, is_fixed_meaning, expect, name_in, name_at}
+use Rattle.parse_lexemes.specs.Meaning.{Meaning, Fixed', Name', Number', Text', meaning_of, token_meaning}
+use Rattle.parse_lexemes.specs.Lexemes.{Lexed, lexemes, views, line_at, is_fixed_meaning}
 use Rattle.parse_lexemes.specs.Shapes.{shape_of_kind, shape_of, shape_at, is_shape, word_of_shape, is_name_shape, line_of_last, line_of_end, IsNameIn, IsTextIn, IsNameOf, IsTextOf}
-use Rattle.parse_lexemes.specs.Reading.{starts_with, rest_of, is_name, starts_name, word_in, word_at, text_of, text_at, number_in, number_at}
+use Rattle.parse_lexemes.specs.Reading.{starts_with, rest_of, is_name, starts_name, word_in, word_at}
 
 -- ---- lists of lexemes
 
@@ -188,84 +184,3 @@ name_in_is (Text' bytes) = refl
 pub starts_name_is : (ls : List Lexed) → is_name_shape (shape_at ls) ≡ starts_name ls
 starts_name_is [] = refl
 starts_name_is (l ∷ ls) = name_in_is l.meaning
-
--- a string, or none
-text_in_is : (m : Meaning) (bytes : List ℕ) → IsTextIn bytes m → shape_of m ≡ shapes.Text → Some (between_quotes bytes) ≡ text_of m
-text_in_is (Text' found) bytes h is = ap Some h
-text_in_is (Fixed' f) bytes h is = absurd cc
-text_in_is (Name' found) bytes h is = absurd cc
-text_in_is (Number' value unsigned) bytes h is = absurd cc
-
-pub text_at_is : (ls : List Lexed) (bytes : List ℕ) → IsTextOf bytes ls → shape_at ls ≡ shapes.Text → Some (between_quotes bytes) ≡ text_at ls
-text_at_is [] bytes h is = absurd cc
-text_at_is (l ∷ ls) bytes h is = text_in_is l.meaning bytes h is
-
-no_text_in : (m : Meaning) → (shape_of m ≡ shapes.Text → ⊥) → None ≡ text_of m
-no_text_in (Text' found) other = absurd (other refl)
-no_text_in (Fixed' f) other = refl
-no_text_in (Name' found) other = refl
-no_text_in (Number' value unsigned) other = refl
-
-pub no_text_at : (ls : List Lexed) → (shape_at ls ≡ shapes.Text → ⊥) → None ≡ text_at ls
-no_text_at [] other = refl
-no_text_at (l ∷ ls) other = no_text_in l.meaning other
-
--- ---- what is expected
-
-pub expect_ok : (f : Fixed) (ls : List Lexed) → starts_with f ls ≡ true → expect f ls ≡ Ok (rest_of ls)
-unfolding expect
-expect_ok f [] is = absurd cc
-expect_ok f (l ∷ ls) is = rw is refl
-
-pub expect_err : (f : Fixed) (ls : List Lexed) → starts_with f ls ≡ false → expect f ls ≡ Err (fault_at NoForm ls)
-unfolding expect
-expect_err f [] is = refl
-expect_err f (l ∷ ls) is = rw is refl
-
-name_in_ok : (m : Meaning) (bytes : List ℕ) (line : ℕ) (ls : List Lexed) → IsNameIn bytes m → is_name m ≡ true → name_in m line ls ≡ Ok (bytes, ls)
-name_in_ok (Name' found) bytes line ls h is = ap (λ (b : List ℕ). named b ls) (sym h)
-  where
-    named : List ℕ → List Lexed → Result (List ℕ × List Lexed) ParseError
-    named b rest = Ok (b, rest)
-name_in_ok (Fixed' f) bytes line ls h is = absurd cc
-name_in_ok (Number' value unsigned) bytes line ls h is = absurd cc
-name_in_ok (Text' found) bytes line ls h is = absurd cc
-
-pub name_ok : (ls : List Lexed) (bytes : List ℕ) → IsNameOf bytes ls → starts_name ls ≡ true → name_at ls ≡ Ok (bytes, rest_of ls)
-unfolding name_at
-name_ok [] bytes h is = absurd cc
-name_ok (l ∷ ls) bytes h is = name_in_ok l.meaning bytes l.line ls h is
-
-name_in_err : (m : Meaning) (line : ℕ) (ls : List Lexed) → is_name m ≡ false → name_in m line ls ≡ Err (breaks NoForm line)
-name_in_err (Name' found) line ls is = absurd cc
-name_in_err (Fixed' f) line ls is = refl
-name_in_err (Number' value unsigned) line ls is = refl
-name_in_err (Text' found) line ls is = refl
-
-pub name_err : (ls : List Lexed) → starts_name ls ≡ false → name_at ls ≡ Err (fault_at NoForm ls)
-unfolding name_at
-name_err [] is = refl
-name_err (l ∷ ls) is = name_in_err l.meaning l.line ls is
-
--- a number without `u`, by the shape
-abbrev pub number_by : (least most : ℕ) → Shape → List Lexed → Result (ℕ × List Lexed) ParseError
-number_by least most (shapes.Number unsigned value) ls =
-    if unsigned then Err (fault_at NoForm ls)
-    else if nat_lt value least then Err (fault_at NoForm ls)
-    else if nat_lt most value then Err (fault_at NoForm ls)
-    else Ok (value, rest_of ls)
-number_by least most (shapes.Fixed f) ls = Err (fault_at NoForm ls)
-number_by least most shapes.Name ls = Err (fault_at NoForm ls)
-number_by least most shapes.Text ls = Err (fault_at NoForm ls)
-number_by least most shapes.Nothing ls = Err (fault_at NoForm ls)
-
-number_in_is : (least most : ℕ) (m : Meaning) (l : Lexed) (ls : List Lexed) → number_by least most (shape_of m) (l ∷ ls) ≡ number_in least most m (l ∷ ls) ls
-number_in_is least most (Number' value unsigned) l ls = refl
-number_in_is least most (Fixed' f) l ls = refl
-number_in_is least most (Name' found) l ls = refl
-number_in_is least most (Text' found) l ls = refl
-
-pub number_at_is : (least most : ℕ) (ls : List Lexed) → number_by least most (shape_at ls) ls ≡ number_at least most ls
-unfolding number_at
-number_at_is least most [] = refl
-number_at_is least most (l ∷ ls) = number_in_is least most l.meaning l ls

@@ -1,7 +1,7 @@
 -- Single lexemes: what is expected and what is read.
 use Rattle.std.proofs.Common.{◌≡◌, ℕ, ◌+◌, ◌<◌, ◌≤◌, length, arith, Bool, true, false, cond, List, [], ◌∷◌, ◌++◌, Result, Ok, Err, refl, sym, ap, subst, ◌∙◌, inl, inr}
 use Rattle.std.specs.Prelude.{◌⊎◌, ◌==◌, nat_lt, if◌then◌else◌}
-use Rattle.std.proofs.lemmas.Bool.{eqb-true, eq-eqb, false_from_ne_true, ltb-false, le-ltb}
+use Rattle.std.proofs.lemmas.Bool.{eqb-true, eq-eqb, ltb-false, le-ltb}
 use Rattle.scan.specs.declared.token.Mark.{Mark}
 use Rattle.scan.specs.declared.token.Mark.TheVariants as marks
 use Rattle.parse_lexemes.specs.declared.fault.ParseRule.TheVariants.{NoForm}
@@ -138,15 +138,6 @@ mark_is a b e = sym (mark_found a) ∙ ap (find_mark mark_list) (eqb-true _ _ e)
 
 pub word_is : (a b : Word) → same_word a b ≡ true → a ≡ b
 word_is a b e = sym (word_found a) ∙ ap (find_word word_list) (eqb-true _ _ e) ∙ word_found b
-
--- a flag that tells equality is the test of the numbers
-pub mark_flag : (flag : Bool) (a b : Mark) → (flag ≡ true → a ≡ b) → (a ≡ b → flag ≡ true) → flag ≡ same_mark a b
-mark_flag true a b is back = sym (eq-eqb _ _ (ap mark_code (is refl)))
-mark_flag false a b is back = sym (false_from_ne_true _ (λ e. let f : false ≡ true = back (mark_is a b e) in absurd cc))
-
-pub word_flag : (flag : Bool) (a b : Word) → (flag ≡ true → a ≡ b) → (a ≡ b → flag ≡ true) → flag ≡ same_word a b
-word_flag true a b is back = sym (eq-eqb _ _ (ap word_code (is refl)))
-word_flag false a b is back = sym (false_from_ne_true _ (λ e. let f : false ≡ true = back (word_is a b e) in absurd cc))
 
 pub same_is : (a b : Fixed) → same_fixed a b ≡ true → a ≡ b
 same_is (fixed.Mark a) (fixed.Mark b) e = ap (λ (m : Mark). fixed.Mark m) (mark_is a b e)

@@ -8,7 +8,6 @@ ghost use Rattle.parse_lexemes.specs.Lexemes.{views};
 ghost use Rattle.parse_lexemes.specs.Reading.{reference_of_word, result_of_word, element_of_word, parameter_of_word, variable_of_word, reference_type_at, result_type_at, element_type_at, parameter_type_at, variable_type_at};
 
 use crate::cursor::Cursor;
-use crate::first::{same_word, word_at};
 use scan::Word;
 use syntax::{ElementType, ParameterType, ReferenceType, ResultType, VariableType};
 
@@ -38,10 +37,7 @@ fn result_of(word: Word) -> Option<ResultType>
     match word {
         Word::Void => Some(ResultType::Void),
         Word::Jint => Some(ResultType::Jint),
-        _ => match reference_of(word) {
-            Some(reference) => Some(ResultType::Reference(reference)),
-            None => None,
-        },
+        _ => Some(ResultType::Reference(reference_of(word)?)),
     }
 }
 
@@ -62,13 +58,10 @@ fn element_of(word: Word) -> Option<ElementType>
 fn parameter_of(word: Word) -> Option<ParameterType>
     ensures { option_map parameter_type_tree result ≡ parameter_of_word word }
 {
-    if same_word(word, Word::Jint) {
+    if word == Word::Jint {
         return Some(ParameterType::Jint);
     }
-    match reference_of(word) {
-        Some(reference) => Some(ParameterType::Reference(reference)),
-        None => None,
-    }
+    Some(ParameterType::Reference(reference_of(word)?))
 }
 
 /// The variable's type of a word, but for `jint`, which is an element's type too.
@@ -80,59 +73,43 @@ fn variable_of(word: Word) -> Option<VariableType>
         Word::Jsize => Some(VariableType::Jsize),
         Word::Jboolean => Some(VariableType::Jboolean),
         Word::JfieldId => Some(VariableType::JfieldId),
-        _ => match reference_of(word) {
-            Some(reference) => Some(VariableType::Reference(reference)),
-            None => None,
-        },
+        _ => Some(VariableType::Reference(reference_of(word)?)),
     }
 }
 
-/// The type of references that comes next.
-pub fn reference_type(lexemes: Cursor<'_>) -> Option<ReferenceType>
-    ensures { option_map reference_tree result ≡ reference_type_at (views lexemes.entry) }
-{
-    match word_at(lexemes) {
-        Some(word) => reference_of(word),
-        None => None,
+impl Cursor<'_> {
+    /// The type of references, where one comes next.
+    pub fn reference_type(self) -> Option<ReferenceType>
+        ensures { option_map reference_tree result ≡ reference_type_at (views self.entry) }
+    {
+        reference_of(self.word()?)
     }
-}
 
-/// The type of a result, where one comes next.
-pub fn result_type(lexemes: Cursor<'_>) -> Option<ResultType>
-    ensures { option_map result_tree result ≡ result_type_at (views lexemes.entry) }
-{
-    match word_at(lexemes) {
-        Some(word) => result_of(word),
-        None => None,
+    /// The type of a result, where one comes next.
+    pub fn result_type(self) -> Option<ResultType>
+        ensures { option_map result_tree result ≡ result_type_at (views self.entry) }
+    {
+        result_of(self.word()?)
     }
-}
 
-/// The type of an element, where one comes next.
-pub fn element_type(lexemes: Cursor<'_>) -> Option<ElementType>
-    ensures { option_map element_value result ≡ element_type_at (views lexemes.entry) }
-{
-    match word_at(lexemes) {
-        Some(word) => element_of(word),
-        None => None,
+    /// The type of an element, where one comes next.
+    pub fn element_type(self) -> Option<ElementType>
+        ensures { option_map element_value result ≡ element_type_at (views self.entry) }
+    {
+        element_of(self.word()?)
     }
-}
 
-/// The type of a parameter, where one comes next.
-pub fn parameter_type(lexemes: Cursor<'_>) -> Option<ParameterType>
-    ensures { option_map parameter_type_tree result ≡ parameter_type_at (views lexemes.entry) }
-{
-    match word_at(lexemes) {
-        Some(word) => parameter_of(word),
-        None => None,
+    /// The type of a parameter, where one comes next.
+    pub fn parameter_type(self) -> Option<ParameterType>
+        ensures { option_map parameter_type_tree result ≡ parameter_type_at (views self.entry) }
+    {
+        parameter_of(self.word()?)
     }
-}
 
-/// The type of a variable, where one comes next.
-pub fn variable_type(lexemes: Cursor<'_>) -> Option<VariableType>
-    ensures { option_map variable_type_tree result ≡ variable_type_at (views lexemes.entry) }
-{
-    match word_at(lexemes) {
-        Some(word) => variable_of(word),
-        None => None,
+    /// The type of a variable, where one comes next.
+    pub fn variable_type(self) -> Option<VariableType>
+        ensures { option_map variable_type_tree result ≡ variable_type_at (views self.entry) }
+    {
+        variable_of(self.word()?)
     }
 }

@@ -10,10 +10,7 @@ ghost use Rattle.parse_statements.specs.Reading.{zeros_at, array_at, is_array, a
 
 use base::limits::MOST_ELEMENTS;
 use parse_expressions::{expect_two, setting};
-use parse_lexemes::{
-    Cursor, Fixed, ParseError, element_type, expect, line_at, name_at, number_at, rest_of,
-    starts_with, variable_type,
-};
+use parse_lexemes::{Cursor, Fixed, ParseError};
 use scan::{Mark, Word};
 use std::alloc::Global;
 use syntax::{ElementType, Form, Name, Stmt, VariableType};
@@ -28,7 +25,7 @@ fn zeros(lexemes: Cursor<'_>) -> Result<Cursor<'_>, ParseError>
         Fixed::Mark(Mark::OpenBrace),
         lexemes,
     )?;
-    let (_, rest) = number_at(0, 0, rest)?;
+    let (_, rest) = rest.number(0, 0)?;
     expect_two(
         Fixed::Mark(Mark::CloseBrace),
         Fixed::Mark(Mark::Semicolon),
@@ -42,13 +39,11 @@ fn zeros(lexemes: Cursor<'_>) -> Result<Cursor<'_>, ParseError>
 fn array_head(lexemes: Cursor<'_>) -> Result<(&[u8], u32, Cursor<'_>), ParseError>
     ensures { Gives (λ x. (x.0.now, x.1, views x.2)) result (array_head_at (views lexemes.entry)) }
 {
-    let (name, rest) = name_at(lexemes)?;
-    let rest = expect(Fixed::Mark(Mark::OpenBracket), rest)?;
-    let (size, rest) = number_at(1, MOST_ELEMENTS, rest)?;
-    match expect(Fixed::Mark(Mark::CloseBracket), rest) {
-        Ok(rest) => Ok((name, size, rest)),
-        Err(fault) => Err(fault),
-    }
+    let (name, rest) = lexemes.name()?;
+    let rest = rest.expect(Fixed::Mark(Mark::OpenBracket))?;
+    let (size, rest) = rest.number(1, MOST_ELEMENTS)?;
+    let rest = rest.expect(Fixed::Mark(Mark::CloseBracket))?;
+    Ok((name, size, rest))
 }
 
 /// The name, the size and the zeros of a local array.
@@ -63,9 +58,7 @@ fn array(
 {
     let (name, size, rest) = array_head(lexemes)?;
     let rest = zeros(rest)?;
-    let Ok(name) = Name::new(alloc, name) else {
-        return Err(ParseError::Memory);
-    };
+    let name = Name::new(alloc, name)?;
     let form = Form::DeclareArray(element, name, size);
     Ok((Stmt { line, form }, rest))
 }
@@ -75,12 +68,12 @@ fn is_array(element: ElementType, lexemes: Cursor<'_>) -> bool
     ensures { result ≡ is_array (element_value element) (views lexemes.entry) }
 {
     match element {
-        ElementType::Int => starts_with(Fixed::Mark(Mark::OpenBracket), rest_of(lexemes)),
+        ElementType::Int => lexemes.skip().starts_with(Fixed::Mark(Mark::OpenBracket)),
         ElementType::Short | ElementType::Byte | ElementType::Char => true,
     }
 }
 
-/// What comes after an element's type.
+/// A declaration whose first word, of an element's type, is read.
 #[tactic(auto, unfolding(crate::specs::Reading::after_element, crate::specs::Reading::after_variable))]
 fn after_element(
     alloc: Global,
@@ -92,14 +85,10 @@ fn after_element(
     requires { room ≤ 32 }
     ensures { Gives (λ x. (stmt_tree x.0, views x.1)) result (after_element room line (element_value element) (views lexemes.entry)) }
 {
-    if starts_with(Fixed::Mark(Mark::Star), lexemes) {
-        return match setting(alloc, room, rest_of(lexemes)) {
-            Ok((name, right, rest)) => {
-                let form = Form::DeclareBuffer(element, name, right);
-                Ok((Stmt { line, form }, rest))
-            }
-            Err(fault) => Err(fault),
-        };
+    if lexemes.starts_with(Fixed::Mark(Mark::Star)) {
+        let (name, right, rest) = setting(alloc, room, lexemes.skip())?;
+        let form = Form::DeclareBuffer(element, name, right);
+        return Ok((Stmt { line, form }, rest));
     }
     if is_array(element, lexemes) {
         return array(alloc, line, element, lexemes);
@@ -107,7 +96,7 @@ fn after_element(
     after_variable(alloc, room, line, VariableType::Jint, lexemes)
 }
 
-/// What comes after another variable's type.
+/// A declaration of a variable whose type is read.
 #[tactic(auto, unfolding(crate::specs::Reading::after_variable))]
 fn after_variable(
     alloc: Global,
@@ -119,16 +108,12 @@ fn after_variable(
     requires { room ≤ 32 }
     ensures { Gives (λ x. (stmt_tree x.0, views x.1)) result (after_variable room line (variable_type_tree kind) (views lexemes.entry)) }
 {
-    match setting(alloc, room, lexemes) {
-        Ok((name, right, rest)) => {
-            let form = Form::Declare(kind, name, right);
-            Ok((Stmt { line, form }, rest))
-        }
-        Err(fault) => Err(fault),
-    }
+    let (name, right, rest) = setting(alloc, room, lexemes)?;
+    let form = Form::Declare(kind, name, right);
+    Ok((Stmt { line, form }, rest))
 }
 
-/// What comes after `const`.
+/// A declaration whose `const` is read.
 #[tactic(auto, using(crate::proofs::Regrouped::const_is))]
 fn after_const(
     alloc: Global,
@@ -140,13 +125,9 @@ fn after_const(
     ensures { Gives (λ x. (stmt_tree x.0, views x.1)) result (after_const room line (views lexemes.entry)) }
 {
     let rest = expect_two(Fixed::Word(Word::Jchar), Fixed::Mark(Mark::Star), lexemes)?;
-    match setting(alloc, room, rest) {
-        Ok((name, right, rest)) => {
-            let form = Form::DeclareChars(name, right);
-            Ok((Stmt { line, form }, rest))
-        }
-        Err(fault) => Err(fault),
-    }
+    let (name, right, rest) = setting(alloc, room, rest)?;
+    let form = Form::DeclareChars(name, right);
+    Ok((Stmt { line, form }, rest))
 }
 
 /// A declaration.
@@ -159,21 +140,21 @@ pub(crate) fn declared(
     requires { room ≤ 32 }
     ensures { Gives (λ x. (stmt_tree x.0, views x.1)) result (declared_at room (views lexemes.entry)) }
 {
-    let line = line_at(lexemes);
-    if let Some(element) = element_type(lexemes) {
-        return after_element(alloc, room, line, element, rest_of(lexemes));
+    let line = lexemes.line();
+    if let Some(element) = lexemes.element_type() {
+        return after_element(alloc, room, line, element, lexemes.skip());
     }
-    if let Some(kind) = variable_type(lexemes) {
-        return after_variable(alloc, room, line, kind, rest_of(lexemes));
+    if let Some(kind) = lexemes.variable_type() {
+        return after_variable(alloc, room, line, kind, lexemes.skip());
     }
-    after_const(alloc, room, line, rest_of(lexemes))
+    after_const(alloc, room, line, lexemes.skip())
 }
 
 /// Whether a declaration comes next.
 pub(crate) fn starts_declaration(lexemes: Cursor<'_>) -> bool
     ensures { result ≡ starts_declaration (views lexemes.entry) }
 {
-    element_type(lexemes).is_some()
-        || variable_type(lexemes).is_some()
-        || starts_with(Fixed::Word(Word::Const), lexemes)
+    lexemes.element_type().is_some()
+        || lexemes.variable_type().is_some()
+        || lexemes.starts_with(Fixed::Word(Word::Const))
 }

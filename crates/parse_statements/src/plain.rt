@@ -8,7 +8,7 @@ ghost use Rattle.parse_lexemes.specs.Lexemes.{views};
 ghost use Rattle.parse_statements.specs.Reading.{put_at, return_at, perform_at, set_element_at, set_at, plain_at};
 
 use parse_expressions::{call, closed, expression, index, setting, starts_element};
-use parse_lexemes::{Cursor, Fixed, ParseError, expect, line_at, name_at, rest_of, starts_with};
+use parse_lexemes::{Cursor, Fixed, ParseError};
 use scan::{Mark, Word};
 use std::alloc::Global;
 use syntax::{Expr, Form, Name, Stmt};
@@ -26,10 +26,8 @@ fn ended(
     ensures { Gives (λ x. (expr_tree x.0, views x.1)) result (ended_at room end (views lexemes.entry)) }
 {
     let (operand, height, rest) = expression(alloc, room, 0, lexemes)?;
-    match closed(end, operand, height, rest) {
-        Ok((operand, _, rest)) => Ok((operand, rest)),
-        Err(fault) => Err(fault),
-    }
+    let (operand, _, rest) = closed(end, operand, height, rest)?;
+    Ok((operand, rest))
 }
 
 /// An expression in parentheses, and what comes after this lexeme, which follows them.
@@ -43,15 +41,13 @@ pub(crate) fn parenthesized(
     requires { room ≤ 32 }
     ensures { Gives (λ x. (expr_tree x.0, views x.1)) result (parenthesized_at room end (views lexemes.entry)) }
 {
-    let rest = expect(Fixed::Mark(Mark::OpenParen), lexemes)?;
+    let rest = lexemes.expect(Fixed::Mark(Mark::OpenParen))?;
     let (operand, rest) = ended(alloc, room, Fixed::Mark(Mark::CloseParen), rest)?;
-    match closed(end, operand, 0, rest) {
-        Ok((operand, _, rest)) => Ok((operand, rest)),
-        Err(fault) => Err(fault),
-    }
+    let (operand, _, rest) = closed(end, operand, 0, rest)?;
+    Ok((operand, rest))
 }
 
-/// What comes after the `put_jint` of this line.
+/// A statement whose `put_jint`, in this line, is read.
 #[tactic(auto, using(crate::proofs::Regrouped::put_is))]
 fn put(
     alloc: Global,
@@ -62,16 +58,12 @@ fn put(
     requires { room ≤ 32 }
     ensures { Gives (λ x. (stmt_tree x.0, views x.1)) result (put_at room line (views lexemes.entry)) }
 {
-    match parenthesized(alloc, room, Fixed::Mark(Mark::Semicolon), lexemes) {
-        Ok((operand, rest)) => {
-            let form = Form::PutJint(operand);
-            Ok((Stmt { line, form }, rest))
-        }
-        Err(fault) => Err(fault),
-    }
+    let (operand, rest) = parenthesized(alloc, room, Fixed::Mark(Mark::Semicolon), lexemes)?;
+    let form = Form::PutJint(operand);
+    Ok((Stmt { line, form }, rest))
 }
 
-/// What comes after the `return` of this line.
+/// A statement whose `return`, in this line, is read.
 #[tactic(auto, using(crate::proofs::Regrouped::return_is))]
 fn returned(
     alloc: Global,
@@ -82,17 +74,13 @@ fn returned(
     requires { room ≤ 32 }
     ensures { Gives (λ x. (stmt_tree x.0, views x.1)) result (return_at room line (views lexemes.entry)) }
 {
-    if starts_with(Fixed::Mark(Mark::Semicolon), lexemes) {
+    if lexemes.starts_with(Fixed::Mark(Mark::Semicolon)) {
         let form = Form::Return(None);
-        return Ok((Stmt { line, form }, rest_of(lexemes)));
+        return Ok((Stmt { line, form }, lexemes.skip()));
     }
-    match ended(alloc, room, Fixed::Mark(Mark::Semicolon), lexemes) {
-        Ok((operand, rest)) => {
-            let form = Form::Return(Some(operand));
-            Ok((Stmt { line, form }, rest))
-        }
-        Err(fault) => Err(fault),
-    }
+    let (operand, rest) = ended(alloc, room, Fixed::Mark(Mark::Semicolon), lexemes)?;
+    let form = Form::Return(Some(operand));
+    Ok((Stmt { line, form }, rest))
 }
 
 /// A call whose result is dropped.
@@ -107,13 +95,9 @@ fn perform(
     ensures { Gives (λ x. (stmt_tree x.0, views x.1)) result (perform_at room line (views lexemes.entry)) }
 {
     let (call, rest) = call(alloc, room, lexemes)?;
-    match expect(Fixed::Mark(Mark::Semicolon), rest) {
-        Ok(rest) => {
-            let form = Form::Perform(call);
-            Ok((Stmt { line, form }, rest))
-        }
-        Err(fault) => Err(fault),
-    }
+    let rest = rest.expect(Fixed::Mark(Mark::Semicolon))?;
+    let form = Form::Perform(call);
+    Ok((Stmt { line, form }, rest))
 }
 
 /// What comes after an equals sign up to the semicolon.
@@ -123,7 +107,7 @@ fn assigned(alloc: Global, room: u32, lexemes: Cursor<'_>) -> Result<(Expr, Curs
     requires { room ≤ 32 }
     ensures { Gives (λ x. (expr_tree x.0, views x.1)) result (assigned_at room (views lexemes.entry)) }
 {
-    let rest = expect(Fixed::Mark(Mark::Assign), lexemes)?;
+    let rest = lexemes.expect(Fixed::Mark(Mark::Assign))?;
     ended(alloc, room, Fixed::Mark(Mark::Semicolon), rest)
 }
 
@@ -140,13 +124,9 @@ fn set_to(
     requires { room ≤ 32 }
     ensures { Gives (λ x. (stmt_tree x.0, views x.1)) result (element_set_at room line name (expr_tree index) (views lexemes.entry)) }
 {
-    match assigned(alloc, room, lexemes) {
-        Ok((value, rest)) => {
-            let form = Form::AssignElement(name, index, value);
-            Ok((Stmt { line, form }, rest))
-        }
-        Err(fault) => Err(fault),
-    }
+    let (value, rest) = assigned(alloc, room, lexemes)?;
+    let form = Form::AssignElement(name, index, value);
+    Ok((Stmt { line, form }, rest))
 }
 
 /// An assignment to an element.
@@ -160,11 +140,9 @@ fn set_element(
     requires { room ≤ 32 }
     ensures { Gives (λ x. (stmt_tree x.0, views x.1)) result (set_element_at room line (views lexemes.entry)) }
 {
-    let (name, rest) = name_at(lexemes)?;
+    let (name, rest) = lexemes.name()?;
     let (index, _, rest) = index(alloc, room, rest)?;
-    let Ok(name) = Name::new(alloc, name) else {
-        return Err(ParseError::Memory);
-    };
+    let name = Name::new(alloc, name)?;
     set_to(alloc, room, line, name, index, rest)
 }
 
@@ -182,13 +160,9 @@ fn set(
     if starts_element(lexemes) {
         return set_element(alloc, room, line, lexemes);
     }
-    match setting(alloc, room, lexemes) {
-        Ok((name, right, rest)) => {
-            let form = Form::Assign(name, right);
-            Ok((Stmt { line, form }, rest))
-        }
-        Err(fault) => Err(fault),
-    }
+    let (name, right, rest) = setting(alloc, room, lexemes)?;
+    let form = Form::Assign(name, right);
+    Ok((Stmt { line, form }, rest))
 }
 
 /// A statement that declares no name and has no block.
@@ -201,14 +175,14 @@ pub(crate) fn plain(
     requires { room ≤ 32 }
     ensures { Gives (λ x. (stmt_tree x.0, views x.1)) result (plain_at room (views lexemes.entry)) }
 {
-    let line = line_at(lexemes);
-    if starts_with(Fixed::Word(Word::PutJint), lexemes) {
-        return put(alloc, room, line, rest_of(lexemes));
+    let line = lexemes.line();
+    if lexemes.starts_with(Fixed::Word(Word::PutJint)) {
+        return put(alloc, room, line, lexemes.skip());
     }
-    if starts_with(Fixed::Word(Word::Return), lexemes) {
-        return returned(alloc, room, line, rest_of(lexemes));
+    if lexemes.starts_with(Fixed::Word(Word::Return)) {
+        return returned(alloc, room, line, lexemes.skip());
     }
-    if starts_with(Fixed::Mark(Mark::OpenParen), lexemes) {
+    if lexemes.starts_with(Fixed::Mark(Mark::OpenParen)) {
         return perform(alloc, room, line, lexemes);
     }
     set(alloc, room, line, lexemes)

@@ -13,9 +13,7 @@ ghost use Rattle.parse_statements.specs.Reading.{simple_at, inner, if_test_at, w
 use crate::declarations::{declared, starts_declaration};
 use crate::plain::{parenthesized, plain};
 use parse_expressions::{expect_two, test};
-use parse_lexemes::{
-    Cursor, Fixed, ParseError, ParseRule, expect, fault_at, line_at, missing, rest_of, starts_with,
-};
+use parse_lexemes::{Cursor, Fixed, ParseError, ParseRule};
 use scan::{Mark, Word};
 use std::alloc::Global;
 use syntax::{Block, Expr, Form, Stmt, Test};
@@ -52,17 +50,13 @@ fn simple(
 {
     if starts_declaration(lexemes) {
         if free == 0 {
-            return Err(fault_at(ParseRule::TooMany, lexemes));
+            return Err(lexemes.fault(ParseRule::TooMany));
         }
-        return match declared(alloc, room, lexemes) {
-            Ok((stmt, rest)) => Ok((stmt, free - 1, rest)),
-            Err(fault) => Err(fault),
-        };
+        let (stmt, rest) = declared(alloc, room, lexemes)?;
+        return Ok((stmt, free - 1, rest));
     }
-    match plain(alloc, room, lexemes) {
-        Ok((stmt, rest)) => Ok((stmt, free, rest)),
-        Err(fault) => Err(fault),
-    }
+    let (stmt, rest) = plain(alloc, room, lexemes)?;
+    Ok((stmt, free, rest))
 }
 
 /// Whether a statement is a return, which ends its block.
@@ -80,10 +74,8 @@ fn tested(test: Test, lexemes: Cursor<'_>) -> Result<(Test, Cursor<'_>), ParseEr
         (λ after. (test_tree test, after))) }
 {
     let paren = Fixed::Mark(Mark::CloseParen);
-    match expect_two(paren, Fixed::Mark(Mark::OpenBrace), lexemes) {
-        Ok(rest) => Ok((test, rest)),
-        Err(fault) => Err(fault),
-    }
+    let rest = expect_two(paren, Fixed::Mark(Mark::OpenBrace), lexemes)?;
+    Ok((test, rest))
 }
 
 /// What an `if` tests, in its parentheses, and what comes after the brace of its block.
@@ -92,7 +84,7 @@ fn if_test(alloc: Global, room: u32, lexemes: Cursor<'_>) -> Result<(Test, Curso
     requires { room ≤ 32 }
     ensures { Gives (λ x. (test_tree x.0, views x.1)) result (if_test_at room (views lexemes.entry)) }
 {
-    let rest = expect(Fixed::Mark(Mark::OpenParen), lexemes)?;
+    let rest = lexemes.expect(Fixed::Mark(Mark::OpenParen))?;
     let (test, rest) = test(alloc, room, rest)?;
     tested(test, rest)
 }
@@ -122,19 +114,15 @@ fn nested_head(
     ensures gives { Gives (option_map (λ x. (head_view x.0, views x.1))) result (nested_head_at room (views lexemes.entry)) }
 {
     if room == 0 && starts_nested(lexemes) {
-        return Err(fault_at(ParseRule::TooHigh, lexemes));
+        return Err(lexemes.fault(ParseRule::TooHigh));
     }
-    if starts_with(Fixed::Word(Word::If), lexemes) {
-        return match if_test(alloc, room, rest_of(lexemes)) {
-            Ok((test, rest)) => Ok(Some((Head::If(test), rest))),
-            Err(fault) => Err(fault),
-        };
+    if lexemes.starts_with(Fixed::Word(Word::If)) {
+        let (test, rest) = if_test(alloc, room, lexemes.skip())?;
+        return Ok(Some((Head::If(test), rest)));
     }
-    if starts_with(Fixed::Word(Word::While), lexemes) {
-        return match while_test(alloc, room, rest_of(lexemes)) {
-            Ok((test, rest)) => Ok(Some((Head::While(test), rest))),
-            Err(fault) => Err(fault),
-        };
+    if lexemes.starts_with(Fixed::Word(Word::While)) {
+        let (test, rest) = while_test(alloc, room, lexemes.skip())?;
+        return Ok(Some((Head::While(test), rest)));
     }
     Ok(None)
 }
@@ -143,7 +131,7 @@ fn nested_head(
 fn starts_nested(lexemes: Cursor<'_>) -> bool
     ensures { result ≡ starts_nested (views lexemes.entry) }
 {
-    starts_with(Fixed::Word(Word::If), lexemes) || starts_with(Fixed::Word(Word::While), lexemes)
+    lexemes.starts_with(Fixed::Word(Word::If)) || lexemes.starts_with(Fixed::Word(Word::While))
 }
 
 /// Whether a second block may come after the first.
@@ -180,13 +168,9 @@ fn nested<'t>(
         → Gives (λ x. (block_tree x.0, option_map block_tree x.1, x.2, views x.3)) ways.entry read
         → Gives (λ x. (stmt_tree x.0, x.1, views x.2)) result (nested_of line (head_view head) read) }
 {
-    match ways {
-        Ok((body, other, free, rest)) => {
-            let form = nested_form(head, body, other);
-            Ok((Stmt { line, form }, free, rest))
-        }
-        Err(fault) => Err(fault),
-    }
+    let (body, other, free, rest) = ways?;
+    let form = nested_form(head, body, other);
+    Ok((Stmt { line, form }, free, rest))
 }
 
 /// The first block, and what was read after it.
@@ -200,10 +184,8 @@ fn both<'t>(
         → Gives (λ x. (block_tree x.0, option_map block_tree x.1, x.2, views x.3)) result
         (both_of (block_tree body) read) }
 {
-    match other {
-        Ok((other, free, rest)) => Ok((body, other, free, rest)),
-        Err(fault) => Err(fault),
-    }
+    let (other, free, rest) = other?;
+    Ok((body, other, free, rest))
 }
 
 /// The blocks of a statement, of which `otherwise` says whether there may be a second one.
@@ -230,10 +212,8 @@ fn second(read: Result<ReadBlock<'_>, ParseError>) -> Result<ReadOther<'_>, Pars
     ensures { (from : Result BlockRead ParseError) → Gives (λ x. (block_tree x.0, x.1, views x.2)) read.entry from
         → Gives (λ x. (option_map block_tree x.0, x.1, views x.2)) result (second_of from) }
 {
-    match read {
-        Ok((other, free, rest)) => Ok((Some(other), free, rest)),
-        Err(fault) => Err(fault),
-    }
+    let (other, free, rest) = read?;
+    Ok((Some(other), free, rest))
 }
 
 /// The second block, where there may be one and `else` comes next.
@@ -250,10 +230,10 @@ fn other_block(
     requires bound { room ≤ 32 }
     ensures { Gives (λ x. (option_map block_tree x.0, x.1, views x.2)) result (other_at (inner room) free otherwise (views lexemes.entry)) }
 {
-    if !otherwise || !starts_with(Fixed::Word(Word::Else), lexemes) {
+    if !otherwise || !lexemes.starts_with(Fixed::Word(Word::Else)) {
         return Ok((None, free, lexemes));
     }
-    let rest = expect(Fixed::Mark(Mark::OpenBrace), rest_of(lexemes))?;
+    let rest = lexemes.skip().expect(Fixed::Mark(Mark::OpenBrace))?;
     second(block(alloc, room - 1, free, rest))
 }
 
@@ -272,7 +252,7 @@ fn statement(
         return simple(alloc, room, free, lexemes);
     };
     let ways = ways(alloc, room, free, takes_other(&head), rest);
-    nested(line_at(lexemes), head, ways)
+    nested(lexemes.line(), head, ways)
 }
 
 /// Statements up to the closing brace, where `names` more names may be declared.
@@ -290,9 +270,9 @@ pub fn block(
     let mut rest = lexemes;
     let mut free = names;
     let mut returned = false;
-    'statements: while !starts_with(Fixed::Mark(Mark::CloseBrace), rest) {
+    'statements: while !rest.starts_with(Fixed::Mark(Mark::CloseBrace)) {
         if returned {
-            return Err(missing(Fixed::Mark(Mark::CloseBrace), rest));
+            return Err(rest.missing(Fixed::Mark(Mark::CloseBrace)));
         }
         let (stmt, left, after) = statement(alloc, room, free, rest)?;
         returned = is_return(&stmt);
@@ -300,10 +280,10 @@ pub fn block(
         statements.push(stmt)?;
         rest = after;
     }
-    let end_line = line_at(rest);
+    let end_line = rest.line();
     let block = Block {
         statements,
         end_line,
     };
-    Ok((block, free, rest_of(rest)))
+    Ok((block, free, rest.skip()))
 }

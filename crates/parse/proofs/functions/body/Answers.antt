@@ -6,8 +6,8 @@ use Rattle.parse.proofs.functions.body.Goals as goal
 pub returns-in_err-rest : goal.returns-in_err-rest
 returns-in_err-rest c = rw (body_is c.args.free (views c.args.lexemes)) (search rules)
 
-pub returns-in-Ok : goal.returns-in-Ok
-returns-in-Ok c = rw (body_is c.args.free (views c.args.lexemes)) (search rules)
+pub returns : goal.returns
+returns c = rw (body_is c.args.free (views c.args.lexemes)) (search rules)
 
-pub returns-in-Err : goal.returns-in-Err
-returns-in-Err c = rw (body_is c.args.free (views c.args.lexemes)) (search rules)
+pub returns-in_err-body : goal.returns-in_err-body
+returns-in_err-body c = rw (body_is c.args.free (views c.args.lexemes)) (search rules)

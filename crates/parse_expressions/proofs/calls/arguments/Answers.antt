@@ -17,17 +17,17 @@ arguments-init c = rw c.new-arguments.ensures.items (arguments_start c.args.room
 pub returns-in_err-argument : goal.returns-in_err-argument
 returns-in_err-argument c =
     let p = err_from_is_err_and c.from_residual.result c.from_residual.ensures.1 in
-    let h : Fails c.in_err-argument.field-0.0 (argument_at c.args.room (rest_of (views c.arguments.rest))) = rw (sym c.rest_of.ensures) c.in_err-argument.ensures in
+    let h : Fails c.in_err-argument.field-0.0 (argument_at c.args.room (rest_of (views c.arguments.rest))) = rw (sym c.skip.ensures) c.in_err-argument.ensures in
     rw (p.1, p.2) (arguments_fail c.args.room (map argument_tree c.arguments.arguments.items) (views c.arguments.rest) (arguments_at c.args.room (length (views c.args.lexemes) + 1) (views c.args.lexemes)) c.arguments.invariant c.in_err-argument.field-0.0 (sym c.starts_with.ensures ∙ c.arguments-test.true) h)
 
 pub arguments-smaller : goal.arguments-smaller
 arguments-smaller c =
-    let h : argument_at c.args.room (rest_of (views c.arguments.rest)) ≡ Ok (argument_tree c.in_ok-argument.argument, views c.in_ok-argument.after) = rw (sym c.rest_of.ensures) c.in_ok-argument.ensures in
+    let h : argument_at c.args.room (rest_of (views c.arguments.rest)) ≡ Ok (argument_tree c.in_ok-argument.argument, views c.in_ok-argument.after) = rw (sym c.skip.ensures) c.in_ok-argument.ensures in
     argument_shorter c.args.room (views c.arguments.rest) (argument_tree c.in_ok-argument.argument, views c.in_ok-argument.after) (sym c.starts_with.ensures ∙ c.arguments-test.true) h
 
 pub arguments-preserved : goal.arguments-preserved
 arguments-preserved c =
-    let h : argument_at c.args.room (rest_of (views c.arguments.rest)) ≡ Ok (argument_tree c.in_ok-argument.argument, views c.in_ok-argument.after) = rw (sym c.rest_of.ensures) c.in_ok-argument.ensures in
+    let h : argument_at c.args.room (rest_of (views c.arguments.rest)) ≡ Ok (argument_tree c.in_ok-argument.argument, views c.in_ok-argument.after) = rw (sym c.skip.ensures) c.in_ok-argument.ensures in
     rw (c.in_ok-push.ensures.items, map_push argument_tree c.arguments.arguments.items c.in_ok-argument.argument) (arguments_on c.args.room (map argument_tree c.arguments.arguments.items) (views c.arguments.rest) (arguments_at c.args.room (length (views c.args.lexemes) + 1) (views c.args.lexemes)) c.arguments.invariant (argument_tree c.in_ok-argument.argument) (views c.in_ok-argument.after) (sym c.starts_with.ensures ∙ c.arguments-test.true) h)
 
 pub returns : goal.returns

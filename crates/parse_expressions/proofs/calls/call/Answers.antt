@@ -14,3 +14,6 @@ returns-in_err-arguments c = rw (call_is c.args.room (views c.args.lexemes)) (se
 
 pub returns : goal.returns
 returns c = rw (call_is c.args.room (views c.args.lexemes)) (search rules)
+
+pub returns-in_err-rest-2 : goal.returns-in_err-rest-2
+returns-in_err-rest-2 c = rw (call_is c.args.room (views c.args.lexemes)) (search rules)

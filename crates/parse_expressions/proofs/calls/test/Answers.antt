@@ -9,8 +9,8 @@ returns-in_err-call c = rw (test_is c.args.room (views c.args.lexemes)) (search 
 pub returns-then-starts_call : goal.returns-then-starts_call
 returns-then-starts_call c = rw (test_is c.args.room (views c.args.lexemes)) (search rules)
 
-pub returns-in-Ok : goal.returns-in-Ok
-returns-in-Ok c = rw (test_is c.args.room (views c.args.lexemes)) (search rules)
+pub returns : goal.returns
+returns c = rw (test_is c.args.room (views c.args.lexemes)) (search rules)
 
-pub returns-in-Err : goal.returns-in-Err
-returns-in-Err c = rw (test_is c.args.room (views c.args.lexemes)) (search rules)
+pub returns-in_err-value : goal.returns-in_err-value
+returns-in_err-value c = rw (test_is c.args.room (views c.args.lexemes)) (search rules)

@@ -68,4 +68,4 @@ operand-returns-clause-gives t c =
 
 pub right_operand-returns-clause-gives : goal.right_operand-returns-clause-gives
 right_operand-returns-clause-gives t c =
-    rw (right_is c.args.room c.args.height (binary_tree c.args.op) (views c.args.lexemes) c.if-height-room.false, ← c.level.ensures, ← c.rest_of.ensures) c.expression.ensures.gives
+    rw (right_is c.args.room c.args.height (binary_tree c.args.op) (views c.args.lexemes) c.if-height-room.false, ← c.level.ensures, ← c.skip.ensures) c.expression.ensures.gives

@@ -6,8 +6,8 @@ use Rattle.parse_statements.proofs.declarations.after_const.Goals as goal
 pub returns-in_err-rest : goal.returns-in_err-rest
 returns-in_err-rest c = rw (const_is c.args.room c.args.line (views c.args.lexemes)) (search rules)
 
-pub returns-in-Ok : goal.returns-in-Ok
-returns-in-Ok c = rw (const_is c.args.room c.args.line (views c.args.lexemes)) (search rules)
+pub returns : goal.returns
+returns c = rw (const_is c.args.room c.args.line (views c.args.lexemes)) (search rules)
 
-pub returns-in-Err : goal.returns-in-Err
-returns-in-Err c = rw (const_is c.args.room c.args.line (views c.args.lexemes)) (search rules)
+pub returns-in_err-name : goal.returns-in_err-name
+returns-in_err-name c = rw (const_is c.args.room c.args.line (views c.args.lexemes)) (search rules)

@@ -9,8 +9,8 @@ returns-in_err-rest c = rw (parenthesized_is c.args.room c.args.end (views c.arg
 pub returns-in_err-operand : goal.returns-in_err-operand
 returns-in_err-operand c = rw (parenthesized_is c.args.room c.args.end (views c.args.lexemes)) (search rules)
 
-pub returns-in-Ok : goal.returns-in-Ok
-returns-in-Ok c = rw (parenthesized_is c.args.room c.args.end (views c.args.lexemes)) (search rules)
+pub returns : goal.returns
+returns c = rw (parenthesized_is c.args.room c.args.end (views c.args.lexemes)) (search rules)
 
-pub returns-in-Err : goal.returns-in-Err
-returns-in-Err c = rw (parenthesized_is c.args.room c.args.end (views c.args.lexemes)) (search rules)
+pub returns-in_err-operand-2 : goal.returns-in_err-operand-2
+returns-in_err-operand-2 c = rw (parenthesized_is c.args.room c.args.end (views c.args.lexemes)) (search rules)

@@ -31,7 +31,7 @@ block-statements-preserved t c =
 
 pub block-returns : goal.block-returns
 block-returns t c =
-    rw (c.line_at-end_line.ensures, c.rest_of.ensures, block_made (record { statements = c.statements.statements; end_line = line_at (views c.statements.rest) })) (fills_done c.args.room c.statements.free c.statements.statements.items c.statements.returned (views c.statements.rest) (block_at c.args.room c.args.names (views c.args.lexemes)) c.statements.invariant (sym c.starts_with.ensures ∙ c.statements-test.false))
+    rw (c.line-end_line.ensures, c.skip.ensures, block_made (record { statements = c.statements.statements; end_line = line_at (views c.statements.rest) })) (fills_done c.args.room c.statements.free c.statements.statements.items c.statements.returned (views c.statements.rest) (block_at c.args.room c.args.names (views c.args.lexemes)) c.statements.invariant (sym c.starts_with.ensures ∙ c.statements-test.false))
 
 pub statement-returns-in_err-head : goal.statement-returns-in_err-head
 statement-returns-in_err-head t c =
@@ -46,7 +46,7 @@ pub statement-returns : goal.statement-returns
 statement-returns t c =
     let head = head_view c.in-Some.head in
     let rest = views c.in-Some.rest in
-    rw (statement_nested c.args.room c.args.free (views c.args.lexemes) head rest (rw c.in-Some.is at c.in_ok-head.ensures.gives), ← c.line_at.ensures)
+    rw (statement_nested c.args.room c.args.free (views c.args.lexemes) head rest (rw c.in-Some.is at c.in_ok-head.ensures.gives), ← c.line.ensures)
     (c.nested.ensures (ways_at (inner c.args.room) c.args.free (takes_other head) rest) (rw c.takes_other.ensures at c.ways-ways.ensures))
 
 pub ways-returns-in_err-body : goal.ways-returns-in_err-body
@@ -63,10 +63,10 @@ ways-returns t c =
 pub other_block-returns-in_err-rest : goal.other_block-returns-in_err-rest
 other_block-returns-in_err-rest t c =
     let p = err_from_is_err_and c.from_residual.result c.from_residual.ensures.1 in
-    rw (p.1, p.2) (other_fails c.args.room c.args.free (views c.args.lexemes) c.args.otherwise c.in_err-rest.field-0.0 c.if-not-otherwise.false (sym c.starts_with.ensures ∙ c.if-not-starts_with.false) (rw c.rest_of.ensures at c.in_err-rest.ensures))
+    rw (p.1, p.2) (other_fails c.args.room c.args.free (views c.args.lexemes) c.args.otherwise c.in_err-rest.field-0.0 c.if-not-otherwise.false (sym c.starts_with.ensures ∙ c.if-not-starts_with.false) (rw c.skip.ensures at c.in_err-rest.ensures))
 
 pub other_block-returns : goal.other_block-returns
 other_block-returns t c =
     let within = views c.in_ok-rest.rest in
-    rw (other_on c.args.room c.args.free (views c.args.lexemes) c.args.otherwise within c.if-not-otherwise.false (sym c.starts_with.ensures ∙ c.if-not-starts_with.false) (rw c.rest_of.ensures at c.in_ok-rest.ensures) c.requires.some)
+    rw (other_on c.args.room c.args.free (views c.args.lexemes) c.args.otherwise within c.if-not-otherwise.false (sym c.starts_with.ensures ∙ c.if-not-starts_with.false) (rw c.skip.ensures at c.in_ok-rest.ensures) c.requires.some)
     (c.second.ensures (block_at (c.args.room - 1) c.args.free within) c.block.ensures)

@@ -1,8 +1,0 @@
-use Rattle.std.proofs.Common.{sym, ◌∙◌, rules}
-use denote.Enum.Bare.{same_true, true_same}
-use Rattle.scan.specs.contracts.reserved.Word.{the_type}
-use Rattle.parse_lexemes.proofs.Singles.{word_flag}
-use Rattle.parse_lexemes.proofs.first.same_word.Goals as goal
-
-pub returns : goal.returns
-returns c = word_flag c.eq.result c.args.a c.args.b (λ t. same_true the_type (search rules) _ _ (sym c.eq.ensures ∙ t)) (λ e. c.eq.ensures ∙ true_same the_type _ _ e)
