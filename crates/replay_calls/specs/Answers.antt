@@ -32,14 +32,15 @@ pub record Region : Type 0 where
 abbrev pub region_view : RegionInMemory → Region
 region_view r = record { object = r.object; start = r.start; count = r.count; array = r.array.now }
 
--- What a call does: nothing changes and this is given, a value of an object is written, an object is made and given, an exception
--- of a class is made, a string of a text and an exception of a class with it as message are made and 0 is given, the current frame
--- gets room for this many more and 0 is given, a frame of this capacity is made and 0 is given, the OutOfMemoryError object is
--- pending and -4 is given, the current frame is dropped and this is given, a local reference in the frame of a level is deleted, a
--- global reference is made and given, the one of a static is deleted, a pending exception or none replaces that before it and this
--- is given, a local array begins with the numbers of a region, a region's numbers become the first of a local array, a buffer is
--- given, an object gets the numbers of the copy of a variable, which is given up or not, the buffer of a variable is given up, the
--- thread owns an object so many times and 0 is given, nobody owns an object and 0 is given, or the run stops.
+-- What a call does: nothing changes and this is given, a value of an object is written, an object is made and given, an
+-- exception of a class is made, a string of a text and an exception of a class with it as message are made and 0 is
+-- given, the current frame gets room for this many more and 0 is given, a frame of this capacity is made and 0 is
+-- given, the OutOfMemoryError object is pending and -4 is given, the current frame is dropped and this is given, a
+-- local reference in the frame of a level is deleted, a global reference is made and given, the one of a static is
+-- deleted, a pending exception or none replaces that before it and this is given, a local array begins with the numbers
+-- of a region, a region's numbers become the first of a local array, a buffer is given, an object gets the numbers of
+-- the copy of a variable, which is given up or not, the buffer of a variable is given up, the thread owns an object so
+-- many times and 0 is given, nobody owns an object and 0 is given, or the run stops.
 pub data Answer : Type 0 where
   Gives : CallResult → Answer
   Writes : (object place : ℕ) → ObjectValue → Answer
@@ -123,7 +124,8 @@ variables_with heap r vs = change r.array (begun_with (take r.count (drop r.star
 -- a heap in which the numbers of a region are the first of its local array
 abbrev pub heap_with : Variables → Region → Heap → Heap
 heap_with vs r heap =
-    with_numbers heap r.object (overwritten (numbers_of heap r.object) r.start (take r.count (local_array (lookup r.array vs))))
+    with_numbers heap r.object
+    (overwritten (numbers_of heap r.object) r.start (take r.count (local_array (lookup r.array vs))))
 
 -- a heap in which an object has the numbers of a copy
 abbrev pub heap_copied : (object : ℕ) → (buffer : Identifier) → Variables → Heap → Heap

@@ -1,5 +1,5 @@
 -- What is worked out of a call, its arguments being looked up and its checks passed.
-use Rattle.std.specs.Prelude.{ℕ, ◌+◌, ◌-◌, ◌==◌, nat_le, nat_lt, if◌then◌else◌, Bool, true, false, ℤ, pos, negsuc, List, ◌∷◌, length, Option, Some, None, is_some}
+use Rattle.std.specs.Prelude.{◌≡◌, ℕ, ◌+◌, ◌-◌, ◌==◌, nat_le, nat_lt, if◌then◌else◌, Bool, true, false, ℤ, pos, negsuc, List, ◌∷◌, length, Option, Some, None, is_some}
 use Rattle.base.specs.Limits.{most_copied, most_monitor_entries, most_references, most_views}
 use Rattle.base.specs.Bytes.{Identifier, lookup}
 use Rattle.class_rules.specs.BuiltIns.{array_index_out_of_bounds, array_store_exception, illegal_monitor_state, negative_array_size, no_class_def_found_error, no_such_field_error, number_array, string_index_out_of_bounds}
@@ -72,6 +72,12 @@ abbrev pub found_field : Option FieldId → Answer
 found_field None = Raises no_such_field_error
 found_field (Some f) = Gives (FieldResult (Some f))
 
+-- the static or the field of the class of argument 0 with the name and the type of arguments 1 and 2
+abbrev pub field_named : (is_static : Bool) → Classes → List Actual → Option FieldId
+field_named is_static classes args =
+    if is_static then find_static classes (object_given args 0) (text_given args 1) (text_given args 2)
+    else find_field classes (object_given args 0) (text_given args 1) (text_given args 2)
+
 -- these capacities may be had, or else no frames are
 abbrev pub if_they_fit : List Frame → Answer → Answer
 if_they_fit frames a = if nat_le (capacities frames) most_references then a else RefusesFrames
@@ -129,7 +135,9 @@ element_given heap n (Some i) = Gives (ReferenceResult (reference_in (value_at h
 
 -- whether argument 2 may be an element of the array of argument 0
 abbrev pub fits_element : Classes → Heap → List Actual → Bool
-fits_element classes heap args = fits_class classes heap (reference_given args 2) (element_class (class_kind classes (class_of heap (object_given args 0))))
+fits_element classes heap args =
+    fits_class classes heap (reference_given args 2)
+    (element_class (class_kind classes (class_of heap (object_given args 0))))
 
 -- the element of an array at an index becomes a reference, if it fits; else an exception
 abbrev pub element_set : (fits : Bool) → (array : ℕ) → Reference → (index : Option ℕ) → Answer
@@ -141,7 +149,8 @@ element_set fits n r (Some i) = if fits then Writes n i (Refers r) else Raises a
 -- a region of an array or a string of this length, with this start and this number of values, where it is inside
 abbrev pub region_within : (object length : ℕ) → (array : Identifier) → (start count : ℤ) → Option Region
 region_within n length x (pos start) (pos count) =
-    if nat_le (start + count) length then Some (record { object = n; start = start; count = count; array = x }) else None
+    if nat_le (start + count) length then Some (record { object = n; start = start; count = count; array = x })
+    else None
 region_within n length x start count = None
 
 -- the region of arguments 0 to 3
@@ -154,7 +163,8 @@ region_given heap args =
 abbrev pub if_it_has_room : Variables → Region → Answer → Answer
 if_it_has_room vs r a = if nat_le r.count (length (local_array (lookup r.array vs))) then a else Halts OutOfRange
 
--- a local array begins with the numbers of a region; where it isn't inside an exception, and where there is no room a trap
+-- a local array begins with the numbers of a region; where it isn't inside an exception, and where there is no room a
+-- trap
 abbrev pub region_got : (exception : ℕ) → Variables → Option Region → Answer
 region_got exception vs None = Raises exception
 region_got exception vs (Some r) = if_it_has_room vs r (GetsRegion r)
@@ -192,12 +202,14 @@ released n p FreeUncopied = Frees p
 -- one entry more of an object with this monitor, which no other thread owns; after 255 of them -1
 abbrev pub monitor_entered : (object : ℕ) → Option Monitor → Answer
 monitor_entered n None = Owns n 1
-monitor_entered n (Some m) = if nat_lt m.count most_monitor_entries then Owns n (m.count + 1) else Gives (ScalarResult (Int (negsuc 0)))
+monitor_entered n (Some m) =
+    if nat_lt m.count most_monitor_entries then Owns n (m.count + 1) else Gives (ScalarResult (Int (negsuc 0)))
 
 -- one entry less of thread k; with the last one nobody owns the object
 abbrev pub monitor_left : (k : ℕ) → (object : ℕ) → Option Monitor → Answer
 monitor_left k n None = Raises illegal_monitor_state
-monitor_left k n (Some m) = if m.owner == k then (if m.count == 1 then Disowns n else Owns n (m.count - 1)) else Raises illegal_monitor_state
+monitor_left k n (Some m) =
+    if m.owner == k then (if m.count == 1 then Disowns n else Owns n (m.count - 1)) else Raises illegal_monitor_state
 
 -- thread k calls a function
 module _ (classes : Classes) (in_use : BuffersInUse) (k : ℕ) (monitors : List Monitor) (heap : Heap)
@@ -255,7 +267,8 @@ module _ (classes : Classes) (in_use : BuffersInUse) (k : ℕ) (monitors : List 
   worked_out (NewArray T) = new_array (number_array T) (number 0)
   worked_out NewObjectArray = new_object_array (object 1) (reference 2) (number 0)
   worked_out GetObjectArrayElement = element_given heap (object 0) (index_given heap args)
-  worked_out SetObjectArrayElement = element_set (fits_element classes heap args) (object 0) (reference 2) (index_given heap args)
+  worked_out SetObjectArrayElement =
+      element_set (fits_element classes heap args) (object 0) (reference 2) (index_given heap args)
   worked_out NewStringUTF = Makes (Text (text 0))
   worked_out GetStringLength = Gives (ScalarResult (Int (pos (length (values_of heap (object 0))))))
   worked_out (GetArrayRegion T) = region_got array_index_out_of_bounds variables (region_given heap args)
@@ -272,3 +285,42 @@ module _ (classes : Classes) (in_use : BuffersInUse) (k : ℕ) (monitors : List 
   worked_out FatalError = Halts Fatal
   worked_out MonitorEnter = monitor_entered (object 0) (monitor_of monitors (object 0))
   worked_out MonitorExit = monitor_left k (object 0) (monitor_of monitors (object 0))
+
+-- ---- functions by what they work on
+
+-- This is what a function does that is given these arguments, by the classes and the objects alone: whatever else there
+-- is.
+abbrev pub IsByObjects : Classes → Heap → List Actual → JniFunction → Answer → Type 0
+IsByObjects classes heap args f a =
+    (in_use : BuffersInUse) (k : ℕ) (monitors : List Monitor) (variables : Variables) (frames : List Frame)
+    (pending : Reference) → a ≡ worked_out classes in_use k monitors heap variables frames pending args f
+
+-- the same by the variables and the frames alone
+abbrev pub IsByFrames : Variables → List Frame → List Actual → JniFunction → Answer → Type 0
+IsByFrames variables frames args f a =
+    (classes : Classes) (in_use : BuffersInUse) (k : ℕ) (monitors : List Monitor) (heap : Heap)
+    (pending : Reference) → a ≡ worked_out classes in_use k monitors heap variables frames pending args f
+
+-- the same by the objects and the variables alone
+abbrev pub IsByVariables : Heap → Variables → List Actual → JniFunction → Answer → Type 0
+IsByVariables heap variables args f a =
+    (classes : Classes) (in_use : BuffersInUse) (k : ℕ) (monitors : List Monitor) (frames : List Frame)
+    (pending : Reference) → a ≡ worked_out classes in_use k monitors heap variables frames pending args f
+
+-- the same by the objects and what the buffers of all threads take alone
+abbrev pub IsByBuffers : Heap → BuffersInUse → List Actual → JniFunction → Answer → Type 0
+IsByBuffers heap in_use args f a =
+    (classes : Classes) (k : ℕ) (monitors : List Monitor) (variables : Variables) (frames : List Frame)
+    (pending : Reference) → a ≡ worked_out classes in_use k monitors heap variables frames pending args f
+
+-- the same by the pending exception alone
+abbrev pub IsByPending : Reference → List Actual → JniFunction → Answer → Type 0
+IsByPending pending args f a =
+    (classes : Classes) (in_use : BuffersInUse) (k : ℕ) (monitors : List Monitor) (heap : Heap) (variables : Variables)
+    (frames : List Frame) → a ≡ worked_out classes in_use k monitors heap variables frames pending args f
+
+-- the same by the monitors alone, where thread k calls
+abbrev pub IsByMonitors : List Monitor → (k : ℕ) → List Actual → JniFunction → Answer → Type 0
+IsByMonitors monitors k args f a =
+    (classes : Classes) (in_use : BuffersInUse) (heap : Heap) (variables : Variables) (frames : List Frame)
+    (pending : Reference) → a ≡ worked_out classes in_use k monitors heap variables frames pending args f

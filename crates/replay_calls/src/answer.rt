@@ -1,23 +1,18 @@
 //! What a function of the JNI does, as data.
 
-ghost use Rattle.std.specs.Prelude.{◌≡◌, List, ℕ, if◌then◌else◌, is_some, map};
+ghost use Rattle.std.specs.Prelude.{◌≡◌, is_some, map};
 ghost use Rattle.std.specs.Option.{option_map};
 ghost use Rattle.base.specs.Bytes.{lookup};
 ghost use Rattle.classes.specs.FieldViews.{field_id_view};
-ghost use Rattle.class_rules.specs.Class.{Classes};
-ghost use Rattle.class_rules.specs.Fields.{find_field, find_static};
 ghost use Rattle.class_rules.specs.Grown.{IsGrown};
 ghost use Rattle.jni.specs.Table.{function_value};
 ghost use Rattle.semantics.specs.CallEffects.{level_of, same_reference};
-ghost use Rattle.semantics.specs.Heap.{Heap, field_place, fits_class, number_in, reference_in, static_place};
+ghost use Rattle.semantics.specs.Heap.{field_place, fits_class, number_in, reference_in, static_place};
 ghost use Rattle.semantics.specs.Arguments.{field_given, number_given, object_given, reference_given, text_given, variable_given};
-ghost use Rattle.semantics.specs.Object.{Reference};
-ghost use Rattle.semantics.specs.Thread.{BuffersInUse as InUse, Frame, Monitor as MonitorOfThread};
-ghost use Rattle.semantics.specs.Variable.{Variables as VariablesOfCall};
 ghost use Rattle.replay_arguments.specs.Actuals.{actual_view};
 ghost use Rattle.replay_calls.specs.Answers.{answer_or_trap, answer_view, lent_in, trap_in};
 ghost use Rattle.replay_arguments.specs.Checked.{trap_found};
-ghost use Rattle.replay_calls.specs.WorkedOut.{element_given, element_set, ensured, fits_element, found_class, found_field, global_deleted, index_given, local_deleted, made_global, new_array, new_object_array, pushed, subject_of, worked_out};
+ghost use Rattle.replay_calls.specs.WorkedOut.{IsByFrames, IsByObjects, element_given, element_set, ensured, field_named, fits_element, found_class, found_field, global_deleted, index_given, local_deleted, made_global, new_array, new_object_array, pushed, subject_of, worked_out};
 ghost use Rattle.replay_calls.specs.declared.answer.Subject.TheVariants as subject;
 ghost use Rattle.semantics.specs.EventViews.{trap_view};
 ghost use Rattle.replay_terms.specs.Views.{in_use_view, variables_view};
@@ -64,8 +59,8 @@ pub enum Answer<'a> {
     Makes(New<'a>),
     /// An exception of the class of this number is made, with zero and null fields, and is pending.
     Raises(ClassId),
-    /// A string of this text is made, and an exception of the class of this number with it as message; the exception is pending,
-    /// and 0 is given.
+    /// A string of this text is made, and an exception of the class of this number with it as message; the exception is
+    /// pending, and 0 is given.
     ThrowsNew {
         class: ClassId,
         text: &'a [u8],
@@ -202,8 +197,10 @@ pub fn answer_or_trap<'a>(
     requires { IsGrown scene.classes.now }
     ensures { answer_view result ≡ answer_or_trap
         (trap_found scene.entry.classes.now scene.entry.shared.now.store scene.entry.locals.now.frames
-        (is_some scene.entry.pending) (element_value caller.element) (function_value function) (map actual_view actuals.now))
-        (worked_out scene.entry.classes.now (in_use_view caller.in_use) caller.thread scene.entry.shared.now.monitors scene.entry.shared.now.store
+        (is_some scene.entry.pending) (element_value caller.element) (function_value function)
+        (map actual_view actuals.now))
+        (worked_out scene.entry.classes.now (in_use_view caller.in_use) caller.thread
+        scene.entry.shared.now.monitors scene.entry.shared.now.store
         (variables_view scene.entry.locals.now.variables) scene.entry.locals.now.frames scene.entry.pending
         (map actual_view actuals.now) (function_value function)) }
 {
@@ -242,7 +239,8 @@ fn work_out<'a>(
 ) -> Answer<'a>
     requires { IsGrown scene.classes.now }
     ensures { answer_view result
-        ≡ worked_out scene.entry.classes.now (in_use_view caller.in_use) caller.thread scene.entry.shared.now.monitors scene.entry.shared.now.store
+        ≡ worked_out scene.entry.classes.now (in_use_view caller.in_use) caller.thread
+        scene.entry.shared.now.monitors scene.entry.shared.now.store
         (variables_view scene.entry.locals.now.variables) scene.entry.locals.now.frames scene.entry.pending
         (map actual_view actuals.now) (function_value function) }
 {
@@ -273,7 +271,8 @@ fn class_answer<'a>(
     actuals: &[Actual<'a>],
 ) -> Answer<'a>
     requires { subject_of (function_value function) ≡ subject.Classes }
-    ensures { (in_use : InUse) (k : ℕ) (monitors : List MonitorOfThread) (variables : VariablesOfCall) (frames : List Frame) (pending : Reference) → answer_view result ≡ worked_out classes.now in_use k monitors store.now variables frames pending (map actual_view actuals.now) (function_value function) }
+    ensures { IsByObjects classes.now store.now (map actual_view actuals.now) (function_value function)
+        (answer_view result) }
 {
     let first = object_given(actuals, 0);
     let second = object_given(actuals, 1);
@@ -306,7 +305,8 @@ fn reference_answer<'a>(
     actuals: &[Actual<'a>],
 ) -> Answer<'a>
     requires { subject_of (function_value function) ≡ subject.References }
-    ensures { (classes : Classes) (in_use : InUse) (k : ℕ) (monitors : List MonitorOfThread) (heap : Heap) (pending : Reference) → answer_view result ≡ worked_out classes in_use k monitors heap (variables_view variables.now) frames.now pending (map actual_view actuals.now) (function_value function) }
+    ensures { IsByFrames (variables_view variables.now) frames.now (map actual_view actuals.now)
+        (function_value function) (answer_view result) }
 {
     match function {
         JniFunction::NewLocalRef => { Answer::Gives(Given::Reference(reference_given(actuals, 0))) }
@@ -334,7 +334,8 @@ fn field_answer<'a>(
 ) -> Answer<'a>
     requires subject { subject_of (function_value function) ≡ subject.Fields }
     requires grown { IsGrown classes.now }
-    ensures { (in_use : InUse) (k : ℕ) (monitors : List MonitorOfThread) (variables : VariablesOfCall) (frames : List Frame) (pending : Reference) → answer_view result ≡ worked_out classes.now in_use k monitors store.now variables frames pending (map actual_view actuals.now) (function_value function) }
+    ensures { IsByObjects classes.now store.now (map actual_view actuals.now) (function_value function)
+        (answer_view result) }
 {
     let object = object_given(actuals, 0);
     let place = place_of_field(classes, store, actuals);
@@ -374,7 +375,8 @@ fn static_answer<'a>(
 ) -> Answer<'a>
     requires subject { subject_of (function_value function) ≡ subject.Statics }
     requires grown { IsGrown classes.now }
-    ensures { (in_use : InUse) (k : ℕ) (monitors : List MonitorOfThread) (variables : VariablesOfCall) (frames : List Frame) (pending : Reference) → answer_view result ≡ worked_out classes.now in_use k monitors store.now variables frames pending (map actual_view actuals.now) (function_value function) }
+    ensures { IsByObjects classes.now store.now (map actual_view actuals.now) (function_value function)
+        (answer_view result) }
 {
     let class = declarer(actuals);
     let place = place_of_static(classes, actuals);
@@ -413,7 +415,8 @@ fn array_answer<'a>(
     actuals: &[Actual<'a>],
 ) -> Answer<'a>
     requires { subject_of (function_value function) ≡ subject.Arrays }
-    ensures { (in_use : InUse) (k : ℕ) (monitors : List MonitorOfThread) (variables : VariablesOfCall) (frames : List Frame) (pending : Reference) → answer_view result ≡ worked_out classes.now in_use k monitors store.now variables frames pending (map actual_view actuals.now) (function_value function) }
+    ensures { IsByObjects classes.now store.now (map actual_view actuals.now) (function_value function)
+        (answer_view result) }
 {
     match function {
         JniFunction::GetArrayLength | JniFunction::GetStringLength => {
@@ -433,8 +436,7 @@ fn array_answer<'a>(
 
 /// The field or the static of a class with the name and the type of arguments 1 and 2, or else an exception.
 fn field_named<'a>(classes: &'a ClassTable, actuals: &[Actual<'a>], is_static: bool) -> Answer<'a>
-    ensures { answer_view result ≡ found_field (if is_static then find_static classes.now (object_given (map actual_view actuals.now) 0) (text_given (map actual_view actuals.now) 1) (text_given (map actual_view actuals.now) 2)
-        else find_field classes.now (object_given (map actual_view actuals.now) 0) (text_given (map actual_view actuals.now) 1) (text_given (map actual_view actuals.now) 2)) }
+    ensures { answer_view result ≡ found_field (field_named is_static classes.now (map actual_view actuals.now)) }
 {
     let (name, text) = (text_given(actuals, 1), text_given(actuals, 2));
     found_field(classes.field(object_given(actuals, 0), name, text, is_static))
@@ -502,7 +504,10 @@ fn made_global<'a>(reference: Option<ObjectId>) -> Answer<'a>
 
 /// The reference of argument 0 is deleted, unless it is NULL.
 fn local_deleted<'a>(variables: &Variables<'_>, actuals: &[Actual<'_>]) -> Answer<'a>
-    ensures { answer_view result ≡ local_deleted (level_of (lookup (variable_given (map actual_view actuals.now) 0) (variables_view variables.now))) (reference_given (map actual_view actuals.now) 0) }
+    ensures { answer_view result
+        ≡ local_deleted
+        (level_of (lookup (variable_given (map actual_view actuals.now) 0) (variables_view variables.now)))
+        (reference_given (map actual_view actuals.now) 0) }
 {
     match reference_given(actuals, 0) {
         Some(name) => {
@@ -517,7 +522,9 @@ fn local_deleted<'a>(variables: &Variables<'_>, actuals: &[Actual<'_>]) -> Answe
 
 /// The reference of argument 0, a static, is deleted, unless it is NULL.
 fn global_deleted<'a>(actuals: &[Actual<'a>]) -> Answer<'a>
-    ensures { answer_view result ≡ global_deleted (variable_given (map actual_view actuals.now) 0) (reference_given (map actual_view actuals.now) 0) }
+    ensures { answer_view result
+        ≡ global_deleted (variable_given (map actual_view actuals.now) 0)
+        (reference_given (map actual_view actuals.now) 0) }
 {
     match reference_given(actuals, 0) {
         Some(name) => Answer::DeletesGlobal {
@@ -544,7 +551,9 @@ fn same_reference(first: Option<ObjectId>, second: Option<ObjectId>) -> bool
 /// The place of the field of argument 1 among the values of argument 0.
 fn place_of_field(classes: &ClassTable, store: &Store, actuals: &[Actual<'_>]) -> usize
     requires { IsGrown classes.now }
-    ensures { result ≡ field_place classes.now store.now (object_given (map actual_view actuals.now) 0) (field_given (map actual_view actuals.now) 1) }
+    ensures { result
+        ≡ field_place classes.now store.now (object_given (map actual_view actuals.now) 0)
+        (field_given (map actual_view actuals.now) 1) }
 {
     let class = store.class_of(object_given(actuals, 0));
     field::field_place(classes, class, field_given(actuals, 1))
@@ -602,7 +611,9 @@ fn new_array<'a>(class: ClassId, count: i32) -> Answer<'a>
 
 /// An array with the length, the class of its elements and the reference of arguments 0 to 2, or else an exception.
 fn new_object_array<'a>(actuals: &[Actual<'_>]) -> Answer<'a>
-    ensures { answer_view result ≡ new_object_array (object_given (map actual_view actuals.now) 1) (reference_given (map actual_view actuals.now) 2) (number_given (map actual_view actuals.now) 0) }
+    ensures { answer_view result
+        ≡ new_object_array (object_given (map actual_view actuals.now) 1)
+        (reference_given (map actual_view actuals.now) 2) (number_given (map actual_view actuals.now) 0) }
 {
     let count = number_given(actuals, 0);
     if count < 0 {
@@ -633,7 +644,9 @@ fn index_given(store: &Store, actuals: &[Actual<'_>]) -> Option<usize>
 
 /// The element of an array of references at an index, or else an exception.
 fn element<'a>(store: &Store, actuals: &[Actual<'_>]) -> Answer<'a>
-    ensures { answer_view result ≡ element_given store.now (object_given (map actual_view actuals.now) 0) (index_given store.now (map actual_view actuals.now)) }
+    ensures { answer_view result
+        ≡ element_given store.now (object_given (map actual_view actuals.now) 0)
+        (index_given store.now (map actual_view actuals.now)) }
 {
     match index_given(store, actuals) {
         Some(index) => {
@@ -646,7 +659,10 @@ fn element<'a>(store: &Store, actuals: &[Actual<'_>]) -> Answer<'a>
 
 /// The element of an array at an index becomes the reference of argument 2, or else there is an exception.
 fn element_set<'a>(classes: &ClassTable, store: &Store, actuals: &[Actual<'_>]) -> Answer<'a>
-    ensures { answer_view result ≡ element_set (fits_element classes.now store.now (map actual_view actuals.now)) (object_given (map actual_view actuals.now) 0) (reference_given (map actual_view actuals.now) 2) (index_given store.now (map actual_view actuals.now)) }
+    ensures { answer_view result
+        ≡ element_set (fits_element classes.now store.now (map actual_view actuals.now))
+        (object_given (map actual_view actuals.now) 0) (reference_given (map actual_view actuals.now) 2)
+        (index_given store.now (map actual_view actuals.now)) }
 {
     let Some(index) = index_given(store, actuals) else {
         return Answer::Raises(ARRAY_INDEX_OUT_OF_BOUNDS_EXCEPTION);

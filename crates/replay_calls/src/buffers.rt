@@ -1,19 +1,15 @@
 //! What functions of element buffers do, as data.
 
-ghost use Rattle.std.specs.Prelude.{◌≡◌, List, ℕ, IfOk, length, map};
+ghost use Rattle.std.specs.Prelude.{◌≡◌, IfOk, length, map};
 ghost use Rattle.std.specs.Option.{option_map};
-ghost use Rattle.class_rules.specs.Class.{Classes};
 ghost use Rattle.jni.specs.Table.{access_value, function_value};
 ghost use Rattle.semantics.specs.CallEffects.{BufferResult};
 ghost use Rattle.semantics.specs.CallStep.{tell_copy};
 ghost use Rattle.semantics.specs.Heap.{Heap, numbers_of};
-ghost use Rattle.semantics.specs.Object.{Reference};
-ghost use Rattle.semantics.specs.Thread.{Frame, Monitor};
-ghost use Rattle.semantics.specs.Variable.{Variables as VariablesOfCall};
 ghost use Rattle.semantics.specs.Views.{mode_view};
 ghost use Rattle.replay_arguments.specs.Actuals.{actual_view};
 ghost use Rattle.replay_calls.specs.Answers.{answer_view, heap_copied, variables_freed};
-ghost use Rattle.replay_calls.specs.WorkedOut.{copy_lent, lent_by, released, subject_of, view_lent, worked_out};
+ghost use Rattle.replay_calls.specs.WorkedOut.{IsByBuffers, copy_lent, lent_by, released, subject_of, view_lent};
 ghost use Rattle.replay_calls.specs.declared.answer.Subject.TheVariants as subject;
 ghost use Rattle.replay_terms.specs.Views.{in_use_view, lent_view, variables_view};
 
@@ -35,7 +31,8 @@ pub(crate) fn buffer_answer<'a>(
     actuals: &[Actual<'a>],
 ) -> Answer<'a>
     requires { subject_of (function_value function) ≡ subject.Buffers }
-    ensures { (classes : Classes) (k : ℕ) (monitors : List Monitor) (variables : VariablesOfCall) (frames : List Frame) (pending : Reference) → answer_view result ≡ worked_out classes (in_use_view in_use) k monitors store.now variables frames pending (map actual_view actuals.now) (function_value function) }
+    ensures { IsByBuffers store.now (in_use_view in_use) (map actual_view actuals.now) (function_value function)
+        (answer_view result) }
 {
     match function {
         JniFunction::GetBuffer(access) => {
@@ -110,8 +107,10 @@ pub(crate) fn copy_back(
     buffer: &[u8],
     frees: bool,
 ) -> Result<(), AllocError>
-    ensures heap { IfOk result (λ _. store.new ≡ heap_copied object buffer.now (variables_view variables.old) store.old) }
-    ensures variables { IfOk result (λ _. variables_view variables.new ≡ variables_freed frees buffer.now (variables_view variables.old)) }
+    ensures heap { IfOk result (λ _. store.new
+        ≡ heap_copied object buffer.now (variables_view variables.old) store.old) }
+    ensures variables { IfOk result (λ _. variables_view variables.new
+        ≡ variables_freed frees buffer.now (variables_view variables.old)) }
 {
     store.put_numbers(object, variables.copy_named(buffer))?;
     if frees {
@@ -126,7 +125,9 @@ pub fn tell_copy<'a>(
     name: Option<&'a [u8]>,
     lent: Lent,
 ) -> Result<(), AllocError>
-    ensures { IfOk result (λ _. (heap : Heap) → variables_view variables.new ≡ tell_copy (option_map (λ x. x.now) name.entry) (BufferResult (lent_view heap lent)) (variables_view variables.old)) }
+    ensures { IfOk result (λ _. (heap : Heap) → variables_view variables.new
+        ≡ tell_copy (option_map (λ x. x.now) name.entry) (BufferResult (lent_view heap lent))
+        (variables_view variables.old)) }
 {
     let Some(name) = name else {
         return Ok(());

@@ -1,4 +1,5 @@
-//! What the answer of a function does to what all threads share, to the variables, to the frames and to the pending exception.
+//! What the answer of a function does to what all threads share, to the variables, to the frames and to the pending
+//! exception.
 
 ghost use Rattle.std.specs.Prelude.{◌≡◌, IfOk, List, None, Some, true, ℕ};
 ghost use Rattle.jni.specs.Prototype.{ResultKind as SourceKind};
@@ -40,12 +41,15 @@ pub fn carry_out<'a>(
     requires fits { FitsFrames locals.old.frames (answer_view answer) }
     requires arrays { FitsArrays shared.old.store (variables_view locals.old.variables) (answer_view answer) }
     ensures shared { IfOk result (λ _. shared_view shared.new
-        ≡ shared_after turn.entry.classes.now turn.entry.thread (shared_view shared.old) (variables_view locals.old.variables) (answer_view answer.entry)) }
+        ≡ shared_after turn.entry.classes.now turn.entry.thread (shared_view shared.old)
+        (variables_view locals.old.variables) (answer_view answer.entry)) }
     ensures variables { IfOk result (λ _. variables_view locals.new.variables
         ≡ variables_after shared.old.store (variables_view locals.old.variables) (answer_view answer.entry)) }
     ensures frames { IfOk result (λ _. locals.new.frames ≡ frames_after locals.old.frames (answer_view answer.entry)) }
-    ensures pending { IfOk result (λ _. pending.new ≡ pending_after turn.entry.classes.now shared.old.store pending.old (answer_view answer.entry)) }
-    ensures given { IfOk result (λ g. given_view g ≡ given_after shared.old.store (result_value kind) (answer_view answer.entry)) }
+    ensures pending { IfOk result (λ _. pending.new
+        ≡ pending_after turn.entry.classes.now shared.old.store pending.old (answer_view answer.entry)) }
+    ensures given { IfOk result (λ g. given_view g
+        ≡ given_after shared.old.store (result_value kind) (answer_view answer.entry)) }
 {
     match answer {
         Answer::Gives(given) => Ok(given),
@@ -104,11 +108,15 @@ fn carry_out_numbers<'a>(
 ) -> Result<Given<'a>, AllocError>
     requires of_numbers { is_of_numbers (answer_view answer) ≡ true }
     requires arrays { FitsArrays shared.old.store (variables_view variables.old) (answer_view answer) }
-    ensures shared { IfOk result (λ _. (classes : Classes) (k : ℕ) → shared_view shared.new ≡ shared_after classes k (shared_view shared.old) (variables_view variables.old) (answer_view answer.entry)) }
-    ensures variables { IfOk result (λ _. variables_view variables.new ≡ variables_after shared.old.store (variables_view variables.old) (answer_view answer.entry)) }
+    ensures shared { IfOk result (λ _. (classes : Classes) (k : ℕ) → shared_view shared.new
+        ≡ shared_after classes k (shared_view shared.old) (variables_view variables.old) (answer_view answer.entry)) }
+    ensures variables { IfOk result (λ _. variables_view variables.new
+        ≡ variables_after shared.old.store (variables_view variables.old) (answer_view answer.entry)) }
     ensures frames { (frames : List Frame) → frames ≡ frames_after frames (answer_view answer.entry) }
-    ensures pending { (classes : Classes) (heap : Heap) (pending : Reference) → pending ≡ pending_after classes heap pending (answer_view answer.entry) }
-    ensures given { IfOk result (λ g. (heap : Heap) (kind : SourceKind) → given_view g ≡ given_after heap kind (answer_view answer.entry)) }
+    ensures pending { (classes : Classes) (heap : Heap) (pending : Reference)
+        → pending ≡ pending_after classes heap pending (answer_view answer.entry) }
+    ensures given { IfOk result (λ g. (heap : Heap) (kind : SourceKind)
+        → given_view g ≡ given_after heap kind (answer_view answer.entry)) }
 {
     match answer {
         Answer::GetsRegion(region) => get_region(&shared.store, variables, region),
@@ -138,11 +146,14 @@ fn carry_out_references<'a>(
     requires of_references { is_of_references (answer_view answer) ≡ true }
     requires fits { FitsFrames frames.old (answer_view answer) }
     ensures shared { IfOk result (λ _. (vs : VariablesOfCall) → shared_view shared.new
-        ≡ shared_after turn.entry.classes.now turn.entry.thread (shared_view shared.old) vs (answer_view answer.entry)) }
+        ≡ shared_after turn.entry.classes.now turn.entry.thread (shared_view shared.old) vs
+        (answer_view answer.entry)) }
     ensures variables { (heap : Heap) (vs : VariablesOfCall) → vs ≡ variables_after heap vs (answer_view answer.entry) }
     ensures frames { IfOk result (λ _. frames.new ≡ frames_after frames.old (answer_view answer.entry)) }
-    ensures pending { IfOk result (λ _. (heap : Heap) → pending.new ≡ pending_after turn.entry.classes.now heap pending.old (answer_view answer.entry)) }
-    ensures given { IfOk result (λ g. (heap : Heap) (kind : SourceKind) → given_view g ≡ given_after heap kind (answer_view answer.entry)) }
+    ensures pending { IfOk result (λ _. (heap : Heap)
+        → pending.new ≡ pending_after turn.entry.classes.now heap pending.old (answer_view answer.entry)) }
+    ensures given { IfOk result (λ g. (heap : Heap) (kind : SourceKind)
+        → given_view g ≡ given_after heap kind (answer_view answer.entry)) }
 {
     match answer {
         Answer::MakesGlobal(name) => {
@@ -180,8 +191,10 @@ fn carry_out_frames<'a>(
     requires of_frames { is_of_frames (answer_view answer) ≡ true }
     requires fits { FitsFrames frames.old (answer_view answer) }
     ensures frames { IfOk result (λ _. frames.new ≡ frames_after frames.old (answer_view answer.entry)) }
-    ensures pending { IfOk result (λ _. (heap : Heap) → pending.new ≡ pending_after turn.entry.classes.now heap pending.old (answer_view answer.entry)) }
-    ensures given { IfOk result (λ g. (heap : Heap) (kind : SourceKind) → given_view g ≡ given_after heap kind (answer_view answer.entry)) }
+    ensures pending { IfOk result (λ _. (heap : Heap)
+        → pending.new ≡ pending_after turn.entry.classes.now heap pending.old (answer_view answer.entry)) }
+    ensures given { IfOk result (λ g. (heap : Heap) (kind : SourceKind)
+        → given_view g ≡ given_after heap kind (answer_view answer.entry)) }
 {
     match answer {
         Answer::Ensures(more) => {
@@ -258,8 +271,8 @@ fn run_out(classes: &ClassTable, pending: &mut Option<ObjectId>)
     *pending = Some(classes.len() + 1);
 }
 
-/// What a call of this kind of result gives where it fails: NULL, -1 or nothing (JNI Specification, chapter 2, "Exceptions and
-/// Error Codes").
+/// What a call of this kind of result gives where it fails: NULL, -1 or nothing (JNI Specification, chapter 2,
+/// "Exceptions and Error Codes").
 fn failed<'a>(kind: ResultKind) -> Given<'a>
     ensures { given_view result ≡ failure (result_value kind) }
 {

@@ -1,14 +1,10 @@
 //! What functions of exceptions do, as data.
 
-ghost use Rattle.std.specs.Prelude.{◌≡◌, List, ℕ, map};
-ghost use Rattle.class_rules.specs.Class.{Classes};
+ghost use Rattle.std.specs.Prelude.{◌≡◌, map};
 ghost use Rattle.jni.specs.Table.{function_value};
-ghost use Rattle.semantics.specs.Heap.{Heap};
-ghost use Rattle.semantics.specs.Thread.{BuffersInUse, Frame, Monitor};
-ghost use Rattle.semantics.specs.Variable.{Variables};
 ghost use Rattle.replay_arguments.specs.Actuals.{actual_view};
 ghost use Rattle.replay_calls.specs.Answers.{answer_view};
-ghost use Rattle.replay_calls.specs.WorkedOut.{subject_of, worked_out};
+ghost use Rattle.replay_calls.specs.WorkedOut.{IsByPending, subject_of};
 ghost use Rattle.replay_calls.specs.declared.answer.Subject.TheVariants as subject;
 
 use crate::answer::Answer;
@@ -25,7 +21,7 @@ pub(crate) fn exception_answer<'a>(
     actuals: &[Actual<'a>],
 ) -> Answer<'a>
     requires { subject_of (function_value function) ≡ subject.Exceptions }
-    ensures { (classes : Classes) (in_use : BuffersInUse) (k : ℕ) (monitors : List Monitor) (heap : Heap) (variables : Variables) (frames : List Frame) → answer_view result ≡ worked_out classes in_use k monitors heap variables frames pending (map actual_view actuals.now) (function_value function) }
+    ensures { IsByPending pending (map actual_view actuals.now) (function_value function) (answer_view result) }
 {
     match function {
         JniFunction::Throw => Answer::Pends {

@@ -1,16 +1,11 @@
 //! What functions of monitors do, as data.
 
-ghost use Rattle.std.specs.Prelude.{◌≡◌, List, map};
+ghost use Rattle.std.specs.Prelude.{◌≡◌, map};
 ghost use Rattle.std.specs.Option.{option_map};
-ghost use Rattle.class_rules.specs.Class.{Classes};
 ghost use Rattle.jni.specs.Table.{function_value};
-ghost use Rattle.semantics.specs.Heap.{Heap};
-ghost use Rattle.semantics.specs.Object.{Reference};
-ghost use Rattle.semantics.specs.Thread.{BuffersInUse, Frame};
-ghost use Rattle.semantics.specs.Variable.{Variables};
 ghost use Rattle.replay_arguments.specs.Actuals.{actual_view};
 ghost use Rattle.replay_calls.specs.Answers.{answer_view};
-ghost use Rattle.replay_calls.specs.WorkedOut.{monitor_entered, monitor_left, subject_of, worked_out};
+ghost use Rattle.replay_calls.specs.WorkedOut.{IsByMonitors, monitor_entered, monitor_left, subject_of};
 ghost use Rattle.replay_calls.specs.declared.answer.Subject.TheVariants as subject;
 ghost use Rattle.replay_objects.specs.Monitors.{monitor_view};
 
@@ -32,7 +27,8 @@ pub(crate) fn monitor_answer<'a>(
     actuals: &[Actual<'a>],
 ) -> Answer<'a>
     requires { subject_of (function_value function) ≡ subject.Monitors }
-    ensures { (classes : Classes) (in_use : BuffersInUse) (heap : Heap) (variables : Variables) (frames : List Frame) (pending : Reference) → answer_view result ≡ worked_out classes in_use thread monitors.now heap variables frames pending (map actual_view actuals.now) (function_value function) }
+    ensures { IsByMonitors monitors.now thread (map actual_view actuals.now) (function_value function)
+        (answer_view result) }
 {
     let object = object_given(actuals, 0);
     let monitor = monitors.of(object);

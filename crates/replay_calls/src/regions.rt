@@ -1,14 +1,11 @@
 //! What functions of regions do: parts of arrays and strings that are copied to or from local arrays.
 
-ghost use Rattle.std.specs.Prelude.{◌≡◌, List, ℕ, map};
+ghost use Rattle.std.specs.Prelude.{◌≡◌, map};
 ghost use Rattle.std.specs.Option.{option_map};
-ghost use Rattle.class_rules.specs.Class.{Classes};
 ghost use Rattle.jni.specs.Table.{function_value};
-ghost use Rattle.semantics.specs.Object.{Reference};
-ghost use Rattle.semantics.specs.Thread.{BuffersInUse, Frame, Monitor};
 ghost use Rattle.replay_arguments.specs.Actuals.{actual_view};
 ghost use Rattle.replay_calls.specs.Answers.{FitsArrays, answer_view, heap_with, region_view, variables_with};
-ghost use Rattle.replay_calls.specs.WorkedOut.{region_given, region_got, region_set, subject_of, worked_out};
+ghost use Rattle.replay_calls.specs.WorkedOut.{IsByVariables, region_given, region_got, region_set, subject_of};
 ghost use Rattle.replay_calls.specs.declared.answer.Answer.TheVariants as answer;
 ghost use Rattle.replay_calls.specs.declared.answer.Subject.TheVariants as subject;
 ghost use Rattle.replay_terms.specs.Views.{variables_view};
@@ -33,7 +30,8 @@ pub(crate) fn region_answer<'a>(
     actuals: &[Actual<'a>],
 ) -> Answer<'a>
     requires { subject_of (function_value function) ≡ subject.Regions }
-    ensures { (classes : Classes) (in_use : BuffersInUse) (k : ℕ) (monitors : List Monitor) (frames : List Frame) (pending : Reference) → answer_view result ≡ worked_out classes in_use k monitors store.now (variables_view variables.now) frames pending (map actual_view actuals.now) (function_value function) }
+    ensures { IsByVariables store.now (variables_view variables.now) (map actual_view actuals.now)
+        (function_value function) (answer_view result) }
 {
     match function {
         JniFunction::GetArrayRegion(_) => {
@@ -88,7 +86,8 @@ fn region_got<'a>(
     exception: ClassId,
     actuals: &[Actual<'a>],
 ) -> Answer<'a>
-    ensures { answer_view result ≡ region_got exception (variables_view variables.now) (region_given store.now (map actual_view actuals.now)) }
+    ensures { answer_view result
+        ≡ region_got exception (variables_view variables.now) (region_given store.now (map actual_view actuals.now)) }
 {
     match region_given(store, actuals) {
         None => Answer::Raises(exception),
@@ -102,9 +101,11 @@ fn region_got<'a>(
     }
 }
 
-/// The numbers of a region become the first of the local array of argument 3, or else as above.
+/// The numbers of a region become the first of the local array of argument 3; there is a Java exception where there is
+/// no such region, and a trap where the local array is too short.
 fn region_set<'a>(store: &Store, variables: &Variables<'_>, actuals: &[Actual<'a>]) -> Answer<'a>
-    ensures { answer_view result ≡ region_set (variables_view variables.now) (region_given store.now (map actual_view actuals.now)) }
+    ensures { answer_view result
+        ≡ region_set (variables_view variables.now) (region_given store.now (map actual_view actuals.now)) }
 {
     match region_given(store, actuals) {
         None => Answer::Raises(ARRAY_INDEX_OUT_OF_BOUNDS_EXCEPTION),
@@ -121,7 +122,8 @@ fn region_set<'a>(store: &Store, variables: &Variables<'_>, actuals: &[Actual<'a
 /// Lets a local array begin with the numbers of its region.
 pub(crate) fn get_region(store: &Store, variables: &mut Variables<'_>, region: Region<'_>)
     requires { FitsArrays store.now (variables_view variables.old) (answer_view (answer.GetsRegion region)) }
-    ensures { variables_view variables.new ≡ variables_with store.now (region_view region.entry) (variables_view variables.old) }
+    ensures { variables_view variables.new
+        ≡ variables_with store.now (region_view region.entry) (variables_view variables.old) }
 {
     let values = store.values_of(region.object);
     let end = region.start + region.count;

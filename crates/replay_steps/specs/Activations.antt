@@ -7,19 +7,22 @@ use Rattle.syntax.specs.Tree.{SourceUnit}
 use Rattle.syntax.specs.Views.{expr_tree, block_tree, stmt_tree}
 use Rattle.semantics.specs.Activation.{return_step}
 use Rattle.semantics.specs.Heap.{Heap}
+use Rattle.semantics.specs.Object.{Reference}
 use Rattle.semantics.specs.Task.{Task, Loop, task_of}
 use Rattle.semantics.specs.Term.{term_of}
 use Rattle.semantics.specs.Thread.{Thread, Shared, Quiet, PrintedNumber, Trapped, Advance, NoAdvance}
 use Rattle.semantics.specs.Thread as thread
 use Rattle.semantics.specs.ThreadStep.{step_within, with_tasks}
 use Rattle.semantics.specs.Variable.{Statics}
+use Rattle.replay_arguments.specs.declared.scene.Turn.{Turn}
+use Rattle.replay_arguments.specs.declared.shared.Shared.{Shared as SharedInMemory}
 use Rattle.replay_steps.specs.declared.activation.Activation.{Activation}
 use Rattle.replay_steps.specs.declared.activation.Outer.{Outer}
 use Rattle.replay_steps.specs.declared.activation.Work.{Work}
 use Rattle.replay_tasks.specs.declared.outcome.Outcome.{Outcome}
 use Rattle.replay_tasks.specs.declared.outcome.Outcome.TheVariants as outcome
 use Rattle.replay_tasks.specs.declared.task.Task.{Task as TaskInMemory}
-use Rattle.replay_steps.specs.Steps.{Scene, in_scene, Sees, Does}
+use Rattle.replay_steps.specs.Steps.{Scene, in_scene, scene_at, Sees, Does}
 use Rattle.replay_tasks.specs.Outcomes.{variable_step, LeavesVariables, LeavesIf}
 use Rattle.replay_tasks.specs.Tasks.{branch_task, task_view, end_view, statements_in, tasks_of_statements, StatementsInRange, TaskInRange, EndInRange}
 use Rattle.replay_terms.specs.declared.term.Term.TheVariants as term
@@ -77,13 +80,20 @@ advance_by k s t (outcome.Trapped trap line) = thread.Advances s t (Trapped (tra
 advance_by k s t outcome.Impossible = NoAdvance
 advance_by k s t took = thread.Advances s t Quiet
 
--- What a step in memory did is the step of each thread of the scene before it that has these tasks, or the same with its object
--- refused. It leaves the scene after it.
+-- What a step in memory did is the step of each thread of the scene before it that has these tasks, or the same with
+-- its object refused. It leaves the scene after it.
 abbrev pub Advances : (refused : Bool) → Scene → Work → Outcome → Scene → Work → Type 0
 Advances refused before old took after new =
     (unit : SourceUnit) (t : Thread) → Sees before t → t.tasks ≡ Some (tasks_left old)
     → step_within unit before.classes before.in_use before.thread before.shared t refused (Some (tasks_left old))
     ≡ advance_by before.thread after.shared (thread_in t (tasks_left new) after) took
+
+-- the same at a turn, by what threads share in memory
+abbrev pub AdvancesAt : Turn → SharedInMemory → Activation → Reference → Outcome
+    → SharedInMemory → Activation → Reference → Type 0
+AdvancesAt turn shared old pending took shared' new pending' =
+    Advances turn.refused (scene_at turn shared old.locals pending) old.work took
+    (scene_at turn shared' new.locals pending') new.work
 
 -- a task is the one that a statement begins as
 pub record HasBegun (s : StmtInMemory) (o : Option TaskInMemory) : Type 0 where
@@ -125,7 +135,8 @@ pub record AreSet (old : Work) (took : Outcome) (new : Work) : Type 0 where
   pub outer : new.outer.items ≡ outer_after old.rest old.outer.items took
 
 -- the task that is begun did this, and became what is begun after it
-pub record StepsTask (refused : Bool) (before : Scene) (old : Work) (took : Outcome) (after : Scene) (new : Work) : Type 0 where
+pub record StepsTask (refused : Bool) (before : Scene) (old : Work) (took : Outcome) (after : Scene) (new : Work)
+    : Type 0 where
   pub task : TaskInMemory
   pub begun : old.task ≡ Some task
   pub left : TaskInMemory
@@ -134,8 +145,10 @@ pub record StepsTask (refused : Bool) (before : Scene) (old : Work) (took : Outc
   pub range : TaskInRange left
 
 -- what a step did was done to the variables, the statics and the objects, and to the work
-pub record IsDone (ss : Statics) (heap : Heap) (old : Activation) (took : Outcome) (ss' : Statics) (heap' : Heap) (new : Activation) : Type 0 where
-  pub leaves : LeavesVariables (length old.locals.frames) ss heap old.locals.variables (variable_step took) ss' heap' new.locals.variables
+pub record IsDone (ss : Statics) (heap : Heap) (old : Activation) (took : Outcome) (ss' : Statics) (heap' : Heap)
+    (new : Activation) : Type 0 where
+  pub leaves : LeavesVariables (length old.locals.frames) ss heap old.locals.variables (variable_step took) ss' heap'
+      new.locals.variables
   pub frames : new.locals.frames ≡ old.locals.frames
   pub set : AreSet old.work took new.work
 
@@ -143,6 +156,7 @@ pub record IsDone (ss : Statics) (heap : Heap) (old : Activation) (took : Outcom
 abbrev pub IsApplied : Statics → Heap → Activation → Outcome → (possible : Bool) → Statics → Heap → Activation → Type 0
 IsApplied ss heap old took true ss' heap' new = IsDone ss heap old took ss' heap' new
 IsApplied ss heap old took false ss' heap' new =
-    LeavesIf (length old.locals.frames) ss heap old.locals.variables (variable_step took) false ss' heap' new.locals.variables
+    LeavesIf (length old.locals.frames) ss heap old.locals.variables (variable_step took) false ss' heap'
+    new.locals.variables
     × (new.locals.frames ≡ old.locals.frames)
     × (new.work ≡ old.work)

@@ -36,29 +36,37 @@ ReducesFirst sight old None new = (is_ready (map operand_view old) ≡ true) × 
 ReducesFirst sight old (Some reduction.Reduced) new = (is_ready (map operand_view old) ≡ false)
     × (reduce_first sight (map operand_view old) ≡ Gives (map operand_view new))
 ReducesFirst sight old (Some (reduction.Trapped trap)) new =
-    (is_ready (map operand_view old) ≡ false) × (reduce_first sight (map operand_view old) ≡ Traps (trap_view trap)) × (new ≡ old)
-ReducesFirst sight old (Some reduction.Stuck) new = (is_ready (map operand_view old) ≡ false) × (reduce_first sight (map operand_view old) ≡ Stuck)
+    (is_ready (map operand_view old) ≡ false)
+    × (reduce_first sight (map operand_view old) ≡ Traps (trap_view trap)) × (new ≡ old)
+ReducesFirst sight old (Some reduction.Stuck) new = (is_ready (map operand_view old) ≡ false)
+    × (reduce_first sight (map operand_view old) ≡ Stuck)
 
 -- the same of one of them, with others after it
 abbrev pub ReducesOne : Sight → Operand → Option ReductionInMemory → Operand → Type 0
 ReducesOne sight old None new = (is_given (operand_view old) ≡ true) × (new ≡ old)
 ReducesOne sight old (Some took) new = (rest : List Operand) → ReducesFirst sight (old ∷ rest) (Some took) (new ∷ rest)
 
--- What was done is the call's own step, for each thread of the scene before it, or what it does with its object refused. It leaves
--- the scene after it.
-abbrev pub MakesCall : (refused : Bool) → Scene → (line : ℕ) → PurposeInMemory → JniFunction → List Actual → Outcome → Scene → Type 0
+-- What was done is the call's own step, for each thread of the scene before it, or what it does with its object
+-- refused. It leaves the scene after it.
+abbrev pub MakesCall : (refused : Bool) → Scene → (line : ℕ) → PurposeInMemory → JniFunction → List Actual → Outcome
+    → Scene → Type 0
 MakesCall refused before line purpose f args took after =
     (t : Thread) (rest : List Task) (new : TaskInMemory) → Sees before t → t.tasks ≡ Some (task_view new ∷ rest)
     → call_step before.classes before.in_use before.thread before.shared t line
     (purpose_view line purpose) f args rest refused
     ≡ left_by before.thread after.shared (in_scene t after) rest took new
 
--- the same for an invocation, whose arguments are looked up before it
+-- the same for an invocation with these arguments
+abbrev pub MakesCallOf : (refused : Bool) → Scene → Invocation → List Actual → Outcome → Scene → Type 0
+MakesCallOf refused before i args took after =
+    MakesCall refused before i.line i.purpose (function_value i.function) args took after
+
+-- the same with its own arguments, which are looked up before it
 abbrev pub MakesInvocation : (refused : Bool) → Scene → Invocation → Outcome → Scene → Type 0
 MakesInvocation refused before i took after =
-    MakesCall refused before i.line i.purpose (function_value i.function)
-    (actuals (sight_in before.shared before.variables) (function_value i.function)
-    (map operand_view i.operands.items)) took after
+    MakesCallOf refused before i
+    (actuals (sight_in before.shared before.variables) (function_value i.function) (map operand_view i.operands.items))
+    took after
 
 -- what a call does with the buffer that it gives
 abbrev pub lent_outcome : ℕ → PurposeInMemory → Lent → Outcome
@@ -69,11 +77,12 @@ lent_outcome line (purpose.Test b other) lent = outcome.Tests line false b other
 abbrev pub wanted_element : Contents → PurposeInMemory → ElementType
 wanted_element vs p = target_element (variables_view vs) (purpose_view 0 p)
 
--- This is the answer to a call of this function for this purpose, with these arguments, in this scene.
-abbrev pub HasAnswer : Scene → PurposeInMemory → JniFunction → List Actual → Answer → Type 0
-HasAnswer scene p f args a =
+-- this is the answer to an invocation with these arguments, in this scene
+abbrev pub HasAnswer : Scene → Invocation → List Actual → Answer → Type 0
+HasAnswer scene i args a =
     a
     ≡ answer_or_trap
-    (trap_found scene.classes scene.shared.heap scene.frames (is_some scene.pending) (wanted_element scene.variables p) f args)
-    (worked_out scene.classes scene.in_use scene.thread scene.shared.monitors scene.shared.heap (variables_view scene.variables) scene.frames
-    scene.pending args f)
+    (trap_found scene.classes scene.shared.heap scene.frames (is_some scene.pending)
+    (wanted_element scene.variables i.purpose) (function_value i.function) args)
+    (worked_out scene.classes scene.in_use scene.thread scene.shared.monitors scene.shared.heap
+    (variables_view scene.variables) scene.frames scene.pending args (function_value i.function))

@@ -10,8 +10,10 @@ use Rattle.semantics.specs.Term.{Done}
 use Rattle.semantics.specs.Value.{Truth}
 use Rattle.semantics.specs.Thread.{Frame, Thread, Shared, BuffersInUse, Quiet, PrintedNumber, Trapped, Advance, Advances, NoAdvance}
 use Rattle.semantics.specs.ThreadStep.{step_within, with_tasks}
+use Rattle.replay_arguments.specs.Shares.{shared_view}
 use Rattle.replay_arguments.specs.declared.scene.Locals.{Locals}
 use Rattle.replay_arguments.specs.declared.scene.Turn.{Turn}
+use Rattle.replay_arguments.specs.declared.shared.Shared.{Shared as SharedInMemory}
 use Rattle.replay_terms.specs.Views.{in_use_view}
 use Rattle.replay_tasks.specs.declared.outcome.Outcome.{Outcome}
 use Rattle.replay_tasks.specs.declared.outcome.Outcome.TheVariants as outcome
@@ -21,8 +23,8 @@ use Rattle.replay_tasks.specs.Tasks.{task_view, end_view, statements_in, tasks_o
 use Rattle.semantics.specs.EventViews.{trap_view}
 use Rattle.replay_terms.specs.Views.{Contents, variables_view}
 
--- what a step of a call in progress depends on, but its tasks: it is this thread's, and the buffers of all threads together take what
--- is in use
+-- what a step of a call in progress depends on, but its tasks: it is this thread's, and the buffers of all threads
+-- together take what is in use
 pub record Scene : Type 0 where
   pub classes : Classes
   pub in_use : BuffersInUse
@@ -45,7 +47,12 @@ scene_with classes in_use thread s vs frames pending = record {
 
 -- the same at a turn
 abbrev pub scene_of : Turn → Shared → Locals → Reference → Scene
-scene_of turn s locals pending = scene_with turn.classes.now (in_use_view turn.in_use) turn.thread s locals.variables locals.frames pending
+scene_of turn s locals pending =
+    scene_with turn.classes.now (in_use_view turn.in_use) turn.thread s locals.variables locals.frames pending
+
+-- the same by what threads share in memory
+abbrev pub scene_at : Turn → SharedInMemory → Locals → Reference → Scene
+scene_at turn shared locals pending = scene_of turn (shared_view shared) locals pending
 
 -- a thread has these variables, these frames and this pending exception
 pub record Sees (scene : Scene) (t : Thread) : Type 0 where
@@ -55,23 +62,26 @@ pub record Sees (scene : Scene) (t : Thread) : Type 0 where
 
 -- a thread so that it has them
 abbrev pub in_scene : Thread → Scene → Thread
-in_scene t scene = record t { variables = variables_view scene.variables; frames = scene.frames; pending = scene.pending }
+in_scene t scene =
+    record t { variables = variables_view scene.variables; frames = scene.frames; pending = scene.pending }
 
 -- what a step leaves of thread k that has this task and then the rest to do
 abbrev pub left_by : (k : ℕ) → Shared → Thread → List Task → Outcome → TaskInMemory → Advance
 left_by k s t rest outcome.Stays new = Advances s (with_tasks t (task_view new ∷ rest)) Quiet
 left_by k s t rest (outcome.Printed z) new = Advances s (with_tasks t rest) (PrintedNumber z)
-left_by k s t rest (outcome.Enters block e) new = Advances s (with_tasks t ((tasks_of_statements (statements_in block) ++ end_view e ∷ []) ++ rest)) Quiet
+left_by k s t rest (outcome.Enters block e) new = Advances s
+    (with_tasks t ((tasks_of_statements (statements_in block) ++ end_view e ∷ []) ++ rest)) Quiet
 left_by k s t rest outcome.Ends new = Advances s (with_tasks t rest) Quiet
 left_by k s t rest (outcome.Tests line zero b other) new = Advances s
     (with_tasks t (Branch line (Done (Truth zero)) (block_tree b.now) (else_tree line other) ∷ rest)) Quiet
 left_by k s t rest outcome.Returned new = return_step k s t
-left_by k s t rest (outcome.Trapped trap line) new = Advances s (with_tasks t (task_view new ∷ rest)) (Trapped (trap_view trap) line)
+left_by k s t rest (outcome.Trapped trap line) new = Advances s
+    (with_tasks t (task_view new ∷ rest)) (Trapped (trap_view trap) line)
 left_by k s t rest outcome.Impossible new = NoAdvance
 left_by k s t rest took new = variable_step took s (with_tasks t rest)
 
--- What a step in memory did is what the task's step does to each thread whose first task it is, or what it does with its object
--- refused.
+-- What a step in memory did is what the task's step does to each thread whose first task it is, or what it does with
+-- its object refused.
 abbrev pub Does : (refused : Bool) → Scene → TaskInMemory → Outcome → Scene → TaskInMemory → Type 0
 Does refused before old took after new =
     (unit : SourceUnit) (t : Thread) (rest : List Task) → Sees before t → t.tasks ≡ Some (task_view old ∷ rest)

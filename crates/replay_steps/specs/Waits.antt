@@ -23,13 +23,15 @@ use Rattle.replay_terms.specs.Views.{Contents, operand_view}
 -- a call of MonitorEnter passes all checks, and another thread than k owns its object
 abbrev pub is_kept_out : Classes → (k : ℕ) → Shared → List Frame → Reference → List Actual → Bool
 is_kept_out classes k s frames pending args =
-    is_none (trap_found classes s.heap frames (is_some pending) JInt MonitorEnter args) && is_owned_by_other k (monitor_of s.monitors (object_given args 0))
+    is_none (trap_found classes s.heap frames (is_some pending) JInt MonitorEnter args)
+    && is_owned_by_other k (monitor_of s.monitors (object_given args 0))
 
 -- Thread k, with these variables, frames and pending exception.
 module _ (classes : Classes) (k : ℕ) (s : Shared) (vs : Contents) (frames : List Frame) (pending : Reference) where
   -- the same of one whose arguments are still to be looked up, or whose numbers still to be worked out
   abbrev pub waits_to_enter : List Operand → Bool
-  waits_to_enter operands = is_ready operands && is_kept_out classes k s frames pending (actuals (sight_in s vs) MonitorEnter operands)
+  waits_to_enter operands =
+      is_ready operands && is_kept_out classes k s frames pending (actuals (sight_in s vs) MonitorEnter operands)
 
   -- the same of a call of any function
   abbrev pub call_waits : JniFunction → List Operand → Bool
@@ -44,4 +46,5 @@ module _ (classes : Classes) (k : ℕ) (s : Shared) (vs : Contents) (frames : Li
 -- whether each thread of this scene with this work waits
 abbrev pub WaitsIn : Scene → Work → Bool → Type 0
 WaitsIn scene w answer =
-    IsAtStatement w → (t : Thread) → Sees scene t → t.tasks ≡ Some (tasks_left w) → answer ≡ waits scene.classes scene.thread scene.shared t
+    IsAtStatement w → (t : Thread) → Sees scene t → t.tasks ≡ Some (tasks_left w)
+    → answer ≡ waits scene.classes scene.thread scene.shared t

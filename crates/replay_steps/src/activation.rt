@@ -3,9 +3,8 @@
 ghost use Rattle.std.specs.Prelude.{◌≡◌, IfOk, IsSome, Some, None, []};
 ghost use Rattle.class_rules.specs.Grown.{IsGrown};
 ghost use Rattle.semantics.specs.Task.{tasks_of};
-ghost use Rattle.replay_steps.specs.Activations.{tasks_left, IsAtStatement, IsInRange, AreSet, IsApplied, HasBegun, HasTurned, StepsTask, Advances};
-ghost use Rattle.replay_steps.specs.Steps.{Scene, scene_of};
-ghost use Rattle.replay_arguments.specs.Shares.{shared_view};
+ghost use Rattle.replay_steps.specs.Activations.{tasks_left, IsAtStatement, IsInRange, AreSet, IsApplied, HasBegun, HasTurned, StepsTask, Advances, AdvancesAt};
+ghost use Rattle.replay_steps.specs.Steps.{Scene, scene_at};
 ghost use Rattle.syntax.specs.Views.{expr_tree, block_tree};
 ghost use Rattle.replay_tasks.specs.declared.outcome.Outcome.TheVariants as outcome;
 ghost use Rattle.replay_tasks.specs.Tasks.{branch_task, statements_in, BlockInRange, ExprInRange, StatementInRange, StatementsInRange, OutcomeInRange};
@@ -29,8 +28,9 @@ pub struct Outer<'a> {
     pub rest: Statements<'a>,
 }
 
-/// What is still to do of a call in progress: the task that is begun, the statements after it in its block, and what is to do
-/// around the block, the outermost first. A step begins what comes next, so where no task is begun the block is done.
+/// What is still to do of a call in progress: the task that is begun, the statements after it in its block, and what is
+/// to do around the block, the outermost first. A step begins what comes next, so where no task is begun the block is
+/// done.
 pub struct Work<'a> {
     pub task: Option<Task<'a>>,
     pub rest: Statements<'a>,
@@ -244,7 +244,8 @@ fn apply<'a>(
     activation: &mut Activation<'a>,
     outcome: Outcome<'a>,
 ) -> Result<bool, AllocError>
-    ensures { IfOk result (λ possible. IsApplied statics.old store.old activation.old outcome.entry possible statics.new store.new activation.new) }
+    ensures { IfOk result (λ possible.
+        IsApplied statics.old store.old activation.old outcome.entry possible statics.new store.new activation.new) }
 {
     let locals = &mut activation.locals;
     let frames = locals.frames.len();
@@ -267,7 +268,9 @@ fn step_task<'a>(
     requires range { IsInRange activation.old.work }
     requires begun { IsSome activation.old.work.task }
     requires grown { IsGrown turn.classes.now }
-    ensures step { IfOk result (λ o. StepsTask turn.entry.refused (scene_of turn.entry (shared_view shared.old) activation.old.locals pending.old) activation.old.work o (scene_of turn.entry (shared_view shared.new) activation.new.locals pending.new) activation.new.work) }
+    ensures step { IfOk result (λ o. StepsTask turn.entry.refused
+        (scene_at turn.entry shared.old activation.old.locals pending.old) activation.old.work o
+        (scene_at turn.entry shared.new activation.new.locals pending.new) activation.new.work) }
     ensures range { IfOk result OutcomeInRange }
 {
     let Some(task) = &mut activation.work.task else {
@@ -287,7 +290,8 @@ fn go_on<'a>(
     requires range { IsInRange activation.old.work }
     requires begun { IsSome activation.old.work.task }
     requires grown { IsGrown turn.classes.now }
-    ensures step { IfOk result (λ o. Advances turn.entry.refused (scene_of turn.entry (shared_view shared.old) activation.old.locals pending.old) activation.old.work o (scene_of turn.entry (shared_view shared.new) activation.new.locals pending.new) activation.new.work) }
+    ensures step { IfOk result (λ o. AdvancesAt turn.entry
+        shared.old activation.old pending.old o shared.new activation.new pending.new) }
     ensures range { IfOk result (λ _. IsInRange activation.new.work) }
 {
     let outcome = step_task(turn, shared, pending, activation)?;
@@ -308,7 +312,8 @@ fn take_step<'a>(
 ) -> Result<Outcome<'a>, AllocError>
     requires range { IsAtStatement activation.old.work }
     requires grown { IsGrown turn.classes.now }
-    ensures step { IfOk result (λ o. Advances turn.entry.refused (scene_of turn.entry (shared_view shared.old) activation.old.locals pending.old) activation.old.work o (scene_of turn.entry (shared_view shared.new) activation.new.locals pending.new) activation.new.work) }
+    ensures step { IfOk result (λ o. AdvancesAt turn.entry
+        shared.old activation.old pending.old o shared.new activation.new pending.new) }
     ensures range { IfOk result (λ _. IsInRange activation.new.work) }
 {
     if activation.work.task.is_none() {
@@ -326,7 +331,8 @@ pub fn advance<'a>(
 ) -> Result<Outcome<'a>, AllocError>
     requires range { IsAtStatement activation.old.work }
     requires grown { IsGrown turn.classes.now }
-    ensures step { IfOk result (λ o. Advances turn.entry.refused (scene_of turn.entry (shared_view shared.old) activation.old.locals pending.old) activation.old.work o (scene_of turn.entry (shared_view shared.new) activation.new.locals pending.new) activation.new.work) }
+    ensures step { IfOk result (λ o. AdvancesAt turn.entry
+        shared.old activation.old pending.old o shared.new activation.new pending.new) }
     ensures range { IfOk result (λ _. IsAtStatement activation.new.work) }
 {
     let outcome = take_step(turn, shared, pending, activation)?;

@@ -9,10 +9,10 @@ ghost use Rattle.semantics.specs.Arguments.{Actual as ActualOfCall, address_give
 ghost use Rattle.semantics.specs.Thread.{Shared as SharedOfThreads};
 ghost use Rattle.replay_arguments.specs.Actuals.{actual_view};
 ghost use Rattle.replay_calls.specs.Answers.{FitsArrays, FitsFrames, answer_view, lent_in, trap_in};
-ghost use Rattle.replay_steps.specs.Calls.{HasAnswer, MakesCall, MakesInvocation, ReducesFirst, ReducesOne, lent_outcome, wanted_element};
+ghost use Rattle.replay_steps.specs.Calls.{HasAnswer, MakesCallOf, MakesInvocation, ReducesFirst, ReducesOne, lent_outcome, wanted_element};
 ghost use Rattle.replay_tasks.specs.Outcomes.{outcome_for};
 ghost use Rattle.replay_arguments.specs.declared.scene.Locals.{Locals as LocalsInMemory};
-ghost use Rattle.replay_steps.specs.Steps.{Does, scene_of};
+ghost use Rattle.replay_steps.specs.Steps.{Does, scene_at, scene_of};
 ghost use Rattle.replay_arguments.specs.Shares.{shared_view, sight_in};
 ghost use Rattle.replay_tasks.specs.Tasks.{OperandInRange, OperandsInRange, OutcomeInRange, PurposeInRange};
 ghost use Rattle.replay_terms.specs.Views.{lent_view, variables_view};
@@ -31,8 +31,8 @@ use semantics::ObjectId;
 use std::alloc::AllocError;
 use syntax::ElementType;
 
-/// The step of a call: the first of its numbers that isn't worked out takes a step, or else the call is made. With its object
-/// refused it is possible only where it makes one.
+/// The step of a call: the first of its numbers that isn't worked out takes a step, or else the call is made. With its
+/// object refused it is possible only where it makes one.
 pub(crate) fn invoke<'a>(
     turn: Turn<'a>,
     shared: &mut Shared<'a>,
@@ -43,7 +43,9 @@ pub(crate) fn invoke<'a>(
     requires numbers { OperandsInRange i.old.operands.items }
     requires ways { PurposeInRange i.old.purpose }
     requires grown { IsGrown turn.classes.now }
-    ensures step { IfOk result (λ o. Does turn.entry.refused (scene_of turn.entry (shared_view shared.old) locals.old pending.old) (task.Invoke i.old) o (scene_of turn.entry (shared_view shared.new) locals.new pending.new) (task.Invoke i.new)) }
+    ensures step { IfOk result (λ o. Does turn.entry.refused
+        (scene_at turn.entry shared.old locals.old pending.old) (task.Invoke i.old) o
+        (scene_at turn.entry shared.new locals.new pending.new) (task.Invoke i.new)) }
     ensures numbers { IfOk result (λ _. OperandsInRange i.new.operands.items) }
     ensures function { i.new.function ≡ i.old.function }
     ensures purpose { i.new.purpose ≡ i.old.purpose }
@@ -67,7 +69,9 @@ fn make_call<'a>(
 ) -> Result<Outcome<'a>, AllocError>
     requires ways { PurposeInRange i.now.purpose }
     requires grown { IsGrown turn.classes.now }
-    ensures step { IfOk result (λ o. MakesInvocation turn.entry.refused (scene_of turn.entry (shared_view shared.old) locals.old pending.old) i.entry.now o (scene_of turn.entry (shared_view shared.new) locals.new pending.new)) }
+    ensures step { IfOk result (λ o. MakesInvocation turn.entry.refused
+        (scene_at turn.entry shared.old locals.old pending.old) i.entry.now o
+        (scene_at turn.entry shared.new locals.new pending.new)) }
     ensures range { IfOk result OutcomeInRange }
 {
     let actuals = actuals(
@@ -87,7 +91,8 @@ fn reduce_number(
     i: &mut Invocation<'_>,
 ) -> Option<Reduction>
     requires { OperandsInRange i.old.operands.items }
-    ensures step { ReducesFirst (sight_in (shared_view shared.now) variables.now) i.old.operands.items result i.new.operands.items }
+    ensures step { ReducesFirst (sight_in (shared_view shared.now) variables.now)
+        i.old.operands.items result i.new.operands.items }
     ensures numbers { OperandsInRange i.new.operands.items }
     ensures line { i.new.line ≡ i.old.line }
     ensures purpose { i.new.purpose ≡ i.old.purpose }
@@ -177,8 +182,9 @@ fn call<'a>(
 ) -> Result<Outcome<'a>, AllocError>
     requires ways { PurposeInRange i.now.purpose }
     requires grown { IsGrown turn.classes.now }
-    ensures step { IfOk result (λ o. MakesCall turn.entry.refused (scene_of turn.entry (shared_view shared.old) locals.old pending.old) i.entry.now.line i.entry.now.purpose (function_value i.entry.now.function) (map actual_view actuals.entry.now) o
-        (scene_of turn.entry (shared_view shared.new) locals.new pending.new)) }
+    ensures step { IfOk result (λ o. MakesCallOf turn.entry.refused
+        (scene_at turn.entry shared.old locals.old pending.old) i.entry.now (map actual_view actuals.entry.now) o
+        (scene_at turn.entry shared.new locals.new pending.new)) }
     ensures range { IfOk result OutcomeInRange }
 {
     let caller = Caller {
@@ -226,8 +232,9 @@ fn refuse_object<'a>(
 ) -> Outcome<'a>
     requires { PurposeInRange i.now.purpose }
     ensures step { (s : SharedOfThreads) (locals : LocalsInMemory) (args : List ActualOfCall)
-        → HasAnswer (scene_of turn.entry s locals pending.old) i.now.purpose (function_value i.now.function) args (answer_view answer.entry)
-        → MakesCall true (scene_of turn.entry s locals pending.old) i.now.line i.now.purpose (function_value i.now.function) args result (scene_of turn.entry s locals pending.new) }
+        → HasAnswer (scene_of turn.entry s locals pending.old) i.now args (answer_view answer.entry)
+        → MakesCallOf true (scene_of turn.entry s locals pending.old) i.now args result
+        (scene_of turn.entry s locals pending.new) }
     ensures range { OutcomeInRange result }
 {
     if !makes_object(answer) {
@@ -253,9 +260,10 @@ fn complete<'a>(
     requires fits { FitsFrames locals.old.frames (answer_view answer) }
     requires arrays { FitsArrays shared.old.store (variables_view locals.old.variables) (answer_view answer) }
     ensures step { (args : List ActualOfCall)
-        → HasAnswer (scene_of turn.entry (shared_view shared.old) locals.old pending.old) i.now.purpose (function_value i.now.function) args (answer_view answer.entry)
-        → IfOk result (λ o. MakesCall false (scene_of turn.entry (shared_view shared.old) locals.old pending.old) i.now.line i.now.purpose (function_value i.now.function) args o
-        (scene_of turn.entry (shared_view shared.new) locals.new pending.new)) }
+        → HasAnswer (scene_at turn.entry shared.old locals.old pending.old) i.now args (answer_view answer.entry)
+        → IfOk result (λ o. MakesCallOf false
+        (scene_at turn.entry shared.old locals.old pending.old) i.now args o
+        (scene_at turn.entry shared.new locals.new pending.new)) }
     ensures range { IfOk result OutcomeInRange }
 {
     let kind = i.function.prototype().result;
@@ -272,7 +280,9 @@ fn lend<'a>(
     buffer: Lent,
 ) -> Result<Outcome<'a>, AllocError>
     requires { PurposeInRange i.now.purpose }
-    ensures variables { IfOk result (λ _. (heap : Heap) → variables_view locals.new.variables ≡ tell_copy (address_given (map actual_view actuals.entry.now) 1) (BufferResult (lent_view heap buffer)) (variables_view locals.old.variables)) }
+    ensures variables { IfOk result (λ _. (heap : Heap) → variables_view locals.new.variables
+        ≡ tell_copy (address_given (map actual_view actuals.entry.now) 1) (BufferResult (lent_view heap buffer))
+        (variables_view locals.old.variables)) }
     ensures frames { locals.new.frames ≡ locals.old.frames }
     ensures outcome { IfOk result (λ o. o ≡ lent_outcome i.now.line i.now.purpose buffer) }
     ensures range { IfOk result OutcomeInRange }

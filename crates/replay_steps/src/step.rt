@@ -2,8 +2,7 @@
 
 ghost use Rattle.std.specs.Prelude.{IfOk};
 ghost use Rattle.class_rules.specs.Grown.{IsGrown};
-ghost use Rattle.replay_steps.specs.Steps.{Does, scene_of};
-ghost use Rattle.replay_arguments.specs.Shares.{shared_view};
+ghost use Rattle.replay_steps.specs.Steps.{Does, scene_at};
 ghost use Rattle.replay_tasks.specs.Tasks.{TaskInRange, OutcomeInRange};
 
 use crate::invoke::{invoke, unless_refused};
@@ -22,7 +21,9 @@ pub(crate) fn step<'a>(
 ) -> Result<Outcome<'a>, AllocError>
     requires range { TaskInRange task.old }
     requires grown { IsGrown turn.classes.now }
-    ensures step { IfOk result (λ o. Does turn.entry.refused (scene_of turn.entry (shared_view shared.old) locals.old pending.old) task.old o (scene_of turn.entry (shared_view shared.new) locals.new pending.new) task.new) }
+    ensures step { IfOk result (λ o. Does turn.entry.refused
+        (scene_at turn.entry shared.old locals.old pending.old) task.old o
+        (scene_at turn.entry shared.new locals.new pending.new) task.new) }
     ensures task { IfOk result (λ _. TaskInRange task.new) }
     ensures range { IfOk result OutcomeInRange }
 {

@@ -57,8 +57,8 @@ fn is_owned_by_other(thread: usize, monitor: Option<Monitor>) -> bool
 
 /// Whether a call of `MonitorEnter` with these arguments passes all checks, and another thread owns its object.
 fn is_kept_out(scene: Scene<'_, '_>, thread: usize, actuals: &[Actual<'_>]) -> bool
-    ensures { result ≡ is_kept_out scene.entry.classes.now thread (shared_view scene.entry.shared.now) scene.entry.locals.now.frames
-        scene.entry.pending (map actual_view actuals.now) }
+    ensures { result ≡ is_kept_out scene.entry.classes.now thread (shared_view scene.entry.shared.now)
+        scene.entry.locals.now.frames scene.entry.pending (map actual_view actuals.now) }
 {
     match check(scene, ElementType::Int, JniFunction::MonitorEnter, actuals) {
         Some(_) => false,
@@ -71,8 +71,9 @@ fn is_kept_out(scene: Scene<'_, '_>, thread: usize, actuals: &[Actual<'_>]) -> b
 
 /// Whether a call of `MonitorEnter` waits, its numbers being worked out. It takes one argument, which is looked up.
 fn waits_to_enter<'a>(scene: Scene<'_, 'a>, thread: usize, operands: &[Operand<'a>]) -> bool
-    ensures { result ≡ waits_to_enter scene.entry.classes.now thread (shared_view scene.entry.shared.now) scene.entry.locals.now.variables
-        scene.entry.locals.now.frames scene.entry.pending (map operand_view operands.entry.now) }
+    ensures { result ≡ waits_to_enter scene.entry.classes.now thread (shared_view scene.entry.shared.now)
+        scene.entry.locals.now.variables scene.entry.locals.now.frames scene.entry.pending
+        (map operand_view operands.entry.now) }
 {
     if !is_ready(operands) {
         return false;
@@ -94,8 +95,9 @@ fn call_waits<'a>(
     function: JniFunction,
     operands: &[Operand<'a>],
 ) -> bool
-    ensures { result ≡ call_waits scene.entry.classes.now thread (shared_view scene.entry.shared.now) scene.entry.locals.now.variables
-        scene.entry.locals.now.frames scene.entry.pending (function_value function) (map operand_view operands.now) }
+    ensures { result ≡ call_waits scene.entry.classes.now thread (shared_view scene.entry.shared.now)
+        scene.entry.locals.now.variables scene.entry.locals.now.frames scene.entry.pending
+        (function_value function) (map operand_view operands.now) }
 {
     match function {
         JniFunction::MonitorEnter => waits_to_enter(scene, thread, operands),
@@ -106,8 +108,8 @@ fn call_waits<'a>(
 /// Whether the task that is begun is a call that waits.
 #[inline]
 fn task_waits<'a>(scene: Scene<'_, 'a>, thread: usize, task: &Option<Task<'a>>) -> bool
-    ensures { result ≡ task_waits scene.entry.classes.now thread (shared_view scene.entry.shared.now) scene.entry.locals.now.variables
-        scene.entry.locals.now.frames scene.entry.pending task.now }
+    ensures { result ≡ task_waits scene.entry.classes.now thread (shared_view scene.entry.shared.now)
+        scene.entry.locals.now.variables scene.entry.locals.now.frames scene.entry.pending task.now }
 {
     match task {
         Some(Task::Invoke(i)) => call_waits(scene, thread, i.function, &i.operands),
@@ -124,7 +126,10 @@ pub fn waits<'a>(
     pending: Option<ObjectId>,
     activation: &Activation<'a>,
 ) -> bool
-    ensures { (in_use : BuffersInUse) → WaitsIn (scene_with classes.now in_use thread (shared_view shared.now) activation.now.locals.variables activation.now.locals.frames pending) activation.now.work result }
+    ensures { (in_use : BuffersInUse) → WaitsIn
+        (scene_with classes.now in_use thread (shared_view shared.now)
+        activation.now.locals.variables activation.now.locals.frames pending)
+        activation.now.work result }
 {
     let scene = Scene {
         classes,

@@ -152,8 +152,8 @@ fn buffers_in_use(threads: &[Thread<'_>]) -> BuffersInUse
     BuffersInUse { copied, views }
 }
 
-/// Takes the step of thread `k`, which is at this place and can step, its allocation refused or not; false where the step isn't
-/// possible.
+/// Takes the step of thread `k`, which is at this place and can step, its allocation refused or not; false where the
+/// step isn't possible.
 #[inline]
 fn take_turn<'a>(
     alloc: Global,
@@ -167,7 +167,8 @@ fn take_turn<'a>(
     requires sorted { IsSorted (unit_tree functions.now) }
     requires range { AreInRange state.old.threads.items }
     requires live { IsLiveAt state.old k place }
-    ensures step { IfOk result (λ possible. TakesEntry (unit_tree functions.now) state.old (journal.Step k refused) possible state.new) }
+    ensures step { IfOk result (λ possible.
+        TakesEntry (unit_tree functions.now) state.old (journal.Step k refused) possible state.new) }
     ensures range { IfOk result (λ _. AreInRange state.new.threads.items) }
 {
     let turn = Turn {
@@ -178,10 +179,8 @@ fn take_turn<'a>(
         refused,
     };
     let thread = &mut state.threads[place];
-    match take_step(functions, state.world, turn, &mut state.shared, thread) {
-        Ok(took) => note(state, k, took),
-        Err(error) => Err(error),
-    }
+    let took = take_step(functions, state.world, turn, &mut state.shared, thread)?;
+    note(state, k, took)
 }
 
 /// Takes an entry; false where it isn't possible.
@@ -217,10 +216,7 @@ fn add_standings<'a>(
     for thread in &state.threads {
         k += 1;
         let waits = waits(state, k);
-        match standings.push(standing_of(classes, waits, state.stop, k, thread.ending)) {
-            Ok(()) => {}
-            Err(_) => return Err(AllocError),
-        }
+        standings.push(standing_of(classes, waits, state.stop, k, thread.ending))?;
     }
     Ok(())
 }

@@ -123,7 +123,8 @@ fn entry_variables<'a>(
 
 /// Puts those of the arguments that are objects among local references, the first argument last.
 fn add_references(references: &mut Names, arguments: &[ObjectValue]) -> Result<(), AllocError>
-    ensures { IfOk result (λ _. references.new ≡ filter_map named_object (map object_value_view arguments.entry.now) ++ references.old) }
+    ensures { IfOk result (λ _. references.new
+        ≡ filter_map named_object (map object_value_view arguments.entry.now) ++ references.old) }
 {
     match arguments {
         [] => Ok(()),
@@ -137,14 +138,15 @@ fn add_references(references: &mut Names, arguments: &[ObjectValue]) -> Result<(
     }
 }
 
-/// The frame with which a call begins: the class and the arguments that are objects, and room for 16 more (JNI Specification,
-/// chapter 4, "EnsureLocalCapacity").
+/// The frame with which a call begins: the class and the arguments that are objects, and room for 16 more (JNI
+/// Specification, chapter 4, "EnsureLocalCapacity").
 fn entry_frames(
     alloc: Global,
     class: ClassId,
     arguments: &[ObjectValue],
 ) -> Result<Frames, AllocError>
-    ensures { IfOk result (λ frames. frames ≡ entry_frame (class ∷ filter_map named_object (map object_value_view arguments.now)) ∷ []) }
+    ensures { IfOk result (λ frames. frames
+        ≡ entry_frame (class ∷ filter_map named_object (map object_value_view arguments.now)) ∷ []) }
 {
     let mut references = Names::new(alloc);
     add_references(&mut references, arguments)?;
@@ -192,19 +194,17 @@ fn begin_next<'a>(
 ) -> Result<bool, AllocError>
     requires tree { IsTree (unit_tree functions.now) }
     requires sorted { IsSorted (unit_tree functions.now) }
-    ensures { IfOk result (λ begun. BeginsNext (unit_tree functions.now) world.now.classes call.now begun place.old place.new) }
+    ensures { IfOk result (λ begun.
+        BeginsNext (unit_tree functions.now) world.now.classes call.now begun place.old place.new) }
 {
     let Some(found) = functions.find(call.function()) else {
         return Ok(false);
     };
-    match class_of(alloc, world, found.function) {
-        Ok(Some(class)) => {
-            begin_call(alloc, place, found.function, class, call.arguments())?;
-            Ok(true)
-        }
-        Ok(None) => Ok(false),
-        Err(error) => Err(error),
-    }
+    let Some(class) = class_of(alloc, world, found.function)? else {
+        return Ok(false);
+    };
+    begin_call(alloc, place, found.function, class, call.arguments())?;
+    Ok(true)
 }
 
 /// Enters the next call; none where that isn't possible.
@@ -218,7 +218,8 @@ fn enter<'a>(
     requires sorted { IsSorted (unit_tree functions.now) }
     requires classes { turn.classes.now ≡ world.now.classes }
     requires idle { thread.old.activation ≡ None }
-    ensures step { IfOk result (λ took. (shared : SharedOfThreads) → TakesTurn (unit_tree functions.now) turn.entry shared thread.old took shared thread.new) }
+    ensures step { IfOk result (λ took. (shared : SharedOfThreads)
+        → TakesTurn (unit_tree functions.now) turn.entry shared thread.old took shared thread.new) }
     ensures range { IfOk result (λ _. WorkInRange thread.new.activation) }
 {
     // An entry makes no object that could be refused.
@@ -228,14 +229,11 @@ fn enter<'a>(
     let Some((call, rest)) = thread.calls.split_first() else {
         return Ok(None);
     };
-    match begin_next(turn.alloc, functions, world, call, &mut thread.activation) {
-        Ok(true) => {
-            thread.calls = rest;
-            Ok(Some(Event::Quiet))
-        }
-        Ok(false) => Ok(None),
-        Err(error) => Err(error),
+    if !begin_next(turn.alloc, functions, world, call, &mut thread.activation)? {
+        return Ok(None);
     }
+    thread.calls = rest;
+    Ok(Some(Event::Quiet))
 }
 
 /// What others see of what a call in progress did; none where it did nothing that is possible.
@@ -343,8 +341,6 @@ pub(crate) fn take_step<'a>(
     let Some(activation) = &mut thread.activation else {
         return enter(functions, world, turn, thread);
     };
-    match advance(turn, shared, &mut thread.pending, activation) {
-        Ok(outcome) => Ok(end_step(shared, turn.thread, thread, outcome)),
-        Err(error) => Err(error),
-    }
+    let outcome = advance(turn, shared, &mut thread.pending, activation)?;
+    Ok(end_step(shared, turn.thread, thread, outcome))
 }

@@ -19,9 +19,11 @@ fn declare<'a>(
     form: &'a Form,
 ) -> Result<(), TypeError>
     ensures finds { Finds result [] }
-    ensures scope { OnOk result ((line : ℕ) → scope_of known.new ≡ with_declared (scope_of known.old) (form_tree line form.now)) }
+    ensures scope { OnOk result ((line : ℕ) → scope_of known.new
+        ≡ with_declared (scope_of known.old) (form_tree line form.now)) }
     ensures above { OnOk result (IsAbove known.new known.old) }
-    ensures taken { OnOk result ((line : ℕ) → taken.new.items ≡ taken.old.items ++ names_declared (form_tree line form.now ∷ [])) }
+    ensures taken { OnOk result ((line : ℕ) → taken.new.items
+        ≡ taken.old.items ++ names_declared (form_tree line form.now ∷ [])) }
 {
     match declared(form) {
         Some((name, sort)) => {
@@ -42,10 +44,13 @@ fn check_inside<'a>(
     returns: ResultType,
     form: &'a Form,
 ) -> Result<(), TypeError>
-    ensures finds { (line : ℕ) → Finds result (found (places_inside (result_tree returns) (scope_of known.old) taken.old.items (form_tree line form.now))) }
-    ensures scope { OnOk result ((line : ℕ) → scope_of known.new ≡ with_declared (scope_of known.old) (form_tree line form.now)) }
+    ensures finds { (line : ℕ) → Finds result
+        (found (places_inside (result_tree returns) (scope_of known.old) taken.old.items (form_tree line form.now))) }
+    ensures scope { OnOk result ((line : ℕ) → scope_of known.new
+        ≡ with_declared (scope_of known.old) (form_tree line form.now)) }
     ensures above { OnOk result (IsAbove known.new known.old) }
-    ensures taken { OnOk result ((line : ℕ) → taken.new.items ≡ taken.old.items ++ names_declared (statements_within (form_tree line form.now))) }
+    ensures taken { OnOk result ((line : ℕ) → taken.new.items
+        ≡ taken.old.items ++ names_declared (statements_within (form_tree line form.now))) }
 {
     match form {
         Form::If(_, b) => check_block(known, taken, returns, b),
@@ -67,9 +72,11 @@ pub(crate) fn check_block<'a>(
     returns: ResultType,
     block: &'a Block,
 ) -> Result<(), TypeError>
-    ensures finds { Finds result (found (places_of (result_tree returns) (scope_of known.old) taken.old.items (block_tree block.now))) }
+    ensures finds { Finds result (found (places_of (result_tree returns) (scope_of known.old) taken.old.items
+        (block_tree block.now))) }
     ensures restored { OnOk result (known.new ≡ known.old) }
-    ensures taken { OnOk result (taken.new.items ≡ taken.old.items ++ names_declared (statements_of (block_tree block.now))) }
+    ensures taken { OnOk result (taken.new.items
+        ≡ taken.old.items ++ names_declared (statements_of (block_tree block.now))) }
 {
     let outside = known.len();
     for stmt in &block.statements {

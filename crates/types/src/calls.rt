@@ -81,7 +81,8 @@ pub(crate) fn argument_fits(
 /// Whether the arguments fit the parameters, as far as there are both.
 #[tactic(auto, using(crate::proofs::ArgumentLemmas::argument_rules))]
 fn arguments_fit(known: &Known<'_, Sort>, kinds: &[ParameterKind], arguments: &[Argument]) -> bool
-    ensures { result ≡ arguments_fit (scope_of known.now) (map parameter_value kinds.now) (map argument_tree arguments.now) }
+    ensures { result ≡ arguments_fit (scope_of known.now) (map parameter_value kinds.now)
+        (map argument_tree arguments.now) }
 {
     match arguments {
         [] => true,
@@ -127,7 +128,8 @@ pub(crate) fn call_arguments_fit(
     function: Option<JniFunction>,
     call: &Call,
 ) -> bool
-    ensures { result ≡ call_arguments_fit (scope_of known.now) (call_tree call.now) (option_map function_value function) }
+    ensures { result ≡ call_arguments_fit (scope_of known.now) (call_tree call.now)
+        (option_map function_value function) }
 {
     match function {
         None => true,

@@ -54,7 +54,8 @@ fn are_comparable(left: Option<Sort>, right: Option<Sort>) -> bool
 }
 
 fn binary_sort(op: BinaryOp, left: Option<Sort>, right: Option<Sort>) -> Option<Sort>
-    ensures { option_map sort_value result ≡ binary_sort (group (binary_tree op)) (option_map sort_value left) (option_map sort_value right) }
+    ensures { option_map sort_value result ≡ binary_sort (group (binary_tree op)) (option_map sort_value left)
+        (option_map sort_value right) }
 {
     match op {
         BinaryOp::LogicalOr | BinaryOp::LogicalAnd => sort_if(

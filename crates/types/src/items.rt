@@ -124,7 +124,8 @@ fn check_named<'a>(
     statics: &mut Known<'a, Sort>,
     f: &'a Function,
 ) -> Result<(), TypeError>
-    ensures finds { Finds result (found (function_places names.old.items (scope_of statics.old) (function_tree f.now))) }
+    ensures finds { Finds result (found (function_places names.old.items (scope_of statics.old)
+        (function_tree f.now))) }
     ensures names { OnOk result (names.new.items ≡ f.now.name ∷ names.old.items) }
     ensures statics { OnOk result (statics.new ≡ statics.old) }
 {

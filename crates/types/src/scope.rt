@@ -75,7 +75,8 @@ fn declare_parameters<'a>(
     known: &mut Known<'a, Sort>,
     parameters: &'a [Parameter],
 ) -> Result<(), AllocError>
-    ensures scope { OnOk result (scope_of known.new ≡ map (λ p. (p.name, parameter_sort (parameter_type_tree p.kind))) parameters.now ++ scope_of known.old) }
+    ensures scope { OnOk result (scope_of known.new
+        ≡ map (λ p. (p.name, parameter_sort (parameter_type_tree p.kind))) parameters.now ++ scope_of known.old) }
     ensures above { OnOk result (IsAbove known.new known.old) }
 {
     match parameters {

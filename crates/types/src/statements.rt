@@ -82,7 +82,8 @@ fn uses_unknown(known: &Known<'_, Sort>, form: &Form) -> bool
 
 /// Whether a statement sets a name that is not known.
 fn assigns_unknown(known: &Known<'_, Sort>, form: &Form) -> bool
-    ensures { (line : ℕ) → result ≡ some_passes (is_unknown (scope_of known.now)) (assigned_name (form_tree line form.now)) }
+    ensures { (line : ℕ) → result ≡ some_passes (is_unknown (scope_of known.now))
+        (assigned_name (form_tree line form.now)) }
 {
     match form {
         Form::Assign(x, _) => is_unknown(known, x),
@@ -94,8 +95,10 @@ fn assigns_unknown(known: &Known<'_, Sort>, form: &Form) -> bool
 /// them, so it isn't looked at again.
 #[tactic(auto, using(crate::proofs::StatementLemmas::unknown_names, crate::proofs::KnownLemmas::none_unknown))]
 fn names_unknown(known: &Known<'_, Sort>, returns: ResultType, form: &Form, misfits: bool) -> bool
-    requires { (line : ℕ) → misfits ≡ breaks_sort_rule SortMisfit (scope_of known.now) [] (result_tree returns) (form_tree line form.now) }
-    ensures { (line : ℕ) → result ≡ breaks_sort_rule UnknownName (scope_of known.now) [] Void (form_tree line form.now) }
+    requires { (line : ℕ) → misfits ≡ breaks_sort_rule SortMisfit (scope_of known.now) [] (result_tree returns)
+        (form_tree line form.now) }
+    ensures { (line : ℕ) → result ≡ breaks_sort_rule UnknownName (scope_of known.now) [] Void
+        (form_tree line form.now) }
 {
     if !misfits && own_call(form).is_none() {
         return false;
@@ -147,7 +150,8 @@ fn right_side_sets(
     right: &RightSide,
     function: Option<JniFunction>,
 ) -> bool
-    requires { option_map function_value function ≡ function_in (call_of_right_side (Some (right_side_tree right.now))) }
+    requires { option_map function_value function
+        ≡ function_in (call_of_right_side (Some (right_side_tree right.now))) }
     ensures { result ≡ right_side_sets (scope_of known.now) (option_map sort_value sort) (right_side_tree right.now) }
 {
     match right {
@@ -158,7 +162,8 @@ fn right_side_sets(
 
 /// Whether a buffer may begin as a right side.
 fn buffer_begins(sort: Sort, right: &RightSide, function: Option<JniFunction>) -> bool
-    requires { option_map function_value function ≡ function_in (call_of_right_side (Some (right_side_tree right.now))) }
+    requires { option_map function_value function
+        ≡ function_in (call_of_right_side (Some (right_side_tree right.now))) }
     ensures { result ≡ buffer_begins [] (sort_value sort) (right_side_tree right.now) }
 {
     match right {
@@ -208,7 +213,8 @@ pub(crate) fn statement_fits(
     function: Option<JniFunction>,
 ) -> bool
     requires { (line : ℕ) → option_map function_value function ≡ function_in (own_call (form_tree line form.now)) }
-    ensures { (line : ℕ) → result ≡ statement_fits (scope_of known.now) (result_tree returns) (form_tree line form.now) }
+    ensures { (line : ℕ) → result ≡ statement_fits (scope_of known.now) (result_tree returns)
+        (form_tree line form.now) }
 {
     match form {
         Form::Declare(t, _, r) => { right_side_sets(known, Some(variable_sort(*t)), r, function) }
@@ -250,7 +256,8 @@ fn misfits(
     function: Option<JniFunction>,
 ) -> bool
     requires { (line : ℕ) → option_map function_value function ≡ function_in (own_call (form_tree line form.now)) }
-    ensures { (line : ℕ) → result ≡ breaks_sort_rule SortMisfit (scope_of known.now) [] (result_tree returns) (form_tree line form.now) }
+    ensures { (line : ℕ) → result ≡ breaks_sort_rule SortMisfit (scope_of known.now) [] (result_tree returns)
+        (form_tree line form.now) }
 {
     !statement_fits(known, returns, form, function) || call_misfits(known, form, function)
 }
@@ -290,7 +297,8 @@ fn has_bad_mode(form: &Form, function: Option<JniFunction>) -> bool
 
 /// Whether a known name is copied into a variable of a sort that is a local reference.
 fn copies(known: &Known<'_, Sort>, sort: Option<Sort>, right: &RightSide) -> bool
-    ensures { result ≡ copies_reference (scope_of known.now) (option_map sort_value sort) (Some (right_side_tree right.now)) }
+    ensures { result ≡ copies_reference (scope_of known.now) (option_map sort_value sort)
+        (Some (right_side_tree right.now)) }
 {
     match right {
         RightSide::Expr(e) => is_ref(sort) && name_sort(known, e).is_some(),
@@ -300,7 +308,8 @@ fn copies(known: &Known<'_, Sort>, sort: Option<Sort>, right: &RightSide) -> boo
 
 /// Whether a statement copies a known name into a local reference.
 fn copies_reference(known: &Known<'_, Sort>, form: &Form) -> bool
-    ensures { (line : ℕ) → result ≡ breaks_sort_rule ReferenceCopied (scope_of known.now) [] Void (form_tree line form.now) }
+    ensures { (line : ℕ) → result ≡ breaks_sort_rule ReferenceCopied (scope_of known.now) [] Void
+        (form_tree line form.now) }
 {
     match form {
         Form::Declare(t, _, r) => copies(known, Some(variable_sort(*t)), r),
@@ -311,7 +320,8 @@ fn copies_reference(known: &Known<'_, Sort>, form: &Form) -> bool
 
 /// Whether a statement writes to a buffer that may not be written.
 fn writes_read_only(known: &Known<'_, Sort>, form: &Form) -> bool
-    ensures { (line : ℕ) → result ≡ breaks_sort_rule ReadOnlyWrite (scope_of known.now) [] Void (form_tree line form.now) }
+    ensures { (line : ℕ) → result ≡ breaks_sort_rule ReadOnlyWrite (scope_of known.now) [] Void
+        (form_tree line form.now) }
 {
     match form {
         Form::AssignElement(x, _, _) => is_read_only(sort_in(known, x)),
@@ -376,7 +386,8 @@ fn judge_form(
     form: &Form,
     line: usize,
 ) -> Result<(), TypeError>
-    ensures { Finds result (refused_of (result_tree returns) (scope_of known.now) taken.now (form_tree line form.now) line sort_rules) }
+    ensures { Finds result (refused_of (result_tree returns) (scope_of known.now) taken.now (form_tree line form.now)
+        line sort_rules) }
 {
     let function = function_called(form);
     let misfits = misfits(known, returns, form, function);
@@ -416,7 +427,8 @@ fn check_form(
     form: &Form,
     line: usize,
 ) -> Result<(), TypeError>
-    ensures { Finds result (refused_of (result_tree returns) (scope_of known.now) taken.now (form_tree line form.now) line sort_rules) }
+    ensures { Finds result (refused_of (result_tree returns) (scope_of known.now) taken.now (form_tree line form.now)
+        line sort_rules) }
 {
     match judge_form(known, taken, returns, form, line) {
         Ok(()) => Ok(()),
@@ -431,7 +443,8 @@ pub(crate) fn check_statement(
     returns: ResultType,
     stmt: &Stmt,
 ) -> Result<(), TypeError>
-    ensures { Finds result (broken_at (statement_place (result_tree returns) (scope_of known.now) taken.now (stmt_tree stmt.now))) }
+    ensures { Finds result (broken_at (statement_place (result_tree returns) (scope_of known.now) taken.now
+        (stmt_tree stmt.now))) }
 {
     check_form(known, taken, returns, &stmt.form, stmt.line)
 }

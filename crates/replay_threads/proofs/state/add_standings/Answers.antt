@@ -24,7 +24,7 @@ loop-thread-preserved c =
     record {
       counted = ap (λ (n : ℕ). n + 1) c.loop-thread.invariant.counted;
       told = λ unit w s h range.
-          ap (λ (l : List ThreadStatus). map standing_view l) c.in-Ok.ensures.items
+          ap (λ (l : List ThreadStatus). map standing_view l) c.in_ok-push.ensures.items
           ∙ map-append standing_view c.loop-thread.standings.items (c.standing_of.result ∷ [])
           ∙ ap (λ (x : ThreadStanding). told ++ x ∷ []) c.standing_of.ensures
           ∙ standing_more unit w c.args.state.now s h range told i (c.loop-thread.k + 1) c.thread-item.result c.classes-classes.result.now c.waits-waits.result counted at c.classes-classes.ensures.classes (c.waits-waits.ensures unit w s h range)

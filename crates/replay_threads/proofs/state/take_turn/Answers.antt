@@ -29,25 +29,25 @@ noted_so : {E : Type 0} (r : Result Bool E) (P : Bool → Type 0) (took : Option
 noted_so (Ok possible) P took N is noted goes = subst P (sym is) (goes noted)
 noted_so (Err e) P took N is noted goes = tt
 
-pub returns-in-Ok-clause-step : goal.returns-in-Ok-clause-step
-returns-in-Ok-clause-step c =
+pub returns-clause-step : goal.returns-clause-step
+returns-clause-step c =
     let unit = unit_tree c.args.functions.now in
     let m = c.args.state.now in
     let t = c.index_mut-thread.result.now in
     let after = c.take_step.new.thread in
     let new = c.note.new.state in
     let at = slice_get_read m.threads.items (length m.threads.items) c.args.place t refl c.requires.live.there c.index_mut-thread.ensures.value in
-    noted_so c.note.result (λ possible. TakesEntry unit m (entry.Step c.args.k c.args.refused) possible new) c.in-Ok.took _ c.note.ensures.possible c.note.ensures.noted
+    noted_so c.note.result (λ possible. TakesEntry unit m (entry.Step c.args.k c.args.refused) possible new) c.in_ok-took.took _ c.note.ensures.possible c.note.ensures.noted
     (λ noted w s h.
-    let seen = subst (λ (s' : Shared). TakesStep unit c.classes.result.now (in_use_view c.buffers_in_use.result) c.args.k c.args.refused (shared_view m.shared) t c.in-Ok.took (shared_view s') after) (sym noted.shared) c.in-Ok.ensures.step in
-    let known = subst (λ (T : Classes). TakesStep unit T (in_use_view c.buffers_in_use.result) c.args.k c.args.refused (shared_view m.shared) t c.in-Ok.took (shared_view new.shared) after) (c.classes.ensures.classes ∙ ap (λ (v : World). v.classes) (sym h.world)) seen in
-    let step = subst (λ (u : BuffersInUse). TakesStep unit w.classes u c.args.k c.args.refused (shared_view m.shared) t c.in-Ok.took (shared_view new.shared) after) (c.buffers_in_use.ensures ∙ ap in_use_by c.deref.ensures.value ∙ in_use_same unit w m s h) known in
-    takes unit w m s h c.requires.range c.args.k c.args.refused c.args.place t after c.in-Ok.took new
+    let seen = subst (λ (s' : Shared). TakesStep unit c.classes.result.now (in_use_view c.buffers_in_use.result) c.args.k c.args.refused (shared_view m.shared) t c.in_ok-took.took (shared_view s') after) (sym noted.shared) c.in_ok-took.ensures.step in
+    let known = subst (λ (T : Classes). TakesStep unit T (in_use_view c.buffers_in_use.result) c.args.k c.args.refused (shared_view m.shared) t c.in_ok-took.took (shared_view new.shared) after) (c.classes.ensures.classes ∙ ap (λ (v : World). v.classes) (sym h.world)) seen in
+    let step = subst (λ (u : BuffersInUse). TakesStep unit w.classes u c.args.k c.args.refused (shared_view m.shared) t c.in_ok-took.took (shared_view new.shared) after) (c.buffers_in_use.ensures ∙ ap in_use_by c.deref.ensures.value ∙ in_use_same unit w m s h) known in
+    takes unit w m s h c.requires.range c.args.k c.args.refused c.args.place t after c.in_ok-took.took new
     (omega arith) at (c.requires.live.live t at) c.requires.live.runs (sym (c.requires.live.free unit w s h c.requires.range)) step
     noted.world (ap (λ (v : Vec Thread). v.items) noted.threads) noted.printed noted.stop)
 
-pub returns-in-Ok-clause-range : goal.returns-in-Ok-clause-range
-returns-in-Ok-clause-range c =
+pub returns-clause-range : goal.returns-clause-range
+returns-clause-range c =
     IfOk-weaker c.note.result _ (λ _. AreInRange c.note.new.state.threads.items) (λ possible noted.
     subst (λ (v : Vec Thread). AreInRange v.items) (sym noted.threads)
-    (range_set c.args.state.now.threads.items c.args.place c.take_step.new.thread c.requires.range c.in-Ok.ensures.range)) c.note.ensures.noted
+    (range_set c.args.state.now.threads.items c.args.place c.take_step.new.thread c.requires.range c.in_ok-took.ensures.range)) c.note.ensures.noted

@@ -13,17 +13,17 @@ use Rattle.replay_threads.proofs.thread.begin_next.Goals as goal
 pub begin_call-requires : goal.begin_call-requires
 begin_call-requires c = body_in_range c.args.functions.now c.args.call.now.function c.in-Some.found.function.now c.requires.tree c.requires.sorted (search rules)
 
-pub returns-in_ok-begin_call-in-Ok-Some : goal.returns-in_ok-begin_call-in-Ok-Some
-returns-in_ok-begin_call-in-Ok-Some c =
-    let begun = c.in_ok-begin_call-in-Ok-Some.ensures in
+pub returns : goal.returns
+returns c =
+    let begun = c.in_ok-begin_call.ensures in
     let f = c.in-Some.found.function.now in
-    let class = c.in-Ok-Some.class in
+    let class = c.in-Some-2.class in
     let given = map object_value_view c.arguments.result.now in
     record {
       function = function_tree f;
       found = search rules;
       class = class;
-      its_class = sym (rw c.in-Ok-Some.field-0-is at c.in-Ok-Some.ensures);
+      its_class = sym c.in_ok-class.ensures ∙ c.in-Some-2.is;
       activation = begun.activation;
       is = begun.is;
       tasks = begun.tasks;
