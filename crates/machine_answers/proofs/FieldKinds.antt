@@ -9,8 +9,8 @@ use Rattle.jni.specs.JniFunction.{JniFunction, GetField, SetField, GetObjectFiel
 use Rattle.machine_scenes.specs.Given.{field_at, field_there, operand_of}
 use Rattle.machine_scenes.specs.Statics.{References}
 use Rattle.machine_answers.specs.Checked.{fit_together}
-use Rattle.machine_answers.specs.WorkedOut.{subject_of}
-use Rattle.machine_answers.specs.declared.answer.Subject.TheVariants as subject
+use Rattle.jni.specs.Subjects.{subject_of}
+use Rattle.jni.specs.declared.subject.Subject.TheVariants as subject
 
 first_denied : (static there fits : Bool) → ((not static && there) && fits) ≡ true → static ≡ false
 first_denied true there fits h = absurd (true≢false (sym h))

@@ -31,8 +31,6 @@ use Rattle.machine_answers.specs.declared.answer.Given.TheVariants.{Nothing, Num
 use Rattle.machine_answers.specs.declared.answer.Given.TheVariants as given
 use Rattle.machine_answers.specs.declared.answer.Answer.{Answer}
 use Rattle.machine_answers.specs.declared.answer.Answer.TheVariants.{Gives, Writes, Makes, Throws, Raises, Pends, Halts, Ensures, Pushes, RefusesFrames, Pops, Deletes, MakesGlobal, DeletesGlobal, CopiesOut, CopiesIn, AcquiresCopy, AcquiresView, Releases, Enters, Exits}
-use Rattle.machine_answers.specs.declared.answer.Subject.{Subject}
-use Rattle.machine_answers.specs.declared.answer.Subject.TheVariants as subject
 use Rattle.machine_scenes.specs.declared.array_region.ArrayRegion.{ArrayRegion}
 use Rattle.machine_scenes.specs.declared.buffer.Buffer.{Buffer}
 use Rattle.machine_scenes.specs.declared.buffer.Buffer.TheVariants as buffer
@@ -40,46 +38,6 @@ use Rattle.machine_scenes.specs.declared.new_object.New.TheVariants.{Fresh, Arra
 use Rattle.machine_scenes.specs.Scenes.{Scene}
 use Rattle.semantics.specs.declared.trap.Trap.TheVariants.{Fatal, OutOfRange}
 use Rattle.machine_scenes.specs.Given.{operand_at, key_at, operand_of, field_at, class_of_given, name_there, fits_there, field_there}
-
--- what a function works on
-abbrev pub subject_of : JniFunction → Subject
-subject_of NewLocalRef = subject.References
-subject_of NewGlobalRef = subject.References
-subject_of DeleteLocalRef = subject.References
-subject_of DeleteGlobalRef = subject.References
-subject_of IsSameObject = subject.References
-subject_of EnsureLocalCapacity = subject.References
-subject_of PushLocalFrame = subject.References
-subject_of PopLocalFrame = subject.References
-subject_of (GetField T) = subject.Fields
-subject_of (SetField T) = subject.Fields
-subject_of GetObjectField = subject.Fields
-subject_of SetObjectField = subject.Fields
-subject_of (GetStaticField T) = subject.Statics
-subject_of (SetStaticField T) = subject.Statics
-subject_of GetStaticObjectField = subject.Statics
-subject_of SetStaticObjectField = subject.Statics
-subject_of GetArrayLength = subject.Arrays
-subject_of (NewArray T) = subject.Arrays
-subject_of NewObjectArray = subject.Arrays
-subject_of GetObjectArrayElement = subject.Arrays
-subject_of SetObjectArrayElement = subject.Arrays
-subject_of NewStringUTF = subject.Arrays
-subject_of GetStringLength = subject.Arrays
-subject_of (GetArrayRegion T) = subject.Regions
-subject_of (SetArrayRegion T) = subject.Regions
-subject_of GetStringRegion = subject.Regions
-subject_of (GetBuffer access) = subject.Buffers
-subject_of (ReleaseBuffer access) = subject.Buffers
-subject_of Throw = subject.Exceptions
-subject_of ThrowNew = subject.Exceptions
-subject_of ExceptionOccurred = subject.Exceptions
-subject_of ExceptionCheck = subject.Exceptions
-subject_of ExceptionClear = subject.Exceptions
-subject_of FatalError = subject.Exceptions
-subject_of MonitorEnter = subject.Monitors
-subject_of MonitorExit = subject.Monitors
-subject_of f = subject.Classes
 
 -- the number of values of the object at an address, and 0 for NULL
 abbrev pub count_there : Space → Option ℕ → ℕ

@@ -12,8 +12,9 @@ ghost use Rattle.jni.specs.Table.{function_value};
 ghost use Rattle.machine_answers.specs.Checked.{arguments_fit, element_wanted};
 ghost use Rattle.machine_scenes.specs.Given.{field_there, name_there, AreAddresses, AreHandles, FieldIsThere, ReferenceIsThere};
 ghost use Rattle.machine_scenes.specs.Scenes.{scene_view};
-ghost use Rattle.machine_answers.specs.WorkedOut.{address_in, class_object, count_there, declaring, deletes, deletes_global, field, found_class, frame_for, handle, held_reference, place, place_of_static, place_there, reference, room_for, subject_of, top_word, value_there, word_in, writes_there, IsFoundField, IsWorkedOut};
-ghost use Rattle.machine_answers.specs.declared.answer.Subject.TheVariants as subject;
+ghost use Rattle.jni.specs.Subjects.{subject_of};
+ghost use Rattle.machine_answers.specs.WorkedOut.{address_in, class_object, count_there, declaring, deletes, deletes_global, field, found_class, frame_for, handle, held_reference, place, place_of_static, place_there, reference, room_for, top_word, value_there, word_in, writes_there, IsFoundField, IsWorkedOut};
+ghost use Rattle.jni.specs.declared.subject.Subject.TheVariants as subject;
 ghost use Rattle.base.specs.Element.{element_value};
 
 use crate::arrays::{stack_number, work_out_array};
@@ -29,7 +30,7 @@ use code::instr::{Call, ElementType, Operand};
 use code::plain::element_word;
 use code::stack::Stack;
 use heap::{Addr, Heap, Value};
-use jni::JniFunction;
+use jni::{JniFunction, Subject};
 use machine_scenes::array_region::ArrayRegion;
 use machine_scenes::buffer::{Buffer, Release};
 use machine_scenes::new_object::{New, text_at};
@@ -116,56 +117,6 @@ pub enum Answer {
     Exits(u32),
 }
 
-/// What a function works on.
-#[derive(Clone, Copy)]
-pub(crate) enum Subject {
-    Classes,
-    /// Local and global references, and frames.
-    References,
-    /// The fields of objects.
-    Fields,
-    Statics,
-    /// Arrays and strings.
-    Arrays,
-    /// Arrays and strings, and local arrays.
-    Regions,
-    /// Arrays and strings, and element buffers.
-    Buffers,
-    /// The pending exception.
-    Exceptions,
-    /// The monitors of objects.
-    Monitors,
-}
-
-/// What a function works on.
-#[inline]
-fn subject_of(function: JniFunction) -> Subject
-    ensures { result ≡ subject_of (function_value function) }
-{
-    match function {
-        JniFunction::NewLocalRef | JniFunction::NewGlobalRef => Subject::References,
-        JniFunction::DeleteLocalRef | JniFunction::DeleteGlobalRef => Subject::References,
-        JniFunction::IsSameObject | JniFunction::EnsureLocalCapacity => Subject::References,
-        JniFunction::PushLocalFrame | JniFunction::PopLocalFrame => Subject::References,
-        JniFunction::GetField(_) | JniFunction::SetField(_) => Subject::Fields,
-        JniFunction::GetObjectField | JniFunction::SetObjectField => Subject::Fields,
-        JniFunction::GetStaticField(_) | JniFunction::SetStaticField(_) => Subject::Statics,
-        JniFunction::GetStaticObjectField | JniFunction::SetStaticObjectField => Subject::Statics,
-        JniFunction::GetArrayLength | JniFunction::GetStringLength => Subject::Arrays,
-        JniFunction::NewArray(_) | JniFunction::NewObjectArray => Subject::Arrays,
-        JniFunction::GetObjectArrayElement | JniFunction::SetObjectArrayElement => Subject::Arrays,
-        JniFunction::NewStringUTF => Subject::Arrays,
-        JniFunction::GetArrayRegion(_) | JniFunction::SetArrayRegion(_) => Subject::Regions,
-        JniFunction::GetStringRegion => Subject::Regions,
-        JniFunction::GetBuffer(_) | JniFunction::ReleaseBuffer(_) => Subject::Buffers,
-        JniFunction::Throw | JniFunction::ThrowNew => Subject::Exceptions,
-        JniFunction::ExceptionClear | JniFunction::FatalError => Subject::Exceptions,
-        JniFunction::ExceptionOccurred | JniFunction::ExceptionCheck => Subject::Exceptions,
-        JniFunction::MonitorEnter | JniFunction::MonitorExit => Subject::Monitors,
-        _ => Subject::Classes,
-    }
-}
-
 /// What a function does, all checks being passed. It takes no host memory.
 pub fn work_out(scene: &Scene<'_>, call: &Call) -> Answer
     requires grown { IsGrown scene.now.classes.now }
@@ -176,7 +127,7 @@ pub fn work_out(scene: &Scene<'_>, call: &Call) -> Answer
         (element_wanted call.now.target) (function_value call.now.function) ≡ true }
     ensures { IsWorkedOut (scene_view scene.now) (call_view call.now) (function_value call.now.function) result }
 {
-    match subject_of(call.function) {
+    match call.function.subject() {
         Subject::Classes => work_out_class(scene, call),
         Subject::References => work_out_reference(scene, call),
         Subject::Fields => work_out_field(scene, call),

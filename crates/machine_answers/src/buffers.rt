@@ -10,8 +10,9 @@ ghost use Rattle.machine_scenes.specs.Buffers.{copies_back, gives_up};
 ghost use Rattle.machine_answers.specs.Copies.{words_at};
 ghost use Rattle.machine_scenes.specs.Given.{operand_of, AreAddresses};
 ghost use Rattle.machine_scenes.specs.Scenes.{scene_view};
-ghost use Rattle.machine_answers.specs.WorkedOut.{acquires, buffer_there, mode_of, releases, slot_of, subject_of, IsWorkedOut};
-ghost use Rattle.machine_answers.specs.declared.answer.Subject.TheVariants as subject;
+ghost use Rattle.jni.specs.Subjects.{subject_of};
+ghost use Rattle.machine_answers.specs.WorkedOut.{acquires, buffer_there, mode_of, releases, slot_of, IsWorkedOut};
+ghost use Rattle.jni.specs.declared.subject.Subject.TheVariants as subject;
 
 use crate::answer::{Answer, Given, argument};
 use crate::copies::word_of;

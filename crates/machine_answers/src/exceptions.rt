@@ -5,8 +5,9 @@ ghost use Rattle.code.specs.Call.{call_view};
 ghost use Rattle.jni.specs.Table.{function_value};
 ghost use Rattle.machine_scenes.specs.Given.{AreAddresses};
 ghost use Rattle.machine_scenes.specs.Scenes.{scene_view};
-ghost use Rattle.machine_answers.specs.WorkedOut.{subject_of, IsWorkedOut};
-ghost use Rattle.machine_answers.specs.declared.answer.Subject.TheVariants as subject;
+ghost use Rattle.jni.specs.Subjects.{subject_of};
+ghost use Rattle.machine_answers.specs.WorkedOut.{IsWorkedOut};
+ghost use Rattle.jni.specs.declared.subject.Subject.TheVariants as subject;
 
 use crate::answer::{Answer, Given, argument, gives_truth, name_of};
 use code::instr::Call;

@@ -5,8 +5,9 @@ ghost use Rattle.code.specs.Call.{call_view};
 ghost use Rattle.jni.specs.Table.{function_value};
 ghost use Rattle.machine_scenes.specs.Given.{AreAddresses};
 ghost use Rattle.machine_scenes.specs.Scenes.{scene_view};
-ghost use Rattle.machine_answers.specs.WorkedOut.{entered_by, left_by, subject_of, IsWorkedOut};
-ghost use Rattle.machine_answers.specs.declared.answer.Subject.TheVariants as subject;
+ghost use Rattle.jni.specs.Subjects.{subject_of};
+ghost use Rattle.machine_answers.specs.WorkedOut.{entered_by, left_by, IsWorkedOut};
+ghost use Rattle.jni.specs.declared.subject.Subject.TheVariants as subject;
 
 use crate::answer::{Answer, Given, argument};
 use classes::built_ins::ILLEGAL_MONITOR_STATE_EXCEPTION;

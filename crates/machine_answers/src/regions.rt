@@ -6,8 +6,9 @@ ghost use Rattle.heap.specs.Heap.{IsAddress};
 ghost use Rattle.jni.specs.Table.{function_value};
 ghost use Rattle.machine_scenes.specs.Given.{operand_of, AreAddresses, ReferenceIsThere};
 ghost use Rattle.machine_scenes.specs.Scenes.{scene_view};
-ghost use Rattle.machine_answers.specs.WorkedOut.{array_in, copies_in, copies_out, next_number, region, region_in, subject_of, IsWorkedOut};
-ghost use Rattle.machine_answers.specs.declared.answer.Subject.TheVariants as subject;
+ghost use Rattle.jni.specs.Subjects.{subject_of};
+ghost use Rattle.machine_answers.specs.WorkedOut.{array_in, copies_in, copies_out, next_number, region, region_in, IsWorkedOut};
+ghost use Rattle.jni.specs.declared.subject.Subject.TheVariants as subject;
 
 use crate::answer::{Answer, argument};
 use crate::arrays::stack_number;

@@ -15,52 +15,10 @@ use Rattle.semantics.specs.Thread.{BuffersInUse, Frame, Monitor, capacities, mon
 use Rattle.semantics.specs.Value.{Int, Flag, Fatal, OutOfRange, convert}
 use Rattle.semantics.specs.Variable.{Variables}
 use Rattle.replay_calls.specs.Answers.{Answer, Gives, Writes, Makes, Raises, ThrowsNew, Ensures, Pushes, RefusesFrames, Pops, DeletesLocal, MakesGlobal, DeletesGlobal, Pends, Region, GetsRegion, SetsRegion, Lends, CopiesBack, Frees, Owns, Disowns, Halts, zero_result}
-use Rattle.replay_calls.specs.declared.answer.Subject.{Subject}
-use Rattle.replay_calls.specs.declared.answer.Subject.TheVariants as subject
 use Rattle.replay_terms.specs.declared.given.Lent.{Lent}
 use Rattle.replay_terms.specs.declared.given.Lent.TheVariants as lent
 use Rattle.replay_objects.specs.Frames.{new_frame}
 use Rattle.replay_objects.specs.New.{Array, Fresh, ObjectArray, Text}
-
--- what a function works on
-abbrev pub subject_of : JniFunction → Subject
-subject_of NewLocalRef = subject.References
-subject_of NewGlobalRef = subject.References
-subject_of DeleteLocalRef = subject.References
-subject_of DeleteGlobalRef = subject.References
-subject_of IsSameObject = subject.References
-subject_of EnsureLocalCapacity = subject.References
-subject_of PushLocalFrame = subject.References
-subject_of PopLocalFrame = subject.References
-subject_of (GetField T) = subject.Fields
-subject_of (SetField T) = subject.Fields
-subject_of GetObjectField = subject.Fields
-subject_of SetObjectField = subject.Fields
-subject_of (GetStaticField T) = subject.Statics
-subject_of (SetStaticField T) = subject.Statics
-subject_of GetStaticObjectField = subject.Statics
-subject_of SetStaticObjectField = subject.Statics
-subject_of GetArrayLength = subject.Arrays
-subject_of (NewArray T) = subject.Arrays
-subject_of NewObjectArray = subject.Arrays
-subject_of GetObjectArrayElement = subject.Arrays
-subject_of SetObjectArrayElement = subject.Arrays
-subject_of NewStringUTF = subject.Arrays
-subject_of GetStringLength = subject.Arrays
-subject_of (GetArrayRegion T) = subject.Regions
-subject_of (SetArrayRegion T) = subject.Regions
-subject_of GetStringRegion = subject.Regions
-subject_of (GetBuffer access) = subject.Buffers
-subject_of (ReleaseBuffer access) = subject.Buffers
-subject_of Throw = subject.Exceptions
-subject_of ThrowNew = subject.Exceptions
-subject_of ExceptionOccurred = subject.Exceptions
-subject_of ExceptionCheck = subject.Exceptions
-subject_of ExceptionClear = subject.Exceptions
-subject_of FatalError = subject.Exceptions
-subject_of MonitorEnter = subject.Monitors
-subject_of MonitorExit = subject.Monitors
-subject_of f = subject.Classes
 
 -- a class that was found, or else an exception
 abbrev pub found_class : Option ℕ → Answer

@@ -12,8 +12,9 @@ ghost use Rattle.semantics.specs.Arguments.{field_given, number_given, object_gi
 ghost use Rattle.replay_arguments.specs.Actuals.{actual_view};
 ghost use Rattle.replay_calls.specs.Answers.{answer_or_trap, answer_view, lent_in, trap_in};
 ghost use Rattle.replay_arguments.specs.Checked.{trap_found};
-ghost use Rattle.replay_calls.specs.WorkedOut.{IsByFrames, IsByObjects, element_given, element_set, ensured, field_named, fits_element, found_class, found_field, global_deleted, index_given, local_deleted, made_global, new_array, new_object_array, pushed, subject_of, worked_out};
-ghost use Rattle.replay_calls.specs.declared.answer.Subject.TheVariants as subject;
+ghost use Rattle.jni.specs.Subjects.{subject_of};
+ghost use Rattle.replay_calls.specs.WorkedOut.{IsByFrames, IsByObjects, element_given, element_set, ensured, field_named, fits_element, found_class, found_field, global_deleted, index_given, local_deleted, made_global, new_array, new_object_array, pushed, worked_out};
+ghost use Rattle.jni.specs.declared.subject.Subject.TheVariants as subject;
 ghost use Rattle.semantics.specs.EventViews.{trap_view};
 ghost use Rattle.replay_terms.specs.Views.{in_use_view, variables_view};
 ghost use Rattle.base.specs.Element.{element_value};
@@ -31,7 +32,7 @@ use classes::built_ins::{
 };
 use classes::fields::FieldId;
 use classes::table::ClassTable;
-use jni::JniFunction;
+use jni::{JniFunction, Subject};
 use replay_arguments::actual::{
     Actual, field_given, level_of, number_given, object_given, reference_given, text_given,
     variable_given,
@@ -136,56 +137,6 @@ pub struct Caller {
     pub element: ElementType,
 }
 
-/// What a function works on.
-#[derive(Clone, Copy)]
-pub(crate) enum Subject {
-    Classes,
-    /// Local and global references, and frames.
-    References,
-    /// The fields of objects.
-    Fields,
-    Statics,
-    /// Arrays and strings.
-    Arrays,
-    /// Arrays and strings, and local arrays.
-    Regions,
-    /// Arrays and strings, and element buffers.
-    Buffers,
-    /// The pending exception.
-    Exceptions,
-    /// The monitors of objects.
-    Monitors,
-}
-
-/// What a function works on.
-#[inline]
-fn subject_of(function: JniFunction) -> Subject
-    ensures { result ≡ subject_of (function_value function) }
-{
-    match function {
-        JniFunction::NewLocalRef | JniFunction::NewGlobalRef => Subject::References,
-        JniFunction::DeleteLocalRef | JniFunction::DeleteGlobalRef => Subject::References,
-        JniFunction::IsSameObject | JniFunction::EnsureLocalCapacity => Subject::References,
-        JniFunction::PushLocalFrame | JniFunction::PopLocalFrame => Subject::References,
-        JniFunction::GetField(_) | JniFunction::SetField(_) => Subject::Fields,
-        JniFunction::GetObjectField | JniFunction::SetObjectField => Subject::Fields,
-        JniFunction::GetStaticField(_) | JniFunction::SetStaticField(_) => Subject::Statics,
-        JniFunction::GetStaticObjectField | JniFunction::SetStaticObjectField => Subject::Statics,
-        JniFunction::GetArrayLength | JniFunction::GetStringLength => Subject::Arrays,
-        JniFunction::NewArray(_) | JniFunction::NewObjectArray => Subject::Arrays,
-        JniFunction::GetObjectArrayElement | JniFunction::SetObjectArrayElement => Subject::Arrays,
-        JniFunction::NewStringUTF => Subject::Arrays,
-        JniFunction::GetArrayRegion(_) | JniFunction::SetArrayRegion(_) => Subject::Regions,
-        JniFunction::GetStringRegion => Subject::Regions,
-        JniFunction::GetBuffer(_) | JniFunction::ReleaseBuffer(_) => Subject::Buffers,
-        JniFunction::Throw | JniFunction::ThrowNew => Subject::Exceptions,
-        JniFunction::ExceptionClear | JniFunction::FatalError => Subject::Exceptions,
-        JniFunction::ExceptionOccurred | JniFunction::ExceptionCheck => Subject::Exceptions,
-        JniFunction::MonitorEnter | JniFunction::MonitorExit => Subject::Monitors,
-        _ => Subject::Classes,
-    }
-}
-
 /// What a call does, its arguments being looked up: the run stops by the first check that fails, or else it does what
 /// its function does.
 pub fn answer_or_trap<'a>(
@@ -247,7 +198,7 @@ fn work_out<'a>(
     let classes = scene.classes;
     let store = &scene.shared.store;
     let variables = &scene.locals.variables;
-    match subject_of(function) {
+    match function.subject() {
         Subject::Classes => class_answer(classes, store, function, actuals),
         Subject::References => reference_answer(variables, &scene.locals.frames, function, actuals),
         Subject::Fields => field_answer(classes, store, function, actuals),

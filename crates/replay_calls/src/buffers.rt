@@ -9,8 +9,9 @@ ghost use Rattle.semantics.specs.Heap.{Heap, numbers_of};
 ghost use Rattle.semantics.specs.Views.{mode_view};
 ghost use Rattle.replay_arguments.specs.Actuals.{actual_view};
 ghost use Rattle.replay_calls.specs.Answers.{answer_view, heap_copied, variables_freed};
-ghost use Rattle.replay_calls.specs.WorkedOut.{IsByBuffers, copy_lent, lent_by, released, subject_of, view_lent};
-ghost use Rattle.replay_calls.specs.declared.answer.Subject.TheVariants as subject;
+ghost use Rattle.jni.specs.Subjects.{subject_of};
+ghost use Rattle.replay_calls.specs.WorkedOut.{IsByBuffers, copy_lent, lent_by, released, view_lent};
+ghost use Rattle.jni.specs.declared.subject.Subject.TheVariants as subject;
 ghost use Rattle.replay_terms.specs.Views.{in_use_view, lent_view, variables_view};
 
 use crate::answer::Answer;

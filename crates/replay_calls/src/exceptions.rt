@@ -4,8 +4,9 @@ ghost use Rattle.std.specs.Prelude.{◌≡◌, map};
 ghost use Rattle.jni.specs.Table.{function_value};
 ghost use Rattle.replay_arguments.specs.Actuals.{actual_view};
 ghost use Rattle.replay_calls.specs.Answers.{answer_view};
-ghost use Rattle.replay_calls.specs.WorkedOut.{IsByPending, subject_of};
-ghost use Rattle.replay_calls.specs.declared.answer.Subject.TheVariants as subject;
+ghost use Rattle.jni.specs.Subjects.{subject_of};
+ghost use Rattle.replay_calls.specs.WorkedOut.{IsByPending};
+ghost use Rattle.jni.specs.declared.subject.Subject.TheVariants as subject;
 
 use crate::answer::Answer;
 use jni::JniFunction;

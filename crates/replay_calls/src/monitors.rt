@@ -5,8 +5,9 @@ ghost use Rattle.std.specs.Option.{option_map};
 ghost use Rattle.jni.specs.Table.{function_value};
 ghost use Rattle.replay_arguments.specs.Actuals.{actual_view};
 ghost use Rattle.replay_calls.specs.Answers.{answer_view};
-ghost use Rattle.replay_calls.specs.WorkedOut.{IsByMonitors, monitor_entered, monitor_left, subject_of};
-ghost use Rattle.replay_calls.specs.declared.answer.Subject.TheVariants as subject;
+ghost use Rattle.jni.specs.Subjects.{subject_of};
+ghost use Rattle.replay_calls.specs.WorkedOut.{IsByMonitors, monitor_entered, monitor_left};
+ghost use Rattle.jni.specs.declared.subject.Subject.TheVariants as subject;
 ghost use Rattle.replay_objects.specs.Monitors.{monitor_view};
 
 use crate::answer::Answer;

@@ -5,9 +5,10 @@ ghost use Rattle.std.specs.Option.{option_map};
 ghost use Rattle.jni.specs.Table.{function_value};
 ghost use Rattle.replay_arguments.specs.Actuals.{actual_view};
 ghost use Rattle.replay_calls.specs.Answers.{FitsArrays, answer_view, heap_with, region_view, variables_with};
-ghost use Rattle.replay_calls.specs.WorkedOut.{IsByVariables, region_given, region_got, region_set, subject_of};
+ghost use Rattle.jni.specs.Subjects.{subject_of};
+ghost use Rattle.replay_calls.specs.WorkedOut.{IsByVariables, region_given, region_got, region_set};
 ghost use Rattle.replay_calls.specs.declared.answer.Answer.TheVariants as answer;
-ghost use Rattle.replay_calls.specs.declared.answer.Subject.TheVariants as subject;
+ghost use Rattle.jni.specs.declared.subject.Subject.TheVariants as subject;
 ghost use Rattle.replay_terms.specs.Views.{variables_view};
 
 use crate::answer::{Answer, Region};
