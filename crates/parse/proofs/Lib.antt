@@ -6,4 +6,3 @@ pub mod Again
 pub mod Ranges
 pub mod Trees
 pub mod Whole
-pub mod Regrouped

@@ -12,23 +12,6 @@ use Rattle.parse_lexemes.specs.Lexemes.{Lexed, expect, name_at, fault_at}
 use Rattle.parse_lexemes.specs.Reading.{reference_type_at, result_type_at, found}
 use Rattle.parse.specs.Reading.{ReadItem, function_at, static_at}
 
--- the result of a function
-unfoldable pub exported_at : List Lexed → Result (ResultType × List Lexed) ParseError
-exported_at ls = do
-  a ← expect (fixed.Word words.JniExport) ls
-  result ← found (result_type_at a) a
-  b ← expect (fixed.Word words.JniCall) result.1
-  Ok (result.0, b)
-
--- the type and the name of a static, up to the equals sign
-unfoldable pub static_head_at : List Lexed → Result (ReferenceType × Identifier × List Lexed) ParseError
-static_head_at ls = do
-  a ← expect (fixed.Word words.Static) ls
-  t ← found (reference_type_at a) a
-  name ← name_at t.1
-  b ← expect (fixed.Mark marks.Assign) name.1
-  Ok (t.0, name.0, b)
-
 -- a function, where there may be this many more functions and statics
 unfoldable pub function_item_at : (functions statics : ℕ) → List Lexed → Result ReadItem ParseError
 function_item_at functions statics ls = if functions == 0 then Err (fault_at TooMany ls) else

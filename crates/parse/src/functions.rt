@@ -8,12 +8,11 @@ ghost use Rattle.syntax.specs.Views.{parameter_tree, reference_tree, result_tree
 ghost use Rattle.parse_lexemes.specs.Results.{Gives};
 ghost use Rattle.parse_lexemes.specs.Lexemes.{views, lexemes};
 ghost use Rattle.parse.specs.Spelling.{SpellsUnit};
-ghost use Rattle.parse.specs.Steps.{exported_at, function_item_at, static_head_at, static_item_at};
+ghost use Rattle.parse.specs.Steps.{function_item_at, static_item_at};
 ghost use Rattle.parse.specs.Reading.{head_at, body_at, signature_at, function_at, static_at, item_at, items_at, unit_at};
 
 use crate::parameters::{NAMES, parameters};
 use base::limits::{MOST_FUNCTIONS, MOST_STATICS};
-use parse_expressions::expect_two;
 use parse_lexemes::{Cursor, Fixed, ParseError, ParseRule, Source};
 use parse_statements::block;
 use scan::{Mark, Token, Word, one_spelling};
@@ -24,56 +23,43 @@ use syntax::{Block, Function, Item, Name, Parameter, ReferenceType, ResultType, 
 const ROOM: u32 = 31;
 
 /// What comes after the parameters that each function has.
-#[tactic(auto, using(crate::proofs::Regrouped::head_is))]
+#[tactic(auto, unfolding(crate::specs::Reading::head_at))]
 fn head(lexemes: Cursor<'_>) -> Result<Cursor<'_>, ParseError>
     ensures { Gives (λ x. views x) result (head_at (views lexemes.entry)) }
 {
-    let rest = expect_two(
-        Fixed::Mark(Mark::OpenParen),
-        Fixed::Word(Word::JniEnv),
-        lexemes,
-    )?;
-    let rest = expect_two(Fixed::Mark(Mark::Star), Fixed::Word(Word::Env), rest)?;
-    expect_two(Fixed::Mark(Mark::Comma), Fixed::Word(Word::Jclass), rest)
+    lexemes
+        .expect(Fixed::Mark(Mark::OpenParen))?
+        .expect(Fixed::Word(Word::JniEnv))?
+        .expect(Fixed::Mark(Mark::Star))?
+        .expect(Fixed::Word(Word::Env))?
+        .expect(Fixed::Mark(Mark::Comma))?
+        .expect(Fixed::Word(Word::Jclass))
 }
 
 /// A function's block, with what closes its parameters, where `free` more names may be declared.
-#[tactic(auto, using(crate::proofs::Regrouped::body_is))]
+#[tactic(auto, unfolding(crate::specs::Reading::body_at))]
 fn body(alloc: Global, free: usize, lexemes: Cursor<'_>) -> Result<(Block, Cursor<'_>), ParseError>
     ensures { Gives (λ x. (block_tree x.0, views x.1)) result (body_at free (views lexemes.entry)) }
 {
-    let rest = expect_two(
-        Fixed::Mark(Mark::CloseParen),
-        Fixed::Mark(Mark::OpenBrace),
-        lexemes,
-    )?;
+    let rest = lexemes
+        .expect(Fixed::Mark(Mark::CloseParen))?
+        .expect(Fixed::Mark(Mark::OpenBrace))?;
     let (body, _, rest) = block(alloc, ROOM, free, rest)?;
     Ok((body, rest))
 }
 
-/// The result of a function, up to its name.
-#[inline]
-#[tactic(auto, unfolding(crate::specs::Steps::exported_at))]
-fn exported(lexemes: Cursor<'_>) -> Result<(ResultType, Cursor<'_>), ParseError>
-    ensures { Gives (λ x. (result_tree x.0, views x.1)) result (exported_at (views lexemes.entry)) }
+/// The result, the name and the class of a function, and what comes after them.
+#[tactic(auto, unfolding(crate::specs::Reading::signature_at))]
+fn signature(lexemes: Cursor<'_>) -> Result<(ResultType, &[u8], &[u8], Cursor<'_>), ParseError>
+    ensures { Gives (λ x. (result_tree x.0, x.1.now, x.2.now, views x.3)) result (signature_at (views lexemes.entry)) }
 {
     let rest = lexemes.expect(Fixed::Word(Word::JniExport))?;
     let Some(result) = rest.result_type() else {
         return Err(rest.unexpected());
     };
     let rest = rest.skip().expect(Fixed::Word(Word::JniCall))?;
-    Ok((result, rest))
-}
-
-/// The result, the name and the class of a function, and what comes after them.
-#[tactic(auto, using(crate::proofs::Regrouped::signature_is))]
-fn signature(lexemes: Cursor<'_>) -> Result<(ResultType, &[u8], &[u8], Cursor<'_>), ParseError>
-    ensures { Gives (λ x. (result_tree x.0, x.1.now, x.2.now, views x.3)) result (signature_at (views lexemes.entry)) }
-{
-    let (result, rest) = exported(lexemes)?;
     let (name, rest) = rest.name()?;
-    let rest = head(rest)?;
-    let (class_name, rest) = rest.name()?;
+    let (class_name, rest) = head(rest)?.name()?;
     Ok((result, name, class_name, rest))
 }
 
@@ -122,29 +108,21 @@ fn made(
     })
 }
 
-/// The type and the name of a reference that all functions share, up to the equals sign.
-#[inline]
-#[tactic(auto, unfolding(crate::specs::Steps::static_head_at))]
-fn static_head(lexemes: Cursor<'_>) -> Result<(ReferenceType, &[u8], Cursor<'_>), ParseError>
-    ensures { Gives (λ x. (reference_tree x.0, x.1.now, views x.2)) result (static_head_at (views lexemes.entry)) }
+/// A reference that all functions share.
+#[tactic(auto, unfolding(crate::specs::Reading::static_at))]
+fn static_reference(alloc: Global, lexemes: Cursor<'_>) -> Result<(Static, Cursor<'_>), ParseError>
+    ensures { Gives (λ x. (static_tree x.0, views x.1)) result (static_at (views lexemes.entry)) }
 {
+    let line = lexemes.line();
     let rest = lexemes.expect(Fixed::Word(Word::Static))?;
     let Some(kind) = rest.reference_type() else {
         return Err(rest.unexpected());
     };
     let (name, rest) = rest.skip().name()?;
-    let rest = rest.expect(Fixed::Mark(Mark::Assign))?;
-    Ok((kind, name, rest))
-}
-
-/// A reference that all functions share.
-#[tactic(auto, using(crate::proofs::Regrouped::static_is))]
-fn static_reference(alloc: Global, lexemes: Cursor<'_>) -> Result<(Static, Cursor<'_>), ParseError>
-    ensures { Gives (λ x. (static_tree x.0, views x.1)) result (static_at (views lexemes.entry)) }
-{
-    let line = lexemes.line();
-    let (kind, name, rest) = static_head(lexemes)?;
-    let rest = expect_two(Fixed::Word(Word::Null), Fixed::Mark(Mark::Semicolon), rest)?;
+    let rest = rest
+        .expect(Fixed::Mark(Mark::Assign))?
+        .expect(Fixed::Word(Word::Null))?
+        .expect(Fixed::Mark(Mark::Semicolon))?;
     let name = Name::new(alloc, name)?;
     Ok((Static { line, kind, name }, rest))
 }

@@ -6,4 +6,3 @@ pub mod Openings
 pub mod Primaries
 pub mod JniCalls
 pub mod Commas
-pub mod Called

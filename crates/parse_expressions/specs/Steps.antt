@@ -4,58 +4,26 @@ use Rattle.base.specs.Bytes.{Identifier}
 use Rattle.scan.specs.declared.token.Mark.TheVariants as marks
 use Rattle.scan.specs.declared.reserved.Word.TheVariants as words
 use Rattle.syntax.specs.Limits.{operator_level, prefix_level}
-use Rattle.syntax.specs.Tree.{PrefixOp, LogicalNot, Complement, ToWord, ToInt, BinaryOp, Expr, Element, Prefix, Binary, Paren, Call, RightSide, Test}
+use Rattle.syntax.specs.Tree.{PrefixOp, LogicalNot, Complement, ToWord, ToInt, BinaryOp, Expr, Element, Prefix, Binary, Paren}
 use Rattle.syntax.specs.Views.{prefix_tree}
-use Rattle.parse_lexemes.specs.declared.first.Fixed.{Fixed}
 use Rattle.parse_lexemes.specs.declared.first.Fixed.TheVariants as fixed
 use Rattle.parse_lexemes.specs.declared.fault.ParseRule.TheVariants.{TooHigh}
 use Rattle.parse_lexemes.specs.declared.fault.ParseError.{ParseError}
-use Rattle.parse_lexemes.specs.Reading.{rest_of, starts_with, number_at}
+use Rattle.parse_lexemes.specs.Reading.{rest_of, starts_with}
 use Rattle.parse_lexemes.specs.Results.{◌>>=◌}
 use Rattle.parse_lexemes.specs.Lexemes.{Lexed, name_at, expect, fault_at}
 use Rattle.parse_expressions.specs.declared.expressions.Opening.{Opening as InMemory}
 use Rattle.parse_expressions.specs.declared.expressions.Opening.TheVariants as opening
-use Rattle.parse_expressions.specs.Reading.{Reader, ReadExpr, interface_at, starts_element}
+use Rattle.parse_expressions.specs.Reading.{Reader, ReadExpr, starts_element}
 
 -- what is made of what a step gives
 abbrev pub made_of : {A B : Type 0} → Result A ParseError → (A → B) → Result B ParseError
 made_of step make = step >>= λ x. Ok (make x)
 
--- a name, and what comes after it
-abbrev pub ReadName : Type 0
-ReadName = Identifier × List Lexed
-
--- a call, and what comes after it
-abbrev pub ReadCall : Type 0
-ReadCall = Call × List Lexed
-
--- a name, what it is set to, and what comes after it
-abbrev pub ReadSetting : Type 0
-ReadSetting = Identifier × RightSide × List Lexed
-
--- a test, and what comes after it
-abbrev pub ReadTest : Type 0
-ReadTest = Test × List Lexed
-
--- what comes after a test for 0
-unfoldable pub zero_at : List Lexed → Result (List Lexed) ParseError
-zero_at ls = do
-  a ← expect (fixed.Mark marks.Equal) ls
-  number ← number_at 0 0 a
-  Ok number.1
-
 -- an operator, where it is of this level or tighter
 abbrev pub within : ℕ → Option BinaryOp → Option BinaryOp
 within least None = None
 within least (Some op) = if nat_lt (operator_level op) least then None else Some op
-
--- the name of the function that is called
-abbrev pub function_at : List Lexed → Result ReadName ParseError
-function_at ls = interface_at ls >>= λ a. name_at a
-
--- two lexemes
-abbrev pub two : (first second : Fixed) → List Lexed → Result (List Lexed) ParseError
-two first second ls = expect first ls >>= λ rest. expect second rest
 
 -- what comes after an operator, whose left operand is this high
 abbrev pub right_by : Reader → (room high : ℕ) → BinaryOp → List Lexed → Result ReadExpr ParseError

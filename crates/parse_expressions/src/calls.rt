@@ -1,30 +1,28 @@
 //! Calls of JNI functions, what variables are set to, and what is tested.
 
 ghost use Rattle.std.specs.Prelude.{◌≡◌, ◌≤◌, ◌+◌, length, map};
-ghost use Rattle.syntax.specs.Tree.{TestCall};
 ghost use Rattle.syntax.specs.Views.{argument_tree, call_tree, right_side_tree, test_tree};
 ghost use Rattle.parse_lexemes.specs.Results.{Gives};
-ghost use Rattle.parse_expressions.specs.Steps.{ReadTest, made_of, function_at, zero_at};
-ghost use Rattle.parse_lexemes.specs.Lexemes.{views, expect};
+ghost use Rattle.parse_lexemes.specs.Lexemes.{views};
 ghost use Rattle.parse_expressions.specs.Reading.{interface_at, value_at, argument_at, arguments_at, call_at, starts_call, right_at, setting_at, test_at};
 
-use crate::expressions::{expect_two, expression, owned_name, right_expression};
+use crate::expressions::{expression, owned_name, right_expression};
 use parse_lexemes::{Cursor, Fixed, ParseError};
 use scan::{Mark, Word};
 use std::alloc::Global;
 use syntax::{Argument, Call, Name, RightSide, Test};
 
 /// What comes after `(*env)->`.
+#[tactic(auto, unfolding(crate::specs::Reading::interface_at))]
 fn interface(lexemes: Cursor<'_>) -> Result<Cursor<'_>, ParseError>
     ensures { Gives (λ x. views x) result (interface_at (views lexemes.entry)) }
 {
-    let rest = expect_two(
-        Fixed::Mark(Mark::OpenParen),
-        Fixed::Mark(Mark::Star),
-        lexemes,
-    )?;
-    let rest = expect_two(Fixed::Word(Word::Env), Fixed::Mark(Mark::CloseParen), rest)?;
-    rest.expect(Fixed::Mark(Mark::Arrow))
+    lexemes
+        .expect(Fixed::Mark(Mark::OpenParen))?
+        .expect(Fixed::Mark(Mark::Star))?
+        .expect(Fixed::Word(Word::Env))?
+        .expect(Fixed::Mark(Mark::CloseParen))?
+        .expect(Fixed::Mark(Mark::Arrow))
 }
 
 /// An argument that is no string.
@@ -83,32 +81,24 @@ fn arguments(
     Ok((arguments, rest))
 }
 
-/// The name of the function that is called.
-#[inline(always)]
-fn function(lexemes: Cursor<'_>) -> Result<(&[u8], Cursor<'_>), ParseError>
-    ensures { Gives (λ x. (x.0.now, views x.1)) result (function_at (views lexemes.entry)) }
-{
-    let rest = interface(lexemes)?;
-    rest.name()
-}
-
 /// A call of a JNI function, and what comes after it.
+#[tactic(auto, unfolding(crate::specs::Reading::call_at))]
 pub fn call(alloc: Global, room: u32, lexemes: Cursor<'_>) -> Result<(Call, Cursor<'_>), ParseError>
     requires { room ≤ 32 }
     ensures { Gives (λ x. (call_tree x.0, views x.1)) result (call_at room (views lexemes.entry)) }
 {
-    let (function, rest) = function(lexemes)?;
-    let rest = expect_two(Fixed::Mark(Mark::OpenParen), Fixed::Word(Word::Env), rest)?;
+    let (function, rest) = interface(lexemes)?.name()?;
+    let rest = rest
+        .expect(Fixed::Mark(Mark::OpenParen))?
+        .expect(Fixed::Word(Word::Env))?;
     let (arguments, rest) = arguments(alloc, room, rest)?;
     let rest = rest.expect(Fixed::Mark(Mark::CloseParen))?;
     let function = Name::new(alloc, function)?;
-    Ok((
-        Call {
-            function,
-            arguments,
-        },
-        rest,
-    ))
+    let call = Call {
+        function,
+        arguments,
+    };
+    Ok((call, rest))
 }
 
 /// Whether a call comes next: no expression begins with `(*`.
@@ -154,36 +144,16 @@ pub fn setting(
     Ok((Name::new(alloc, name)?, right, rest))
 }
 
-/// What comes after `== 0`.
-#[inline]
-#[tactic(auto, unfolding(crate::specs::Steps::zero_at))]
-fn zero(lexemes: Cursor<'_>) -> Result<Cursor<'_>, ParseError>
-    ensures { Gives views result (zero_at (views lexemes.entry)) }
-{
-    let rest = lexemes.expect(Fixed::Mark(Mark::Equal))?;
-    let (_, rest) = rest.number(0, 0)?;
-    Ok(rest)
-}
-
-/// A call with what tests it for 0, which comes next.
-#[inline]
-fn called_test(call: Call, lexemes: Cursor<'_>) -> Result<(Test, Cursor<'_>), ParseError>
-    ensures { Gives (λ x. (test_tree x.0, views x.1)) result (made_of {B = ReadTest} (zero_at (views lexemes.entry))
-        (λ rest. (TestCall (call_tree call), rest))) }
-{
-    let rest = zero(lexemes)?;
-    Ok((Test::Call(call), rest))
-}
-
 /// An expression, or a call that is tested for 0.
-#[tactic(auto, using(crate::proofs::Called::test_is))]
+#[tactic(auto, unfolding(crate::specs::Reading::test_at))]
 pub fn test(alloc: Global, room: u32, lexemes: Cursor<'_>) -> Result<(Test, Cursor<'_>), ParseError>
     requires { room ≤ 32 }
     ensures { Gives (λ x. (test_tree x.0, views x.1)) result (test_at room (views lexemes.entry)) }
 {
     if starts_call(lexemes) {
         let (call, rest) = call(alloc, room, lexemes)?;
-        return called_test(call, rest);
+        let (_, rest) = rest.expect(Fixed::Mark(Mark::Equal))?.number(0, 0)?;
+        return Ok((Test::Call(call), rest));
     }
     let (value, _, rest) = expression(alloc, room, 0, lexemes)?;
     Ok((Test::Expr(value), rest))

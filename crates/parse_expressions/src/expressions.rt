@@ -5,7 +5,7 @@ ghost use Rattle.std.specs.Option.{option_map};
 ghost use Rattle.syntax.specs.Limits.{operator_level};
 ghost use Rattle.syntax.specs.Views.{constant_tree, prefix_tree, binary_tree, expr_tree};
 ghost use Rattle.parse_lexemes.specs.Results.{Gives};
-ghost use Rattle.parse_expressions.specs.Steps.{made_of, two, joined_by, right_by, within, opening_view, level_inside, around, ending_at, operand_of, cast_at, paren_opening_at, bracket_at, element_opening_at, starts_deep, opening_at};
+ghost use Rattle.parse_expressions.specs.Steps.{made_of, joined_by, right_by, within, opening_view, level_inside, around, ending_at, operand_of, cast_at, paren_opening_at, bracket_at, element_opening_at, starts_deep, opening_at};
 ghost use Rattle.parse_lexemes.specs.declared.fault.ParseError.{ParseError};
 ghost use Rattle.parse_lexemes.specs.Lexemes.{views, expect, name_at};
 ghost use Rattle.parse_expressions.specs.Reading.{ReadExpr, operator_at, binary_of_mark, named_of, primary_at, starts_element, starts_inside, index_at, operand_at, expr_at, right_expr_at, deeper};
@@ -109,19 +109,6 @@ pub fn owned_name(alloc: Global, lexemes: Cursor<'_>) -> Result<(Name, Cursor<'_
     Ok((name, rest))
 }
 
-/// What comes after these two lexemes, which have to come next.
-#[inline(always)]
-pub fn expect_two(
-    first: Fixed,
-    second: Fixed,
-    lexemes: Cursor<'_>,
-) -> Result<Cursor<'_>, ParseError>
-    ensures { Gives views result (two first second (views lexemes.entry)) }
-{
-    let rest = lexemes.expect(first)?;
-    rest.expect(second)
-}
-
 /// A named constant.
 #[inline(always)]
 fn named(word: Word, lexemes: Cursor<'_>) -> Result<ReadExpr<'_>, ParseError>
@@ -166,22 +153,6 @@ fn around(alloc: Global, opening: Opening<'_>, inside: Expr) -> Result<Expr, All
     }
 }
 
-/// An expression with its height, and what comes after this lexeme, which ends it.
-#[inline(always)]
-pub fn closed(
-    end: Fixed,
-    inside: Expr,
-    height: u32,
-    lexemes: Cursor<'_>,
-) -> Result<ReadExpr<'_>, ParseError>
-    ensures low { IfOk result (λ x. x.1 ≡ height) }
-    ensures gives { Gives (λ x. (expr_tree x.0, x.1, views x.2)) result
-        (made_of {B = ReadExpr} (expect end (views lexemes.entry)) (λ after. (expr_tree inside, height, after))) }
-{
-    let rest = lexemes.expect(end)?;
-    Ok((inside, height, rest))
-}
-
 /// What is read of an expression, and what comes after the next lexeme, which ends it.
 #[inline(always)]
 fn ended<'t>(end: Fixed, read: ReadExpr<'t>) -> Result<ReadExpr<'t>, ParseError>
@@ -191,7 +162,8 @@ fn ended<'t>(end: Fixed, read: ReadExpr<'t>) -> Result<ReadExpr<'t>, ParseError>
         (expr_tree read.entry.0, read.entry.1, after))) }
 {
     let (inside, height, rest) = read;
-    closed(end, inside, height, rest)
+    let rest = rest.expect(end)?;
+    Ok((inside, height, rest))
 }
 
 /// What is read inside an operand which opened so, and what comes after the lexeme that ends it.

@@ -5,4 +5,4 @@ mod calls;
 mod expressions;
 
 pub use calls::{call, setting, test};
-pub use expressions::{closed, expect_two, expression, index, owned_name, starts_element};
+pub use expressions::{expression, index, owned_name, starts_element};

@@ -4,5 +4,4 @@ pub mod Sentences
 pub mod Declared
 pub mod Nested
 pub mod Blocks
-pub mod Regrouped
 pub mod Ways

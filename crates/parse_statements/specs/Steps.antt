@@ -18,34 +18,6 @@ use Rattle.parse_statements.specs.declared.statements.Head.{Head as InMemory}
 use Rattle.parse_statements.specs.declared.statements.Head.TheVariants as head
 use Rattle.parse_statements.specs.Reading.{BlockReader, ReadPlain, if_test_at, while_test_at}
 
--- a test, and what comes after it
-abbrev pub ReadTest : Type 0
-ReadTest = Test × List Lexed
-
--- an expression, and the lexeme that ends it
-unfoldable pub ended_at : ℕ → Fixed → List Lexed → Result (Expr × List Lexed) ParseError
-ended_at room end ls = do
-  e ← expr_at room 0 ls
-  rest ← expect end e.2
-  Ok (e.0, rest)
-
--- an expression in parentheses, and the lexeme after them
-unfoldable pub parenthesized_at : ℕ → Fixed → List Lexed → Result (Expr × List Lexed) ParseError
-parenthesized_at room end ls = do
-  a ← expect (fixed.Mark marks.OpenParen) ls
-  e ← expr_at room 0 a
-  b ← expect (fixed.Mark marks.CloseParen) e.2
-  rest ← expect end b
-  Ok (e.0, rest)
-
--- what comes after an equals sign up to the semicolon
-unfoldable pub assigned_at : ℕ → List Lexed → Result (Expr × List Lexed) ParseError
-assigned_at room ls = do
-  within ← expect (fixed.Mark marks.Assign) ls
-  e ← expr_at room 0 within
-  rest ← expect (fixed.Mark marks.Semicolon) e.2
-  Ok (e.0, rest)
-
 -- what an element is set to
 unfoldable pub element_set_at : (room line : ℕ) → Identifier → Expr → List Lexed → Result ReadPlain ParseError
 element_set_at room line x i ls = do
@@ -53,15 +25,6 @@ element_set_at room line x i ls = do
   e ← expr_at room 0 within
   rest ← expect (fixed.Mark marks.Semicolon) e.2
   Ok (AssignElement line x i e.0, rest)
-
--- the name and the size of a local array, in its brackets
-unfoldable pub array_head_at : List Lexed → Result (Identifier × ℕ × List Lexed) ParseError
-array_head_at ls = do
-  name ← name_at ls
-  a ← expect (fixed.Mark marks.OpenBracket) name.1
-  size ← number_at 1 most_elements a
-  b ← expect (fixed.Mark marks.CloseBracket) size.1
-  Ok (name.0, size.0, b)
 
 -- what comes in a statement before its first block
 pub data Head : Type 0 where

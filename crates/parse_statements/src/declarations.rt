@@ -5,49 +5,30 @@ ghost use Rattle.base.specs.Element.{element_value};
 ghost use Rattle.syntax.specs.Views.{variable_type_tree, stmt_tree};
 ghost use Rattle.parse_lexemes.specs.Results.{Gives};
 ghost use Rattle.parse_lexemes.specs.Lexemes.{views};
-ghost use Rattle.parse_statements.specs.Steps.{array_head_at};
 ghost use Rattle.parse_statements.specs.Reading.{zeros_at, array_at, is_array, after_element, after_variable, after_const, declared_at, starts_declaration};
 
 use base::limits::MOST_ELEMENTS;
-use parse_expressions::{expect_two, setting};
+use parse_expressions::setting;
 use parse_lexemes::{Cursor, Fixed, ParseError};
 use scan::{Mark, Word};
 use std::alloc::Global;
 use syntax::{ElementType, Form, Name, Stmt, VariableType};
 
 /// What comes after the zeros of a local array.
-#[tactic(auto, using(crate::proofs::Regrouped::zeros_are))]
+#[tactic(auto, unfolding(crate::specs::Reading::zeros_at))]
 fn zeros(lexemes: Cursor<'_>) -> Result<Cursor<'_>, ParseError>
     ensures { Gives (λ x. views x) result (zeros_at (views lexemes.entry)) }
 {
-    let rest = expect_two(
-        Fixed::Mark(Mark::Assign),
-        Fixed::Mark(Mark::OpenBrace),
-        lexemes,
-    )?;
+    let rest = lexemes
+        .expect(Fixed::Mark(Mark::Assign))?
+        .expect(Fixed::Mark(Mark::OpenBrace))?;
     let (_, rest) = rest.number(0, 0)?;
-    expect_two(
-        Fixed::Mark(Mark::CloseBrace),
-        Fixed::Mark(Mark::Semicolon),
-        rest,
-    )
-}
-
-/// The name and the size of a local array, in its brackets.
-#[inline]
-#[tactic(auto, unfolding(crate::specs::Steps::array_head_at))]
-fn array_head(lexemes: Cursor<'_>) -> Result<(&[u8], u32, Cursor<'_>), ParseError>
-    ensures { Gives (λ x. (x.0.now, x.1, views x.2)) result (array_head_at (views lexemes.entry)) }
-{
-    let (name, rest) = lexemes.name()?;
-    let rest = rest.expect(Fixed::Mark(Mark::OpenBracket))?;
-    let (size, rest) = rest.number(1, MOST_ELEMENTS)?;
-    let rest = rest.expect(Fixed::Mark(Mark::CloseBracket))?;
-    Ok((name, size, rest))
+    rest.expect(Fixed::Mark(Mark::CloseBrace))?
+        .expect(Fixed::Mark(Mark::Semicolon))
 }
 
 /// The name, the size and the zeros of a local array.
-#[tactic(auto, using(crate::proofs::Regrouped::array_is))]
+#[tactic(auto, unfolding(crate::specs::Reading::array_at))]
 fn array(
     alloc: Global,
     line: usize,
@@ -56,8 +37,10 @@ fn array(
 ) -> Result<(Stmt, Cursor<'_>), ParseError>
     ensures { Gives (λ x. (stmt_tree x.0, views x.1)) result (array_at line (element_value element) (views lexemes.entry)) }
 {
-    let (name, size, rest) = array_head(lexemes)?;
-    let rest = zeros(rest)?;
+    let (name, rest) = lexemes.name()?;
+    let rest = rest.expect(Fixed::Mark(Mark::OpenBracket))?;
+    let (size, rest) = rest.number(1, MOST_ELEMENTS)?;
+    let rest = zeros(rest.expect(Fixed::Mark(Mark::CloseBracket))?)?;
     let name = Name::new(alloc, name)?;
     let form = Form::DeclareArray(element, name, size);
     Ok((Stmt { line, form }, rest))
@@ -114,7 +97,7 @@ fn after_variable(
 }
 
 /// A declaration whose `const` is read.
-#[tactic(auto, using(crate::proofs::Regrouped::const_is))]
+#[tactic(auto, unfolding(crate::specs::Reading::after_const))]
 fn after_const(
     alloc: Global,
     room: u32,
@@ -124,7 +107,9 @@ fn after_const(
     requires { room ≤ 32 }
     ensures { Gives (λ x. (stmt_tree x.0, views x.1)) result (after_const room line (views lexemes.entry)) }
 {
-    let rest = expect_two(Fixed::Word(Word::Jchar), Fixed::Mark(Mark::Star), lexemes)?;
+    let rest = lexemes
+        .expect(Fixed::Word(Word::Jchar))?
+        .expect(Fixed::Mark(Mark::Star))?;
     let (name, right, rest) = setting(alloc, room, rest)?;
     let form = Form::DeclareChars(name, right);
     Ok((Stmt { line, form }, rest))

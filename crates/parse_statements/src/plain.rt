@@ -3,52 +3,18 @@
 ghost use Rattle.std.specs.Prelude.{◌≤◌};
 ghost use Rattle.syntax.specs.Views.{expr_tree, stmt_tree};
 ghost use Rattle.parse_lexemes.specs.Results.{Gives};
-ghost use Rattle.parse_statements.specs.Steps.{ended_at, parenthesized_at, assigned_at, element_set_at};
+ghost use Rattle.parse_statements.specs.Steps.{element_set_at};
 ghost use Rattle.parse_lexemes.specs.Lexemes.{views};
 ghost use Rattle.parse_statements.specs.Reading.{put_at, return_at, perform_at, set_element_at, set_at, plain_at};
 
-use parse_expressions::{call, closed, expression, index, setting, starts_element};
+use parse_expressions::{call, expression, index, setting, starts_element};
 use parse_lexemes::{Cursor, Fixed, ParseError};
 use scan::{Mark, Word};
 use std::alloc::Global;
 use syntax::{Expr, Form, Name, Stmt};
 
-/// An expression, and what comes after this lexeme, which ends it.
-#[inline]
-#[tactic(auto, unfolding(crate::specs::Steps::ended_at))]
-fn ended(
-    alloc: Global,
-    room: u32,
-    end: Fixed,
-    lexemes: Cursor<'_>,
-) -> Result<(Expr, Cursor<'_>), ParseError>
-    requires { room ≤ 32 }
-    ensures { Gives (λ x. (expr_tree x.0, views x.1)) result (ended_at room end (views lexemes.entry)) }
-{
-    let (operand, height, rest) = expression(alloc, room, 0, lexemes)?;
-    let (operand, _, rest) = closed(end, operand, height, rest)?;
-    Ok((operand, rest))
-}
-
-/// An expression in parentheses, and what comes after this lexeme, which follows them.
-#[tactic(auto, using(crate::proofs::Regrouped::parenthesized_is))]
-pub(crate) fn parenthesized(
-    alloc: Global,
-    room: u32,
-    end: Fixed,
-    lexemes: Cursor<'_>,
-) -> Result<(Expr, Cursor<'_>), ParseError>
-    requires { room ≤ 32 }
-    ensures { Gives (λ x. (expr_tree x.0, views x.1)) result (parenthesized_at room end (views lexemes.entry)) }
-{
-    let rest = lexemes.expect(Fixed::Mark(Mark::OpenParen))?;
-    let (operand, rest) = ended(alloc, room, Fixed::Mark(Mark::CloseParen), rest)?;
-    let (operand, _, rest) = closed(end, operand, 0, rest)?;
-    Ok((operand, rest))
-}
-
 /// A statement whose `put_jint`, in this line, is read.
-#[tactic(auto, using(crate::proofs::Regrouped::put_is))]
+#[tactic(auto, unfolding(crate::specs::Reading::put_at))]
 fn put(
     alloc: Global,
     room: u32,
@@ -58,13 +24,17 @@ fn put(
     requires { room ≤ 32 }
     ensures { Gives (λ x. (stmt_tree x.0, views x.1)) result (put_at room line (views lexemes.entry)) }
 {
-    let (operand, rest) = parenthesized(alloc, room, Fixed::Mark(Mark::Semicolon), lexemes)?;
+    let rest = lexemes.expect(Fixed::Mark(Mark::OpenParen))?;
+    let (operand, _, rest) = expression(alloc, room, 0, rest)?;
+    let rest = rest
+        .expect(Fixed::Mark(Mark::CloseParen))?
+        .expect(Fixed::Mark(Mark::Semicolon))?;
     let form = Form::PutJint(operand);
     Ok((Stmt { line, form }, rest))
 }
 
 /// A statement whose `return`, in this line, is read.
-#[tactic(auto, using(crate::proofs::Regrouped::return_is))]
+#[tactic(auto, unfolding(crate::specs::Reading::return_at))]
 fn returned(
     alloc: Global,
     room: u32,
@@ -78,7 +48,8 @@ fn returned(
         let form = Form::Return(None);
         return Ok((Stmt { line, form }, lexemes.skip()));
     }
-    let (operand, rest) = ended(alloc, room, Fixed::Mark(Mark::Semicolon), lexemes)?;
+    let (operand, _, rest) = expression(alloc, room, 0, lexemes)?;
+    let rest = rest.expect(Fixed::Mark(Mark::Semicolon))?;
     let form = Form::Return(Some(operand));
     Ok((Stmt { line, form }, rest))
 }
@@ -100,19 +71,8 @@ fn perform(
     Ok((Stmt { line, form }, rest))
 }
 
-/// What comes after an equals sign up to the semicolon.
-#[inline]
-#[tactic(auto, unfolding(crate::specs::Steps::assigned_at, crate::specs::Steps::ended_at))]
-fn assigned(alloc: Global, room: u32, lexemes: Cursor<'_>) -> Result<(Expr, Cursor<'_>), ParseError>
-    requires { room ≤ 32 }
-    ensures { Gives (λ x. (expr_tree x.0, views x.1)) result (assigned_at room (views lexemes.entry)) }
-{
-    let rest = lexemes.expect(Fixed::Mark(Mark::Assign))?;
-    ended(alloc, room, Fixed::Mark(Mark::Semicolon), rest)
-}
-
-/// What an element of this name and index is set to.
-#[tactic(auto, using(crate::proofs::Regrouped::element_set_is))]
+/// An assignment to the element of this name and index, which are read.
+#[tactic(auto, unfolding(crate::specs::Steps::element_set_at))]
 fn set_to(
     alloc: Global,
     room: u32,
@@ -124,7 +84,9 @@ fn set_to(
     requires { room ≤ 32 }
     ensures { Gives (λ x. (stmt_tree x.0, views x.1)) result (element_set_at room line name (expr_tree index) (views lexemes.entry)) }
 {
-    let (value, rest) = assigned(alloc, room, lexemes)?;
+    let rest = lexemes.expect(Fixed::Mark(Mark::Assign))?;
+    let (value, _, rest) = expression(alloc, room, 0, rest)?;
+    let rest = rest.expect(Fixed::Mark(Mark::Semicolon))?;
     let form = Form::AssignElement(name, index, value);
     Ok((Stmt { line, form }, rest))
 }

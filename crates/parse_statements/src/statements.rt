@@ -6,13 +6,12 @@ ghost use Rattle.syntax.specs.Views.{expr_tree, test_tree, stmt_tree, block_tree
 ghost use Rattle.parse_lexemes.specs.declared.fault.ParseError.{ParseError};
 ghost use Rattle.parse_lexemes.specs.Results.{Gives};
 ghost use Rattle.parse_lexemes.specs.Lexemes.{views};
-ghost use Rattle.parse_expressions.specs.Steps.{made_of, two};
-ghost use Rattle.parse_statements.specs.Steps.{ReadTest, WaysRead, OtherRead, BlockRead, head_view, nested_head_at, starts_nested, takes_other, nested_made, nested_of, both_of, second_of, other_at, ways_at};
+ghost use Rattle.parse_statements.specs.Steps.{WaysRead, OtherRead, BlockRead, head_view, nested_head_at, starts_nested, takes_other, nested_made, nested_of, both_of, second_of, other_at, ways_at};
 ghost use Rattle.parse_statements.specs.Reading.{simple_at, inner, if_test_at, while_test_at, is_return, statement_at, block_at};
 
 use crate::declarations::{declared, starts_declaration};
-use crate::plain::{parenthesized, plain};
-use parse_expressions::{expect_two, test};
+use crate::plain::plain;
+use parse_expressions::{expression, test};
 use parse_lexemes::{Cursor, Fixed, ParseError, ParseRule};
 use scan::{Mark, Word};
 use std::alloc::Global;
@@ -66,31 +65,22 @@ fn is_return(stmt: &Stmt) -> bool
     matches!(stmt.form, Form::Return(_))
 }
 
-/// A test, and what comes after its parenthesis and the brace of a block.
-#[inline]
-fn tested(test: Test, lexemes: Cursor<'_>) -> Result<(Test, Cursor<'_>), ParseError>
-    ensures { Gives (λ x. (test_tree x.0, views x.1)) result (made_of {B = ReadTest}
-        (two (Fixed.Mark Mark.CloseParen) (Fixed.Mark Mark.OpenBrace) (views lexemes.entry))
-        (λ after. (test_tree test, after))) }
-{
-    let paren = Fixed::Mark(Mark::CloseParen);
-    let rest = expect_two(paren, Fixed::Mark(Mark::OpenBrace), lexemes)?;
-    Ok((test, rest))
-}
-
 /// What an `if` tests, in its parentheses, and what comes after the brace of its block.
-#[tactic(auto, using(crate::proofs::Regrouped::if_test_is))]
+#[tactic(auto, unfolding(crate::specs::Reading::if_test_at))]
 fn if_test(alloc: Global, room: u32, lexemes: Cursor<'_>) -> Result<(Test, Cursor<'_>), ParseError>
     requires { room ≤ 32 }
     ensures { Gives (λ x. (test_tree x.0, views x.1)) result (if_test_at room (views lexemes.entry)) }
 {
     let rest = lexemes.expect(Fixed::Mark(Mark::OpenParen))?;
     let (test, rest) = test(alloc, room, rest)?;
-    tested(test, rest)
+    let rest = rest
+        .expect(Fixed::Mark(Mark::CloseParen))?
+        .expect(Fixed::Mark(Mark::OpenBrace))?;
+    Ok((test, rest))
 }
 
 /// What a `while` tests, in its parentheses, and what comes after the brace of its block.
-#[tactic(auto, unfolding(crate::specs::Reading::while_test_at, crate::specs::Steps::parenthesized_at))]
+#[tactic(auto, unfolding(crate::specs::Reading::while_test_at))]
 fn while_test(
     alloc: Global,
     room: u32,
@@ -99,7 +89,12 @@ fn while_test(
     requires { room ≤ 32 }
     ensures { Gives (λ x. (expr_tree x.0, views x.1)) result (while_test_at room (views lexemes.entry)) }
 {
-    parenthesized(alloc, room, Fixed::Mark(Mark::OpenBrace), lexemes)
+    let rest = lexemes.expect(Fixed::Mark(Mark::OpenParen))?;
+    let (operand, _, rest) = expression(alloc, room, 0, rest)?;
+    let rest = rest
+        .expect(Fixed::Mark(Mark::CloseParen))?
+        .expect(Fixed::Mark(Mark::OpenBrace))?;
+    Ok((operand, rest))
 }
 
 /// How a statement with blocks begins, up to the brace of the first, where there is room for blocks, and what comes after that.
