@@ -44,7 +44,8 @@ fn made(function: Option<JniFunction>, arguments: &[Argument]) -> Option<MadeCal
 
 /// What a statement calls.
 pub fn called(form: &Form) -> Option<MadeCall<'_>>
-    ensures { (line : ℕ) → option_map made_value result ≡ option_map call_state_effect (function_called (form_tree line form.now)) }
+    ensures { (line : ℕ) → option_map made_value result
+        ≡ option_map call_state_effect (function_called (form_tree line form.now)) }
 {
     match own_call(form) {
         Some(call) => made(function_named(call.function.as_bytes()), &call.arguments),
@@ -79,7 +80,7 @@ fn is_commit(argument: &Argument) -> bool
     matches!(argument, Argument::Value(Expr::Named(Constant::Commit)))
 }
 
-/// Whether one of the arguments is.
+/// Whether one of the arguments is `JNI_COMMIT`.
 #[tactic(auto, using(crate::proofs::EffectLemmas::commit_first))]
 fn has_commit(arguments: &[Argument]) -> bool
     ensures { result ≡ has_commit (map argument_tree arguments.now) }
@@ -94,7 +95,8 @@ fn has_commit(arguments: &[Argument]) -> bool
 
 /// A Get's access, and the variable of its array or string.
 pub fn got<'a>(call: Option<MadeCall<'a>>) -> Option<(Access, Option<&'a [u8]>)>
-    ensures { option_map (λ g. (access_value g.0, option_map (λ x. x.now) g.1)) result ≡ got (option_map made_value call.entry) }
+    ensures { option_map (λ g. (access_value g.0, option_map (λ x. x.now) g.1)) result
+        ≡ got (option_map made_value call.entry) }
 {
     match call {
         Some(c) => match c.effect {
@@ -111,7 +113,8 @@ pub fn got<'a>(call: Option<MadeCall<'a>>) -> Option<(Access, Option<&'a [u8]>)>
 /// What a release of this access with these arguments releases.
 #[tactic(auto, using(crate::proofs::EffectLemmas::few_released))]
 fn release_with(access: Access, arguments: &[Argument]) -> Option<Release<'_>>
-    ensures { option_map release_value result ≡ released (Some (Releases (access_value access), map argument_tree arguments.now)) }
+    ensures { option_map release_value result
+        ≡ released (Some (Releases (access_value access), map argument_tree arguments.now)) }
 {
     match arguments {
         [object, buffer, modes @ ..] => Some(Release {

@@ -79,14 +79,16 @@ impl<'a> FlowState<'a> {
         call: Option<MadeCall<'a>>,
     ) -> Result<(), AllocError>
         requires { list_any (bytes_eq name.now) (names_of self.old) ≡ false }
-        ensures { OnOk result (self.new ≡ with_new self.old name.now (BufferIn (buffer_from (got (option_map made_value call.entry))))) }
+        ensures { OnOk result (self.new ≡ with_new self.old name.now
+            (BufferIn (buffer_from (got (option_map made_value call.entry))))) }
     {
         self.add(name.as_bytes(), VariableState::buffer_after(got(call)))
     }
 
     /// A variable is set by a statement with this call.
     fn assign(&mut self, name: &Name, call: Option<MadeCall<'a>>) -> Result<(), AllocError>
-        ensures { OnOk result (self.new ≡ with_changed self.old name.now (set_from (got (option_map made_value call.entry)))) }
+        ensures { OnOk result (self.new ≡ with_changed self.old name.now
+            (set_from (got (option_map made_value call.entry)))) }
     {
         self.set(name.as_bytes(), got(call))
     }
@@ -94,7 +96,8 @@ impl<'a> FlowState<'a> {
     /// What is left when a variable is set or declared by a statement with this call.
     fn settle(&mut self, form: &'a Form, call: Option<MadeCall<'a>>) -> Result<(), AllocError>
         requires { (line : ℕ) → AreNew (names_of self.old) (own_names (form_tree line form.now)) }
-        ensures { OnOk result ((line : ℕ) → self.new ≡ settled self.old (form_tree line form.now) (option_map made_value call.entry)) }
+        ensures { OnOk result ((line : ℕ) → self.new
+            ≡ settled self.old (form_tree line form.now) (option_map made_value call.entry)) }
     {
         match form {
             Form::Declare(kind, x, _) => match kind {
@@ -151,7 +154,7 @@ impl<'a> FlowState<'a> {
         }
     }
 
-    /// What is known where it does not.
+    /// What is known where the test doesn't hold.
     fn learn_false(&mut self, tested: Option<NullTest<'a>>)
         ensures { self.new ≡ taught_false self.old (option_map null_test_value tested.entry) }
     {
@@ -174,7 +177,7 @@ impl<'a> FlowState<'a> {
         }
     }
 
-    /// The state on the way where it does not.
+    /// The state on the way where the test doesn't hold.
     pub fn take_false(&mut self, test: &'a Test)
         ensures { self.new ≡ where_false self.old (test_tree test.now) }
     {

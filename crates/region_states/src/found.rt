@@ -5,7 +5,7 @@ use crate::states::{Condition, Facts, FlowState, VariableState};
 /// What is looked for among the variables.
 #[derive(Clone, Copy)]
 pub enum Sought<'n> {
-    /// One that meets this condition.
+    /// A variable that meets this condition.
     Meeting(Condition),
     /// A critical buffer.
     Critical,

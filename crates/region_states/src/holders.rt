@@ -82,7 +82,7 @@ impl<'a> Holders<'a> {
         }
     }
 
-    /// One more, where this is known of a held buffer.
+    /// One held buffer more, where this is known of one.
     pub fn note(&mut self, known: VariableState<'a>) -> Result<(), AllocError>
         requires { (x : Identifier) → count_of self.old x < 2 ^ 63 }
         ensures ok { OnOk result (CountsMore (variable_state known.entry) self.old self.new) }
@@ -94,7 +94,7 @@ impl<'a> Holders<'a> {
         }
     }
 
-    /// One less, where this was known of a held buffer.
+    /// One held buffer less, where this was known of one.
     pub fn forget(&mut self, known: VariableState<'a>)
         requires { (x : Identifier) → one_of x (variable_state known) ≤ count_of self.old x }
         ensures { CountsMore (variable_state known.entry) self.new self.old }
@@ -105,17 +105,18 @@ impl<'a> Holders<'a> {
         }
     }
 
-    /// One less for each of these that is known of a held buffer.
+    /// One held buffer less for each of these that is known of one.
     pub fn forget_all(&mut self, variables: &[VariableState<'a>])
         requires { (x : Identifier) → holders x (map variable_state variables.now) ≤ count_of self.old x }
-        ensures { (x : Identifier) → count_of self.old x ≡ holders x (map variable_state variables.now) + count_of self.new x }
+        ensures { (x : Identifier) → count_of self.old x
+            ≡ holders x (map variable_state variables.now) + count_of self.new x }
     {
         for v in variables {
             self.forget(*v);
         }
     }
 
-    /// What these hold.
+    /// The held buffers among these variables, counted.
     pub fn counted(
         alloc: Global,
         variables: &[VariableState<'a>],

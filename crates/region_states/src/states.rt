@@ -187,7 +187,8 @@ fn is_one(variables: &[VariableState], condition: Condition) -> bool
 /// Whether the answer to a question is yes about some variable after the first `count`.
 fn is_one_after(variables: &[VariableState], count: usize, condition: Condition) -> bool
     requires { count ≤ length variables.now }
-    ensures { result ≡ list_any (λ v. condition_holds condition (Some v)) (map variable_state (drop count variables.now)) }
+    ensures { result ≡ list_any (λ v. condition_holds condition (Some v))
+        (map variable_state (drop count variables.now)) }
 {
     is_one(&variables[count..], condition)
 }
@@ -340,7 +341,8 @@ impl<'a> FlowState<'a> {
     /// Whether a buffer of a block itself is held, where the block began with this many variables.
     pub fn holds_own(&self, count: usize) -> bool
         requires { count ≤ length (names_of self.now) }
-        ensures { (outer : RegionState) → count ≡ length (names_of outer) → Grows outer self.now → result ≡ holds_other outer self.now }
+        ensures { (outer : RegionState) → count ≡ length (names_of outer) → Grows outer self.now
+            → result ≡ holds_other outer self.now }
     {
         is_one_after(&self.facts.variables, count, Condition::Held)
     }
@@ -371,7 +373,8 @@ impl<'a> FlowState<'a> {
 
     /// Whether the array variable of a held buffer is of the level of the youngest frame.
     pub(crate) fn is_array_young(&self, known: VariableState) -> bool
-        ensures { result ≡ is_holder (λ held. is_level self.now.frames (state_of self.now held.1)) (variable_state known.entry) }
+        ensures { result ≡ is_holder (λ held. is_level self.now.frames (state_of self.now held.1))
+            (variable_state known.entry) }
     {
         match known.held() {
             Some((_, array)) => is_level(self.frames(), self.known_of(array)),
@@ -408,8 +411,10 @@ impl<'a> FlowState<'a> {
 
     /// The first `count` variables alone are left.
     pub fn truncate(&mut self, count: usize)
-        ensures left { (outer : RegionState) → count ≡ length (names_of outer) → Grows outer self.old → self.new ≡ left outer self.old }
-        ensures names { (outer : RegionState) → count ≡ length (names_of outer) → Grows outer self.old → names_of self.new ≡ names_of outer }
+        ensures left { (outer : RegionState) → count ≡ length (names_of outer) → Grows outer self.old
+            → self.new ≡ left outer self.old }
+        ensures names { (outer : RegionState) → count ≡ length (names_of outer) → Grows outer self.old
+            → names_of self.new ≡ names_of outer }
     {
         self.names.truncate(count);
         self.facts.truncate(count);
@@ -432,7 +437,8 @@ impl<'a> FlowState<'a> {
     pub fn exchange(&mut self, facts: &mut Facts<'a>)
         requires long { length facts.old.variables.items ≡ length (names_of self.old) }
         requires counted { HasCounts facts.old }
-        ensures after { (other : RegionState) → IsSaved facts.old other → names_of other ≡ names_of self.old → self.new ≡ other }
+        ensures after { (other : RegionState) → IsSaved facts.old other → names_of other ≡ names_of self.old
+            → self.new ≡ other }
         ensures before { IsSaved facts.new self.old }
     {
         swap(&mut self.facts, facts);
@@ -440,7 +446,8 @@ impl<'a> FlowState<'a> {
 
     /// Whether a state is the same as the one that was saved.
     pub fn is_as_saved(&self, saved: &Facts) -> bool
-        ensures { (other : RegionState) → IsSaved saved.now other → names_of other ≡ names_of self.now → result ≡ same_state other self.now }
+        ensures { (other : RegionState) → IsSaved saved.now other → names_of other ≡ names_of self.now
+            → result ≡ same_state other self.now }
     {
         are_same(&saved.variables, &self.facts.variables) && saved.frames == self.facts.frames
     }

@@ -109,7 +109,8 @@ impl<'a> VariableState<'a> {
 
 /// The references of this level and of higher ones die.
 fn kill_from(variables: &mut Vec<VariableState>, level: usize)
-    ensures { map variable_state variables.new.items ≡ map (killed_from level) (map variable_state variables.old.items) }
+    ensures { map variable_state variables.new.items
+        ≡ map (killed_from level) (map variable_state variables.old.items) }
 {
     for i in 0..variables.len() {
         variables[i] = variables[i].killed_from(level);

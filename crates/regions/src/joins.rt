@@ -55,7 +55,8 @@ fn join_ways<'a>(
     requires counted { HasCounts known.old }
     ensures goes { (a : RegionState) → IsSaved known.old a → names_of a ≡ names_of state.old
         → Goes result state.new (join_ways line (Ok (way_value first a)) (Ok (way_value second state.old))) }
-    ensures names { (a : RegionState) → IsSaved known.old a → names_of a ≡ names_of state.old → IfOk result (λ _. names_of state.new ≡ names_of state.old) }
+    ensures names { (a : RegionState) → IsSaved known.old a → names_of a ≡ names_of state.old
+        → IfOk result (λ _. names_of state.new ≡ names_of state.old) }
 {
     match first {
         Way::Returned => Ok(second),
@@ -106,7 +107,8 @@ pub(crate) fn one_way<'a>(
     requires { Awaits first state.old }
     ensures goes { (expected : WayOrFault) (other : RegionState) → Branches first.entry state.old expected other
         → Goes result state.new (join_ways line expected (Ok (On other))) }
-    ensures names { (names : List Identifier) → IfOk first.entry (λ _. names_of state.old ≡ names) → IfOk result (λ _. names_of state.new ≡ names) }
+    ensures names { (names : List Identifier) → IfOk first.entry (λ _. names_of state.old ≡ names)
+        → IfOk result (λ _. names_of state.new ≡ names) }
 {
     match first {
         Ok(first) => join(state, line, first, Ok(Way::On)),
@@ -141,7 +143,8 @@ pub(crate) fn take_then<'a>(
     Ok(known)
 }
 
-/// The end of that branch, with this answer, and the beginning of the other, where before the test this was known.
+/// The end of a test's first branch, with this answer, and the beginning of the second, where before the test this was
+/// known.
 pub(crate) fn take_else<'a>(
     state: &mut FlowState<'a>,
     test: &'a Test,

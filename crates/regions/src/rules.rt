@@ -1,15 +1,16 @@
 //! The rules on buffers, references and frames that one statement can break.
 
-ghost use Rattle.std.specs.Prelude.{◌≡◌, ℕ, bytes_eq};
+ghost use Rattle.std.specs.Prelude.{◌≡◌, ℕ, Option, bytes_eq};
 ghost use Rattle.std.specs.Option.{option_map, is_some};
 ghost use Rattle.base.specs.Options.{some_passes};
 ghost use Rattle.syntax.specs.Parts.{assigned_name};
+ghost use Rattle.syntax.specs.Tree.{Stmt};
 ghost use Rattle.syntax.specs.Views.{form_tree};
 ghost use Rattle.region_rules.specs.FirstFaults.{first_broken};
 ghost use Rattle.region_rules.specs.RegionRules.{CallWhileCritical, ReturnWithBuffer, HeldBuffer, UntestedBuffer, WrongBuffer, ReturnInFrame, PopLastFrame, DeadReference, ArrayInUse, WrongLevel, is_return, is_put_jint, is_level, is_mismatched};
 ghost use Rattle.region_rules.specs.RegionStates.{state_of};
 ghost use Rattle.region_states.specs.StatesInMemory.{variable_state, asks};
-ghost use Rattle.region_states.specs.StateEffects.{made_value, release_value, got};
+ghost use Rattle.region_states.specs.StateEffects.{EffectCall, made_value, release_value, got};
 ghost use Rattle.regions.specs.Findings.{rule_of};
 ghost use Rattle.region_states.specs.Judgements.{judged, first_judged, is_wrong_release, is_other_level, frames_after, pops_array, gets_elsewhere};
 
@@ -85,13 +86,15 @@ pub(crate) fn assigned_name(form: &Form) -> Option<&[u8]>
 }
 
 fn breaks_critical(state: &FlowState, form: &Form, call: Option<MadeCall>) -> bool
-    ensures { (line : ℕ) → result ≡ judged CallWhileCritical state.now (form_tree line form.now) (option_map made_value call.entry) }
+    ensures { (line : ℕ) → result ≡ judged CallWhileCritical state.now (form_tree line form.now)
+        (option_map made_value call.entry) }
 {
     state.holds_critical() && (is_put_jint(form) || is_forbidden(call))
 }
 
-fn breaks_return(state: &FlowState, form: &Form, call: Option<MadeCall>) -> bool
-    ensures { (line : ℕ) → result ≡ judged ReturnWithBuffer state.now (form_tree line form.now) (option_map made_value call.entry) }
+fn breaks_return(state: &FlowState, form: &Form) -> bool
+    ensures { (line : ℕ) (call : Option EffectCall)
+        → result ≡ judged ReturnWithBuffer state.now (form_tree line form.now) call }
 {
     is_return(form) && state.holds_buffer()
 }
@@ -107,14 +110,16 @@ fn gets(call: Option<MadeCall>) -> bool
 }
 
 fn breaks_held(state: &FlowState, form: &Form, call: Option<MadeCall>) -> bool
-    ensures { (line : ℕ) → result ≡ judged HeldBuffer state.now (form_tree line form.now) (option_map made_value call.entry) }
+    ensures { (line : ℕ) → result ≡ judged HeldBuffer state.now (form_tree line form.now)
+        (option_map made_value call.entry) }
 {
     gets(call) && state.some_meets(Condition::Held, assigned_name(form))
 }
 
 /// Whether an untested buffer is released.
 fn releases_untested(state: &FlowState, release: Option<Release>) -> bool
-    ensures { result ≡ some_passes (λ release. some_passes (asks Condition.Untested state.now) release.buffer) (option_map release_value release.entry) }
+    ensures { result ≡ some_passes (λ release. some_passes (asks Condition.Untested state.now) release.buffer)
+        (option_map release_value release.entry) }
 {
     match release {
         Some(r) => state.some_meets(Condition::Untested, r.buffer),
@@ -123,7 +128,8 @@ fn releases_untested(state: &FlowState, release: Option<Release>) -> bool
 }
 
 fn breaks_untested(state: &FlowState, form: &Form, call: Option<MadeCall>) -> bool
-    ensures { (line : ℕ) → result ≡ judged UntestedBuffer state.now (form_tree line form.now) (option_map made_value call.entry) }
+    ensures { (line : ℕ) → result ≡ judged UntestedBuffer state.now (form_tree line form.now)
+        (option_map made_value call.entry) }
 {
     reads(state, Condition::Untested, form) || releases_untested(state, released(call))
 }
@@ -157,7 +163,8 @@ fn is_mismatched(release: Release, known: Option<VariableState>) -> bool
 
 /// Whether the variable that is released wants another release.
 pub(crate) fn mismatches(state: &FlowState, release: Release) -> bool
-    ensures { result ≡ some_passes (λ x. is_mismatched (release_value release.entry) (state_of state.now x)) (option_map (λ x. x.now) release.entry.buffer) }
+    ensures { result ≡ some_passes (λ x. is_mismatched (release_value release.entry) (state_of state.now x))
+        (option_map (λ x. x.now) release.entry.buffer) }
 {
     match release.buffer {
         Some(x) => is_mismatched(release, state.known_of(x)),
@@ -181,25 +188,28 @@ fn releases_wrongly(state: &FlowState, release: Option<Release>) -> bool
 }
 
 fn breaks_wrong(state: &FlowState, form: &Form, call: Option<MadeCall>) -> bool
-    ensures { (line : ℕ) → result ≡ judged WrongBuffer state.now (form_tree line form.now) (option_map made_value call.entry) }
+    ensures { (line : ℕ) → result ≡ judged WrongBuffer state.now (form_tree line form.now)
+        (option_map made_value call.entry) }
 {
     uses(state, Condition::Free, form) || releases_wrongly(state, released(call))
 }
 
-fn breaks_frame(state: &FlowState, form: &Form, call: Option<MadeCall>) -> bool
-    ensures { (line : ℕ) → result ≡ judged ReturnInFrame state.now (form_tree line form.now) (option_map made_value call.entry) }
+fn breaks_frame(state: &FlowState, form: &Form) -> bool
+    ensures { (line : ℕ) (call : Option EffectCall)
+        → result ≡ judged ReturnInFrame state.now (form_tree line form.now) call }
 {
     is_return(form) && state.frames() > 1
 }
 
-fn breaks_pop(state: &FlowState, form: &Form, call: Option<MadeCall>) -> bool
-    ensures { (line : ℕ) → result ≡ judged PopLastFrame state.now (form_tree line form.now) (option_map made_value call.entry) }
+fn breaks_pop(state: &FlowState, call: Option<MadeCall>) -> bool
+    ensures { (s : Stmt) → result ≡ judged PopLastFrame state.now s (option_map made_value call.entry) }
 {
     popped(call) && state.frames() <= 1
 }
 
-fn breaks_dead(state: &FlowState, form: &Form, call: Option<MadeCall>) -> bool
-    ensures { (line : ℕ) → result ≡ judged DeadReference state.now (form_tree line form.now) (option_map made_value call.entry) }
+fn breaks_dead(state: &FlowState, form: &Form) -> bool
+    ensures { (line : ℕ) (call : Option EffectCall)
+        → result ≡ judged DeadReference state.now (form_tree line form.now) call }
 {
     uses(state, Condition::Dead, form)
 }
@@ -221,7 +231,8 @@ pub(crate) fn gets_elsewhere(state: &FlowState, call: Option<MadeCall>) -> bool
 }
 
 fn breaks_array(state: &FlowState, form: &Form, call: Option<MadeCall>) -> bool
-    ensures { (line : ℕ) → result ≡ judged ArrayInUse state.now (form_tree line form.now) (option_map made_value call.entry) }
+    ensures { (line : ℕ) → result ≡ judged ArrayInUse state.now (form_tree line form.now)
+        (option_map made_value call.entry) }
 {
     state.is_some_in_use(assigned_name(form))
         || state.is_some_in_use(deleted(call))
@@ -248,7 +259,8 @@ fn is_other_level(state: &FlowState, frames: usize, name: &[u8]) -> bool
 }
 
 fn breaks_level(state: &FlowState, form: &Form, call: Option<MadeCall>) -> bool
-    ensures { (line : ℕ) → result ≡ judged WrongLevel state.now (form_tree line form.now) (option_map made_value call.entry) }
+    ensures { (line : ℕ) → result ≡ judged WrongLevel state.now (form_tree line form.now)
+        (option_map made_value call.entry) }
 {
     match assigned_name(form) {
         Some(x) => is_other_level(state, frames_after(state, call), x),
@@ -262,12 +274,13 @@ pub(crate) fn first_judged(
     form: &Form,
     call: Option<MadeCall>,
 ) -> Option<RegionRule>
-    ensures { (line : ℕ) → option_map rule_of result ≡ first_judged state.now (form_tree line form.now) (option_map made_value call.entry) }
+    ensures { (line : ℕ) → option_map rule_of result
+        ≡ first_judged state.now (form_tree line form.now) (option_map made_value call.entry) }
 {
     if breaks_critical(state, form, call) {
         return Some(RegionRule::CallWhileCritical);
     }
-    if breaks_return(state, form, call) {
+    if breaks_return(state, form) {
         return Some(RegionRule::ReturnWithBuffer);
     }
     if breaks_held(state, form, call) {
@@ -279,13 +292,13 @@ pub(crate) fn first_judged(
     if breaks_wrong(state, form, call) {
         return Some(RegionRule::WrongBuffer);
     }
-    if breaks_frame(state, form, call) {
+    if breaks_frame(state, form) {
         return Some(RegionRule::ReturnInFrame);
     }
-    if breaks_pop(state, form, call) {
+    if breaks_pop(state, call) {
         return Some(RegionRule::PopLastFrame);
     }
-    if breaks_dead(state, form, call) {
+    if breaks_dead(state, form) {
         return Some(RegionRule::DeadReference);
     }
     if breaks_array(state, form, call) {

@@ -27,7 +27,8 @@ fn end(state: &mut FlowState, count: usize, way: Way, line: usize) -> Result<Way
     requires { count ≤ length (names_of state.old) }
     ensures goes { (outer : RegionState) → count ≡ length (names_of outer) → Grows outer state.old
         → Goes result state.new (go_on outer (way_value way state.old) (End line)) }
-    ensures names { (outer : RegionState) → count ≡ length (names_of outer) → Grows outer state.old → IfOk result (λ _. names_of state.new ≡ names_of outer) }
+    ensures names { (outer : RegionState) → count ≡ length (names_of outer) → Grows outer state.old
+        → IfOk result (λ _. names_of state.new ≡ names_of outer) }
 {
     match way {
         Way::On => {
@@ -48,7 +49,8 @@ fn end(state: &mut FlowState, count: usize, way: Way, line: usize) -> Result<Way
 fn plain_way<'a>(state: &mut FlowState<'a>, form: &'a Form) -> Result<Way, CheckError>
     requires { (line : ℕ) → AreNew (names_of state.old) (own_names (form_tree line form.now)) }
     ensures goes { (line : ℕ) → Goes result state.new (plain_way state.old (form_tree line form.now)) }
-    ensures names { (line : ℕ) → IfOk result (λ _. names_of state.new ≡ names_of state.old ++ own_names (form_tree line form.now)) }
+    ensures names { (line : ℕ) → IfOk result (λ _. names_of state.new
+        ≡ names_of state.old ++ own_names (form_tree line form.now)) }
 {
     if is_return(form) {
         return Ok(Way::Returned);
@@ -92,7 +94,8 @@ fn other_way<'a>(
     ensures goes { (outer : RegionState) (expected : WayOrFault) (other : RegionState) → names_of outer ≡ names_of other
         → Branches first.entry state.old expected other
         → Goes result state.new (join_ways line expected (way_of_block outer other (block_tree block.now))) }
-    ensures names { (names : List Identifier) → IfOk first.entry (λ _. names_of state.old ≡ names) → IfOk result (λ _. names_of state.new ≡ names) }
+    ensures names { (names : List Identifier) → IfOk first.entry (λ _. names_of state.old ≡ names)
+        → IfOk result (λ _. names_of state.new ≡ names) }
 {
     match first {
         Ok(first) => {
@@ -153,7 +156,8 @@ fn block_way<'a>(
     block: &'a Block,
 ) -> Result<Way, CheckError>
     requires { DeclareNew (names_of state.old) (block_tree block.now) }
-    ensures goes { (outer : RegionState) → names_of outer ≡ names_of state.old → Goes result state.new (way_of_block outer state.old (block_tree block.now)) }
+    ensures goes { (outer : RegionState) → names_of outer ≡ names_of state.old
+        → Goes result state.new (way_of_block outer state.old (block_tree block.now)) }
     ensures names { IfOk result (λ _. names_of state.new ≡ names_of state.old) }
 {
     let count = state.len();
