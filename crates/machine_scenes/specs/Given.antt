@@ -101,7 +101,7 @@ HasBuffer space buffers vs o actual = Unit {0}
 abbrev pub ReferenceIsThere : Space → Option ℕ → Type 0
 ReferenceIsThere space reference = (a : ℕ) → reference ≡ Some a → IsAddress space a
 
--- each operand is
+-- each operand gives NULL or the address of a block
 abbrev pub AreAddresses : Space → References → List Operand → Type 0
 AreAddresses space references [] = Unit {0}
 AreAddresses space references (o ∷ operands) = ReferenceIsThere space (operand_at references o) × AreAddresses space references operands
@@ -149,7 +149,7 @@ field_there classes (Some h) = unwrap_or (field_of classes h) no_field
 abbrev pub FieldIsThere : Classes → Option FieldHandle → Type 0
 FieldIsThere classes field = (h : FieldHandle) → field ≡ Some h → IsSome (field_of classes h)
 
--- each operand that is a field ID is
+-- each operand that is a field ID gives NULL or a handle of a field
 abbrev pub AreHandles : Classes → List (Option FieldHandle) → List Operand → Type 0
 AreHandles classes fields [] = Unit {0}
 AreHandles classes fields (o ∷ operands) = FieldIsThere classes (field_at fields o) × AreHandles classes fields operands
