@@ -105,7 +105,7 @@ fn only_local(keys: &[Option<Local>], locals: &Locals, operands: &[Operand]) -> 
 }
 
 /// The address that the slot of a local reference gives.
-// `References::local` does the same, but takes the statics and the global references along, which aren't looked at here.
+// `References::local` does the same, but takes the statics and the global references along, which aren't asked here.
 #[inline(always)]
 fn address_in(keys: &[Option<Local>], locals: &Locals, slot: u32) -> Option<Addr>
     ensures { result ≡ address_of locals.now (held_in (slice_get keys.now slot)) }

@@ -29,7 +29,8 @@ no_claim = record { account = nothing; kept = none }
 
 -- what was kept holds
 abbrev pub IsWithin : Fate → Fate → Type 0
-IsWithin kept fate = (kept.stopped ≡ true → fate.stopped ≡ true) × (kept.waits ≡ true → fate.waits ≡ true) × (kept.full ≡ true → fate.full ≡ true)
+IsWithin kept fate = (kept.stopped ≡ true → fate.stopped ≡ true) × (kept.waits ≡ true → fate.waits ≡ true)
+    × (kept.full ≡ true → fate.full ≡ true)
 
 -- a claim is right
 abbrev pub Right : Known → ℕ → Claim → Type 0

@@ -151,12 +151,14 @@ pub fn new_cell(alloc: Global) -> Result<(Cell, Pass), AllocError>
 
 /// The keeper takes in what the pass of a seat knows.
 fn take_in(cell: &Cell, keeper: &mut Pass, seat: &mut Pass)
-    requires own { (keeper.old.table_id ≡ cell.now.table.shared.table_id) × (seat.old.table_id ≡ cell.now.table.shared.table_id) }
+    requires own { (keeper.old.table_id ≡ cell.now.table.shared.table_id)
+        × (seat.old.table_id ≡ cell.now.table.shared.table_id) }
     requires keeper { cell_view keeper.old ≡ knower (cell_view keeper.old).table (cell_view keeper.old).next }
     requires seat { cell_view seat.old ≡ sitting (cell_view seat.old).thread (cell_view seat.old).account }
     ensures own { keeper.new.table_id ≡ keeper.old.table_id }
     ensures hosts { cell_view keeper.new
-        ≡ hosting (cell_view keeper.old).table (cell_view keeper.old).next (cell_view seat.old).thread (cell_view seat.old).account }
+        ≡ hosting (cell_view keeper.old).table (cell_view keeper.old).next
+        (cell_view seat.old).thread (cell_view seat.old).account }
 {
     let pass = cell.split_pass::<Leaves>(seat);
     cell.join_pass::<Takes>(keeper, pass);
@@ -166,13 +168,16 @@ fn take_in(cell: &Cell, keeper: &mut Pass, seat: &mut Pass)
 fn hear<E: Becomes, R: Wait>(rt: &R, cell: &Cell, keeper: &mut Pass)
     requires own { keeper.old.table_id ≡ cell.now.table.shared.table_id }
     requires hosts { cell_view keeper.old
-        ≡ hosting (cell_view keeper.old).table (cell_view keeper.old).next (cell_view keeper.old).thread (cell_view keeper.old).account }
+        ≡ hosting (cell_view keeper.old).table (cell_view keeper.old).next
+        (cell_view keeper.old).thread (cell_view keeper.old).account }
     requires here { Right (cell_view keeper.old).table (cell_view keeper.old).thread (cell_view keeper.old).account
         → Right E.table (cell_view keeper.old).thread E.account }
-    requires others { (j : ℕ) (c : Claim) → j ≢ (cell_view keeper.old).thread → Right (cell_view keeper.old).table j c → Right E.table j c }
+    requires others { (j : ℕ) (c : Claim) → j ≢ (cell_view keeper.old).thread → Right (cell_view keeper.old).table j c
+        → Right E.table j c }
     ensures own { keeper.new.table_id ≡ keeper.old.table_id }
     ensures was { Right (cell_view keeper.old).table (cell_view keeper.old).thread (cell_view keeper.old).account }
-    ensures hosts { cell_view keeper.new ≡ hosting E.table (cell_view keeper.old).next (cell_view keeper.old).thread E.account }
+    ensures hosts { cell_view keeper.new
+        ≡ hosting E.table (cell_view keeper.old).next (cell_view keeper.old).thread E.account }
 {
     cell.load_as::<Settles<E>, R>(rt, keeper);
 }
@@ -181,9 +186,12 @@ fn hear<E: Becomes, R: Wait>(rt: &R, cell: &Cell, keeper: &mut Pass)
 fn let_go(cell: &Cell, keeper: &mut Pass) -> Pass
     requires own { keeper.old.table_id ≡ cell.now.table.shared.table_id }
     requires hosts { cell_view keeper.old
-        ≡ hosting (cell_view keeper.old).table (cell_view keeper.old).next (cell_view keeper.old).thread (cell_view keeper.old).account }
-    ensures keeper { (keeper.new.table_id ≡ keeper.old.table_id) × (cell_view keeper.new ≡ knower (cell_view keeper.old).table (cell_view keeper.old).next) }
-    ensures seat { (result.table_id ≡ keeper.old.table_id) × (cell_view result ≡ sitting (cell_view keeper.old).thread (cell_view keeper.old).account) }
+        ≡ hosting (cell_view keeper.old).table (cell_view keeper.old).next
+        (cell_view keeper.old).thread (cell_view keeper.old).account }
+    ensures keeper { (keeper.new.table_id ≡ keeper.old.table_id)
+        × (cell_view keeper.new ≡ knower (cell_view keeper.old).table (cell_view keeper.old).next) }
+    ensures seat { (result.table_id ≡ keeper.old.table_id)
+        × (cell_view result ≡ sitting (cell_view keeper.old).thread (cell_view keeper.old).account) }
 {
     cell.split_pass::<LetsGo>(keeper)
 }
@@ -198,15 +206,19 @@ pub fn settle<E: Becomes, M, R: Wait>(
     _thread: u8,
     _kept: Fate,
 )
-    requires own { (keeper.old.table_id ≡ cell.now.table.shared.table_id) × (seat.old.table_id ≡ cell.now.table.shared.table_id) }
+    requires own { (keeper.old.table_id ≡ cell.now.table.shared.table_id)
+        × (seat.old.table_id ≡ cell.now.table.shared.table_id) }
     requires keeper { cell_view keeper.old ≡ knower (cell_view keeper.old).table (cell_view keeper.old).next }
     requires seat { cell_view seat.old ≡ sitting (cell_view seat.old).thread (cell_view seat.old).account }
     requires here { Right (cell_view keeper.old).table (cell_view seat.old).thread (cell_view seat.old).account
         → Right E.table (cell_view seat.old).thread E.account }
-    requires others { (j : ℕ) (c : Claim) → j ≢ (cell_view seat.old).thread → Right (cell_view keeper.old).table j c → Right E.table j c }
+    requires others { (j : ℕ) (c : Claim) → j ≢ (cell_view seat.old).thread → Right (cell_view keeper.old).table j c
+        → Right E.table j c }
     ensures was { Right (cell_view keeper.old).table (cell_view seat.old).thread (cell_view seat.old).account }
-    ensures keeper { (keeper.new.table_id ≡ keeper.old.table_id) × (cell_view keeper.new ≡ knower E.table (cell_view keeper.old).next) }
-    ensures seat { (seat.new.table_id ≡ cell.now.table.shared.table_id) × (cell_view seat.new ≡ sitting (cell_view seat.old).thread E.account) }
+    ensures keeper { (keeper.new.table_id ≡ keeper.old.table_id)
+        × (cell_view keeper.new ≡ knower E.table (cell_view keeper.old).next) }
+    ensures seat { (seat.new.table_id ≡ cell.now.table.shared.table_id)
+        × (cell_view seat.new ≡ sitting (cell_view seat.old).thread E.account) }
 {
     take_in(cell, keeper, seat);
     hear::<E, R>(rt, cell, keeper);
@@ -224,7 +236,8 @@ pub fn open<E: Becomes, M>(cell: &Cell, keeper: &mut Pass, _machine: &M)
 
 /// The keeper takes in a seat's pass, and learns that its account is right.
 pub fn check<R: Wait>(rt: &R, cell: &Cell, keeper: &mut Pass, seat: &mut Pass)
-    requires own { (keeper.old.table_id ≡ cell.now.table.shared.table_id) × (seat.old.table_id ≡ cell.now.table.shared.table_id) }
+    requires own { (keeper.old.table_id ≡ cell.now.table.shared.table_id)
+        × (seat.old.table_id ≡ cell.now.table.shared.table_id) }
     requires keeper { cell_view keeper.old ≡ knower (cell_view keeper.old).table (cell_view keeper.old).next }
     requires seat { cell_view seat.old ≡ sitting (cell_view seat.old).thread (cell_view seat.old).account }
     ensures is { Right (cell_view keeper.old).table (cell_view seat.old).thread (cell_view seat.old).account }
