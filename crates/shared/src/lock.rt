@@ -66,7 +66,8 @@ impl<'a, J: Naming> Shared<'a, J> {
         self.desk.lock(rt).turn(rt, &self.cell, seat)
     }
 
-    /// Lets the machine collect. No seat's account changes. An `Err` says that host memory was refused; then nothing has moved.
+    /// Lets the machine collect. No seat's account changes.
+    /// An `Err` says that host memory was refused; then nothing has moved.
     pub fn collect<R: Wait>(&self, rt: &R) -> Result<(), AllocError> {
         self.desk.lock(rt).collect()
     }
@@ -89,7 +90,8 @@ impl<'a, J: Naming> Shared<'a, J> {
         ensures runs { IfOk result (λ m. IsSome (replay_of m)) }
         ensures agree { IfOk result (λ m. All (Agrees m) seats.items) }
         ensures complete { IfOk result (λ m. is_one_each (length J.world.threads) seats.items ≡ true) }
-        ensures refused { IfErr result (λ r. (r.0 ≡ self.entry) × (r.1 ≡ seats) × (is_one_each (length J.world.threads) seats.items ≡ false)) }
+        ensures refused { IfErr result (λ r. (r.0 ≡ self.entry) × (r.1 ≡ seats)
+            × (is_one_each (length J.world.threads) seats.items ≡ false)) }
     {
         if !one_each(self.threads, seats.as_slice()) {
             return Err((self, seats));

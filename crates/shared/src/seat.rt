@@ -85,7 +85,8 @@ fn give<J: Naming>(cell: &Cell, keeper: &mut Pass, thread: u8, lines: Vec<i32>) 
     requires fits { (0 < thread) × (thread ≤ length J.world.threads) }
     requires known { length (cell_view keeper.old).table.table ≡ length J.world.threads + 1 }
     requires lines { (unwrap_or (slice_get (cell_view keeper.old).table.table thread) nothing).printed ≡ lines.items }
-    ensures keeper { (keeper.new.table_id ≡ J.cell) × (cell_view keeper.new ≡ knower (cell_view keeper.old).table (thread + 1)) }
+    ensures keeper { (keeper.new.table_id ≡ J.cell)
+        × (cell_view keeper.new ≡ knower (cell_view keeper.old).table (thread + 1)) }
     ensures seat { result ≡ seat_in (cell_view keeper.old).table.table thread }
 {
     let pass = cell.split_pass::<Gives>(keeper);
@@ -113,8 +114,10 @@ pub(crate) fn give_all<J: Naming>(
     requires printed { (k : ℕ) → k < length J.world.threads
         → (unwrap_or (slice_get (cell_view keeper.old).table.table (k + 1)) nothing).printed
         ≡ numbers_of printed.now (k + 1) }
-    ensures keeper { OnOk result ((keeper.new.table_id ≡ J.cell) × (cell_view keeper.new ≡ knower (cell_view keeper.old).table (length J.world.threads + 1))) }
-    ensures seats { IfOk result (λ seats. seats.items ≡ seats_in (cell_view keeper.old).table.table (length J.world.threads)) }
+    ensures keeper { OnOk result ((keeper.new.table_id ≡ J.cell)
+        × (cell_view keeper.new ≡ knower (cell_view keeper.old).table (length J.world.threads + 1))) }
+    ensures seats { IfOk result (λ seats. seats.items
+        ≡ seats_in (cell_view keeper.old).table.table (length J.world.threads)) }
 {
     let mut seats = Vec::new(alloc);
     for k in 0..threads {

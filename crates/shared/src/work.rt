@@ -166,8 +166,8 @@ impl<'a, J: Naming + Send + Sync> Shared<'a, J> {
     }
 }
 
-/// Lets workers run a machine, with a name for what is shared. The machine is dropped where there is no memory for the
-/// seats, too.
+/// Lets workers run a machine, with a name for what is shared.
+/// The machine is dropped where there is no memory for the seats, too.
 fn run_named<'a, J: Naming + Send + Sync, G: Gate + Sync, R: Threads + Wait + Sync>(
     rt: &R,
     alloc: Global,
@@ -191,8 +191,8 @@ fn run_named<'a, J: Naming + Send + Sync, G: Gate + Sync, R: Threads + Wait + Sy
     }
 }
 
-/// Runs a worker thread for each thread of the machine, and hands it back. `Err` says that a worker couldn't be started, or
-/// that there was no memory for the seats.
+/// Runs a worker thread for each thread of the machine, and hands it back.
+/// `Err` says that a worker couldn't be started, or that there was no memory for the seats.
 pub fn run_workers<'a, G: Gate + Sync, R: Threads + Wait + Sync>(
     rt: &R,
     alloc: Global,
