@@ -1,15 +1,10 @@
 -- Steps of reading that have functions of their own.
 use Rattle.std.specs.Prelude.{ℕ, ◌-◌, ◌==◌, List, Result, Ok, Err, if◌then◌else◌}
-use Rattle.base.specs.Bytes.{Identifier}
-use Rattle.scan.specs.declared.token.Mark.TheVariants as marks
-use Rattle.scan.specs.declared.reserved.Word.TheVariants as words
-use Rattle.syntax.specs.Tree.{ReferenceType, ResultType, StaticItem, FunctionItem}
+use Rattle.syntax.specs.Tree.{StaticItem, FunctionItem}
 use Rattle.parse_lexemes.specs.declared.fault.ParseRule.TheVariants.{TooMany}
 use Rattle.parse_lexemes.specs.declared.fault.ParseError.{ParseError}
 use Rattle.parse_lexemes.specs.Results.{◌>>=◌}
-use Rattle.parse_lexemes.specs.declared.first.Fixed.TheVariants as fixed
-use Rattle.parse_lexemes.specs.Lexemes.{Lexed, expect, name_at, fault_at}
-use Rattle.parse_lexemes.specs.Reading.{reference_type_at, result_type_at, found}
+use Rattle.parse_lexemes.specs.Lexemes.{Lexed, fault_at}
 use Rattle.parse.specs.Reading.{ReadItem, function_at, static_at}
 
 -- a function, where there may be this many more functions and statics

@@ -1,6 +1,5 @@
 -- Steps of reading that have functions of their own.
 use Rattle.std.specs.Prelude.{ℕ, ◌==◌, Bool, true, false, ◌&&◌, ◌||◌, List, Option, Some, None, Result, Ok, Err, if◌then◌else◌}
-use Rattle.base.specs.Limits.{most_elements}
 use Rattle.base.specs.Bytes.{Identifier}
 use Rattle.scan.specs.declared.token.Mark.TheVariants as marks
 use Rattle.scan.specs.declared.reserved.Word.TheVariants as words
@@ -9,10 +8,9 @@ use Rattle.syntax.specs.Views.{expr_tree, test_tree}
 use Rattle.parse_lexemes.specs.declared.fault.ParseRule.TheVariants.{TooHigh}
 use Rattle.parse_lexemes.specs.declared.fault.ParseError.{ParseError}
 use Rattle.parse_lexemes.specs.Results.{◌>>=◌}
-use Rattle.parse_lexemes.specs.declared.first.Fixed.{Fixed}
 use Rattle.parse_lexemes.specs.declared.first.Fixed.TheVariants as fixed
-use Rattle.parse_lexemes.specs.Lexemes.{Lexed, expect, name_at, fault_at}
-use Rattle.parse_lexemes.specs.Reading.{number_at, starts_with, rest_of}
+use Rattle.parse_lexemes.specs.Lexemes.{Lexed, expect, fault_at}
+use Rattle.parse_lexemes.specs.Reading.{starts_with, rest_of}
 use Rattle.parse_expressions.specs.Reading.{expr_at}
 use Rattle.parse_statements.specs.declared.statements.Head.{Head as InMemory}
 use Rattle.parse_statements.specs.declared.statements.Head.TheVariants as head
