@@ -154,7 +154,8 @@ fn with_command<'a>(
     line: Command<'a>,
     command: Result<Command<'a>, AllocError>,
 ) -> Result<Command<'a>, AllocError>
-    ensures { (words : Shape) → IfOk command.entry (IsLeaf words) → IfOk result (λ c. app_of c ≡ with_subcommand (app_of line.entry) words) }
+    ensures { (words : Shape) → IfOk command.entry (IsLeaf words)
+        → IfOk result (λ c. app_of c ≡ with_subcommand (app_of line.entry) words) }
 {
     match command {
         Ok(command) => line.subcommand(command),
@@ -186,7 +187,8 @@ fn with_run<'a>(alloc: Global) -> Result<Command<'a>, AllocError>
 
 /// The first three.
 fn with_replay<'a>(alloc: Global) -> Result<Command<'a>, AllocError>
-    ensures { IfOk result (λ c. app_of c ≡ with_subcommand (with_subcommand (with_subcommand line check_words) run_words) replay_words) }
+    ensures { IfOk result (λ c. app_of c ≡ with_subcommand
+        (with_subcommand (with_subcommand line check_words) run_words) replay_words) }
 {
     with_command(with_run(alloc)?, replay_command(alloc))
 }

@@ -25,8 +25,10 @@ fn run_of<'a>(
     schedule: Option<&'a str>,
     workers: Option<&'a str>,
 ) -> Option<Command<'a>>
-    ensures { (rows : List Row) → HasValue rows (codes "PROG") program.entry.now → HasValue rows (codes "WORLD") world.entry.now
-        → option_map (λ w. w.now) schedule.entry ≡ first_of (codes "FILE") rows → option_map (λ w. w.now) workers.entry ≡ first_of (codes "WORKERS") rows
+    ensures { (rows : List Row) → HasValue rows (codes "PROG") program.entry.now
+        → HasValue rows (codes "WORLD") world.entry.now
+        → option_map (λ w. w.now) schedule.entry ≡ first_of (codes "FILE") rows
+        → option_map (λ w. w.now) workers.entry ≡ first_of (codes "WORKERS") rows
         → AreNamed (codes "run") rows result }
 {
     match (schedule, workers) {
@@ -50,8 +52,10 @@ fn command_of<'a>(
     workers: Option<&'a str>,
     journal: Option<&'a str>,
 ) -> Option<Command<'a>>
-    ensures { (rows : List Row) → HasValue rows (codes "PROG") program.entry.now → option_map (λ w. w.now) world.entry ≡ first_of (codes "WORLD") rows
-        → option_map (λ w. w.now) schedule.entry ≡ first_of (codes "FILE") rows → option_map (λ w. w.now) workers.entry ≡ first_of (codes "WORKERS") rows
+    ensures { (rows : List Row) → HasValue rows (codes "PROG") program.entry.now
+        → option_map (λ w. w.now) world.entry ≡ first_of (codes "WORLD") rows
+        → option_map (λ w. w.now) schedule.entry ≡ first_of (codes "FILE") rows
+        → option_map (λ w. w.now) workers.entry ≡ first_of (codes "WORKERS") rows
         → option_map (λ w. w.now) journal.entry ≡ first_of (codes "JOURNAL") rows → AreNamed name.now rows result }
 {
     match (name, world, journal) {
@@ -82,7 +86,8 @@ fn served<'a>(name: &str, given: &ArgMatches<'a>) -> Option<Command<'a>>
 
 /// What the words after `explain` ask for: a fault by its number, or a trap by `trap` and its number.
 fn explanation_of(first: &str, second: Option<&str>) -> Option<Explanation>
-    ensures { (rows : List Row) → HasValue rows (codes "N") first.now → option_map (λ w. w.now) second.entry ≡ first_of (codes "NUMBER") rows
+    ensures { (rows : List Row) → HasValue rows (codes "N") first.now
+        → option_map (λ w. w.now) second.entry ≡ first_of (codes "NUMBER") rows
         → IsSaid rows result }
 {
     match second {
@@ -128,10 +133,8 @@ fn matches_of<'a, S: AsStr>(alloc: Global, words: &'a [S]) -> Result<ArgMatches<
 fn parse<'a, S: AsStr>(alloc: Global, words: &'a [S]) -> Result<Request<'a>, Error>
     ensures { AreParsed (map S.text words.now) result }
 {
-    match matches_of(alloc, words) {
-        Ok(matches) => Ok(asked_of(&matches)),
-        Err(error) => Err(error),
-    }
+    let matches = matches_of(alloc, words)?;
+    Ok(asked_of(&matches))
 }
 
 /// What words ask for that `clap` doesn't take: its help or its version, or why they are no command line.

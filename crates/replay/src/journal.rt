@@ -126,13 +126,9 @@ fn replay_from<'a, W: Sink>(
     ensures { (w : World) → Replayed (unit_tree functions.now) w [] state.old
         → Answers (unit_tree functions.now) w journal.now (W.written out.old) (W.written out.new) result }
 {
-    match follow(alloc, functions, state, journal) {
-        Ok(()) => match write_report(alloc, state, journal, out) {
-            Ok(()) => Ok(shown_stop(state.stop)),
-            Err(fault) => Err(fault),
-        },
-        Err(fault) => Err(fault),
-    }
+    follow(alloc, functions, state, journal)?;
+    write_report(alloc, state, journal, out)?;
+    Ok(shown_stop(state.stop))
 }
 
 /// Replays a journal of the unit that these functions are of, and writes its report.
@@ -148,10 +144,8 @@ fn replay_with<W: Sink>(
     requires sorted { IsSorted (unit_tree functions.now) }
     ensures { Answers (unit_tree functions.now) world.now journal.now (W.written out.old) (W.written out.new) result }
 {
-    match start(alloc, functions, world) {
-        Ok(mut state) => replay_from(alloc, functions, &mut state, journal, out),
-        Err(fault) => Err(fault),
-    }
+    let mut state = start(alloc, functions, world)?;
+    replay_from(alloc, functions, &mut state, journal, out)
 }
 
 /// Writes the report of a run that took these steps, and their journal, without code, addresses or a collector. Answers the
@@ -168,10 +162,12 @@ pub fn replay<W: Sink>(
     out: &mut W,
 ) -> Result<Option<TrapAt>, ReplayError>
     requires { CanFail (W.written out.old) }
-    ensures ok { OnOk result (WritesRun (unit_tree checked.now) world.now journal.now (W.written out.old) (W.written out.new)) }
+    ensures ok { OnOk result (WritesRun (unit_tree checked.now) world.now journal.now (W.written out.old)
+        (W.written out.new)) }
     ensures trap { IfOk result (EndsBy (unit_tree checked.now) world.now journal.now) }
     ensures none_waits { OnOk result ((W.written out.new).waiting ≡ 0) }
-    ensures err { IfErr result (IsStoppedBy (unit_tree checked.now) world.now journal.now (W.written out.old) (W.written out.new)) }
+    ensures err { IfErr result (IsStoppedBy (unit_tree checked.now) world.now journal.now (W.written out.old)
+        (W.written out.new)) }
     // Faults 82 and 91 are answered only where they must be.
     ensures only { IsReplayable (unit_tree checked.now) world.now journal.now → IfErr result IsFromOutside }
 {

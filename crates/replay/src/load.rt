@@ -30,7 +30,8 @@ fn is_callable(
     function: &Function,
     arguments: &[ObjectValue],
 ) -> Result<bool, AllocError>
-    ensures { IfOk result (λ fits. fits ≡ is_callable world.now.classes (map object_value_view arguments.now) (function_tree function.now)) }
+    ensures { IfOk result (λ fits. fits ≡ is_callable world.now.classes (map object_value_view arguments.now)
+        (function_tree function.now)) }
 {
     let class = class_of(alloc, world, function)?;
     Ok(class.is_some() && arguments_fit(&function.parameters, arguments))
@@ -58,13 +59,12 @@ fn first_unfit(
     world: &World,
     calls: &[Call],
 ) -> Result<Option<usize>, AllocError>
-    ensures { IfOk result (λ line. line ≡ first_line (refused_calls (unit_tree functions.now) world.now.classes calls.now)) }
+    ensures { IfOk result (λ line. line ≡ first_line
+        (refused_calls (unit_tree functions.now) world.now.classes calls.now)) }
 {
     for call in calls {
-        match fits(alloc, functions, world, call) {
-            Ok(true) => {}
-            Ok(false) => return Ok(Some(call.line())),
-            Err(error) => return Err(error),
+        if !fits(alloc, functions, world, call)? {
+            return Ok(Some(call.line()));
         }
     }
     Ok(None)
@@ -103,10 +103,8 @@ fn waiting<'a>(calls: &'a [Call]) -> Thread<'a>
 fn push_waiting<'a>(threads: &mut Vec<Thread<'a>>, calls: &'a [Call]) -> Result<(), AllocError>
     ensures { IfOk result (λ _. AddsWaiting threads.old.items calls.entry.now threads.new.items) }
 {
-    match threads.push(waiting(calls)) {
-        Ok(()) => Ok(()),
-        Err(_) => Err(AllocError),
-    }
+    threads.push(waiting(calls))?;
+    Ok(())
 }
 
 /// Puts the threads before their first calls into an empty list.
@@ -154,7 +152,8 @@ fn begun<'a>(
 ) -> Result<State<'a>, AllocError>
     requires sorted { IsSorted (unit_tree functions.now) }
     requires fits { first_load_fault (unit_tree functions.now) world.now ≡ None }
-    ensures stands { IfOk result (λ m. Stands (unit_tree functions.now) world.now m (start (unit_tree functions.now) world.now)) }
+    ensures stands { IfOk result (λ m. Stands (unit_tree functions.now) world.now m
+        (start (unit_tree functions.now) world.now)) }
     ensures range { IfOk result (λ m. AreInRange m.threads.items) }
 {
     let threads = waiting_threads(alloc, world)?;
@@ -175,7 +174,8 @@ pub(crate) fn start<'a>(
     world: &'a World,
 ) -> Result<State<'a>, ReplayError>
     requires { IsSorted (unit_tree functions.now) }
-    ensures stands { IfOk result (λ m. Stands (unit_tree functions.now) world.now m (start (unit_tree functions.now) world.now)) }
+    ensures stands { IfOk result (λ m. Stands (unit_tree functions.now) world.now m
+        (start (unit_tree functions.now) world.now)) }
     ensures range { IfOk result (λ m. AreInRange m.threads.items) }
     ensures fits { IfOk result (λ _. first_load_fault (unit_tree functions.now) world.now ≡ None) }
     ensures fault { IfErr result (IsLoadFault (unit_tree functions.now) world.now) }
