@@ -13,7 +13,8 @@ use Rattle.machine_scenes.specs.declared.activation.Activation.{Activation}
 use Rattle.machine_threads.specs.declared.thread.Thread.{Thread}
 use Rattle.machine_scenes.specs.HeapAgrees.{NamesAgree, ReferenceAgrees, times}
 use Rattle.machine_scenes.specs.Locals.{FrameAgrees, FramesAgree}
-use Rattle.machine_collections.specs.Roots.{name_of, reference_names, AreAddresses, CallIsStacked, ReferenceIsThere}
+use Rattle.machine_scenes.specs.Given.{ReferenceIsThere}
+use Rattle.machine_collections.specs.Roots.{name_of, reference_names, AreAddresses, CallIsStacked}
 use Rattle.machine_threads.proofs.EntryTables.{references_after}
 
 -- ---- names

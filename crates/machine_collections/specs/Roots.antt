@@ -51,10 +51,6 @@ CallIsStacked (Some activation) = AreStacked activation.locals
 abbrev pub ThreadsAreStacked : List Thread → Type 0
 ThreadsAreStacked threads = (i : ℕ) (t : Thread) → slice_get threads i ≡ Some t → CallIsStacked t.call
 
--- ---- addresses of blocks
-
+-- each of these is the address of a block
 abbrev pub AreAddresses : Space → List ℕ → Type 0
 AreAddresses space references = (i a : ℕ) → slice_get references i ≡ Some a → IsAddress space a
-
-abbrev pub ReferenceIsThere : Space → Option ℕ → Type 0
-ReferenceIsThere space reference = (a : ℕ) → reference ≡ Some a → IsAddress space a

@@ -11,7 +11,8 @@ ghost use Rattle.tables.specs.Locals.{AreStacked};
 ghost use Rattle.tables.specs.References.{references_in};
 ghost use Rattle.monitors.specs.Monitors.{addresses};
 ghost use Rattle.machine_collections.specs.Moving.{AreMoved, AreMovedAt, moved_call, moved_locals, moved_monitors, moved_slots, moved_thread};
-ghost use Rattle.machine_collections.specs.Roots.{AreAddresses, CallIsStacked, ReferenceIsThere, ThreadsAreStacked, loaded_places, name_of, pinned_names, reference_names, root_places, slots_of, thread_places};
+ghost use Rattle.machine_scenes.specs.Given.{ReferenceIsThere};
+ghost use Rattle.machine_collections.specs.Roots.{AreAddresses, CallIsStacked, ThreadsAreStacked, loaded_places, name_of, pinned_names, reference_names, root_places, slots_of, thread_places};
 
 use compact::Roots;
 use heap::{Addr, Heap};
