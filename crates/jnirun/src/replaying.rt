@@ -53,7 +53,8 @@ fn replay_world<W: Sink>(
     out: &mut W,
 ) -> Result<Option<TrapAt>, RunError>
     requires { CanFail (W.written out.old) }
-    ensures replay { (program text : List ℕ) → IsProgram program (unit_tree checked.now) → world_of_text text ≡ Ok world.now → IsWorldText text world.now
+    ensures replay { (program text : List ℕ) → IsProgram program (unit_tree checked.now)
+        → world_of_text text ≡ Ok world.now → IsWorldText text world.now
         → RunsTexts (W.written out.old) (W.written out.new) result (EndsReplay program text journal_text.now)
         (AreRefusedReplays program text journal_text.now) }
     ensures accepted { (program text : List ℕ) → world_of_text text ≡ Ok world.now
@@ -87,7 +88,8 @@ pub fn replay_text<W: Sink>(
 ) -> Result<Option<TrapAt>, RunError>
     requires { CanFail (W.written out.old) }
     ensures replay { RunsTexts (W.written out.old) (W.written out.new) result
-        (EndsReplay program_text.now world_text.now journal_text.now) (AreRefusedReplays program_text.now world_text.now journal_text.now) }
+        (EndsReplay program_text.now world_text.now journal_text.now)
+        (AreRefusedReplays program_text.now world_text.now journal_text.now) }
     // Texts whose journal is possible are refused for memory or by the writer alone.
     ensures accepted { IsPossible program_text.now world_text.now journal_text.now → IsReplayOrFails result }
 {

@@ -60,7 +60,8 @@ fn run_loaded<W: Sink>(
     requires unstarted { machine.old.journal ≡ [] }
     requires few { length schedule.now ≤ most_entries }
     ensures run { (program world order : List ℕ) → IsLoaded program world order machine.old schedule.now
-        → RunsTexts (W.written out.old) (W.written out.new) result (EndsRun program world order) (AreRefused program world order) }
+        → RunsTexts (W.written out.old) (W.written out.new) result (EndsRun program world order)
+        (AreRefused program world order) }
     ensures accepted { IsRunOrFails result }
 {
     match machine.run(schedule) {
@@ -87,8 +88,10 @@ fn run_by<W: Sink>(
     requires can_fail { CanFail (W.written out.old) }
     requires few { length schedule.now ≤ most_entries }
     ensures run { (program text order : List ℕ) → IsPassed program text (unit_tree lowered.entry.unit) world
-        → schedule_of order (length world.threads) ≡ Ok schedule.now → IsScheduleText (length world.threads) order schedule.now
-        → RunsTexts (W.written out.old) (W.written out.new) result (EndsRun program text order) (AreRefused program text order) }
+        → schedule_of order (length world.threads) ≡ Ok schedule.now
+        → IsScheduleText (length world.threads) order schedule.now
+        → RunsTexts (W.written out.old) (W.written out.new) result (EndsRun program text order)
+        (AreRefused program text order) }
     ensures accepted { (program text order : List ℕ) → world_of_text text ≡ Ok world → (m : Meaning program text order)
         → unit_tree lowered.entry.unit ≡ m.unit → IsRunOrFails result }
 {
@@ -108,7 +111,8 @@ fn run_world<W: Sink>(
 ) -> Result<Option<TrapAt>, RunError>
     requires { CanFail (W.written out.old) }
     ensures run { (program text : List ℕ) → IsPassed program text (unit_tree lowered.entry.unit) world
-        → RunsTexts (W.written out.old) (W.written out.new) result (EndsRun program text schedule_text.now) (AreRefused program text schedule_text.now) }
+        → RunsTexts (W.written out.old) (W.written out.new) result (EndsRun program text schedule_text.now)
+        (AreRefused program text schedule_text.now) }
     ensures accepted { (program text : List ℕ) → world_of_text text ≡ Ok world
         → (m : Meaning program text schedule_text.now) → unit_tree lowered.entry.unit ≡ m.unit
         → IsRunOrFails result }
@@ -132,7 +136,8 @@ fn run_checked<W: Sink>(
     ensures run { (program : List ℕ) → IsProgram program (unit_tree checked.now)
         → RunsTexts (W.written out.old) (W.written out.new) result (EndsRun program world_text.now schedule_text.now)
         (AreRefused program world_text.now schedule_text.now) }
-    ensures accepted { (program : List ℕ) (m : Meaning program world_text.now schedule_text.now) → unit_tree checked.now ≡ m.unit → IsRunOrFails result }
+    ensures accepted { (program : List ℕ) (m : Meaning program world_text.now schedule_text.now)
+        → unit_tree checked.now ≡ m.unit → IsRunOrFails result }
 {
     match lower(alloc, checked) {
         Ok(lowered) => match read_world(alloc, world_text) {
@@ -159,7 +164,8 @@ pub fn run_text<W: Sink>(
 ) -> Result<Option<TrapAt>, RunError>
     requires { CanFail (W.written out.old) }
     ensures run { RunsTexts (W.written out.old) (W.written out.new) result
-        (EndsRun program_text.now world_text.now schedule_text.now) (AreRefused program_text.now world_text.now schedule_text.now) }
+        (EndsRun program_text.now world_text.now schedule_text.now)
+        (AreRefused program_text.now world_text.now schedule_text.now) }
     // Texts that mean a run are refused for memory, for length or by the writer alone.
     ensures accepted { Meaning program_text.now world_text.now schedule_text.now → IsRunOrFails result }
 {

@@ -118,7 +118,8 @@ fn refuse<O: Sink, E: Sink>(
 ) -> u8
     requires out { CanFail (O.written out.old) }
     requires err { CanFail (E.written err.old) }
-    requires earned { TextsEarn command texts.now.program.items texts.now.world.items texts.now.order.items number place }
+    requires earned { TextsEarn command texts.now.program.items texts.now.world.items texts.now.order.items
+        number place }
     ensures { ServesTexts command.entry texts.now.program.items texts.now.world.items texts.now.order.items
         (O.written out.old) (O.written out.new) (E.written err.old) (E.written err.new) result }
 {

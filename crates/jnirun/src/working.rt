@@ -55,7 +55,8 @@ fn report_work<W: Sink>(
     requires can_fail { CanFail (W.written out.old) }
     requires has_room { HasRoom machine.now }
     ensures run { (program world : List ℕ) → IsUnderWay program world machine.now.unit machine.now.world
-        → RunsTexts (W.written out.old) (W.written out.new) result (EndsWork program world) (AreRefusedWork program world) }
+        → RunsTexts (W.written out.old) (W.written out.new) result (EndsWork program world)
+        (AreRefusedWork program world) }
     ensures accepted { IsWorkOrFails result }
 {
     let trap = trap_at(machine.stop());
@@ -75,7 +76,8 @@ fn tell_work<W: Sink>(
     requires can_fail { CanFail (W.written out.old) }
     requires verdict { VerdictHolds machine.now verdict }
     ensures run { (program world : List ℕ) → IsUnderWay program world machine.now.unit machine.now.world
-        → RunsTexts (W.written out.old) (W.written out.new) result (EndsWork program world) (AreRefusedWork program world) }
+        → RunsTexts (W.written out.old) (W.written out.new) result (EndsWork program world)
+        (AreRefusedWork program world) }
     ensures accepted { IsWorkOrFails result }
 {
     match verdict {
@@ -98,7 +100,8 @@ fn work_loaded<W: Sink, R: Threads + Wait + Sync>(
 ) -> Result<Option<TrapAt>, RunError>
     requires can_fail { CanFail (W.written out.old) }
     ensures run { (program world : List ℕ) → IsUnderWay program world machine.entry.unit machine.entry.world
-        → RunsTexts (W.written out.old) (W.written out.new) result (EndsWork program world) (AreRefusedWork program world) }
+        → RunsTexts (W.written out.old) (W.written out.new) result (EndsWork program world)
+        (AreRefusedWork program world) }
     ensures accepted { IsWorkOrFails result }
 {
     match run_workers(rt, alloc, machine, &Open) {
@@ -117,7 +120,8 @@ fn work_in<W: Sink, R: Threads + Wait + Sync>(
 ) -> Result<Option<TrapAt>, RunError>
     requires can_fail { CanFail (W.written out.old) }
     ensures run { (program text : List ℕ) → IsPassed program text (unit_tree lowered.entry.unit) world
-        → RunsTexts (W.written out.old) (W.written out.new) result (EndsWork program text) (AreRefusedWork program text) }
+        → RunsTexts (W.written out.old) (W.written out.new) result (EndsWork program text)
+        (AreRefusedWork program text) }
     ensures accepted { (program text : List ℕ) → world_of_text text ≡ Ok world → (m : WorkMeaning program text)
         → unit_tree lowered.entry.unit ≡ m.unit → IsWorkOrFails result }
 {
@@ -137,8 +141,10 @@ fn work_checked<W: Sink, R: Threads + Wait + Sync>(
 ) -> Result<Option<TrapAt>, RunError>
     requires { CanFail (W.written out.old) }
     ensures run { (program : List ℕ) → IsProgram program (unit_tree checked.now)
-        → RunsTexts (W.written out.old) (W.written out.new) result (EndsWork program world_text.now) (AreRefusedWork program world_text.now) }
-    ensures accepted { (program : List ℕ) (m : WorkMeaning program world_text.now) → unit_tree checked.now ≡ m.unit → IsWorkOrFails result }
+        → RunsTexts (W.written out.old) (W.written out.new) result (EndsWork program world_text.now)
+        (AreRefusedWork program world_text.now) }
+    ensures accepted { (program : List ℕ) (m : WorkMeaning program world_text.now) → unit_tree checked.now ≡ m.unit
+        → IsWorkOrFails result }
 {
     match lower_parallel(rt, alloc, checked, LOWERING, &Open) {
         Ok(lowered) => match read_world(alloc, world_text) {

@@ -37,10 +37,7 @@ pub fn lower<'a>(alloc: Global, checked: &'a Checked) -> Result<Program<'a>, Low
     let mut names = Names::new(alloc);
     let mut codes = Vec::new(alloc);
     for item in checked.items() {
-        match lower_item(alloc, &mut names, &mut codes, item) {
-            Ok(()) => {}
-            Err(fault) => return Err(fault),
-        }
+        lower_item(alloc, &mut names, &mut codes, item)?;
     }
     Ok(Program::of(checked, codes))
 }
@@ -53,7 +50,8 @@ fn lower_item<'a>(
     item: &'a Item,
 ) -> Result<(), LowerError>
     requires { ItemFits names.old.known (item_tree item.now) }
-    ensures done { OnOk result (IsItemDone names.old.known codes.old.items (item_tree item.now) names.new.known codes.new.items) }
+    ensures done { OnOk result (IsItemDone names.old.known codes.old.items (item_tree item.now) names.new.known
+        codes.new.items) }
     ensures too_long { result ≡ Err LowerError.TooLong → IsTrue (is_long (item_tree item.now)) }
 {
     match item {

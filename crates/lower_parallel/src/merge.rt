@@ -15,7 +15,8 @@ pub(crate) fn in_order(
     mut shares: Vec<VecDeque<Code>>,
 ) -> Result<Vec<Code>, AllocError>
     requires { 0 < vec_len shares }
-    ensures { IfOk result (λ codes. (program : List Listing) → AreShares program (map (λ s. s.items) shares.items) → codes.items ≡ program) }
+    ensures { IfOk result (λ codes. (program : List Listing) → AreShares program (map (λ s. s.items) shares.items)
+        → codes.items ≡ program) }
 {
     let workers = shares.len();
     let mut codes = Vec::new(alloc);
@@ -34,7 +35,8 @@ fn take_code(shares: &mut Vec<VecDeque<Code>>, worker: usize) -> Option<Code>
     ensures kept { (w : ℕ) → (w ≡ worker → ⊥) → slice_index_or (map (λ s. s.items) shares.new.items) w []
         ≡ slice_index_or (map (λ s. s.items) shares.old.items) w [] }
     ensures many { vec_len shares.new ≡ vec_len shares.old }
-    ensures fewer { IsSome result → sum_by (λ s. length s.items) shares.new.items < sum_by (λ s. length s.items) shares.old.items }
+    ensures fewer { IsSome result
+        → sum_by (λ s. length s.items) shares.new.items < sum_by (λ s. length s.items) shares.old.items }
 {
     shares[worker].pop_front()
 }

@@ -31,7 +31,8 @@ pub(crate) fn lower_share<K: Watch>(
     watch: &K,
 ) -> Result<VecDeque<Code>, LowerError>
     requires { 0 < workers }
-    ensures share { IfOk result (λ codes. IsShare workers worker (listings_of [] (unit_tree checked.now).items) codes.items) }
+    ensures share { IfOk result (λ codes. IsShare workers worker (listings_of [] (unit_tree checked.now).items)
+        codes.items) }
     ensures too_long { result ≡ Err LowerError.TooLong → IsTooLong (unit_tree checked.now) }
 {
     let mut names = Names::new(alloc);
@@ -43,10 +44,7 @@ pub(crate) fn lower_share<K: Watch>(
             Item::Function(function) => {
                 if number % workers == worker {
                     watch.begin(number);
-                    match push_code(alloc, &mut names, &mut codes, function) {
-                        Ok(()) => {}
-                        Err(fault) => return Err(fault),
-                    }
+                    push_code(alloc, &mut names, &mut codes, function)?;
                 }
                 number += 1;
             }
@@ -63,7 +61,8 @@ fn push_code<'a>(
     function: &'a Function,
 ) -> Result<(), LowerError>
     requires { ItemFits names.old.known (FunctionItem (function_tree function.now)) }
-    ensures done { OnOk result (IsItemDone names.old.known codes.old.items (FunctionItem (function_tree function.now)) names.new.known codes.new.items) }
+    ensures done { OnOk result (IsItemDone names.old.known codes.old.items (FunctionItem (function_tree function.now))
+        names.new.known codes.new.items) }
     ensures too_long { result ≡ Err LowerError.TooLong → IsTrue (is_long (FunctionItem (function_tree function.now))) }
 {
     codes.push_back(lower_function(alloc, names, function)?)?;

@@ -52,12 +52,14 @@ fn lower_shares<K: Watch + Sync, R: Threads + Sync>(
 ) -> Result<Vec<VecDeque<Code>>, LowerError>
     requires { 0 < workers }
     ensures workers { IfOk result (λ shares. vec_len shares ≡ workers) }
-    ensures shares { IfOk result (λ shares. AreShares (listings_of [] (unit_tree checked.now).items) (map (λ s. s.items) shares.items)) }
+    ensures shares { IfOk result (λ shares. AreShares (listings_of [] (unit_tree checked.now).items)
+        (map (λ s. s.items) shares.items)) }
     ensures too_long { result ≡ Err LowerError.TooLong → IsTooLong (unit_tree checked.now) }
 {
     let share = move |worker: usize| -> Result<VecDeque<Code>, LowerError>
         requires { 0 < workers }
-        ensures share { IfOk result (λ codes. IsShare workers worker (listings_of [] (unit_tree checked.entry.now).items) codes.items) }
+        ensures share { IfOk result (λ codes. IsShare workers worker
+            (listings_of [] (unit_tree checked.entry.now).items) codes.items) }
         ensures too_long { result ≡ Err LowerError.TooLong → IsTooLong (unit_tree checked.entry.now) }
     { lower_share(alloc, checked, workers, worker, watch) };
     let answers = thread::map_indices(rt, alloc, workers, &share)?;

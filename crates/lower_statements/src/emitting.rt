@@ -21,7 +21,7 @@ pub fn replace(code: &mut Vec<Instr>, place: usize, instr: Instr)
     code[place] = instr;
 }
 
-/// A number as instructions have it. One of more than 32 bits is no memory.
+/// Narrows a number to the 32 bits that instructions have, or reports out of memory.
 pub fn counted(number: usize) -> Result<u32, AllocError>
     ensures { IfOk result (λ n. n ≡ number) }
 {

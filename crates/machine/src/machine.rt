@@ -49,7 +49,7 @@ use std::marker::Model;
 use world_schedules::Schedule;
 use world_values::World;
 
-/// A lowered program on a world, with the steps that were taken. It stands for the replay of its journal.
+/// A lowered program on a world, with the steps that were taken. Its state is always the one to which its journal leads.
 pub struct Machine<'a> {
     alloc: Global,
     program: Program<'a>,

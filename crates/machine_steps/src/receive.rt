@@ -1,4 +1,4 @@
-//! Where what a function gives goes.
+//! Stores a call's result where its target says.
 
 ghost use Rattle.std.specs.Prelude.{◌≡◌, ℕ, Option, ◌<◌, ◌^◌, ◌+◌, [], length};
 ghost use Rattle.base.specs.declared.element.ElementType.{ElementType};

@@ -19,10 +19,7 @@ pub fn check_text(alloc: Global, program_text: &[u8]) -> Result<(), RunError>
     ensures accepted { IsProgramText program_text.now → IsCheckedOrFails result }
     ensures passes { PassesCheck program_text.now → IsOkUnless result RunError.Memory }
 {
-    let checked = match read_program(alloc, program_text) {
-        Ok(checked) => checked,
-        Err(error) => return Err(error),
-    };
+    let checked = read_program(alloc, program_text)?;
     if has_long_function(&checked) {
         return Err(too_long());
     }

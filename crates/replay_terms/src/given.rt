@@ -31,14 +31,14 @@ pub enum Lent {
     View(ObjectId),
 }
 
-/// Whether it is 0.
+/// Whether what a call gave is 0.
 pub fn is_zero(given: Given<'_>) -> bool
     ensures { result ≡ is_zero (given_view given.entry) }
 {
     matches!(given, Given::Number(0))
 }
 
-/// What a static holds of it.
+/// What a static holds into which this was put.
 pub fn static_result(given: Given<'_>) -> StaticReference
     ensures { held_view result ≡ static_result (given_view given.entry) }
 {

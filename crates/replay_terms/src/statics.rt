@@ -41,7 +41,7 @@ impl<'a> Model for Statics<'a> {
     ghost view = { λ s. statics_view (by_name s.held.entries) };
 }
 
-/// Whether it is NULL.
+/// Whether a static holds NULL.
 pub(crate) fn is_empty(held: StaticReference) -> bool
     ensures { static_is_null (Some (held_view held)) ≡ Gives result }
 {

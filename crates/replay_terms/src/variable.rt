@@ -320,7 +320,7 @@ fn write(kind: ElementType, numbers: &mut [i32], index: usize, number: i32)
 /// What became of an element that was to be written.
 #[derive(Clone, Copy)]
 pub enum Written {
-    /// It was written.
+    /// The element was written.
     Done,
     /// This number, converted to its type, is to be written into the object of this name.
     Object { object: ObjectId, number: i32 },

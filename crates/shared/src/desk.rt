@@ -1,4 +1,4 @@
-// What lies under the lock.
+// The state that the lock protects.
 ghost use Rattle.std.specs.Prelude.{◌≡◌, ◌+◌, IfOk, OnOk, OnErr, IsSome, All};
 ghost use Rattle.machine.specs.Run.{IsCollected, TurnHolds, replay_of};
 ghost use Rattle.shared_accounts.specs.Accounts.{account_of, kept_after, Agrees, taken, EndsSo};

@@ -45,7 +45,7 @@ fn with_detail(error: TypeError, names: &[Name], entry: &[Name], f: &Function) -
     }
 }
 
-/// The head of a function after items of these names, where its parameters and the statics have those.
+/// Checks a function's head; `names` are those of the items before it, and `entry` those of its parameters and the statics.
 fn check_head(names: &[Name], entry: &[Name], f: &Function) -> Result<(), TypeError>
     ensures { Finds result (head_faults names.now entry.now f.now) }
 {
@@ -55,7 +55,7 @@ fn check_head(names: &[Name], entry: &[Name], f: &Function) -> Result<(), TypeEr
     }
 }
 
-/// A function after items of these names, where its parameters and the statics are known and have the names that are taken.
+/// Checks a function's head and body; `taken` are the names of its scope, which are known.
 fn check_body<'a>(
     names: &[Name],
     known: &mut Known<'a, Sort>,
@@ -70,7 +70,7 @@ fn check_body<'a>(
     check_block(known, taken, f.result, &f.body)
 }
 
-/// A function after items of these names, where these statics are known, as they are again after it.
+/// Checks a function after items of these names. What is known are the statics, before it and again after it.
 fn check_function<'a>(
     alloc: Global,
     names: &[Name],

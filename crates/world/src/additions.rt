@@ -44,7 +44,8 @@ pub fn units(alloc: Global, text: &[u8]) -> Result<Vec<ObjectValue>, AllocError>
 
 /// One more call of the last thread.
 fn put_in_last(threads: &mut Vec<Vec<Call>>, call: Call) -> Result<(), AllocError>
-    ensures { OnOk result (map (λ t. t.items) threads.new.items ≡ with_last call (map (λ t. t.items) threads.old.items)) }
+    ensures { OnOk result (map (λ t. t.items) threads.new.items
+        ≡ with_last call (map (λ t. t.items) threads.old.items)) }
 {
     let Some(calls) = threads.last_mut() else {
         return Ok(());
@@ -87,7 +88,8 @@ impl WorldBuilder {
     /// Values in memory.
     pub fn values_at(&self, alloc: Global, values: &[Value]) -> Result<Vec<ObjectValue>, AllocError>
         requires { IsTrue (list_all (value_in_range JInt) (map value_view values.now)) }
-        ensures { IfOk result (λ v. map object_value_view v.items ≡ map (value_at self.now.classes self.now.names) (map value_view values.now)) }
+        ensures { IfOk result (λ v. map object_value_view v.items
+            ≡ map (value_at self.now.classes self.now.names) (map value_view values.now)) }
     {
         let mut held = Vec::new(alloc);
         for value in values {
@@ -120,7 +122,8 @@ impl WorldBuilder {
         requires formed { IsTrue (is_class_name name.now) }
         requires room { self.old.used + 6 ≤ self.old.cells }
         ensures { OnOk result (gathered_of self.new ≡ record (gathered_of self.old) {
-          classes = with_class self.old.classes (new_class name.now (class_named self.old.classes (unwrap_or (option_map (λ s. s.now) superclass.entry) (codes "java/lang/Object"))));
+          classes = with_class self.old.classes (new_class name.now (class_named self.old.classes
+              (unwrap_or (option_map (λ s. s.now) superclass.entry) (codes "java/lang/Object"))));
           used = self.old.used + 6;
           part = 0;
         }) }
@@ -135,7 +138,8 @@ impl WorldBuilder {
     pub fn put_field(&mut self, field: FieldWords, is_static: bool) -> Result<(), AllocError>
         requires room { self.old.used + (if is_static then 1 else 0) ≤ self.old.cells }
         ensures { OnOk result (gathered_of self.new ≡ record (gathered_of self.old) {
-          classes = with_declared self.old.classes (class_named self.old.classes field.entry.class.now) (declared_field self.old.classes field.entry.name.now field.entry.signature.now) is_static;
+          classes = with_declared self.old.classes (class_named self.old.classes field.entry.class.now)
+              (declared_field self.old.classes field.entry.name.now field.entry.signature.now) is_static;
           used = self.old.used + (if is_static then 1 else 0);
           part = 0;
         }) }
@@ -163,7 +167,8 @@ impl WorldBuilder {
         requires new { lookup name.now self.old.names ≡ None }
         requires few { length self.old.names < most_objects }
         requires room { self.old.used + (3 + length values.items) ≤ self.old.cells }
-        ensures { OnOk result (gathered_of self.new ≡ with_object (gathered_of self.old) name.now class (map object_value_view values.items)) }
+        ensures { OnOk result (gathered_of self.new
+            ≡ with_object (gathered_of self.old) name.now class (map object_value_view values.items)) }
     {
         let added = 3 + values.len();
         self.names.push(alloc, name, class)?;

@@ -20,13 +20,15 @@ use world_values::Call;
 impl WorldBuilder {
     fn take_class(&mut self, name: &[u8], superclass: Option<&[u8]>) -> Result<(), AllocError>
         requires { least_rule (gathered_of self.old) (ClassLine name.now (option_map (λ s. s.now) superclass)) ≡ None }
-        ensures { OnOk result (gathered_of self.new ≡ with_line (gathered_of self.old) 0 (ClassLine name.now (option_map (λ s. s.now) superclass.entry))) }
+        ensures { OnOk result (gathered_of self.new
+            ≡ with_line (gathered_of self.old) 0 (ClassLine name.now (option_map (λ s. s.now) superclass.entry))) }
     {
         self.put_class(name, superclass)
     }
 
     fn take_field(&mut self, field: FieldWords) -> Result<(), AllocError>
-        requires { least_rule (gathered_of self.old) (FieldLine field.class.now field.name.now field.signature.now) ≡ None }
+        requires { least_rule (gathered_of self.old) (FieldLine field.class.now field.name.now field.signature.now)
+            ≡ None }
         ensures { OnOk result (gathered_of self.new
             ≡ with_line (gathered_of self.old) 0
             (FieldLine field.entry.class.now field.entry.name.now field.entry.signature.now)) }
@@ -35,7 +37,8 @@ impl WorldBuilder {
     }
 
     fn take_static(&mut self, field: FieldWords) -> Result<(), AllocError>
-        requires { least_rule (gathered_of self.old) (StaticLine field.class.now field.name.now field.signature.now) ≡ None }
+        requires { least_rule (gathered_of self.old) (StaticLine field.class.now field.name.now field.signature.now)
+            ≡ None }
         ensures { OnOk result (gathered_of self.new
             ≡ with_line (gathered_of self.old) 0
             (StaticLine field.entry.class.now field.entry.name.now field.entry.signature.now)) }
@@ -44,7 +47,8 @@ impl WorldBuilder {
     }
 
     fn take_object(&mut self, alloc: Global, object: &ObjectWords) -> Result<(), AllocError>
-        requires { least_rule (gathered_of self.old) (ObjectLine object.now.name.now object.now.class.now (map value_view object.now.values.items)) ≡ None }
+        requires { least_rule (gathered_of self.old)
+            (ObjectLine object.now.name.now object.now.class.now (map value_view object.now.values.items)) ≡ None }
         ensures { OnOk result (gathered_of self.new
             ≡ with_line (gathered_of self.old) 0 (ObjectLine object.now.name.now object.now.class.now
             (map value_view object.now.values.items))) }
@@ -54,7 +58,8 @@ impl WorldBuilder {
     }
 
     fn take_objects(&mut self, alloc: Global, object: &ObjectWords) -> Result<(), AllocError>
-        requires { least_rule (gathered_of self.old) (ObjectsLine object.now.name.now object.now.class.now (map value_view object.now.values.items)) ≡ None }
+        requires { least_rule (gathered_of self.old)
+            (ObjectsLine object.now.name.now object.now.class.now (map value_view object.now.values.items)) ≡ None }
         ensures { OnOk result (gathered_of self.new
             ≡ with_line (gathered_of self.old) 0 (ObjectsLine object.now.name.now object.now.class.now
             (map value_view object.now.values.items))) }
@@ -76,7 +81,8 @@ impl WorldBuilder {
 
     fn take_string(&mut self, alloc: Global, name: &[u8], text: &[u8]) -> Result<(), AllocError>
         requires { least_rule (gathered_of self.old) (StringLine name.now text.now) ≡ None }
-        ensures { OnOk result (gathered_of self.new ≡ with_line (gathered_of self.old) 0 (StringLine name.now text.now)) }
+        ensures { OnOk result (gathered_of self.new
+            ≡ with_line (gathered_of self.old) 0 (StringLine name.now text.now)) }
     {
         let units = units(alloc, text)?;
         self.put_object(alloc, name, STRING, units)
@@ -85,7 +91,8 @@ impl WorldBuilder {
     /// The call of a line.
     fn call(&self, alloc: Global, number: usize, call: &CallWords) -> Result<Call, AllocError>
         requires { IsTrue (list_all (value_in_range JInt) (map value_view call.now.arguments.items)) }
-        ensures { IfOk result (λ made. made ≡ call_with (gathered_of self.now) number call.now.function.now (map value_view call.now.arguments.items)) }
+        ensures { IfOk result (λ made. made ≡ call_with (gathered_of self.now) number call.now.function.now
+            (map value_view call.now.arguments.items)) }
     {
         let arguments = self.values_at(alloc, &call.arguments)?;
         let function = Vec::from_slice(alloc, call.function)?;
@@ -98,7 +105,8 @@ impl WorldBuilder {
         number: usize,
         call: &CallWords,
     ) -> Result<(), AllocError>
-        requires { least_rule (gathered_of self.old) (ThreadLine call.now.function.now (map value_view call.now.arguments.items)) ≡ None }
+        requires { least_rule (gathered_of self.old)
+            (ThreadLine call.now.function.now (map value_view call.now.arguments.items)) ≡ None }
         ensures { OnOk result (gathered_of self.new
             ≡ with_line (gathered_of self.old) number (ThreadLine call.now.function.now
             (map value_view call.now.arguments.items))) }
@@ -113,7 +121,8 @@ impl WorldBuilder {
         number: usize,
         call: &CallWords,
     ) -> Result<(), AllocError>
-        requires { least_rule (gathered_of self.old) (CallLine call.now.function.now (map value_view call.now.arguments.items)) ≡ None }
+        requires { least_rule (gathered_of self.old)
+            (CallLine call.now.function.now (map value_view call.now.arguments.items)) ≡ None }
         ensures { OnOk result (gathered_of self.new
             ≡ with_line (gathered_of self.old) number (CallLine call.now.function.now
             (map value_view call.now.arguments.items))) }

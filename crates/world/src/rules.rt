@@ -93,7 +93,8 @@ fn fields_can_hold(
     class: ClassId,
     values: &[Value],
 ) -> bool
-    ensures { result ≡ each_can_hold classes.now names.now (layout_types classes.now class) (map value_view values.now) }
+    ensures { result ≡ each_can_hold classes.now names.now (layout_types classes.now class)
+        (map value_view values.now) }
 {
     let mut fields = LayoutFields::of(classes, class);
     for value in values {
@@ -116,7 +117,8 @@ fn all_can_hold(
     field_type: FieldType,
     values: &[Value],
 ) -> bool
-    ensures { result ≡ list_all (can_hold classes.now names.now (field_type_view field_type)) (map value_view values.now) }
+    ensures { result ≡ list_all (can_hold classes.now names.now (field_type_view field_type))
+        (map value_view values.now) }
 {
     for value in values {
         if !can_hold(classes, names, field_type, *value) {
@@ -128,7 +130,8 @@ fn all_can_hold(
 
 /// Whether each place can hold its value.
 fn each_can_hold(classes: &ClassTable, names: &ObjectNames, line: &Line) -> bool
-    ensures { result ≡ each_can_hold classes.now names.now (types_of_line classes.now (line_view line.now)) (written_values (line_view line.now)) }
+    ensures { result ≡ each_can_hold classes.now names.now (types_of_line classes.now (line_view line.now))
+        (written_values (line_view line.now)) }
 {
     match line {
         Line::Object(object) => {

@@ -1,4 +1,5 @@
 use Rattle.std.proofs.Common.{◌≡◌, ◌+◌, List, [], Result, Err, map, drop, sym, ap, ◌∙◌, subst}
+use Rattle.std.proofs.lemmas.Result.{err_from_is_err_and}
 use Rattle.syntax.specs.declared.unit.Item.{Item as ItemInMemory}
 use Rattle.syntax.specs.Views.{item_tree, unit_tree}
 use Rattle.code_meaning.specs.Length.{IsTooLong}
@@ -39,7 +40,7 @@ loop-item-preserved c =
     let codes = c.loop-item.codes.items in
     let next = next_item items i c.item-item.result c.loop-item-test.true c.item-item.is in
     let left = subst (λ rest. AreLeft all statics rest codes) next c.loop-item.invariant in
-    item_done all statics (item_tree c.item-item.result) (map item_tree (drop (i + 1) items)) codes _ _ left c.in-Ok.ensures.done
+    item_done all statics (item_tree c.item-item.result) (map item_tree (drop (i + 1) items)) codes _ _ left c.in_ok-lower_item.ensures.done
 
 pub returns-clause-codes : goal.returns-clause-codes
 returns-clause-codes c =
@@ -61,10 +62,11 @@ returns-clause-short c =
 same_fault : {A B E : Type 0} (e f : E) → ◌≡◌ {A = Result A E} (Err e) (Err f) → ◌≡◌ {A = Result B E} (Err e) (Err f)
 same_fault e f h = let same : e ≡ f = cc in ap (λ x. Err x) same
 
-pub returns-in-Err-clause-too_long : goal.returns-in-Err-clause-too_long
-returns-in-Err-clause-too_long c =
+pub returns-in_err-lower_item-clause-too_long : goal.returns-in_err-lower_item-clause-too_long
+returns-in_err-lower_item-clause-too_long c =
     let items = c.items-item-items.result.now in
     let next = next_item items c.loop-item.item-index c.item-item.result c.loop-item-test.true c.item-item.is in
     let left = subst (λ rest. AreLeft (map item_tree items) c.loop-item.names.known rest c.loop-item.codes.items) next c.loop-item.invariant in
+    let p = err_from_is_err_and c.from_residual.result c.from_residual.ensures.1 in
     λ is. subst (λ (all : List ItemInMemory). IsTooLong (unit_tree all)) c.items-item-items.ensures.same
-    (item_long (map item_tree items) c.loop-item.names.known (item_tree c.item-item.result) (map item_tree (drop (c.loop-item.item-index + 1) items)) c.loop-item.codes.items left (c.in-Err.ensures.too_long (same_fault _ _ is)))
+    (item_long (map item_tree items) c.loop-item.names.known (item_tree c.item-item.result) (map item_tree (drop (c.loop-item.item-index + 1) items)) c.loop-item.codes.items left (c.in_err-lower_item.ensures.too_long (same_fault _ _ (sym (p.1 ∙ ap (λ x. Err x) p.2) ∙ is))))

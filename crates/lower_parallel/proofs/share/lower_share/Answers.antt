@@ -7,7 +7,7 @@ use Rattle.lower.specs.Listings.{listings_of}
 use Rattle.lower_parallel.specs.Shares.{IsShare}
 use Rattle.lower_parallel.proofs.Walks.{AreLeft, none_done, first_left, static_done, other_passed, own_done, function_fits, all_done}
 use Rattle.lower_parallel.proofs.share.lower_share.Goals as goal
-use Rattle.lower_parallel.proofs.share.lower_share.Goals.{in-Static+in_ok-declare_static-in-Static, in-Function, then-number-workers+in-Ok, else-number-workers}
+use Rattle.lower_parallel.proofs.share.lower_share.Goals.{in-Static+in_ok-declare_static-in-Static, in-Function, then-number-workers+in_ok-push_code-in-Function, else-number-workers}
 
 pub loop-item-init : goal.loop-item-init
 loop-item-init g c =
@@ -46,9 +46,9 @@ loop-item-preserved g c =
       | in-Function w ↦
           let left = first_left c.args.workers c.args.worker all statics number items i c.item-item.result _ codes c.loop-item-test.true c.item-item.is w.in-Function.is c.loop-item.invariant.0 in
           elim w.if-number-workers.branch [
-            | then-number-workers+in-Ok v ↦
+            | then-number-workers+in_ok-push_code-in-Function v ↦
                 rw (w.names-is, w.codes-is, w.number-is, v.names-is, v.codes-is) (
-                  (own_done c.args.workers c.args.worker all statics number _ rest codes _ _ left v.if-number-workers.true v.in-Ok.ensures.done),
+                  (own_done c.args.workers c.args.worker all statics number _ rest codes _ _ left v.if-number-workers.true v.in_ok-push_code-in-Function.ensures.done),
                   (omega (arith, c.loop-item.invariant.1)),
                 )
             | else-number-workers v ↦
