@@ -27,6 +27,26 @@ pub struct References<'a> {
     globals: &'a Globals,
 }
 
+/// The key in the slot of a local reference; none for NULL, and where there is no slot.
+#[inline(always)]
+fn key_of(keys: &[Option<Local>], slot: u32) -> Option<Local>
+    ensures { result ≡ held_in (slice_get keys.now slot) }
+{
+    keys.get(slot as usize).copied().unwrap_or(None)
+}
+
+/// The address that the slot of a local reference gives, of a call with these keys and frames; none for NULL, and for a
+/// reference that is dead.
+#[inline(always)]
+pub fn local_of(keys: &[Option<Local>], locals: &Locals, slot: u32) -> Option<Addr>
+    ensures { result ≡ address_of locals.now (held_in (slice_get keys.now slot)) }
+{
+    match key_of(keys, slot) {
+        Some(key) => locals.get(key).ok(),
+        None => None,
+    }
+}
+
 impl<'a> Model for References<'a> {
     ghost use Rattle.machine_scenes.specs.Statics.{References, all_held};
 
@@ -57,17 +77,14 @@ impl<'a> References<'a> {
     pub fn key(&self, slot: u32) -> Option<Local>
         ensures { result ≡ held_in (slice_get self.now.keys slot) }
     {
-        self.keys.get(slot as usize).copied().unwrap_or(None)
+        key_of(self.keys, slot)
     }
 
     /// The address that the slot of a local reference gives; none for NULL, and for a reference that is dead.
     pub fn local(&self, slot: u32) -> Option<Addr>
         ensures { result ≡ address_of self.now.locals (held_in (slice_get self.now.keys slot)) }
     {
-        match self.key(slot) {
-            Some(key) => self.locals.get(key).ok(),
-            None => None,
-        }
+        local_of(self.keys, self.locals, slot)
     }
 
     /// What the static of a slot holds; NULL where there is none.

@@ -18,6 +18,7 @@ use heap::Addr;
 use jni::JniFunction;
 use machine_answers::answer::Answer;
 use machine_scenes::activation::Activation;
+use machine_scenes::references::local_of;
 use machine_scenes::store::Store;
 use monitors::{Enter, Exit, Monitors, Object};
 use std::alloc::AllocError;
@@ -99,29 +100,9 @@ fn only_local(keys: &[Option<Local>], locals: &Locals, operands: &[Operand]) -> 
         × (address_of locals.now (held_in (slice_get keys.now slot)) ≡ Some a)) }
 {
     match operands {
-        [Operand::Local(slot)] => address_in(keys, locals, *slot),
+        [Operand::Local(slot)] => local_of(keys, locals, *slot),
         _ => None,
     }
-}
-
-/// The address that the slot of a local reference gives.
-// `References::local` does the same, but takes the statics and the global references along, which aren't asked here.
-#[inline(always)]
-fn address_in(keys: &[Option<Local>], locals: &Locals, slot: u32) -> Option<Addr>
-    ensures { result ≡ address_of locals.now (held_in (slice_get keys.now slot)) }
-{
-    match key_in(keys, slot) {
-        Some(key) => locals.get(key).ok(),
-        None => None,
-    }
-}
-
-/// The key in the slot of a local reference.
-#[inline(always)]
-fn key_in(keys: &[Option<Local>], slot: u32) -> Option<Local>
-    ensures { result ≡ held_in (slice_get keys.now slot) }
-{
-    keys.get(slot as usize).copied().unwrap_or(None)
 }
 
 /// Enters or leaves a monitor, as an answer says.
