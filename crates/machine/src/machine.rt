@@ -11,6 +11,7 @@ ghost use Rattle.semantics.specs.Load.{first_load_fault};
 ghost use Rattle.semantics.specs.Object.{sizes};
 ghost use Rattle.semantics.specs.Run.{MarkedAreFair, UnmarkedFit};
 ghost use Rattle.semantics.specs.Step.{is_unfinished};
+ghost use Rattle.semantics.specs.Views.{names_of};
 ghost use Rattle.semantics.specs.Thread.{Shared, Thread as SourceThread};
 ghost use Rattle.semantics.specs.World.{World as SourceWorld, loaded_objects};
 ghost use Rattle.semantics_safety.specs.Owners.{Owners};
@@ -40,7 +41,7 @@ use machine_threads::objects::load_store;
 use machine_threads::thread::Thread;
 use report::{Rows, ThreadStatus, write_run};
 use report_objects::{reached_rows, standing_of};
-use semantics::{Entry, Event, Printed, ScheduleWord, Stop};
+use semantics::{Entry, Event, ObjectId, Printed, ScheduleWord, Stop};
 use semantics_safety::accepted_is_safe;
 use semantics_typing::objects_are_typed;
 use sinks::Sink;
@@ -416,8 +417,8 @@ impl<'a> Machine<'a> {
     }
 
     /// The objects by their names, and the names of those that references lead to.
-    fn shown(&self, alloc: Global) -> Result<(NamedBlocks<'_>, Vec<usize>), AllocError>
-        ensures { IfOk result (λ parts. AreShown self.now parts.0 parts.1.items) }
+    fn shown(&self, alloc: Global) -> Result<(NamedBlocks<'_>, Vec<ObjectId>), AllocError>
+        ensures { IfOk result (λ parts. AreShown self.now parts.0 (names_of parts.1.items)) }
     {
         let heap = &self.store.heap;
         let objects = named_blocks(alloc, heap, self.store.births)?;

@@ -42,26 +42,28 @@ impl<'a> Objects for NamedBlocks<'a> {
     }
 
     fn class_of(&self, name: ObjectId) -> ClassId {
-        match self.addresses[name - 1] {
+        match self.addresses[name.number - 1] {
             None => 0,
             Some(addr) => self.heap.class_of(addr) as usize,
         }
     }
 
     fn count(&self, name: ObjectId) -> usize {
-        match self.addresses[name - 1] {
+        match self.addresses[name.number - 1] {
             None => 0,
             Some(addr) => self.heap.len_of(addr),
         }
     }
 
     fn value(&self, name: ObjectId, index: usize) -> ObjectValue {
-        match self.addresses[name - 1] {
+        match self.addresses[name.number - 1] {
             None => unreachable!(),
             Some(addr) => match self.heap.get(addr, index) {
                 Value::Number(word) => ObjectValue::Number(word.cast_signed()),
                 Value::Null => ObjectValue::Reference(None),
-                Value::Block(to) => ObjectValue::Reference(Some(self.heap.birth_of(to) as usize)),
+                Value::Block(to) => ObjectValue::Reference(Some(ObjectId {
+                    number: self.heap.birth_of(to) as usize,
+                })),
             },
         }
     }

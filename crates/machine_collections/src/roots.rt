@@ -10,6 +10,7 @@ ghost use Rattle.std.specs.Option.{option_map};
 ghost use Rattle.tables.specs.Locals.{AreStacked};
 ghost use Rattle.tables.specs.References.{references_in};
 ghost use Rattle.monitors.specs.Monitors.{addresses};
+ghost use Rattle.semantics.specs.Views.{names_of};
 ghost use Rattle.machine_collections.specs.Moving.{AreMoved, AreMovedAt, moved_call, moved_locals, moved_monitors, moved_slots, moved_thread};
 ghost use Rattle.machine_scenes.specs.Given.{ReferenceIsThere};
 ghost use Rattle.machine_collections.specs.Roots.{AreAddresses, CallIsStacked, ThreadsAreStacked, loaded_places, name_of, pinned_names, reference_names, root_places, slots_of, thread_places};
@@ -81,7 +82,7 @@ pub fn root_names(
     roots: &RootPlaces,
 ) -> Result<Vec<ObjectId>, AllocError>
     requires { AreAddresses heap.now (references_in roots.now.places.items) }
-    ensures { IfOk result (λ names. names.items ≡ map (name_of heap.now) (references_in roots.now.places.items)) }
+    ensures { IfOk result (λ names. names_of names.items ≡ map (name_of heap.now) (references_in roots.now.places.items)) }
 {
     let mut names = Vec::new(alloc);
     for place in 0..roots.len() {
@@ -92,12 +93,13 @@ pub fn root_names(
 
 /// Adds the names of the objects that are viewed, whose blocks are pinned.
 pub fn push_viewed(names: &mut Vec<ObjectId>, heap: &Heap) -> Result<(), AllocError>
-    ensures { OnOk result (names.new.items ≡ names.old.items ++ pinned_names heap.now.blocks) }
+    ensures { OnOk result (names_of names.new.items ≡ names_of names.old.items ++ pinned_names heap.now.blocks) }
 {
     for place in 0..heap.count() {
         let viewed = heap.address(place);
         if heap.pins(viewed) > 0 {
-            names.push(heap.birth_of(viewed) as usize)?;
+            let number = heap.birth_of(viewed) as usize;
+            names.push(ObjectId { number })?;
         }
     }
     Ok(())
@@ -110,12 +112,13 @@ fn push_name(
     reference: Option<Addr>,
 ) -> Result<(), AllocError>
     requires { ReferenceIsThere heap.now reference }
-    ensures { OnOk result (names.new.items ≡ names.old.items ++ reference_names heap.now reference) }
+    ensures { OnOk result (names_of names.new.items ≡ names_of names.old.items ++ reference_names heap.now reference) }
 {
     match reference {
         None => Ok(()),
         Some(addr) => {
-            names.push(heap.birth_of(addr) as usize)?;
+            let number = heap.birth_of(addr) as usize;
+            names.push(ObjectId { number })?;
             Ok(())
         }
     }

@@ -103,7 +103,7 @@ fn addresses_given(
     ensures { IfOk result (λ v. IsReferencesOf count loaded.now class (map object_value_view arguments.now) v.items) }
 {
     let mut slots = Vec::new(alloc);
-    slots.push(object_of(loaded, class))?;
+    slots.push(object_of(loaded, ObjectId { number: class }))?;
     for argument in arguments {
         match argument {
             ObjectValue::Number(_) => {}
@@ -170,8 +170,8 @@ fn push_first(locals: &mut Locals, capacity: u32) -> Result<(), AllocError>
 
 /// The address of the object of a name.
 fn object_of(loaded: &[Addr], name: ObjectId) -> Option<Addr>
-    requires { 0 < name }
-    ensures { result ≡ slice_get loaded.now (name - 1) }
+    requires { 0 < name.number }
+    ensures { result ≡ slice_get loaded.now (name.number - 1) }
 {
-    loaded.get(name - 1).copied()
+    loaded.get(name.number - 1).copied()
 }

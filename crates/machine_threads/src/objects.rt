@@ -170,6 +170,6 @@ fn held(loaded: &[Addr], value: ObjectValue) -> Value
     match value {
         ObjectValue::Number(number) => Value::Number(number.cast_unsigned()),
         ObjectValue::Reference(None) => Value::Null,
-        ObjectValue::Reference(Some(name)) => Value::Block(loaded[name - 1]),
+        ObjectValue::Reference(Some(name)) => Value::Block(loaded[name.number - 1]),
     }
 }

@@ -17,7 +17,7 @@ use Rattle.region_rules.specs.RegionRules.{is_dead, is_reference_now, is_unteste
 
 -- what is known of a variable
 abbrev pub variable_state : VariableStateInMemory → VariableState
-variable_state (known.Reference level live) = ReferenceAt level live
+variable_state (known.Reference level live) = ReferenceAt level.number live
 variable_state known.Free = BufferIn Free
 variable_state (known.Untested a x) = BufferIn (Untested (access_value a) x.now)
 variable_state (known.Usable a x) = BufferIn (Usable (access_value a) x.now)

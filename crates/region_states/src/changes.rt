@@ -66,7 +66,7 @@ impl<'a> FlowState<'a> {
         ensures { OnOk result (self.new ≡ with_new self.old name.now (ReferenceAt self.old.frames true)) }
     {
         let known = VariableState::Reference {
-            level: self.frames(),
+            level: self.level(),
             live: true,
         };
         self.add(name.as_bytes(), known)

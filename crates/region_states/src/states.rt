@@ -16,6 +16,7 @@ ghost use Rattle.region_states.specs.StatesInMemory.{any_asked, holds_other, var
 use crate::holders::Holders;
 use crate::scope::Names;
 use jni::Access;
+use semantics::Level;
 use std::alloc::{AllocError, Global};
 use std::marker::Model;
 use std::mem::swap;
@@ -24,8 +25,8 @@ use std::mem::swap;
 /// string.
 #[derive(Clone, Copy)]
 pub enum VariableState<'a> {
-    /// A reference: its level, which is the number of frames at its declaration, and whether it is live.
-    Reference { level: usize, live: bool },
+    /// A reference: its level, and whether it is live.
+    Reference { level: Level, live: bool },
     Free,
     Untested { access: Access, array: &'a [u8] },
     Usable { access: Access, array: &'a [u8] },
@@ -160,8 +161,8 @@ impl Condition {
 }
 
 /// Whether a reference is of a level.
-pub fn is_level(level: usize, known: Option<VariableState>) -> bool
-    ensures { result ≡ is_level level (option_map variable_state known.entry) }
+pub fn is_level(level: Level, known: Option<VariableState>) -> bool
+    ensures { result ≡ is_level level.number (option_map variable_state known.entry) }
 {
     match known {
         Some(VariableState::Reference { level: own, .. }) => own == level,
@@ -290,6 +291,15 @@ impl<'a> FlowState<'a> {
         self.facts.frames
     }
 
+    /// The level of a reference that is declared now.
+    pub fn level(&self) -> Level
+        ensures { result.number ≡ self.now.frames }
+    {
+        Level {
+            number: self.frames(),
+        }
+    }
+
     /// The number of variables.
     pub fn len(&self) -> usize
         ensures { result ≡ length (names_of self.now) }
@@ -377,7 +387,7 @@ impl<'a> FlowState<'a> {
             (variable_state known.entry) }
     {
         match known.held() {
-            Some((_, array)) => is_level(self.frames(), self.known_of(array)),
+            Some((_, array)) => is_level(self.level(), self.known_of(array)),
             None => false,
         }
     }

@@ -9,6 +9,7 @@ ghost use Rattle.region_states.specs.VariableChanges.{get_value, change_value, s
 
 use crate::states::{FlowState, VariableState};
 use jni::Access;
+use semantics::Level;
 use std::alloc::AllocError;
 
 /// A change of what is known of a variable, which holds afterwards what it held.
@@ -68,13 +69,13 @@ impl<'a> VariableState<'a> {
         }
     }
 
-    fn killed_from(self, level: usize) -> VariableState<'a>
-        ensures { variable_state result ≡ killed_from level (variable_state self.entry) }
+    fn killed_from(self, level: Level) -> VariableState<'a>
+        ensures { variable_state result ≡ killed_from level.number (variable_state self.entry) }
     {
         match self {
             VariableState::Reference { level: own, live } => VariableState::Reference {
                 level: own,
-                live: live && own < level,
+                live: live && own.number < level.number,
             },
             VariableState::Free => VariableState::Free,
             VariableState::Untested { access, array } => VariableState::Untested { access, array },
@@ -108,9 +109,9 @@ impl<'a> VariableState<'a> {
 }
 
 /// The references of this level and of higher ones die.
-fn kill_from(variables: &mut Vec<VariableState>, level: usize)
+fn kill_from(variables: &mut Vec<VariableState>, level: Level)
     ensures { map variable_state variables.new.items
-        ≡ map (killed_from level) (map variable_state variables.old.items) }
+        ≡ map (killed_from level.number) (map variable_state variables.old.items) }
 {
     for i in 0..variables.len() {
         variables[i] = variables[i].killed_from(level);
@@ -170,9 +171,9 @@ impl<'a> FlowState<'a> {
     pub(crate) fn pop_frame(&mut self)
         ensures { self.new ≡ after_pop self.old }
     {
-        let level = self.facts.frames;
-        kill_from(&mut self.facts.variables, level);
-        self.facts.frames = level.saturating_sub(1);
+        let frames = self.facts.frames;
+        kill_from(&mut self.facts.variables, Level { number: frames });
+        self.facts.frames = frames.saturating_sub(1);
     }
 
     /// A frame more. More frames than can be counted are a want of memory.

@@ -20,6 +20,7 @@ use region_states::calls::{
 };
 use region_states::names_used::{reads, uses};
 use region_states::states::{Condition, FlowState, VariableState, is_level};
+use semantics::Level;
 use syntax::Form;
 
 /// Whether a statement returns.
@@ -240,22 +241,24 @@ fn breaks_array(state: &FlowState, form: &Form, call: Option<MadeCall>) -> bool
         || gets_elsewhere(state, call)
 }
 
-/// The number of frames after a call.
-pub(crate) fn frames_after(state: &FlowState, call: Option<MadeCall>) -> usize
-    ensures { result ≡ frames_after state.now (option_map made_value call.entry) }
+/// The level of a reference that is declared after a call.
+pub(crate) fn level_after(state: &FlowState, call: Option<MadeCall>) -> Level
+    ensures { result.number ≡ frames_after state.now (option_map made_value call.entry) }
 {
     if popped(call) {
-        state.frames().saturating_sub(1)
+        Level {
+            number: state.frames().saturating_sub(1),
+        }
     } else {
-        state.frames()
+        state.level()
     }
 }
 
 /// Whether a variable is a reference of another level.
-fn is_other_level(state: &FlowState, frames: usize, name: &[u8]) -> bool
-    ensures { result ≡ is_other_level frames (state_of state.now name.now) }
+fn is_other_level(state: &FlowState, level: Level, name: &[u8]) -> bool
+    ensures { result ≡ is_other_level level.number (state_of state.now name.now) }
 {
-    state.meets(Condition::Reference, name) && !is_level(frames, state.known_of(name))
+    state.meets(Condition::Reference, name) && !is_level(level, state.known_of(name))
 }
 
 fn breaks_level(state: &FlowState, form: &Form, call: Option<MadeCall>) -> bool
@@ -263,7 +266,7 @@ fn breaks_level(state: &FlowState, form: &Form, call: Option<MadeCall>) -> bool
         (option_map made_value call.entry) }
 {
     match assigned_name(form) {
-        Some(x) => is_other_level(state, frames_after(state, call), x),
+        Some(x) => is_other_level(state, level_after(state, call), x),
         None => false,
     }
 }

@@ -1,12 +1,13 @@
 //! What is told of a broken rule: the variable, and what is known of it.
 
 use crate::fault::RegionRule;
-use crate::rules::{assigned_name, frames_after, gets_elsewhere, mismatches};
+use crate::rules::{assigned_name, gets_elsewhere, level_after, mismatches};
 use details::{Detail, Question, first_name};
 use jni::JniFunction;
 use region_states::calls::{MadeCall, called, deleted, got, released};
 use region_states::found::Sought;
 use region_states::states::{Condition, Facts, FlowState, VariableState};
+use semantics::Level;
 use syntax::{Form, Name};
 
 /// Whether a variable meets a condition; an untested buffer only where an element of it is read or written.
@@ -112,11 +113,12 @@ fn dead_detail(state: &FlowState<'_>, form: &Form) -> Detail {
         None => None,
     };
     match known {
-        Some(VariableState::Reference { level: 1, .. }) => of_variable(
-            b"reference ",
-            name,
-            b" was deleted",
-        ),
+        Some(
+            VariableState::Reference {
+                level: Level { number: 1 },
+                ..
+            },
+        ) => of_variable(b"reference ", name, b" was deleted"),
         _ => of_variable(
             b"reference ",
             name,
@@ -179,9 +181,9 @@ fn level_detail(state: &FlowState<'_>, form: &Form, call: Option<MadeCall<'_>>) 
         Some(VariableState::Reference { level: own, .. }) => Detail::of(b"reference ")
             .words(name)
             .words(b" is of frame ")
-            .number(own)
+            .number(own.number)
             .words(b", and is set in frame ")
-            .number(frames_after(state, call)),
+            .number(level_after(state, call).number),
         _ => Detail::none(),
     }
 }

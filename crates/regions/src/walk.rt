@@ -19,6 +19,7 @@ use crate::rules::{first_broken, is_return};
 use crate::telling::{end_detail, held_detail, statement_detail, unreached_detail};
 use details::{Fault, Line};
 use region_states::states::{FlowState, VariableState};
+use semantics::Level;
 use std::alloc::{AllocError, Global};
 use syntax::{Block, Form, Function, Item, ParameterType, Stmt, Test};
 
@@ -178,7 +179,7 @@ fn enter<'a>(state: &mut FlowState<'a>, f: &'a Function) -> Result<(), AllocErro
 {
     state.clear();
     let known = VariableState::Reference {
-        level: 1,
+        level: Level { number: 1 },
         live: true,
     };
     let mut left = f.parameters.len();

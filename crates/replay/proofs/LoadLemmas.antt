@@ -8,6 +8,7 @@ use Rattle.class_rules.specs.Class.{Classes}
 use Rattle.semantics.specs.World.{Invocation}
 use Rattle.semantics.specs.Load.{call_loads, refused_calls}
 use Rattle.semantics.specs.Start.{waiting_thread}
+use Rattle.semantics.specs.Views.{name_of}
 use Rattle.replay_threads.specs.declared.thread.Thread.{Thread as ThreadInMemory}
 use Rattle.replay.specs.Loading.{first_line, IsWaiting, AddsWaiting, AreWaiting}
 use Rattle.replay_threads.specs.States.{AreInRange, EachInRange, ThreadsStand}
@@ -87,7 +88,7 @@ module _ (unit : SourceUnit) (classes : Classes) where
     loads = subst (λ (cs : List Invocation). IsTrue (list_all (call_loads unit classes) cs)) (sym h.same) (all_pass (call_loads unit classes) calls none);
     tasks = ap tasks_in (sym h.idle);
     work = subst (λ (o : Option Activation). WorkStands o (waiting_thread calls)) (sym h.idle) (refl, refl);
-    pending = sym h.calm;
+    pending = sym (ap name_of h.calm);
     ending = ap ending_view (sym h.unended);
   }
 

@@ -12,7 +12,7 @@ ghost use Rattle.semantics.specs.CallEffects.{level_of};
 ghost use Rattle.semantics.specs.Sight.{Sight, held_field, held_reference};
 ghost use Rattle.semantics.specs.Task.{Given, NumberOperand};
 ghost use Rattle.semantics.specs.Thread.{Shared as SharedOfThreads};
-ghost use Rattle.semantics.specs.Views.{mode_view};
+ghost use Rattle.semantics.specs.Views.{mode_view, name_of};
 ghost use Rattle.replay_arguments.specs.Actuals.{actual_view, name_view, given_field};
 ghost use Rattle.replay_terms.specs.Views.{operand_view, held_view, term_view, variables_view};
 ghost use Rattle.replay_arguments.specs.Shares.{shared_view, sight_in};
@@ -22,6 +22,7 @@ use classes::fields::FieldId;
 pub use jni::ReleaseMode;
 use jni::{JniFunction, ParameterKind};
 use replay_terms::{Content, Operand, StaticReference, Term, Value, Variables};
+use semantics::{Level, ObjectId};
 use std::alloc::{AllocError, Global};
 use syntax::{Argument, Constant, Expr, Name};
 
@@ -226,16 +227,12 @@ fn held_by(shared: &Shared<'_>, variables: &Variables<'_>, name: &Name) -> Stati
 }
 
 /// The level of the local reference of this name; 0 where there is none.
-pub fn level_of(variables: &Variables<'_>, name: &[u8]) -> usize
-    ensures { result ≡ level_of (lookup name.now (variables_view variables.now)) }
+pub fn level_of(variables: &Variables<'_>, name: &[u8]) -> Level
+    ensures { result.number ≡ level_of (lookup name.now (variables_view variables.now)) }
 {
     match variables.content_named(name) {
-        None => 0,
-        Some(content) => match content {
-            Content::Reference { level, .. } => *level,
-            Content::Number(_) | Content::Field(_) | Content::Array(_, _) => 0,
-            Content::Buffer(_) | Content::Copy { .. } | Content::View { .. } => 0,
-        },
+        Some(Content::Reference { level, .. }) => *level,
+        _ => Level { number: 0 },
     }
 }
 
@@ -249,8 +246,8 @@ fn actual_at<'a>(actuals: &[Actual<'a>], place: usize) -> Option<Actual<'a>>
 }
 
 /// The reference at a place.
-pub fn reference_given(actuals: &[Actual<'_>], place: usize) -> Option<usize>
-    ensures { result ≡ reference_given (map actual_view actuals.now) place }
+pub fn reference_given(actuals: &[Actual<'_>], place: usize) -> Option<ObjectId>
+    ensures { name_of result ≡ reference_given (map actual_view actuals.now) place }
 {
     match actual_at(actuals, place) {
         Some(Actual::Reference(_, StaticReference::Live(name))) => Some(name),
@@ -289,12 +286,12 @@ pub fn address_given<'a>(actuals: &[Actual<'a>], place: usize) -> Option<&'a [u8
 }
 
 /// The name of the object at a place, and 0 for NULL.
-pub fn object_given(actuals: &[Actual<'_>], place: usize) -> usize
-    ensures { result ≡ object_given (map actual_view actuals.now) place }
+pub fn object_given(actuals: &[Actual<'_>], place: usize) -> ObjectId
+    ensures { result.number ≡ object_given (map actual_view actuals.now) place }
 {
     match reference_given(actuals, place) {
         Some(name) => name,
-        None => 0,
+        None => ObjectId { number: 0 },
     }
 }
 

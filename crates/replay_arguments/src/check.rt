@@ -12,6 +12,7 @@ ghost use Rattle.semantics.specs.Heap.{fits_class, fits_type, is_instance};
 ghost use Rattle.replay_arguments.specs.Actuals.{actual_view};
 ghost use Rattle.replay_arguments.specs.Checked.{fit_together, fits_new_array, has_field, has_static, trap_found};
 ghost use Rattle.semantics.specs.EventViews.{trap_view};
+ghost use Rattle.semantics.specs.Views.{name_of};
 
 use crate::actual::{Actual, field_given, object_given, reference_given};
 use crate::field::{declaring, is_static, type_of};
@@ -161,7 +162,7 @@ fn fit_together(
 {
     let field = field_given(actuals, 1);
     match function {
-        JniFunction::AllocObject => !classes.has_own_making(object_given(actuals, 0)),
+        JniFunction::AllocObject => !classes.has_own_making(object_given(actuals, 0).number),
         JniFunction::GetField(element) | JniFunction::SetField(element) => {
             has_field(classes, store, actuals) && holds_number(element, type_of(field))
         }
@@ -187,7 +188,7 @@ fn fit_together(
         }
         JniFunction::NewObjectArray => fits_new_array(classes, store, actuals),
         JniFunction::Throw => is_throwable(classes, store, object_given(actuals, 0)),
-        JniFunction::ThrowNew => classes.assignable(object_given(actuals, 0), THROWABLE),
+        JniFunction::ThrowNew => classes.assignable(object_given(actuals, 0).number, THROWABLE),
         _ => true,
     }
 }
@@ -206,20 +207,20 @@ fn has_static(classes: &ClassTable, actuals: &[Actual<'_>]) -> bool
     ensures { result ≡ has_static classes.now (map actual_view actuals.now) }
 {
     let field = field_given(actuals, 1);
-    is_static(field) && classes.assignable(object_given(actuals, 0), declaring(field))
+    is_static(field) && classes.assignable(object_given(actuals, 0).number, declaring(field))
 }
 
 /// Whether argument 1 is a class that arrays can be made of, and argument 2 may be an element.
 fn fits_new_array(classes: &ClassTable, store: &Store, actuals: &[Actual<'_>]) -> bool
     ensures { result ≡ fits_new_array classes.now store.now (map actual_view actuals.now) }
 {
-    let element = object_given(actuals, 1);
+    let element = object_given(actuals, 1).number;
     !classes.is_array(element) && fits_class(classes, store, reference_given(actuals, 2), element)
 }
 
 /// Whether an object can be thrown.
 fn is_throwable(classes: &ClassTable, store: &Store, name: ObjectId) -> bool
-    ensures { result ≡ is_instance classes.now store.now name throwable_class }
+    ensures { result ≡ is_instance classes.now store.now name.number throwable_class }
 {
     classes.assignable(store.class_of(name), THROWABLE)
 }
@@ -231,7 +232,7 @@ pub fn fits_class(
     reference: Option<ObjectId>,
     class: ClassId,
 ) -> bool
-    ensures { result ≡ fits_class classes.now store.now reference class }
+    ensures { result ≡ fits_class classes.now store.now (name_of reference) class }
 {
     match reference {
         Some(name) => classes.assignable(store.class_of(name), class),
@@ -246,7 +247,7 @@ fn fits_type(
     reference: Option<ObjectId>,
     field_type: FieldType,
 ) -> bool
-    ensures { result ≡ fits_type classes.now store.now reference (field_type_view field_type) }
+    ensures { result ≡ fits_type classes.now store.now (name_of reference) (field_type_view field_type) }
 {
     match field_type {
         FieldType::Number(_) => false,

@@ -18,6 +18,7 @@ use Rattle.replay_calls.specs.declared.answer.Region.{Region as RegionInMemory}
 use Rattle.replay_objects.specs.Frames.{new_frame}
 use Rattle.replay_objects.specs.New.{New, new_view, object_of, thrown}
 use Rattle.semantics.specs.EventViews.{trap_view}
+use Rattle.semantics.specs.Views.{name_of}
 use Rattle.replay_terms.specs.Views.{given_view, lent_view}
 use Rattle.replay_terms.specs.declared.given.Lent.{Lent}
 use Rattle.world_values.specs.Views.{object_value_view}
@@ -30,7 +31,7 @@ pub record Region : Type 0 where
   pub array : Identifier
 
 abbrev pub region_view : RegionInMemory → Region
-region_view r = record { object = r.object; start = r.start; count = r.count; array = r.array.now }
+region_view r = record { object = r.object.number; start = r.start; count = r.count; array = r.array.now }
 
 -- What a call does: nothing changes and this is given, a value of an object is written, an object is made and given, an
 -- exception of a class is made, a string of a text and an exception of a class with it as message are made and 0 is
@@ -66,25 +67,25 @@ pub data Answer : Type 0 where
 
 abbrev pub answer_view : InMemory → Answer
 answer_view (answer.Gives g) = Gives (given_view g)
-answer_view (answer.Writes n i v) = Writes n i (object_value_view v)
+answer_view (answer.Writes n i v) = Writes n.number i (object_value_view v)
 answer_view (answer.Makes n) = Makes (new_view n)
 answer_view (answer.Raises c) = Raises c
 answer_view (answer.ThrowsNew c text) = ThrowsNew c text.now
 answer_view (answer.Ensures n) = Ensures n
 answer_view (answer.Pushes n) = Pushes n
 answer_view answer.RefusesFrames = RefusesFrames
-answer_view (answer.Pops r) = Pops r
-answer_view (answer.DeletesLocal l n) = DeletesLocal l n
-answer_view (answer.MakesGlobal n) = MakesGlobal n
-answer_view (answer.DeletesGlobal x n) = DeletesGlobal x.now n
-answer_view (answer.Pends r g) = Pends r (given_view g)
+answer_view (answer.Pops r) = Pops (name_of r)
+answer_view (answer.DeletesLocal l n) = DeletesLocal l.number n.number
+answer_view (answer.MakesGlobal n) = MakesGlobal n.number
+answer_view (answer.DeletesGlobal x n) = DeletesGlobal x.now n.number
+answer_view (answer.Pends r g) = Pends (name_of r) (given_view g)
 answer_view (answer.GetsRegion r) = GetsRegion (region_view r)
 answer_view (answer.SetsRegion r) = SetsRegion (region_view r)
 answer_view (answer.Lends b) = Lends b
-answer_view (answer.CopiesBack n p frees) = CopiesBack n p.now frees
+answer_view (answer.CopiesBack n p frees) = CopiesBack n.number p.now frees
 answer_view (answer.Frees p) = Frees p.now
-answer_view (answer.Owns n count) = Owns n count
-answer_view (answer.Disowns n) = Disowns n
+answer_view (answer.Owns n count) = Owns n.number count
+answer_view (answer.Disowns n) = Disowns n.number
 answer_view (answer.Halts trap) = Halts (trap_view trap)
 
 -- the trap with which the run stops

@@ -136,11 +136,11 @@ region_set vs (Some r) = if_it_has_room vs r (SetsRegion r)
 
 -- a copy of an object with this number of values, or NULL where all copies together would be too long
 abbrev pub copy_lent : BuffersInUse → (length object : ℕ) → Lent
-copy_lent in_use length n = if nat_le (in_use.copied + length) most_copied then lent.Copy n else lent.Nothing
+copy_lent in_use length n = if nat_le (in_use.copied + length) most_copied then lent.Copy (record { number = n }) else lent.Nothing
 
 -- a view of an object, or NULL where 64 are out
 abbrev pub view_lent : BuffersInUse → (object : ℕ) → Lent
-view_lent in_use n = if nat_lt in_use.views most_views then lent.View n else lent.Nothing
+view_lent in_use n = if nat_lt in_use.views most_views then lent.View (record { number = n }) else lent.Nothing
 
 -- the buffer with which an object is accessed so
 abbrev pub lent_by : Access → BuffersInUse → Heap → (object : ℕ) → Lent

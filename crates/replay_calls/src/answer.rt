@@ -16,6 +16,7 @@ ghost use Rattle.jni.specs.Subjects.{subject_of};
 ghost use Rattle.replay_calls.specs.WorkedOut.{IsByFrames, IsByObjects, element_given, element_set, ensured, field_named, fits_element, found_class, found_field, global_deleted, index_given, local_deleted, made_global, new_array, new_object_array, pushed, worked_out};
 ghost use Rattle.jni.specs.declared.subject.Subject.TheVariants as subject;
 ghost use Rattle.semantics.specs.EventViews.{trap_view};
+ghost use Rattle.semantics.specs.Views.{name_of};
 ghost use Rattle.replay_terms.specs.Views.{in_use_view, variables_view};
 ghost use Rattle.base.specs.Element.{element_value};
 ghost use Rattle.world_values.specs.Views.{object_value_view};
@@ -41,7 +42,7 @@ use replay_arguments::check::{check, fits_class};
 use replay_arguments::{Scene, field};
 use replay_objects::{Frames, New, Store};
 use replay_terms::{BuffersInUse, Given, Lent, Variables, convert};
-use semantics::{ObjectId, Trap};
+use semantics::{Level, ObjectId, Trap};
 use syntax::ElementType;
 use world_values::ObjectValue;
 
@@ -76,7 +77,7 @@ pub enum Answer<'a> {
     Pops(Option<ObjectId>),
     /// A local reference to the object of this name is deleted, in the frame of a level.
     DeletesLocal {
-        level: usize,
+        level: Level,
         object: ObjectId,
     },
     /// A global reference to the object of this name is made, and given.
@@ -148,11 +149,11 @@ pub fn answer_or_trap<'a>(
     requires { IsGrown scene.classes.now }
     ensures { answer_view result ≡ answer_or_trap
         (trap_found scene.entry.classes.now scene.entry.shared.now.store scene.entry.locals.now.frames
-        (is_some scene.entry.pending) (element_value caller.element) (function_value function)
+        (is_some (name_of scene.entry.pending)) (element_value caller.element) (function_value function)
         (map actual_view actuals.now))
         (worked_out scene.entry.classes.now (in_use_view caller.in_use) caller.thread
         scene.entry.shared.now.monitors scene.entry.shared.now.store
-        (variables_view scene.entry.locals.now.variables) scene.entry.locals.now.frames scene.entry.pending
+        (variables_view scene.entry.locals.now.variables) scene.entry.locals.now.frames (name_of scene.entry.pending)
         (map actual_view actuals.now) (function_value function)) }
 {
     match check(scene, caller.element, function, actuals) {
@@ -192,7 +193,7 @@ fn work_out<'a>(
     ensures { answer_view result
         ≡ worked_out scene.entry.classes.now (in_use_view caller.in_use) caller.thread
         scene.entry.shared.now.monitors scene.entry.shared.now.store
-        (variables_view scene.entry.locals.now.variables) scene.entry.locals.now.frames scene.entry.pending
+        (variables_view scene.entry.locals.now.variables) scene.entry.locals.now.frames (name_of scene.entry.pending)
         (map actual_view actuals.now) (function_value function) }
 {
     let classes = scene.classes;
@@ -229,18 +230,22 @@ fn class_answer<'a>(
     let second = object_given(actuals, 1);
     match function {
         JniFunction::FindClass => found_class(classes.find(text_given(actuals, 0))),
-        JniFunction::GetSuperclass => { Answer::Gives(Given::Reference(classes.superclass(first))) }
+        JniFunction::GetSuperclass => {
+            let superclass = classes.superclass(first.number);
+            Answer::Gives(Given::Reference(superclass.map(|number| ObjectId { number })))
+        }
         JniFunction::GetObjectClass => {
-            Answer::Gives(Given::Reference(Some(store.class_of(first))))
+            let number = store.class_of(first);
+            Answer::Gives(Given::Reference(Some(ObjectId { number })))
         }
         JniFunction::IsInstanceOf => {
             let reference = reference_given(actuals, 0);
-            Answer::Gives(Given::Flag(fits_class(classes, store, reference, second)))
+            Answer::Gives(Given::Flag(fits_class(classes, store, reference, second.number)))
         }
         JniFunction::IsAssignableFrom => {
-            Answer::Gives(Given::Flag(classes.assignable(first, second)))
+            Answer::Gives(Given::Flag(classes.assignable(first.number, second.number)))
         }
-        JniFunction::AllocObject => Answer::Makes(New::Fresh(first)),
+        JniFunction::AllocObject => Answer::Makes(New::Fresh(first.number)),
         JniFunction::GetFieldID => field_named(classes, actuals, false),
         JniFunction::GetStaticFieldID => field_named(classes, actuals, true),
         _ => unreachable!(),
@@ -329,7 +334,9 @@ fn static_answer<'a>(
     ensures { IsByObjects classes.now store.now (map actual_view actuals.now) (function_value function)
         (answer_view result) }
 {
-    let class = declarer(actuals);
+    let class = ObjectId {
+        number: declarer(actuals),
+    };
     let place = place_of_static(classes, actuals);
     match function {
         JniFunction::GetStaticField(_) => {
@@ -390,7 +397,7 @@ fn field_named<'a>(classes: &'a ClassTable, actuals: &[Actual<'a>], is_static: b
     ensures { answer_view result ≡ found_field (field_named is_static classes.now (map actual_view actuals.now)) }
 {
     let (name, text) = (text_given(actuals, 1), text_given(actuals, 2));
-    found_field(classes.field(object_given(actuals, 0), name, text, is_static))
+    found_field(classes.field(object_given(actuals, 0).number, name, text, is_static))
 }
 
 /// A class that was found, or else an exception.
@@ -398,7 +405,7 @@ fn found_class<'a>(class: Option<ClassId>) -> Answer<'a>
     ensures { answer_view result ≡ found_class class }
 {
     match class {
-        Some(class) => Answer::Gives(Given::Reference(Some(class))),
+        Some(number) => Answer::Gives(Given::Reference(Some(ObjectId { number }))),
         None => Answer::Raises(NO_CLASS_DEF_FOUND_ERROR),
     }
 }
@@ -445,7 +452,7 @@ fn pushed<'a>(frames: &Frames, capacity: i32) -> Answer<'a>
 
 /// A global reference to the same object; NULL for NULL.
 fn made_global<'a>(reference: Option<ObjectId>) -> Answer<'a>
-    ensures { answer_view result ≡ made_global reference }
+    ensures { answer_view result ≡ made_global (name_of reference) }
 {
     match reference {
         Some(name) => Answer::MakesGlobal(name),
@@ -488,7 +495,7 @@ fn global_deleted<'a>(actuals: &[Actual<'a>]) -> Answer<'a>
 
 /// Whether both are NULL, or one object.
 fn same_reference(first: Option<ObjectId>, second: Option<ObjectId>) -> bool
-    ensures { result ≡ same_reference first second }
+    ensures { result ≡ same_reference (name_of first) (name_of second) }
 {
     match (first, second) {
         (None, None) => true,
@@ -536,7 +543,7 @@ fn number_in(value: ObjectValue) -> i32
 
 /// The reference of a value.
 fn reference_in(value: ObjectValue) -> Option<ObjectId>
-    ensures { result ≡ reference_in (object_value_view value) }
+    ensures { name_of result ≡ reference_in (object_value_view value) }
 {
     match value {
         ObjectValue::Number(_) => None,
@@ -571,7 +578,7 @@ fn new_object_array<'a>(actuals: &[Actual<'_>]) -> Answer<'a>
         return Answer::Raises(NEGATIVE_ARRAY_SIZE_EXCEPTION);
     }
     Answer::Makes(New::ObjectArray {
-        element: object_given(actuals, 1),
+        element: object_given(actuals, 1).number,
         count: count as usize,
         reference: reference_given(actuals, 2),
     })

@@ -50,7 +50,7 @@ pub(crate) fn buffer_answer<'a>(
 
 /// The buffer with which an object is accessed so.
 fn lent(store: &Store, in_use: BuffersInUse, access: Access, object: ObjectId) -> Lent
-    ensures { result ≡ lent_by (access_value access) (in_use_view in_use) store.now object }
+    ensures { result ≡ lent_by (access_value access) (in_use_view in_use) store.now object.number }
 {
     match access {
         Access::ElementsCopy(_) | Access::CharsCopy => copy_lent(store, in_use, object),
@@ -60,7 +60,7 @@ fn lent(store: &Store, in_use: BuffersInUse, access: Access, object: ObjectId) -
 
 /// A copy of an object, or NULL where all copies together would be too long.
 fn copy_lent(store: &Store, in_use: BuffersInUse, object: ObjectId) -> Lent
-    ensures { result ≡ copy_lent (in_use_view in_use) (length (numbers_of store.now object)) object }
+    ensures { result ≡ copy_lent (in_use_view in_use) (length (numbers_of store.now object.number)) object.number }
 {
     let count = store.values_of(object).len();
     if in_use.copied <= MOST_COPIED && count <= MOST_COPIED - in_use.copied {
@@ -72,7 +72,7 @@ fn copy_lent(store: &Store, in_use: BuffersInUse, object: ObjectId) -> Lent
 
 /// A view of an object, or NULL where there are as many as there may be.
 fn view_lent(in_use: BuffersInUse, object: ObjectId) -> Lent
-    ensures { result ≡ view_lent (in_use_view in_use) object }
+    ensures { result ≡ view_lent (in_use_view in_use) object.number }
 {
     if in_use.views < MOST_VIEWS as usize {
         Lent::View(object)
@@ -83,7 +83,7 @@ fn view_lent(in_use: BuffersInUse, object: ObjectId) -> Lent
 
 /// What a release of a copy in this mode does.
 fn released<'a>(object: ObjectId, buffer: &'a [u8], mode: ReleaseMode) -> Answer<'a>
-    ensures { answer_view result ≡ released object buffer.entry.now (mode_view mode) }
+    ensures { answer_view result ≡ released object.number buffer.entry.now (mode_view mode) }
 {
     match mode {
         ReleaseMode::CopyBackAndFree => Answer::CopiesBack {
@@ -109,7 +109,7 @@ pub(crate) fn copy_back(
     frees: bool,
 ) -> Result<(), AllocError>
     ensures heap { IfOk result (λ _. store.new
-        ≡ heap_copied object buffer.now (variables_view variables.old) store.old) }
+        ≡ heap_copied object.number buffer.now (variables_view variables.old) store.old) }
     ensures variables { IfOk result (λ _. variables_view variables.new
         ≡ variables_freed frees buffer.now (variables_view variables.old)) }
 {

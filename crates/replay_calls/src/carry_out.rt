@@ -10,6 +10,7 @@ ghost use Rattle.semantics.specs.Heap.{Heap};
 ghost use Rattle.class_rules.specs.Class.{Classes};
 ghost use Rattle.semantics.specs.Object.{Reference};
 ghost use Rattle.semantics.specs.Thread.{Frame};
+ghost use Rattle.semantics.specs.Views.{name_of};
 ghost use Rattle.semantics.specs.Variable.{Variables as VariablesOfCall};
 ghost use Rattle.replay_calls.specs.Answers.{FitsArrays, FitsFrames, answer_view, frames_after, frames_with, given_after, is_of_frames, is_of_numbers, is_of_references, lent_in, makes_object, pending_after, shared_after, trap_in, variables_after};
 ghost use Rattle.replay_terms.specs.Views.{given_view, variables_view};
@@ -46,8 +47,8 @@ pub fn carry_out<'a>(
     ensures variables { IfOk result (λ _. variables_view locals.new.variables
         ≡ variables_after shared.old.store (variables_view locals.old.variables) (answer_view answer.entry)) }
     ensures frames { IfOk result (λ _. locals.new.frames ≡ frames_after locals.old.frames (answer_view answer.entry)) }
-    ensures pending { IfOk result (λ _. pending.new
-        ≡ pending_after turn.entry.classes.now shared.old.store pending.old (answer_view answer.entry)) }
+    ensures pending { IfOk result (λ _. name_of pending.new
+        ≡ pending_after turn.entry.classes.now shared.old.store (name_of pending.old) (answer_view answer.entry)) }
     ensures given { IfOk result (λ g. given_view g
         ≡ given_after shared.old.store (result_value kind) (answer_view answer.entry)) }
 {
@@ -151,7 +152,8 @@ fn carry_out_references<'a>(
     ensures variables { (heap : Heap) (vs : VariablesOfCall) → vs ≡ variables_after heap vs (answer_view answer.entry) }
     ensures frames { IfOk result (λ _. frames.new ≡ frames_after frames.old (answer_view answer.entry)) }
     ensures pending { IfOk result (λ _. (heap : Heap)
-        → pending.new ≡ pending_after turn.entry.classes.now heap pending.old (answer_view answer.entry)) }
+        → name_of pending.new
+        ≡ pending_after turn.entry.classes.now heap (name_of pending.old) (answer_view answer.entry)) }
     ensures given { IfOk result (λ g. (heap : Heap) (kind : SourceKind)
         → given_view g ≡ given_after heap kind (answer_view answer.entry)) }
 {
@@ -192,7 +194,8 @@ fn carry_out_frames<'a>(
     requires fits { FitsFrames frames.old (answer_view answer) }
     ensures frames { IfOk result (λ _. frames.new ≡ frames_after frames.old (answer_view answer.entry)) }
     ensures pending { IfOk result (λ _. (heap : Heap)
-        → pending.new ≡ pending_after turn.entry.classes.now heap pending.old (answer_view answer.entry)) }
+        → name_of pending.new
+        ≡ pending_after turn.entry.classes.now heap (name_of pending.old) (answer_view answer.entry)) }
     ensures given { IfOk result (λ g. (heap : Heap) (kind : SourceKind)
         → given_view g ≡ given_after heap kind (answer_view answer.entry)) }
 {
@@ -257,7 +260,7 @@ pub fn refuse<'a>(
     pending: &mut Option<ObjectId>,
     kind: ResultKind,
 ) -> Given<'a>
-    ensures pending { pending.new ≡ Some (out_of_memory classes.now) }
+    ensures pending { name_of pending.new ≡ Some (out_of_memory classes.now) }
     ensures given { given_view result ≡ failure (result_value kind) }
 {
     run_out(classes, pending);
@@ -266,9 +269,10 @@ pub fn refuse<'a>(
 
 /// The OutOfMemoryError object, which is made right after the class objects, is pending.
 fn run_out(classes: &ClassTable, pending: &mut Option<ObjectId>)
-    ensures { pending.new ≡ Some (out_of_memory classes.now) }
+    ensures { name_of pending.new ≡ Some (out_of_memory classes.now) }
 {
-    *pending = Some(classes.len() + 1);
+    let number = classes.len() + 1;
+    *pending = Some(ObjectId { number });
 }
 
 /// What a call of this kind of result gives where it fails: NULL, -1 or nothing (JNI Specification, chapter 2,

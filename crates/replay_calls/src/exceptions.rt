@@ -7,6 +7,7 @@ ghost use Rattle.replay_calls.specs.Answers.{answer_view};
 ghost use Rattle.jni.specs.Subjects.{subject_of};
 ghost use Rattle.replay_calls.specs.WorkedOut.{IsByPending};
 ghost use Rattle.jni.specs.declared.subject.Subject.TheVariants as subject;
+ghost use Rattle.semantics.specs.Views.{name_of};
 
 use crate::answer::Answer;
 use jni::JniFunction;
@@ -22,7 +23,7 @@ pub(crate) fn exception_answer<'a>(
     actuals: &[Actual<'a>],
 ) -> Answer<'a>
     requires { subject_of (function_value function) ≡ subject.Exceptions }
-    ensures { IsByPending pending (map actual_view actuals.now) (function_value function) (answer_view result) }
+    ensures { IsByPending (name_of pending) (map actual_view actuals.now) (function_value function) (answer_view result) }
 {
     match function {
         JniFunction::Throw => Answer::Pends {
@@ -31,7 +32,7 @@ pub(crate) fn exception_answer<'a>(
         },
         JniFunction::ThrowNew => {
             Answer::ThrowsNew {
-                class: object_given(actuals, 0),
+                class: object_given(actuals, 0).number,
                 text: text_given(actuals, 1),
             }
         }

@@ -42,7 +42,7 @@ pub(crate) fn monitor_answer<'a>(
 
 /// One entry more of an object with this monitor, which no other thread owns, if there may be one more.
 fn entered<'a>(object: ObjectId, monitor: Option<Monitor>) -> Answer<'a>
-    ensures { answer_view result ≡ monitor_entered object (option_map monitor_view monitor) }
+    ensures { answer_view result ≡ monitor_entered object.number (option_map monitor_view monitor) }
 {
     match monitor {
         None => Answer::Owns { object, count: 1 },
@@ -61,7 +61,7 @@ fn entered<'a>(object: ObjectId, monitor: Option<Monitor>) -> Answer<'a>
 
 /// One entry less of an object with this monitor, or an exception where the thread doesn't own it.
 fn left<'a>(thread: u8, object: ObjectId, monitor: Option<Monitor>) -> Answer<'a>
-    ensures { answer_view result ≡ monitor_left thread object (option_map monitor_view monitor) }
+    ensures { answer_view result ≡ monitor_left thread object.number (option_map monitor_view monitor) }
 {
     let Some(monitor) = monitor else {
         return Answer::Raises(ILLEGAL_MONITOR_STATE_EXCEPTION);

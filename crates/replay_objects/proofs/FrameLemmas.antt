@@ -1,11 +1,14 @@
 -- Names and frames that lie in memory, the last first.
-use Rattle.std.proofs.Common.{◌≡◌, ℕ, zero, suc, ◌+◌, ◌-◌, ◌<◌, Bool, true, false, cond, List, [], ◌∷◌, ◌++◌, length, map, drop, take, reverse, slice_get, Some, refl, sym, ap, ◌∙◌, arith, append_assoc, append-nil}
+use Rattle.std.proofs.Common.{◌≡◌, ℕ, zero, suc, ◌+◌, ◌-◌, ◌<◌, Bool, true, false, cond, List, [], ◌∷◌, ◌++◌, length, map, drop, take, reverse, get_or, slice_get, Some, refl, sym, ap, ◌∙◌, arith, append_assoc, append-nil}
 use Rattle.std.specs.Prelude.{min, max, remove, ◌==◌, slice_set}
-use Rattle.std.proofs.lemmas.List.{reverse-append, map-append, length-reverse}
+use Rattle.std.proofs.lemmas.List.{map-append, length-reverse, reverse-append}
+use Rattle.std.proofs.lemmas.Option.{slice_get-get_or, slice_get-map}
 use Rattle.std.proofs.lemmas.List.Sums.{sum_by-cons}
 use Rattle.std.proofs.lemmas.Grind.{flat_map-append}
 use Rattle.semantics.specs.CallEffects.{deleted_in, with_capacity, with_local, without_local, without_one}
 use Rattle.semantics.specs.Thread.{Frame, capacities}
+use Rattle.semantics.specs.Views.{name_of, names_of}
+use Rattle.semantics.specs.declared.object_id.ObjectId.{ObjectId}
 use Rattle.replay_objects.specs.declared.frame.Frame.{Frame as InMemory}
 use Rattle.replay_objects.specs.Frames.{frame_view, frames_view, references_in, without_in}
 use Rattle.replay_objects.proofs.Lists.{take_next}
@@ -24,7 +27,17 @@ first_last xs p x at = ap reverse (drop_next xs p x at) ∙ reverse-append (x �
 
 -- ---- names
 
-module _ (n : ℕ) (xs : List ℕ) where
+module _ (n : ℕ) (objects : List ObjectId) where
+  abbrev xs : List ℕ
+  xs = names_of objects
+
+  -- the name at a place
+  abbrev pub name_at : ℕ → ℕ
+  name_at p = (get_or objects p (record { number = 0 })).number
+
+  is_there : (p : ℕ) → p < length objects → slice_get xs p ≡ Some (name_at p)
+  is_there p low = slice_get-map (λ (o : ObjectId). o.number) objects p ∙ ap name_of (slice_get-get_or objects p (record { number = 0 }) low)
+
   -- the names after a place are others
   abbrev pub AreOthers : ℕ → Type 0
   AreOthers q = without_one n (reverse xs) ≡ reverse (drop q xs) ++ without_one n (reverse (take q xs))
@@ -36,16 +49,16 @@ module _ (n : ℕ) (xs : List ℕ) where
       ∙ ap (λ (l : List ℕ). reverse (drop (p + 1) xs) ++ without_one n l) (last_first xs p x at)
       ∙ ap (λ (c : Bool). reverse (drop (p + 1) xs) ++ cond c (reverse (take p xs)) (x ∷ without_one n (reverse (take p xs)))) is
 
-  pub passed : (p q x : ℕ) → q ≡ p + 1 → slice_get xs p ≡ Some x → (n == x) ≡ false → AreOthers q → AreOthers p
-  passed p q x next at is h =
-      at_last p x false at is (rw next at h)
-      ∙ sym (append_assoc (reverse (drop (p + 1) xs)) (x ∷ []) (without_one n (reverse (take p xs))))
-      ∙ ap (λ (l : List ℕ). l ++ without_one n (reverse (take p xs))) (sym (first_last xs p x at))
+  pub passed : (p q : ℕ) → q ≡ p + 1 → p < length objects → (n == name_at p) ≡ false → AreOthers q → AreOthers p
+  passed p q next low is h =
+      at_last p (name_at p) false (is_there p low) is (rw next at h)
+      ∙ sym (append_assoc (reverse (drop (p + 1) xs)) (name_at p ∷ []) (without_one n (reverse (take p xs))))
+      ∙ ap (λ (l : List ℕ). l ++ without_one n (reverse (take p xs))) (sym (first_last xs p (name_at p) (is_there p low)))
 
-  pub found : (p q x : ℕ) → q ≡ p + 1 → slice_get xs p ≡ Some x → (n == x) ≡ true → AreOthers q → without_one n (reverse xs) ≡ reverse (remove xs p)
-  found p q x next at is h =
+  pub found : (p q : ℕ) → q ≡ p + 1 → p < length objects → (n == name_at p) ≡ true → AreOthers q → without_one n (reverse xs) ≡ reverse (remove xs p)
+  found p q next low is h =
       let e : p + 1 ≡ suc p = omega arith in
-      at_last p x true at is (rw next at h)
+      at_last p (name_at p) true (is_there p low) is (rw next at h)
       ∙ sym (reverse-append (take p xs) (drop (p + 1) xs))
       ∙ ap (λ (m : ℕ). reverse (take p xs ++ drop m xs)) e
 

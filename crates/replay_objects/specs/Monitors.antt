@@ -4,7 +4,7 @@ use Rattle.semantics.specs.Thread.{Monitor}
 use Rattle.replay_objects.specs.declared.monitors.Monitor.{Monitor as InMemory}
 
 abbrev pub monitor_view : InMemory → Monitor
-monitor_view m = record { object = m.object; owner = m.owner; count = m.count }
+monitor_view m = record { object = m.object.number; owner = m.owner; count = m.count }
 
 -- the objects that threads own
 abbrev pub owned_objects : List Monitor → List ℕ

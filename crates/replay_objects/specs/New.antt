@@ -5,6 +5,7 @@ use Rattle.class_rules.specs.Class.{Classes, array_class_of}
 use Rattle.semantics.specs.CallEffects.{string_object, with_message}
 use Rattle.semantics.specs.Heap.{Heap, next_name}
 use Rattle.semantics.specs.Object.{Object, ObjectValue, Refers, Reference}
+use Rattle.semantics.specs.Views.{name_of}
 use Rattle.semantics.specs.World.{fresh_object}
 use Rattle.replay_objects.specs.declared.new.New.{New as InMemory}
 use Rattle.replay_objects.specs.declared.new.New.TheVariants as new
@@ -21,7 +22,7 @@ pub data New : Type 0 where
 abbrev pub new_view : InMemory → New
 new_view (new.Fresh c) = Fresh c
 new_view (new.Array c n v) = Array c n (object_value_view v)
-new_view (new.ObjectArray c n r) = ObjectArray c n r
+new_view (new.ObjectArray c n r) = ObjectArray c n (name_of r)
 new_view (new.Text bytes) = Text bytes.now
 
 -- the class of arrays of objects of a class, and 0 where there is none

@@ -5,11 +5,12 @@ ghost use Rattle.base.specs.Limits.{most_references};
 ghost use Rattle.semantics.specs.CallEffects.{with_capacity, with_local, without_local};
 ghost use Rattle.semantics.specs.Checks.{is_full};
 ghost use Rattle.semantics.specs.Thread.{capacities};
+ghost use Rattle.semantics.specs.Views.{names_of};
 ghost use Rattle.replay_objects.specs.Frames.{frame_view, frames_view, new_frame, references_in, without_in};
 
 use crate::names::Names;
 use base::limits::MOST_REFERENCES;
-use semantics::ObjectId;
+use semantics::{Level, ObjectId};
 use std::alloc::{AllocError, Global};
 use std::marker::Model;
 
@@ -154,7 +155,7 @@ impl Frames {
 
     /// Puts a reference into the current frame, if there is one.
     pub fn receive(&mut self, name: ObjectId) -> Result<(), AllocError>
-        ensures { IfOk result (λ _. self.new ≡ with_local name self.old) }
+        ensures { IfOk result (λ _. self.new ≡ with_local name.number self.old) }
     {
         let count = self.frames.len();
         if count == 0 {
@@ -165,10 +166,10 @@ impl Frames {
 
     /// Takes a reference away once from the frame of a level, counted from the lowest, which is 1; past the last it is the
     /// current one.
-    pub fn remove(&mut self, level: usize, name: ObjectId)
-        ensures { self.new ≡ without_local level name self.old }
+    pub fn remove(&mut self, level: Level, name: ObjectId)
+        ensures { self.new ≡ without_local level.number name.number self.old }
     {
-        let place = level.min(self.frames.len());
+        let place = level.number.min(self.frames.len());
         if place > 0 {
             remove_from(&mut self.frames[place - 1], name);
         }
@@ -177,7 +178,7 @@ impl Frames {
     /// Adds the names in all frames to others, those in the current one first. The cost goes by the number of frames and
     /// names.
     pub fn add_to(&self, names: &mut Vec<ObjectId>) -> Result<(), AllocError>
-        ensures { IfOk result (λ _. names.new.items ≡ names.old.items ++ references_in self.now) }
+        ensures { IfOk result (λ _. names_of names.new.items ≡ names_of names.old.items ++ references_in self.now) }
     {
         add_references(names, &self.frames)
     }
@@ -193,7 +194,7 @@ fn set_capacity(frame: &mut Frame, capacity: usize)
 
 /// Puts a reference into a frame.
 fn receive_in(frame: &mut Frame, name: ObjectId) -> Result<(), AllocError>
-    ensures references { IfOk result (λ _. frame.new.references ≡ name ∷ frame.old.references) }
+    ensures references { IfOk result (λ _. frame.new.references ≡ name.number ∷ frame.old.references) }
     ensures capacity { frame.new.capacity ≡ frame.old.capacity }
 {
     frame.references.push(name)
@@ -201,7 +202,7 @@ fn receive_in(frame: &mut Frame, name: ObjectId) -> Result<(), AllocError>
 
 /// Takes a reference away from a frame.
 fn remove_from(frame: &mut Frame, name: ObjectId)
-    ensures view { frame_view frame.new ≡ without_in name (frame_view frame.old) }
+    ensures view { frame_view frame.new ≡ without_in name.number (frame_view frame.old) }
     ensures capacity { frame.new.capacity ≡ frame.old.capacity }
 {
     frame.references.remove(name);
@@ -209,7 +210,7 @@ fn remove_from(frame: &mut Frame, name: ObjectId)
 
 /// Adds the names in frames to others, those in the last frame first.
 fn add_references(names: &mut Vec<ObjectId>, frames: &[Frame]) -> Result<(), AllocError>
-    ensures { IfOk result (λ _. names.new.items ≡ names.old.items ++ references_in (frames_view frames.now)) }
+    ensures { IfOk result (λ _. names_of names.new.items ≡ names_of names.old.items ++ references_in (frames_view frames.now)) }
 {
     for done in 0..frames.len() {
         frames[frames.len() - 1 - done].references.add_to(names)?;

@@ -4,6 +4,7 @@ ghost use Rattle.std.specs.Prelude.{◌≡◌, ◌++◌, ◌∷◌, [], ◌==◌
 ghost use Rattle.std.specs.Option.{option_map};
 ghost use Rattle.semantics.specs.CallEffects.{monitor};
 ghost use Rattle.semantics.specs.Thread.{monitor_of, without_monitor, without_owner};
+ghost use Rattle.semantics.specs.Views.{names_of};
 ghost use Rattle.replay_objects.specs.Monitors.{monitor_view, owned_objects};
 
 use semantics::ObjectId;
@@ -39,7 +40,7 @@ impl Model for Monitors {
 
 /// The first of these monitors that is of an object.
 fn monitor_in(monitors: &[Monitor], object: ObjectId) -> Option<Monitor>
-    ensures { result ≡ find (λ m. m.object == object) monitors.now }
+    ensures { result ≡ find (λ m. m.object.number == object.number) monitors.now }
 {
     monitors
         .iter()
@@ -67,7 +68,7 @@ impl Monitors {
 
     /// The monitor of an object.
     pub fn of(&self, object: ObjectId) -> Option<Monitor>
-        ensures { option_map monitor_view result ≡ monitor_of self.now object }
+        ensures { option_map monitor_view result ≡ monitor_of self.now object.number }
     {
         monitor_in(&self.monitors, object)
     }
@@ -75,7 +76,7 @@ impl Monitors {
     /// Lets a thread own an object so many times, whatever its monitor was before. Memory can only be refused where it had none,
     /// and nothing changes then.
     pub fn put(&mut self, object: ObjectId, owner: u8, count: u8) -> Result<(), AllocError>
-        ensures { IfOk result (λ _. self.new ≡ monitor object owner count ∷ without_monitor self.old object) }
+        ensures { IfOk result (λ _. self.new ≡ monitor object.number owner count ∷ without_monitor self.old object.number) }
     {
         self.remove(object);
         self.monitors.insert(
@@ -91,7 +92,7 @@ impl Monitors {
 
     /// Lets nobody own an object.
     pub fn remove(&mut self, object: ObjectId)
-        ensures { self.new ≡ without_monitor self.old object }
+        ensures { self.new ≡ without_monitor self.old object.number }
     {
         self.monitors.retain(|monitor| monitor.object != object);
     }
@@ -105,7 +106,7 @@ impl Monitors {
 
     /// Adds the names of the objects to others.
     pub fn add_to(&self, names: &mut Vec<ObjectId>) -> Result<(), AllocError>
-        ensures { IfOk result (λ _. names.new.items ≡ names.old.items ++ owned_objects self.now) }
+        ensures { IfOk result (λ _. names_of names.new.items ≡ names_of names.old.items ++ owned_objects self.now) }
     {
         for monitor in &self.monitors {
             names.push(monitor.object)?;

@@ -2,6 +2,7 @@
 
 ghost use Rattle.std.specs.Prelude.{◌≡◌, ◌++◌, ◌∷◌, [], IfOk, OnErr, length, reverse};
 ghost use Rattle.semantics.specs.CallEffects.{without_one};
+ghost use Rattle.semantics.specs.Views.{names_of};
 ghost use Rattle.replay_objects.specs.Names.{Leaves};
 
 use semantics::ObjectId;
@@ -17,15 +18,16 @@ pub struct Names {
 
 impl Model for Names {
     ghost use Rattle.std.specs.Prelude.{ℕ, List, reverse};
+    ghost use Rattle.semantics.specs.Views.{names_of};
 
     ghost Value = { List ℕ };
 
-    ghost view = { λ n. reverse n.names.items };
+    ghost view = { λ n. reverse (names_of n.names.items) };
 }
 
 /// The place of the last of these names that is this one.
 fn last_place(names: &[ObjectId], name: ObjectId) -> Option<usize>
-    ensures { Leaves name names.now result }
+    ensures { Leaves name.number (names_of names.now) result }
 {
     for done in 0..names.len() {
         let place = names.len() - 1 - done;
@@ -38,7 +40,7 @@ fn last_place(names: &[ObjectId], name: ObjectId) -> Option<usize>
 
 /// Adds names, the last one first.
 fn add_reversed(all: &mut Vec<ObjectId>, names: &[ObjectId]) -> Result<(), AllocError>
-    ensures { IfOk result (λ _. all.new.items ≡ all.old.items ++ reverse names.now) }
+    ensures { IfOk result (λ _. names_of all.new.items ≡ names_of all.old.items ++ reverse (names_of names.now)) }
 {
     for done in 0..names.len() {
         all.push(names[names.len() - 1 - done])?;
@@ -65,7 +67,7 @@ impl Names {
 
     /// Puts a name.
     pub fn push(&mut self, name: ObjectId) -> Result<(), AllocError>
-        ensures ok { IfOk result (λ _. self.new ≡ name ∷ self.old) }
+        ensures ok { IfOk result (λ _. self.new ≡ name.number ∷ self.old) }
         ensures err { OnErr result (self.new ≡ self.old) }
     {
         self.names.push(name)?;
@@ -74,7 +76,7 @@ impl Names {
 
     /// Takes a name away once, if it is there: the one that was put last. It compares it with those that were put later.
     pub fn remove(&mut self, name: ObjectId)
-        ensures { self.new ≡ without_one name self.old }
+        ensures { self.new ≡ without_one name.number self.old }
     {
         if let Some(place) = last_place(&self.names, name) {
             self.names.remove(place);
@@ -83,7 +85,7 @@ impl Names {
 
     /// Adds the names to others, the one that was put last first.
     pub fn add_to(&self, names: &mut Vec<ObjectId>) -> Result<(), AllocError>
-        ensures { IfOk result (λ _. names.new.items ≡ names.old.items ++ self.now) }
+        ensures { IfOk result (λ _. names_of names.new.items ≡ names_of names.old.items ++ self.now) }
     {
         add_reversed(names, &self.names)
     }

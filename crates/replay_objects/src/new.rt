@@ -122,14 +122,16 @@ pub fn make(
     classes: &ClassTable,
     store: &mut Store,
     new: New<'_>,
-) -> Result<usize, AllocError>
+) -> Result<ObjectId, AllocError>
     ensures store { IfOk result (λ _. store.new ≡ store.old ++ object_of classes.now (new_view new.entry) ∷ []) }
-    ensures name { IfOk result (λ name. name ≡ next_name store.old) }
+    ensures name { IfOk result (λ name. name.number ≡ next_name store.old) }
     ensures err { OnErr result (store.new ≡ store.old) }
 {
     let values = values_of(alloc, classes, new)?;
     store.add(class_of(classes, new), values)?;
-    Ok(store.len())
+    Ok(ObjectId {
+        number: store.len(),
+    })
 }
 
 /// Makes a string and an exception of a class with it as message, both or neither, and tells the exception's name.
@@ -139,9 +141,9 @@ pub fn make_thrown(
     store: &mut Store,
     class: ClassId,
     text: &[u8],
-) -> Result<usize, AllocError>
+) -> Result<ObjectId, AllocError>
     ensures store { IfOk result (λ _. store.new ≡ store.old ++ thrown classes.now store.old class text.now) }
-    ensures name { IfOk result (λ name. name ≡ next_name store.old + 1) }
+    ensures name { IfOk result (λ name. name.number ≡ next_name store.old + 1) }
     ensures err { OnErr result (store.new ≡ store.old) }
 {
     let message = Object {
@@ -149,9 +151,14 @@ pub fn make_thrown(
         values: units(alloc, text)?,
         has_numbers: false,
     };
-    let exception = exception_with(alloc, classes, class, store.len() + 1)?;
+    let message_name = ObjectId {
+        number: store.len() + 1,
+    };
+    let exception = exception_with(alloc, classes, class, message_name)?;
     store.add_both(message, exception)?;
-    Ok(store.len())
+    Ok(ObjectId {
+        number: store.len(),
+    })
 }
 
 /// An exception of a class with the message of this name, which is its first field.
@@ -163,7 +170,7 @@ fn exception_with(
 ) -> Result<Object, AllocError>
     ensures short { IfOk result (λ exception. length exception.values.items < 2 ^ 31) }
     ensures mark { IfOk result IsMarked }
-    ensures view { IfOk result (λ exception. object_view exception ≡ with_message (fresh_object classes.now class) (Some message)) }
+    ensures view { IfOk result (λ exception. object_view exception ≡ with_message (fresh_object classes.now class) (Some message.number)) }
 {
     let values = fresh_values(alloc, classes, class)?;
     let mut exception = Object {

@@ -81,21 +81,21 @@ impl Store {
 
     /// The object of a name.
     fn object(&self, name: ObjectId) -> Option<&Object>
-        ensures view { option_map (λ o. object_view o.now) result ≡ object_at self.now name }
+        ensures view { option_map (λ o. object_view o.now) result ≡ object_at self.now name.number }
         ensures short { IfSome result (λ o. length o.now.values.items < 2 ^ 31) }
     {
-        if name == 0 {
+        if name.number == 0 {
             return None;
         }
-        if self.objects.len() < name {
+        if self.objects.len() < name.number {
             return None;
         }
-        Some(&self.objects[name - 1])
+        Some(&self.objects[name.number - 1])
     }
 
     /// The number of an object's class; 0 where there is no object of this name.
     pub fn class_of(&self, name: ObjectId) -> ClassId
-        ensures { result ≡ class_of self.now name }
+        ensures { result ≡ class_of self.now name.number }
     {
         match self.object(name) {
             Some(object) => object.class,
@@ -106,7 +106,7 @@ impl Store {
     /// An object's fields in the order of its class's layout, the elements of an array, or the units of a string; none where
     /// there is no object of this name.
     pub fn values_of(&self, name: ObjectId) -> &[ObjectValue]
-        ensures values { map object_value_view result.now ≡ values_of self.now name }
+        ensures values { map object_value_view result.now ≡ values_of self.now name.number }
         ensures short { length result.now < 2 ^ 31 }
     {
         match self.object(name) {
@@ -117,7 +117,7 @@ impl Store {
 
     /// The value at a place of an object, counted from 0; the number 0 where there is none.
     pub fn value_at(&self, name: ObjectId, place: usize) -> ObjectValue
-        ensures { object_value_view result ≡ value_at self.now name place }
+        ensures { object_value_view result ≡ value_at self.now name.number place }
     {
         match self.values_of(name).get(place) {
             Some(value) => *value,
@@ -128,40 +128,40 @@ impl Store {
     /// Puts a value into an object, if it has the place. The name is 0 in no accepted program: by the definitions the first
     /// object is then left without a class and values.
     pub fn set(&mut self, name: ObjectId, place: usize, value: ObjectValue)
-        ensures { self.new ≡ with_value_at self.old name place (object_value_view value) }
+        ensures { self.new ≡ with_value_at self.old name.number place (object_value_view value) }
     {
         let count = self.objects.len();
-        if name > count || count == 0 {
+        if name.number > count || count == 0 {
             return;
         }
-        if name == 0 {
+        if name.number == 0 {
             empty(&mut self.objects[0]);
         } else {
-            put_value(&mut self.objects[name - 1], place, value);
+            put_value(&mut self.objects[name.number - 1], place, value);
         }
     }
 
     /// Overwrites numbers of an object, from a place on; a reference in it, as in no accepted program, becomes 0. The
     /// cost goes by the new numbers, and the first time by all of the object's. The name 0 is as in `set`.
     pub fn set_numbers(&mut self, name: ObjectId, start: usize, numbers: &[i32])
-        requires { start + length numbers.now ≤ length (values_of self.old name) }
-        ensures { self.new ≡ with_numbers self.old name (overwritten (numbers_of self.old name) start numbers.now) }
+        requires { start + length numbers.now ≤ length (values_of self.old name.number) }
+        ensures { self.new ≡ with_numbers self.old name.number (overwritten (numbers_of self.old name.number) start numbers.now) }
     {
         let count = self.objects.len();
-        if name > count || count == 0 {
+        if name.number > count || count == 0 {
             return;
         }
-        if name == 0 {
+        if name.number == 0 {
             empty(&mut self.objects[0]);
         } else {
-            overwrite(&mut self.objects[name - 1], start, numbers);
+            overwrite(&mut self.objects[name.number - 1], start, numbers);
         }
     }
 
     /// Gives an object these numbers as its values. There is no memory for more or fewer than it has, as in no accepted
     /// program. The name 0 is as in `set`.
     pub fn put_numbers(&mut self, name: ObjectId, numbers: &[i32]) -> Result<(), AllocError>
-        ensures ok { IfOk result (λ _. self.new ≡ with_numbers self.old name numbers.now) }
+        ensures ok { IfOk result (λ _. self.new ≡ with_numbers self.old name.number numbers.now) }
         ensures err { OnErr result (self.new ≡ self.old) }
     {
         if self.values_of(name).len() != numbers.len() {
@@ -173,7 +173,7 @@ impl Store {
 
     /// The numbers of an object, with 0 for a reference. The cost goes by them.
     pub fn numbers_of(&self, alloc: Global, name: ObjectId) -> Result<Vec<i32>, AllocError>
-        ensures { IfOk result (λ numbers. numbers.items ≡ numbers_of self.now name) }
+        ensures { IfOk result (λ numbers. numbers.items ≡ numbers_of self.now name.number) }
     {
         numbers_in(alloc, self.values_of(name))
     }

@@ -175,11 +175,11 @@ module _ (classes : Classes) (in_use : BuffersInUse) (k : ℕ) (s : Shared) (t :
       (λ start m. if_room (nat_le m (length (local_array (lookup x t.variables)))) (SetsRegion (record { object = n; start = start; count = m; array = x }))) refl
 
   -- a buffer is given
-  copies : (n : ℕ) (b : Bool) → Leaves [] s t (BufferResult (if b then Copy n (numbers_of s.heap n) else NoBuffer)) ≡ effect_as classes k s t (Lends (if b then lent.Copy n else lent.Nothing))
+  copies : (n : ℕ) (b : Bool) → Leaves [] s t (BufferResult (if b then Copy n (numbers_of s.heap n) else NoBuffer)) ≡ effect_as classes k s t (Lends (if b then lent.Copy (record { number = n }) else lent.Nothing))
   copies n true = refl
   copies n false = refl
 
-  views : (n : ℕ) (b : Bool) → Leaves [] s t (BufferResult (if b then View n else NoBuffer)) ≡ effect_as classes k s t (Lends (if b then lent.View n else lent.Nothing))
+  views : (n : ℕ) (b : Bool) → Leaves [] s t (BufferResult (if b then View n else NoBuffer)) ≡ effect_as classes k s t (Lends (if b then lent.View (record { number = n }) else lent.Nothing))
   views n true = refl
   views n false = refl
 

@@ -7,7 +7,6 @@ use Rattle.syntax.specs.Tree.{SourceUnit}
 use Rattle.syntax.specs.Views.{expr_tree, block_tree, stmt_tree}
 use Rattle.semantics.specs.Activation.{return_step}
 use Rattle.semantics.specs.Heap.{Heap}
-use Rattle.semantics.specs.Object.{Reference}
 use Rattle.semantics.specs.Task.{Task, Loop, task_of}
 use Rattle.semantics.specs.Term.{term_of}
 use Rattle.semantics.specs.Thread.{Thread, Shared, Quiet, PrintedNumber, Trapped, Advance, NoAdvance}
@@ -28,6 +27,7 @@ use Rattle.replay_tasks.specs.Tasks.{branch_task, task_view, end_view, statement
 use Rattle.replay_terms.specs.declared.term.Term.TheVariants as term
 use Rattle.replay_terms.specs.declared.value.Value.TheVariants as value
 use Rattle.semantics.specs.EventViews.{trap_view}
+use Rattle.semantics.specs.declared.object_id.ObjectId.{ObjectId}
 
 -- the task that is begun, if there is one, and those after it
 abbrev pub tasks_from : Option TaskInMemory → List Task → List Task
@@ -89,8 +89,8 @@ Advances refused before old took after new =
     ≡ advance_by before.thread after.shared (thread_in t (tasks_left new) after) took
 
 -- the same at a turn, by what threads share in memory
-abbrev pub AdvancesAt : Turn → SharedInMemory → Activation → Reference → Outcome
-    → SharedInMemory → Activation → Reference → Type 0
+abbrev pub AdvancesAt : Turn → SharedInMemory → Activation → Option ObjectId → Outcome
+    → SharedInMemory → Activation → Option ObjectId → Type 0
 AdvancesAt turn shared old pending took shared' new pending' =
     Advances turn.refused (scene_at turn shared old.locals pending) old.work took
     (scene_at turn shared' new.locals pending') new.work

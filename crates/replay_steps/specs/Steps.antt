@@ -1,5 +1,5 @@
 -- What a step of a task does.
-use Rattle.std.specs.Prelude.{◌≡◌, ℕ, Bool, List, [], ◌∷◌, ◌++◌, Some}
+use Rattle.std.specs.Prelude.{◌≡◌, ℕ, Bool, List, [], ◌∷◌, ◌++◌, Option, Some}
 use Rattle.syntax.specs.Tree.{SourceUnit}
 use Rattle.syntax.specs.Views.{block_tree}
 use Rattle.class_rules.specs.Class.{Classes}
@@ -21,6 +21,8 @@ use Rattle.replay_tasks.specs.declared.task.Task.{Task as TaskInMemory}
 use Rattle.replay_tasks.specs.Outcomes.{else_tree, variable_step}
 use Rattle.replay_tasks.specs.Tasks.{task_view, end_view, statements_in, tasks_of_statements}
 use Rattle.semantics.specs.EventViews.{trap_view}
+use Rattle.semantics.specs.Views.{name_of}
+use Rattle.semantics.specs.declared.object_id.ObjectId.{ObjectId}
 use Rattle.replay_terms.specs.Views.{Contents, variables_view}
 
 -- what a step of a call in progress depends on, but its tasks: it is this thread's, and the buffers of all threads
@@ -46,12 +48,12 @@ scene_with classes in_use thread s vs frames pending = record {
 }
 
 -- the same at a turn
-abbrev pub scene_of : Turn → Shared → Locals → Reference → Scene
+abbrev pub scene_of : Turn → Shared → Locals → Option ObjectId → Scene
 scene_of turn s locals pending =
-    scene_with turn.classes.now (in_use_view turn.in_use) turn.thread s locals.variables locals.frames pending
+    scene_with turn.classes.now (in_use_view turn.in_use) turn.thread s locals.variables locals.frames (name_of pending)
 
 -- the same by what threads share in memory
-abbrev pub scene_at : Turn → SharedInMemory → Locals → Reference → Scene
+abbrev pub scene_at : Turn → SharedInMemory → Locals → Option ObjectId → Scene
 scene_at turn shared locals pending = scene_of turn (shared_view shared) locals pending
 
 -- a thread has these variables, these frames and this pending exception

@@ -6,6 +6,7 @@ ghost use Rattle.jni.specs.Table.{function_value};
 ghost use Rattle.semantics.specs.CallStep.{is_owned_by_other};
 ghost use Rattle.semantics.specs.Effect.{is_given, is_ready};
 ghost use Rattle.semantics.specs.Thread.{BuffersInUse};
+ghost use Rattle.semantics.specs.Views.{name_of};
 ghost use Rattle.replay_arguments.specs.Actuals.{actual_view};
 ghost use Rattle.replay_arguments.specs.Shares.{shared_view};
 ghost use Rattle.replay_objects.specs.Monitors.{monitor_view};
@@ -58,7 +59,7 @@ fn is_owned_by_other(thread: usize, monitor: Option<Monitor>) -> bool
 /// Whether a call of `MonitorEnter` with these arguments passes all checks, and another thread owns its object.
 fn is_kept_out(scene: Scene<'_, '_>, thread: usize, actuals: &[Actual<'_>]) -> bool
     ensures { result ≡ is_kept_out scene.entry.classes.now thread (shared_view scene.entry.shared.now)
-        scene.entry.locals.now.frames scene.entry.pending (map actual_view actuals.now) }
+        scene.entry.locals.now.frames (name_of scene.entry.pending) (map actual_view actuals.now) }
 {
     match check(scene, ElementType::Int, JniFunction::MonitorEnter, actuals) {
         Some(_) => false,
@@ -72,7 +73,7 @@ fn is_kept_out(scene: Scene<'_, '_>, thread: usize, actuals: &[Actual<'_>]) -> b
 /// Whether a call of `MonitorEnter` waits, its numbers being worked out. It takes one argument, which is looked up.
 fn waits_to_enter<'a>(scene: Scene<'_, 'a>, thread: usize, operands: &[Operand<'a>]) -> bool
     ensures { result ≡ waits_to_enter scene.entry.classes.now thread (shared_view scene.entry.shared.now)
-        scene.entry.locals.now.variables scene.entry.locals.now.frames scene.entry.pending
+        scene.entry.locals.now.variables scene.entry.locals.now.frames (name_of scene.entry.pending)
         (map operand_view operands.entry.now) }
 {
     if !is_ready(operands) {
@@ -96,7 +97,7 @@ fn call_waits<'a>(
     operands: &[Operand<'a>],
 ) -> bool
     ensures { result ≡ call_waits scene.entry.classes.now thread (shared_view scene.entry.shared.now)
-        scene.entry.locals.now.variables scene.entry.locals.now.frames scene.entry.pending
+        scene.entry.locals.now.variables scene.entry.locals.now.frames (name_of scene.entry.pending)
         (function_value function) (map operand_view operands.now) }
 {
     match function {
@@ -109,7 +110,7 @@ fn call_waits<'a>(
 #[inline]
 fn task_waits<'a>(scene: Scene<'_, 'a>, thread: usize, task: &Option<Task<'a>>) -> bool
     ensures { result ≡ task_waits scene.entry.classes.now thread (shared_view scene.entry.shared.now)
-        scene.entry.locals.now.variables scene.entry.locals.now.frames scene.entry.pending task.now }
+        scene.entry.locals.now.variables scene.entry.locals.now.frames (name_of scene.entry.pending) task.now }
 {
     match task {
         Some(Task::Invoke(i)) => call_waits(scene, thread, i.function, &i.operands),
@@ -128,7 +129,7 @@ pub fn waits<'a>(
 ) -> bool
     ensures { (in_use : BuffersInUse) → WaitsIn
         (scene_with classes.now in_use thread (shared_view shared.now)
-        activation.now.locals.variables activation.now.locals.frames pending)
+        activation.now.locals.variables activation.now.locals.frames (name_of pending))
         activation.now.work result }
 {
     let scene = Scene {

@@ -15,7 +15,7 @@ use replay_objects::Store;
 use replay_terms::{
     Content, Given, Lent, StaticReference, Statics, Value, Variables, Written, static_result, zeros,
 };
-use semantics::ObjectValue;
+use semantics::{Level, ObjectValue};
 use std::alloc::{AllocError, Global};
 use syntax::{ElementType, Name};
 
@@ -26,7 +26,7 @@ fn blank<'a>(kind: VariableKind, frames: usize) -> Content<'a>
     match kind {
         VariableKind::Number => Content::Number(Value::Int(0)),
         VariableKind::Reference => Content::Reference {
-            level: frames,
+            level: Level { number: frames },
             object: None,
         },
         VariableKind::Field => Content::Field(None),

@@ -19,7 +19,8 @@ use Rattle.semantics.specs.Term.{Term, Done, Number, Named, Read, Element, IsNul
 use Rattle.semantics.specs.Value.{Value, Word, Int, Flag, Truth, Outcome, Gives, Traps, Stuck, outcome_then, outcome_map, convert}
 use Rattle.semantics.specs.Variable.{Variable, Scalar, LocalRef, FieldHandle, Elements, LocalArray, Buffer, NoBuffer, Copy, View, StaticReference, Empty, Live, Deleted, Variables, Statics, assign, copied_length, viewed}
 use Rattle.semantics.specs.Thread.{BuffersInUse}
-use Rattle.semantics.specs.Views.{object_value_view}
+use Rattle.semantics.specs.Views.{name_of, object_value_view}
+use Rattle.semantics.specs.declared.object_id.ObjectId.{ObjectId}
 use Rattle.semantics.specs.declared.object_value.ObjectValue.{ObjectValue as ObjectValueInMemory}
 use Rattle.replay_terms.specs.declared.buffers.BuffersInUse.{BuffersInUse as InUseInMemory}
 use Rattle.replay_terms.specs.declared.given.Given.{Given}
@@ -67,11 +68,11 @@ indexed_view indexed.Stuck = Stuck
 
 abbrev pub content_view : Content → Variable
 content_view (content.Number v) = Scalar (value_view v)
-content_view (content.Reference level r) = LocalRef level r
+content_view (content.Reference level r) = LocalRef level.number (name_of r)
 content_view (content.Field f) = FieldHandle (option_map field_id_view f)
 content_view (content.Buffer T) = Elements (element_value T) NoBuffer
-content_view (content.Copy T n numbers) = Elements (element_value T) (Copy n numbers.items)
-content_view (content.View T n) = Elements (element_value T) (View n)
+content_view (content.Copy T n numbers) = Elements (element_value T) (Copy n.number numbers.items)
+content_view (content.View T n) = Elements (element_value T) (View n.number)
 content_view (content.Array T numbers) = LocalArray (element_value T) numbers.items
 
 -- the entries of a hash map, by name
@@ -88,13 +89,13 @@ variable_view v = (v.0, content_view v.1)
 abbrev pub variables_view : Contents → Variables
 variables_view vs = map variable_view vs
 
--- what a static holds: a global reference is known by the number of its object
+-- what a static holds: a global reference is known by the name of its object
 abbrev pub HeldInMemory : Type 0
-HeldInMemory = Held ℕ
+HeldInMemory = Held ObjectId
 
 abbrev pub held_view : HeldInMemory → StaticReference
 held_view held.Empty = Empty
-held_view (held.Live n) = Live n
+held_view (held.Live n) = Live n.number
 held_view held.Deleted = Deleted
 
 abbrev pub static_view : Identifier × HeldInMemory → Identifier × StaticReference
@@ -111,7 +112,7 @@ assign_all ((x, v) ∷ more) values = assign_all more (assign x v values)
 -- the numbers that are shown
 abbrev pub shown_numbers : Heap → Shown → List ℤ
 shown_numbers heap (shown.Numbers numbers) = numbers.now
-shown_numbers heap (shown.Object n) = numbers_of heap n
+shown_numbers heap (shown.Object n) = numbers_of heap n.number
 
 -- what is there, or nothing fits
 abbrev pub if_there : {A : Type 0} → Option A → Outcome A
@@ -148,7 +149,7 @@ pub record IsShown (v : Variable) (z : ℤ) (n : ℕ) (y : ℤ) : Type 0 where
 -- an element was written, is to be written into an object, or there is none
 abbrev pub WritesContent : Variable → ℕ → ℤ → WrittenInMemory → Variable → Type 0
 WritesContent old i z outcome.Done new = written i z old ≡ Some new
-WritesContent old i z (outcome.Object n y) new = IsShown old z n y × (new ≡ old)
+WritesContent old i z (outcome.Object n y) new = IsShown old z n.number y × (new ≡ old)
 WritesContent old i z outcome.Nothing new = HasNoElements (Some old) × (new ≡ old)
 
 -- what a name has was written
@@ -169,7 +170,7 @@ pub record IsToWrite (old : Variables) (x : Identifier) (z : ℤ) (n : ℕ) (y :
 -- the same of what has a name
 abbrev pub WritesElement : Variables → Identifier → ℕ → ℤ → WrittenInMemory → Variables → Type 0
 WritesElement old x i z outcome.Done new = IsWritten old x i z new
-WritesElement old x i z (outcome.Object n y) new = IsToWrite old x z n y new
+WritesElement old x i z (outcome.Object n y) new = IsToWrite old x z n.number y new
 WritesElement old x i z outcome.Nothing new = HasNoElements (lookup x old) × (new ≡ old)
 
 -- ---- what buffers take
@@ -294,11 +295,11 @@ given_view given.Nothing = NoResult
 given_view given.Null = NullResult
 given_view (given.Number z) = ScalarResult (Int z)
 given_view (given.Flag b) = ScalarResult (Flag b)
-given_view (given.Reference r) = ReferenceResult r
+given_view (given.Reference r) = ReferenceResult (name_of r)
 given_view (given.Field f) = FieldResult (option_map field_id_view f)
 
 -- the buffer that a call gives, of an object of this heap
 abbrev pub lent_view : Heap → Lent → Buffer
 lent_view heap lent.Nothing = NoBuffer
-lent_view heap (lent.Copy n) = Copy n (numbers_of heap n)
-lent_view heap (lent.View n) = View n
+lent_view heap (lent.Copy n) = Copy n.number (numbers_of heap n.number)
+lent_view heap (lent.View n) = View n.number

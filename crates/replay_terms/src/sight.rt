@@ -138,10 +138,10 @@ fn shown_in<'v>(variables: &'v Variables<'_>, name: &Name) -> Option<Shown<'v>>
 
 /// Whether there is an object of this name.
 fn is_there<O: Objects>(objects: &O, name: ObjectId) -> bool
-    ensures there { IsTrue result → IsWithin (length (O.heap objects.now)) name }
-    ensures none { (result ≡ false) → numbers_of (O.heap objects.now) name ≡ [] }
+    ensures there { IsTrue result → IsWithin (length (O.heap objects.now)) name.number }
+    ensures none { (result ≡ false) → numbers_of (O.heap objects.now) name.number ≡ [] }
 {
-    name > 0 && name <= objects.len()
+    name.number > 0 && name.number <= objects.len()
 }
 
 /// How many elements are shown.

@@ -16,7 +16,7 @@ use std::alloc::{AllocError, Global};
 use std::marker::Model;
 use syntax::{Item, Name};
 
-/// What a static holds: a global reference is known by the number of its object.
+/// What a static holds: a global reference is known by the name of its object.
 pub type StaticReference = semantics::StaticReference<ObjectId>;
 
 /// The statics of a unit, in its order, seen as those of the definitions. A name is found in constant time.

@@ -10,14 +10,14 @@ ghost use Rattle.semantics.specs.CallStep.{element_type};
 ghost use Rattle.semantics.specs.Heap.{number_in};
 ghost use Rattle.semantics.specs.Value.{convert};
 ghost use Rattle.semantics.specs.Variable.{assign, change, copied_length, viewed};
-ghost use Rattle.semantics.specs.Views.{object_value_view};
+ghost use Rattle.semantics.specs.Views.{names_of, object_value_view};
 ghost use Rattle.replay_terms.specs.Views.{Takes, WritesContent, WritesElement, content_view, count_viewed, had, held_number, variables_view, viewed_by};
 
 use crate::buffers::{BuffersInUse, NOTHING, exchanged, taken};
 use crate::value::{Value, convert};
 use classes::fields::FieldId;
 use indexmap::IndexMap;
-use semantics::{ObjectId, ObjectValue};
+use semantics::{Level, ObjectId, ObjectValue};
 use std::alloc::{AllocError, Global};
 use std::marker::Model;
 use syntax::{ElementType, Name};
@@ -26,9 +26,9 @@ use syntax::{ElementType, Name};
 #[derive(Drop)]
 pub enum Content<'a> {
     Number(Value),
-    /// A local reference: its level, the number of frames at its declaration, and NULL or an object, by its name.
+    /// A local reference: its level, and NULL or an object, by its name.
     Reference {
-        level: usize,
+        level: Level,
         object: Option<ObjectId>,
     },
     /// A field ID: NULL, or a field or static.
@@ -192,7 +192,7 @@ impl<'a> Variables<'a> {
 
     /// Adds the names of the objects that buffers show to others, in the order of the variables. The cost goes by the variables.
     pub fn add_viewed(&self, names: &mut Vec<ObjectId>) -> Result<(), AllocError>
-        ensures { IfOk result (λ _. names.new.items ≡ names.old.items ++ flat_map (λ v. viewed v.1) (variables_view self.now)) }
+        ensures { IfOk result (λ _. names_of names.new.items ≡ names_of names.old.items ++ flat_map (λ v. viewed v.1) (variables_view self.now)) }
     {
         add_viewed(&self.contents, names)
     }
@@ -274,7 +274,7 @@ fn begin_content(content: &mut Content<'_>, values: &[ObjectValue])
 
 /// Adds the name of the object that a buffer shows.
 fn push_viewed(names: &mut Vec<ObjectId>, content: &Content<'_>) -> Result<(), AllocError>
-    ensures { IfOk result (λ _. names.new.items ≡ names.old.items ++ viewed (content_view content.now)) }
+    ensures { IfOk result (λ _. names_of names.new.items ≡ names_of names.old.items ++ viewed (content_view content.now)) }
 {
     match content {
         Content::View { object, .. } => {
@@ -291,7 +291,7 @@ fn add_viewed(
     contents: &IndexMap<&[u8], Content<'_>>,
     names: &mut Vec<ObjectId>,
 ) -> Result<(), AllocError>
-    ensures { IfOk result (λ _. names.new.items ≡ names.old.items ++ flat_map viewed_by (values contents.now)) }
+    ensures { IfOk result (λ _. names_of names.new.items ≡ names_of names.old.items ++ flat_map viewed_by (values contents.now)) }
 {
     for place in 0..contents.len() {
         push_viewed(names, &contents[place])?;

@@ -12,6 +12,8 @@ use Rattle.syntax.specs.Tree.{Function, SourceUnit}
 use Rattle.class_rules.specs.Class.{Classes}
 use Rattle.semantics.specs.Thread.{Thread, Shared, BuffersInUse, Event, Quiet, PrintedNumber, Trapped, Advances as AdvancesTo, NoAdvance, Ending, Unfinished, Ended, Uncaught}
 use Rattle.semantics.specs.Object.{Reference}
+use Rattle.semantics.specs.Views.{name_of}
+use Rattle.semantics.specs.declared.object_id.ObjectId.{ObjectId}
 use Rattle.semantics.specs.Activation.{ending_after, monitors_after, calls_after, return_step, enter, entered, entry_advance, entered_function}
 use Rattle.semantics.specs.ThreadStep.{next_effect, thread_step, step_within}
 use Rattle.replay_steps.specs.declared.activation.Activation.{Activation}
@@ -53,13 +55,13 @@ module _ (unit : SourceUnit) (classes : Classes) (in_use : BuffersInUse) (k : �
   loads_after Ended calls h = refl
   loads_after (Uncaught c) calls h = refl
 
-  module _ (refused : Bool) (shared after : Shared) (t : ThreadInMemory) (a new : Activation) (pending : Option ℕ) (s : Thread) (is : t.activation ≡ Some a) (h : ThreadStands unit classes t s) where
+  module _ (refused : Bool) (shared after : Shared) (t : ThreadInMemory) (a new : Activation) (pending : Option ObjectId) (s : Thread) (is : t.activation ≡ Some a) (h : ThreadStands unit classes t s) where
     -- the scenes before the step and after it
     abbrev before : Scene
-    before = scene_with classes in_use k shared a.locals.variables a.locals.frames t.pending
+    before = scene_with classes in_use k shared a.locals.variables a.locals.frames (name_of t.pending)
 
     abbrev end' : Scene
-    end' = scene_with classes in_use k after new.locals.variables new.locals.frames pending
+    end' = scene_with classes in_use k after new.locals.variables new.locals.frames (name_of pending)
 
     -- the thread in memory after it, and the one that it stands for
     abbrev stepped : ThreadInMemory
@@ -113,13 +115,13 @@ module _ (unit : SourceUnit) (classes : Classes) (in_use : BuffersInUse) (k : �
         let e : Ending = ending_view left.ending in
         record {
           next = thread_after e t.calls.now;
-          advances = advances_so outcome.Returned does ∙ left_by after last next e t.calls.now pending h.calls refl over.ending over.shared;
+          advances = advances_so outcome.Returned does ∙ left_by after last next e t.calls.now (name_of pending) h.calls refl over.ending over.shared;
           stands = record {
             calls = sym over.calls;
             loads = subst (λ (cs : List Invocation). IsTrue (list_all (call_loads unit classes) cs)) (sym over.calls) (loads_after e t.calls.now h.loads);
             tasks = ap tasks_in (sym over.activation);
             work = subst (λ (o : Option Activation). WorkStands o (thread_after e t.calls.now)) (sym over.activation) (refl, refl);
-            pending = sym over.pending;
+            pending = sym (ap name_of over.pending);
             ending = refl;
           };
         }
@@ -185,7 +187,7 @@ module _ (classes : Classes) (k : ℕ) (shared : Shared) (t : ThreadInMemory) wh
   idle_free idle = λ unit s h range. sym (ap (λ (o : Option (List Task)). waits_with classes k shared s (next_effect shared s o)) (h.tasks ∙ ap tasks_in idle))
 
   -- within one it waits as its call does
-  pub waits_as : (a : Activation) (answer : Bool) → t.activation ≡ Some a → ((in_use : BuffersInUse) → WaitsIn (scene_with classes in_use k shared a.locals.variables a.locals.frames t.pending) a.work answer)
+  pub waits_as : (a : Activation) (answer : Bool) → t.activation ≡ Some a → ((in_use : BuffersInUse) → WaitsIn (scene_with classes in_use k shared a.locals.variables a.locals.frames (name_of t.pending)) a.work answer)
       → ThreadWaits classes k shared t answer
   waits_as a answer is tells = λ unit s h range.
       let work : WorkStands (Some a) s = subst (λ (o : Option Activation). WorkStands o s) is h.work in

@@ -3,6 +3,7 @@ use Rattle.std.specs.Prelude.{ℕ, List, [], ◌++◌, flat_map, Option, None, S
 use Rattle.std.specs.Option.{option_to_list}
 use Rattle.replay_steps.specs.declared.activation.Activation.{Activation}
 use Rattle.semantics.specs.Thread.{Shared}
+use Rattle.semantics.specs.Views.{name_of}
 use Rattle.replay_objects.specs.Frames.{references_in}
 use Rattle.replay_objects.specs.Monitors.{owned_objects}
 use Rattle.replay_threads.specs.declared.thread.Thread.{Thread}
@@ -18,7 +19,7 @@ activation_names (Some a) = references_in a.locals.frames
 
 -- the same, and that of the pending exception
 abbrev pub thread_names : Thread → List ℕ
-thread_names t = activation_names t.activation ++ pending_names t.pending
+thread_names t = activation_names t.activation ++ pending_names (name_of t.pending)
 
 -- the names of global references, of those that threads refer to, of what they own, and of the objects of their views
 abbrev pub root_names : Shared → List Thread → List ℕ

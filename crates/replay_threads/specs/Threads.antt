@@ -14,6 +14,7 @@ use Rattle.semantics.specs.Thread.{Unfinished, Thread, Shared, BuffersInUse, Eve
 use Rattle.semantics.specs.ThreadStep.{thread_step, waits}
 use Rattle.semantics.specs.Value.{Int}
 use Rattle.semantics.specs.Variable.{Variable, Scalar, LocalRef}
+use Rattle.semantics.specs.Views.{name_of}
 use Rattle.replay_steps.specs.declared.activation.Activation.{Activation}
 use Rattle.replay_tasks.specs.declared.outcome.Outcome.{Outcome}
 use Rattle.replay_tasks.specs.declared.outcome.Outcome.TheVariants as outcome
@@ -92,7 +93,7 @@ event_of took = Some event.Quiet
 pub record HasLeft (k : ℕ) (s : Shared) (old : ThreadInMemory) (after : Shared) (new : ThreadInMemory) : Type 0 where
   pub activation : new.activation ≡ None
   pub pending : new.pending ≡ None
-  pub ending : ending_view new.ending ≡ ending_after s.heap old.pending old.calls.now
+  pub ending : ending_view new.ending ≡ ending_after s.heap (name_of old.pending) old.calls.now
   pub calls : new.calls.now ≡ calls_after (ending_view new.ending) old.calls.now
   pub shared : after ≡ record s { monitors = monitors_after (ending_view new.ending) k s.monitors }
 
@@ -107,7 +108,7 @@ pub record ThreadStands (unit : SourceUnit) (classes : Classes) (t : ThreadInMem
   pub loads : IsTrue (list_all (call_loads unit classes) t.calls.now)
   pub tasks : s.tasks ≡ tasks_in t.activation
   pub work : WorkStands t.activation s
-  pub pending : s.pending ≡ t.pending
+  pub pending : s.pending ≡ name_of t.pending
   pub ending : s.ending ≡ ending_view t.ending
 
 -- whether each thread that it stands for waits for a monitor, as thread k

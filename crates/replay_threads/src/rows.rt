@@ -4,6 +4,7 @@ ghost use Rattle.std.specs.Prelude.{◌≡◌, ◌++◌, IfOk, flat_map};
 ghost use Rattle.replay_threads.specs.Rows.{activation_names, pending_names, root_names, thread_names};
 ghost use Rattle.replay_threads.specs.States.{viewed_in};
 ghost use Rattle.replay_arguments.specs.Shares.{shared_view};
+ghost use Rattle.semantics.specs.Views.{name_of, names_of};
 
 use crate::thread::Thread;
 use replay_arguments::Shared;
@@ -18,7 +19,7 @@ pub fn root_names(
     shared: &Shared<'_>,
     threads: &[Thread<'_>],
 ) -> Result<Vec<ObjectId>, AllocError>
-    ensures { IfOk result (λ names. names.items ≡ root_names (shared_view shared.now) threads.now) }
+    ensures { IfOk result (λ names. names_of names.items ≡ root_names (shared_view shared.now) threads.now) }
 {
     let mut names = Vec::new(alloc);
     shared.globals.add_to(&mut names)?;
@@ -30,7 +31,7 @@ pub fn root_names(
 
 /// Adds the names of the objects that the views of threads show.
 fn add_views(names: &mut Vec<ObjectId>, threads: &[Thread<'_>]) -> Result<(), AllocError>
-    ensures { IfOk result (λ _. names.new.items ≡ names.old.items ++ flat_map viewed_in threads.now) }
+    ensures { IfOk result (λ _. names_of names.new.items ≡ names_of names.old.items ++ flat_map viewed_in threads.now) }
 {
     for thread in threads {
         push_views(names, thread)?;
@@ -40,7 +41,7 @@ fn add_views(names: &mut Vec<ObjectId>, threads: &[Thread<'_>]) -> Result<(), Al
 
 /// Adds the names of the objects that the views of a thread show.
 fn push_views(names: &mut Vec<ObjectId>, thread: &Thread<'_>) -> Result<(), AllocError>
-    ensures { IfOk result (λ _. names.new.items ≡ names.old.items ++ viewed_in thread.now) }
+    ensures { IfOk result (λ _. names_of names.new.items ≡ names_of names.old.items ++ viewed_in thread.now) }
 {
     match &thread.activation {
         None => Ok(()),
@@ -50,7 +51,7 @@ fn push_views(names: &mut Vec<ObjectId>, thread: &Thread<'_>) -> Result<(), Allo
 
 /// Adds the names of the objects in the frames of threads, and of their pending exceptions.
 fn add_threads(names: &mut Vec<ObjectId>, threads: &[Thread<'_>]) -> Result<(), AllocError>
-    ensures { IfOk result (λ _. names.new.items ≡ names.old.items ++ flat_map thread_names threads.now) }
+    ensures { IfOk result (λ _. names_of names.new.items ≡ names_of names.old.items ++ flat_map thread_names threads.now) }
 {
     for thread in threads {
         push_thread(names, thread)?;
@@ -60,7 +61,7 @@ fn add_threads(names: &mut Vec<ObjectId>, threads: &[Thread<'_>]) -> Result<(), 
 
 /// Adds the names of a thread.
 fn push_thread(names: &mut Vec<ObjectId>, thread: &Thread<'_>) -> Result<(), AllocError>
-    ensures { IfOk result (λ _. names.new.items ≡ names.old.items ++ thread_names thread.now) }
+    ensures { IfOk result (λ _. names_of names.new.items ≡ names_of names.old.items ++ thread_names thread.now) }
 {
     push_call(names, &thread.activation)?;
     push_pending(names, thread.pending)
@@ -71,7 +72,7 @@ fn push_call(
     names: &mut Vec<ObjectId>,
     activation: &Option<Activation<'_>>,
 ) -> Result<(), AllocError>
-    ensures { IfOk result (λ _. names.new.items ≡ names.old.items ++ activation_names activation.now) }
+    ensures { IfOk result (λ _. names_of names.new.items ≡ names_of names.old.items ++ activation_names activation.now) }
 {
     match activation {
         None => Ok(()),
@@ -81,7 +82,7 @@ fn push_call(
 
 /// Adds the name of a pending exception.
 fn push_pending(names: &mut Vec<ObjectId>, pending: Option<ObjectId>) -> Result<(), AllocError>
-    ensures { IfOk result (λ _. names.new.items ≡ names.old.items ++ pending_names pending) }
+    ensures { IfOk result (λ _. names_of names.new.items ≡ names_of names.old.items ++ pending_names (name_of pending)) }
 {
     match pending {
         None => Ok(()),

@@ -9,6 +9,7 @@ ghost use Rattle.semantics.specs.Activation.{parameter_variables, class_of_funct
 ghost use Rattle.semantics.specs.EventViews.{ending_view};
 ghost use Rattle.semantics.specs.Thread.{Shared as SharedOfThreads};
 ghost use Rattle.semantics.specs.Variable.{LocalRef};
+ghost use Rattle.semantics.specs.Views.{name_of};
 ghost use Rattle.class_rules.specs.Grown.{IsGrown};
 ghost use Rattle.replay_threads.specs.Threads.{argument_content, BeginsNext, IsBegun, EndsStep, HasLeft, TakesTurn, ThreadWaits, WorkInRange, event_of};
 ghost use Rattle.replay_tasks.specs.Tasks.{StatementsInRange};
@@ -25,7 +26,7 @@ use replay_objects::{Frames, Names, Store};
 use replay_steps::{Activation, advance, waits, work_of};
 use replay_tasks::Outcome;
 use replay_terms::{Content, Value, Variables};
-use semantics::{Ending, Event, ObjectId};
+use semantics::{Ending, Event, Level, ObjectId};
 use std::alloc::{AllocError, Global};
 use syntax::{Function, Parameter};
 use world_values::{Call, ObjectValue, World};
@@ -58,7 +59,7 @@ fn content_of<'a>(argument: ObjectValue) -> Content<'a>
     match argument {
         ObjectValue::Number(z) => Content::Number(Value::Int(z)),
         ObjectValue::Reference(reference) => Content::Reference {
-            level: 1,
+            level: Level { number: 1 },
             object: reference,
         },
     }
@@ -113,8 +114,8 @@ fn entry_variables<'a>(
     variables.set(
         &function.class_name,
         Content::Reference {
-            level: 1,
-            object: Some(class),
+            level: Level { number: 1 },
+            object: Some(ObjectId { number: class }),
         },
     )?;
     add_parameters(&mut variables, &function.parameters, arguments)?;
@@ -150,7 +151,7 @@ fn entry_frames(
 {
     let mut references = Names::new(alloc);
     add_references(&mut references, arguments)?;
-    references.push(class)?;
+    references.push(ObjectId { number: class })?;
     let capacity = references.len() + 16;
     Frames::new(alloc, capacity, references)
 }
@@ -255,7 +256,7 @@ fn event_of(outcome: Outcome<'_>) -> Option<Event>
 
 /// The ending of a thread after its call, with this exception pending and these calls to come.
 fn ending_after(store: &Store, pending: Option<ObjectId>, calls: &[Call]) -> Ending
-    ensures { ending_view result ≡ ending_after store.now pending calls.now }
+    ensures { ending_view result ≡ ending_after store.now (name_of pending) calls.now }
 {
     match pending {
         Some(exception) => Ending::Uncaught(store.class_of(exception)),

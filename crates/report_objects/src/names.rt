@@ -21,11 +21,11 @@ impl<O: Objects> Graph for Names<'_, O> {
     ghost references = { λ x. references_in (O.heap x.objects.now) };
 
     fn count(&self, place: usize) -> usize {
-        self.objects.count(place)
+        self.objects.count(ObjectId { number: place })
     }
 
     fn reference(&self, place: usize, index: usize) -> Option<usize> {
-        match self.objects.value(place, index) {
+        match self.objects.value(ObjectId { number: place }, index) {
             ObjectValue::Number(_) => None,
             ObjectValue::Reference(None) => None,
             ObjectValue::Reference(Some(name)) => within(self.objects.len(), name),
@@ -33,12 +33,12 @@ impl<O: Objects> Graph for Names<'_, O> {
     }
 }
 
-/// The name, where it is that of one of this number of objects.
+/// The place of a name, where it is that of one of this number of objects.
 pub(crate) fn within(count: usize, name: ObjectId) -> Option<usize>
-    ensures { result ≡ within count (Some name) }
+    ensures { result ≡ within count (Some name.number) }
 {
-    if 0 < name && name <= count {
-        Some(name)
+    if 0 < name.number && name.number <= count {
+        Some(name.number)
     } else {
         None
     }

@@ -2,6 +2,7 @@
 
 ghost use Rattle.std.specs.Prelude.{◌<◌, ◌^◌, ◌++◌, Contains, IfOk};
 ghost use Rattle.semantics.specs.Reachable.{from_one};
+ghost use Rattle.semantics.specs.Views.{names_of};
 ghost use Rattle.report_objects.specs.Names.{AreRoots};
 
 use crate::names::within;
@@ -17,15 +18,15 @@ pub(crate) fn marked_roots(
     names: &[ObjectId],
 ) -> Result<Marks, AllocError>
     requires { count < 2 ^ 63 }
-    ensures { IfOk result (AreRoots count (Contains (from_one loaded ++ names.now))) }
+    ensures { IfOk result (AreRoots count (Contains (from_one loaded ++ names_of names.now))) }
 {
     let mut marks = Marks::new(alloc, count + 1)?;
     for name in 1..loaded.min(count) + 1 {
         marks.add(name)?;
     }
     for name in names {
-        if let Some(name) = within(count, *name) {
-            marks.add(name)?;
+        if let Some(place) = within(count, *name) {
+            marks.add(place)?;
         }
     }
     Ok(marks)

@@ -22,10 +22,10 @@ fn shown(classes: &ClassTable, value: ObjectValue) -> Shown<'_>
         ObjectValue::Number(number) => Shown::Number(number),
         ObjectValue::Reference(None) => Shown::Null,
         ObjectValue::Reference(Some(name)) => {
-            if name <= classes.len() {
-                Shown::Class(classes.name(name))
+            if name.number <= classes.len() {
+                Shown::Class(classes.name(name.number))
             } else {
-                Shown::Object(name)
+                Shown::Object(name.number)
             }
         }
     }
@@ -39,10 +39,10 @@ fn put_values<O: Objects, S: Sink>(
     name: ObjectId,
 ) -> Result<(), SinkFailed>
     requires can_fail { CanFail (S.written sink.old) }
-    requires name { IsWithin (length (O.heap objects.now)) name }
+    requires name { IsWithin (length (O.heap objects.now)) name.number }
     ensures { Writes (S.written sink.old) (S.written sink.new) result
         (flat_map (λ v. codes " " ++ shown_text v) (map (shown_value classes.now)
-        (values_of (O.heap objects.now) name))) }
+        (values_of (O.heap objects.now) name.number))) }
 {
     for index in 0..objects.count(name) {
         let value = objects.value(name, index);
@@ -59,11 +59,11 @@ pub(crate) fn put_row<O: Objects, S: Sink>(
     name: ObjectId,
 ) -> Result<(), SinkFailed>
     requires can_fail { CanFail (S.written sink.old) }
-    requires name { IsWithin (length (O.heap objects.now)) name }
-    ensures { Writes (S.written sink.old) (S.written sink.new) result (object_line (shown_row classes.now (O.heap objects.now) name)) }
+    requires name { IsWithin (length (O.heap objects.now)) name.number }
+    ensures { Writes (S.written sink.old) (S.written sink.new) result (object_line (shown_row classes.now (O.heap objects.now) name.number)) }
 {
     let class = classes.name(objects.class_of(name));
-    put_row_head(sink, name, class)?;
+    put_row_head(sink, name.number, class)?;
     put_values(sink, classes, objects, name)?;
     put_row_end(sink)
 }

@@ -3,6 +3,7 @@
 ghost use Rattle.std.specs.Prelude.{◌≡◌, ◌+◌, ◌<◌, length, IfOk};
 ghost use Rattle.report.specs.Shown.{row_lines};
 ghost use Rattle.sinks.specs.Sink.{CanFail, Writes};
+ghost use Rattle.semantics.specs.Views.{names_of};
 ghost use Rattle.report_objects.specs.Rows.{marked_rows, AreReported};
 
 use crate::names::Names;
@@ -66,7 +67,7 @@ pub fn reached_rows<'a, O: Objects>(
     loaded: usize,
     names: &[ObjectId],
 ) -> Result<ReachedRows<'a, O>, AllocError>
-    ensures { IfOk result (AreReported classes.now (O.heap objects.now) loaded names.now) }
+    ensures { IfOk result (AreReported classes.now (O.heap objects.now) loaded (names_of names.now)) }
 {
     let count = objects.len();
     let roots = marked_roots(alloc, count, loaded, names)?;
@@ -95,9 +96,9 @@ fn put_rows<O: Objects, S: Sink>(
     requires marks { length reached.now ≡ end }
     ensures { Writes (S.written sink.old) (S.written sink.new) result (row_lines (marked_rows classes.now (O.heap objects.now) reached.now first end)) }
 {
-    for name in first..end {
-        if reached[name] {
-            put_row(sink, classes, objects, name)?;
+    for number in first..end {
+        if reached[number] {
+            put_row(sink, classes, objects, ObjectId { number })?;
         }
     }
     Ok(())

@@ -1,15 +1,25 @@
 -- The values of objects and release modes as they are held in memory, and the names of objects there.
-use Rattle.std.specs.Prelude.{ℕ, ◌<◌, ◌≤◌}
+use Rattle.std.specs.Prelude.{ℕ, ◌<◌, ◌≤◌, List, map, Option}
+use Rattle.std.specs.Option.{option_map}
 use Rattle.jni.specs.declared.mode.ReleaseMode.{ReleaseMode as ModeInMemory}
 use Rattle.jni.specs.declared.mode.ReleaseMode.TheVariants as mode
 use Rattle.semantics.specs.Arguments.{ReleaseMode, CopyBackAndFree, CopyBack, FreeUncopied}
+use Rattle.semantics.specs.declared.object_id.ObjectId.{ObjectId}
 use Rattle.semantics.specs.declared.object_value.ObjectValue.{ObjectValue as InMemory}
 use Rattle.semantics.specs.declared.object_value.ObjectValue.TheVariants as held
 use Rattle.semantics.specs.Object.{ObjectValue, Number, Refers}
 
+-- the name of an object, where there is one
+abbrev pub name_of : Option ObjectId → Option ℕ
+name_of object = option_map (λ o. o.number) object
+
+-- the names of objects
+abbrev pub names_of : List ObjectId → List ℕ
+names_of objects = map (λ o. o.number) objects
+
 abbrev pub object_value_view : InMemory → ObjectValue
 object_value_view (held.Number z) = Number z
-object_value_view (held.Reference r) = Refers r
+object_value_view (held.Reference r) = Refers (name_of r)
 
 abbrev pub mode_view : ModeInMemory → ReleaseMode
 mode_view mode.CopyBackAndFree = CopyBackAndFree

@@ -5,6 +5,8 @@
 
 mod event;
 mod journal;
+mod level;
+mod object_id;
 mod object_value;
 mod objects;
 mod printed;
@@ -17,7 +19,9 @@ ghost use Rattle.semantics.specs.Reachable.{ReachableIsComputed};
 
 pub use event::{Ending, Event, Stop};
 pub use journal::Entry;
-pub use object_value::{ObjectId, ObjectValue};
+pub use level::Level;
+pub use object_id::ObjectId;
+pub use object_value::ObjectValue;
 pub use objects::Objects;
 pub use printed::Printed;
 pub use schedule::ScheduleWord;

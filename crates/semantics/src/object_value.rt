@@ -1,7 +1,6 @@
 //! The values of objects.
 
-/// An object: its number in the order in which objects are made, counted from 1. In the definitions it is the object's name.
-pub type ObjectId = usize;
+use crate::object_id::ObjectId;
 
 /// What is in a field, in an array or a string, or what a call is given. An object goes by its number in the order in which
 /// they are made, counted from 1: the class objects, the OutOfMemoryError object, the world's objects, and then those that are

@@ -4,7 +4,8 @@ ghost use Rattle.std.specs.Prelude.{◌≡◌, ◌<◌, ◌^◌, Some, length, s
 ghost use Rattle.semantics.specs.Heap.{Heap, class_of, values_of};
 ghost use Rattle.semantics.specs.Views.{object_value_view, IsWithin};
 
-use crate::object_value::{ObjectId, ObjectValue};
+use crate::object_id::ObjectId;
+use crate::object_value::ObjectValue;
 use class_rules::ClassId;
 
 /// Objects that go by their names, their numbers in the order in which they were made, counted from 1.
@@ -19,17 +20,17 @@ pub trait Objects {
 
     /// The number of an object's class.
     fn class_of(&self, name: ObjectId) -> ClassId
-        requires { IsWithin (length (heap self.now)) name }
-        ensures { result ≡ class_of (heap self.now) name };
+        requires { IsWithin (length (heap self.now)) name.number }
+        ensures { result ≡ class_of (heap self.now) name.number };
 
     /// The number of an object's values.
     fn count(&self, name: ObjectId) -> usize
-        requires { IsWithin (length (heap self.now)) name }
-        ensures { result ≡ length (values_of (heap self.now) name) };
+        requires { IsWithin (length (heap self.now)) name.number }
+        ensures { result ≡ length (values_of (heap self.now) name.number) };
 
     /// A value of an object.
     fn value(&self, name: ObjectId, index: usize) -> ObjectValue
-        requires name { IsWithin (length (heap self.now)) name }
-        requires index { index < length (values_of (heap self.now) name) }
-        ensures { slice_get (values_of (heap self.now) name) index ≡ Some (object_value_view result) };
+        requires name { IsWithin (length (heap self.now)) name.number }
+        requires index { index < length (values_of (heap self.now) name.number) }
+        ensures { slice_get (values_of (heap self.now) name.number) index ≡ Some (object_value_view result) };
 }

@@ -1,7 +1,7 @@
 //! Each public call that reads, once with success, and what it reads.
 
 use class_rules::mangling::{is_mangled, mangle, unmangle};
-use semantics::{Entry, ScheduleWord};
+use semantics::{Entry, ObjectId, ScheduleWord};
 use std::test::Fail;
 use world::read_world;
 use world_schedules::{Repetition, read_journal, read_schedule};
@@ -62,7 +62,7 @@ fn objects_of_a_world(rt: HostRuntime) -> Result<(), Fail> {
         return Err(Fail::new("four objects"));
     };
     let elements = [
-        ObjectValue::Reference(Some(48)),
+        ObjectValue::Reference(Some(ObjectId { number: 48 })),
         ObjectValue::Reference(None),
     ];
     assert!(rt; is_object(o, 45, &[ObjectValue::Number(7)]) && is_object(r, 44, &elements));
@@ -101,12 +101,12 @@ fn calls_of_a_world(rt: HostRuntime) -> Result<(), Fail> {
         return Err(Fail::new("two calls"));
     };
     let arguments = [
-        ObjectValue::Reference(Some(50)),
+        ObjectValue::Reference(Some(ObjectId { number: 50 })),
         ObjectValue::Number(-5),
         ObjectValue::Reference(None),
-        ObjectValue::Reference(Some(43)),
+        ObjectValue::Reference(Some(ObjectId { number: 43 })),
     ];
-    let text = [ObjectValue::Reference(Some(51))];
+    let text = [ObjectValue::Reference(Some(ObjectId { number: 51 }))];
     assert!(rt;
         is_call(first, b"Java_A_f", 11, &arguments) && is_call(second, b"Java_A_g", 12, &text)
     );

@@ -11,6 +11,7 @@ ghost use Rattle.class_rules.specs.Class.{class_named};
 ghost use Rattle.class_rules.specs.Mangling.{is_class_name};
 ghost use Rattle.classes.specs.FieldViews.{with_declared, declared_field};
 ghost use Rattle.semantics.specs.Object.{Number};
+ghost use Rattle.semantics.specs.Views.{name_of};
 ghost use Rattle.world.specs.Gathered.{object_at, value_at, with_object};
 ghost use Rattle.world.specs.GatheredViews.{gathered_of};
 ghost use Rattle.world_lines.specs.LineViews.{value_view};
@@ -20,6 +21,7 @@ ghost use Rattle.world_values.specs.WorldRules.{value_in_range};
 
 use crate::builder::WorldBuilder;
 use class_rules::ClassId;
+use semantics::ObjectId;
 use std::alloc::{AllocError, Global};
 use world_lines::{FieldWords, Value};
 use world_values::{Call, Object, ObjectValue};
@@ -56,20 +58,25 @@ fn put_in_last(threads: &mut Vec<Vec<Call>>, call: Call) -> Result<(), AllocErro
 
 impl WorldBuilder {
     /// The object of this name.
-    fn object_at(&self, name: &[u8]) -> Option<usize>
-        ensures { result ≡ object_at self.now.classes self.now.names name.now }
+    fn object_at(&self, name: &[u8]) -> Option<ObjectId>
+        ensures { name_of result ≡ object_at self.now.classes self.now.names name.now }
     {
         match self.names.place_of(name) {
-            Some(place) => Some(self.classes.len() + 2 + place),
+            Some(place) => Some(ObjectId {
+                number: self.classes.len() + 2 + place,
+            }),
             None => None,
         }
     }
 
     /// The class object of the class of this name.
-    fn class_at(&self, name: &[u8]) -> Option<ClassId>
-        ensures { result ≡ class_named self.now.classes name.now }
+    fn class_at(&self, name: &[u8]) -> Option<ObjectId>
+        ensures { name_of result ≡ class_named self.now.classes name.now }
     {
-        self.classes.find(name)
+        match self.classes.find(name) {
+            Some(number) => Some(ObjectId { number }),
+            None => None,
+        }
     }
 
     /// A value in memory.

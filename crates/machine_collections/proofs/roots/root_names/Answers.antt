@@ -1,5 +1,6 @@
 use Rattle.std.proofs.Common.{ℕ, ◌+◌, ◌++◌, List, map, drop, sym, ap, ◌∙◌, arith, append_assoc, append-nil}
 use Rattle.tables.specs.References.{references_in}
+use Rattle.semantics.specs.Views.{names_of}
 use Rattle.machine_collections.specs.Roots.{name_of, reference_names}
 use Rattle.machine_collections.proofs.MovedRoots.{drop_past}
 use Rattle.machine_collections.proofs.RootNames.{root_next, root_there}
@@ -11,13 +12,15 @@ push_name-requires c = root_there c.args.heap.now c.args.roots.now.places.items 
 pub loop-place-preserved : goal.loop-place-preserved
 loop-place-preserved c =
     let places = c.args.roots.now.places.items in
+    let names = names_of c.loop-place.names.items in
     let further = map (name_of c.args.heap.now) (references_in (drop (c.loop-place.place + 1) places)) in
     ap (λ (l : List ℕ). l ++ further) c.in_ok-push_name.ensures
-    ∙ append_assoc c.loop-place.names.items (reference_names c.args.heap.now c.root.result) further
-    ∙ ap (λ (l : List ℕ). c.loop-place.names.items ++ l) (sym (root_next c.args.heap.now places c.loop-place.place c.root.result c.root.ensures))
+    ∙ append_assoc names (reference_names c.args.heap.now c.root.result) further
+    ∙ ap (λ (l : List ℕ). names ++ l) (sym (root_next c.args.heap.now places c.loop-place.place c.root.result c.root.ensures))
     ∙ c.loop-place.invariant
 
 pub returns : goal.returns
 returns c =
     let places = c.args.roots.now.places.items in
-    sym (ap (λ (l : List ℕ). c.loop-place.names.items ++ l) (ap (λ l. map (name_of c.args.heap.now) (references_in l)) (drop_past places c.loop-place.place (omega (arith, c.loop-place-test.false, c.len-place-end.ensures)))) ∙ append-nil c.loop-place.names.items) ∙ c.loop-place.invariant
+    let names = names_of c.loop-place.names.items in
+    sym (ap (λ (l : List ℕ). names ++ l) (ap (λ l. map (name_of c.args.heap.now) (references_in l)) (drop_past places c.loop-place.place (omega (arith, c.loop-place-test.false, c.len-place-end.ensures)))) ∙ append-nil names) ∙ c.loop-place.invariant

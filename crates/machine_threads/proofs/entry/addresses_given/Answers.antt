@@ -19,7 +19,7 @@ object_of-requires-in-Reference-Some c =
     let w = c.in-Reference-Some in
     let inner : w.field-0 ≡ Some w.name = rw w.is at w.field-0-is in
     let at = read_at xs i (Number (pos 0)) (Reference (Some w.name)) c.loop-argument-test.true (w.is ∙ ap Reference inner) in
-    counted_from_1 made w.name (given_at (is_argument made) xs i (Reference (Some w.name)) c.requires.given at)
+    counted_from_1 made w.name.number (given_at (is_argument made) xs i (Reference (Some w.name)) c.requires.given at)
 
 pub loop-argument-preserved : goal.loop-argument-preserved
 loop-argument-preserved c =
@@ -41,7 +41,7 @@ loop-argument-preserved c =
           let r = w.in-Reference-Some in
           let inner : r.field-0 ≡ Some r.name = rw r.is at r.field-0-is in
           let at = read_at xs i (Number (pos 0)) (Reference (Some r.name)) c.loop-argument-test.true (r.is ∙ ap Reference inner) in
-          let object : w.object_of-in-Reference-Some.result ≡ slice_get loaded (r.name - 1) = w.object_of-in-Reference-Some.ensures in
+          let object : w.object_of-in-Reference-Some.result ≡ slice_get loaded (r.name.number - 1) = w.object_of-in-Reference-Some.ensures in
           ap (λ v. v.items) w.slots-is ∙ w.in_ok-push-in-Reference-Some.ensures.items ∙ ap (λ (l : List (Option ℕ)). l ++ w.object_of-in-Reference-Some.result ∷ []) c.loop-argument.invariant
           ∙ ap (λ (o : Option ℕ). class ∷ filter_map (argument_address loaded) (map object_value_view (take i xs)) ++ o ∷ []) object
           ∙ ap (λ (l : List (Option ℕ)). class ∷ l) (sym (given_more (argument_address loaded) xs i (Reference (Some r.name)) at))

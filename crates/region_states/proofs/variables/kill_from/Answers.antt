@@ -11,7 +11,7 @@ loop-i-preserved c =
     let ys = c.loop-i.variables.items in
     let within : c.loop-i.i < length ys = omega (arith, c.loop-i-test.true, c.loop-i.invariant.long, c.args.variables.now.ok.0) in
     record {
-      done = change_more (killed_from c.args.level) c.args.variables.now.items ys c.loop-i.i c.index.result.now c.killed_from.result within c.loop-i.invariant.long c.loop-i.invariant.done
-          (c.killed_from.ensures ∙ ap (λ (v : VariableStateInMemory). killed_from c.args.level (variable_state v)) c.index.ensures);
+      done = change_more (killed_from c.args.level.number) c.args.variables.now.items ys c.loop-i.i c.index.result.now c.killed_from.result within c.loop-i.invariant.long c.loop-i.invariant.done
+          (c.killed_from.ensures ∙ ap (λ (v : VariableStateInMemory). killed_from c.args.level.number (variable_state v)) c.index.ensures);
       long = length-set ys c.loop-i.i c.killed_from.result ∙ c.loop-i.invariant.long;
     }

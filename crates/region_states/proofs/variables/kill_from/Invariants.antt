@@ -5,6 +5,6 @@ use Rattle.region_states.proofs.variables.kill_from.Given as goal
 
 abbrev pub invariant-loop-i : goal.invariant-loop-i
 invariant-loop-i l = record {
-  done : map variable_state l.variables.items ≡ map (killed_from l.level) (take l.i (map variable_state l.initial.variables.items)) ++ drop l.i (map variable_state l.initial.variables.items);
+  done : map variable_state l.variables.items ≡ map (killed_from l.level.number) (take l.i (map variable_state l.initial.variables.items)) ++ drop l.i (map variable_state l.initial.variables.items);
   long : length l.variables.items ≡ length l.initial.variables.items;
 }

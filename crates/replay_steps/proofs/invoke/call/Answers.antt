@@ -15,6 +15,7 @@ use Rattle.replay_arguments.specs.Checked.{trap_found}
 use Rattle.replay_calls.specs.WorkedOut.{worked_out}
 use Rattle.replay_arguments.specs.Shares.{shared_view}
 use Rattle.semantics.specs.EventViews.{trap_view}
+use Rattle.semantics.specs.Views.{name_of}
 use Rattle.replay_terms.specs.Views.{in_use_view, variables_view}
 use Rattle.replay_steps.specs.Calls.{MakesCall, wanted_element}
 use Rattle.replay_steps.specs.Steps.{Scene, scene_of}
@@ -40,7 +41,7 @@ complete-requires-clause-fits c =
     let classes = c.args.turn.classes.now in
     let store = c.args.shared.now.store in
     let locals = c.args.locals.now in
-    let pending = c.args.pending.now in
+    let pending = name_of c.args.pending.now in
     let in_use = in_use_view c.args.turn.in_use in
     let element = element_value c.wanted_element.result in
     subst (FitsFrames locals.frames) (sym c.answer_or_trap-answer.ensures) (told_fits locals.frames classes in_use c.args.turn.thread c.args.shared.now.monitors store (variables_view locals.variables) pending args f (trap_found classes store locals.frames (is_some pending) element f args))
@@ -52,7 +53,7 @@ complete-requires-clause-arrays c =
     let classes = c.args.turn.classes.now in
     let store = c.args.shared.now.store in
     let locals = c.args.locals.now in
-    let pending = c.args.pending.now in
+    let pending = name_of c.args.pending.now in
     let in_use = in_use_view c.args.turn.in_use in
     let element = element_value c.wanted_element.result in
     subst (FitsArrays store (variables_view locals.variables)) (sym c.answer_or_trap-answer.ensures) (told_copies store (variables_view locals.variables) args classes in_use c.args.turn.thread c.args.shared.now.monitors locals.frames pending f (trap_found classes store locals.frames (is_some pending) element f args))
@@ -70,8 +71,8 @@ returns-in-Some-clause-step c =
     let args = map actual_view c.args.actuals.now in
     let scene : Scene = scene_of turn s locals c.args.pending.now in
     subst (λ took. MakesCall turn.refused scene i.line i.purpose f args took scene) (sym c.unless_refused.ensures.step)
-    (call_stopped turn.classes.now (in_use_view turn.in_use) turn.thread s locals.variables locals.frames c.args.pending.now i.line i.purpose f args turn.refused
-    (answer_view c.answer_or_trap-answer.result) c.in-Some.trap (answer_for (answer_view c.answer_or_trap-answer.result) turn.classes.now (in_use_view turn.in_use) turn.thread s.monitors s.heap (variables_view locals.variables) locals.frames c.args.pending.now f args (element_value c.wanted_element.result) (wanted_element locals.variables i.purpose) c.wanted_element.ensures c.answer_or_trap-answer.ensures) (sym c.trap_in.ensures ∙ ap (option_map trap_view) c.in-Some.is))
+    (call_stopped turn.classes.now (in_use_view turn.in_use) turn.thread s locals.variables locals.frames (name_of c.args.pending.now) i.line i.purpose f args turn.refused
+    (answer_view c.answer_or_trap-answer.result) c.in-Some.trap (answer_for (answer_view c.answer_or_trap-answer.result) turn.classes.now (in_use_view turn.in_use) turn.thread s.monitors s.heap (variables_view locals.variables) locals.frames (name_of c.args.pending.now) f args (element_value c.wanted_element.result) (wanted_element locals.variables i.purpose) c.wanted_element.ensures c.answer_or_trap-answer.ensures) (sym c.trap_in.ensures ∙ ap (option_map trap_view) c.in-Some.is))
 
 pub returns-then-turn-clause-step : goal.returns-then-turn-clause-step
 returns-then-turn-clause-step c =
@@ -84,7 +85,7 @@ returns-then-turn-clause-step c =
     let before : Scene = scene_of turn s locals c.args.pending.now in
     let after : Scene = scene_of turn s locals c.refuse_object.new.pending in
     subst (λ b. MakesCall b before i.line i.purpose f args c.refuse_object.result after) (sym c.if-turn.true)
-    (c.refuse_object.ensures.step s locals args (answer_for (answer_view c.answer_or_trap-answer.result) turn.classes.now (in_use_view turn.in_use) turn.thread s.monitors s.heap (variables_view locals.variables) locals.frames c.args.pending.now f args (element_value c.wanted_element.result) (wanted_element locals.variables i.purpose) c.wanted_element.ensures c.answer_or_trap-answer.ensures))
+    (c.refuse_object.ensures.step s locals args (answer_for (answer_view c.answer_or_trap-answer.result) turn.classes.now (in_use_view turn.in_use) turn.thread s.monitors s.heap (variables_view locals.variables) locals.frames (name_of c.args.pending.now) f args (element_value c.wanted_element.result) (wanted_element locals.variables i.purpose) c.wanted_element.ensures c.answer_or_trap-answer.ensures))
 
 pub returns-in-Some-lent_in-clause-step : goal.returns-in-Some-lent_in-clause-step
 returns-in-Some-lent_in-clause-step c =
@@ -97,10 +98,10 @@ returns-in-Some-lent_in-clause-step c =
     let a = answer_view c.answer_or_trap-answer.result in
     let before : Scene = scene_of turn s locals c.args.pending.now in
     let after : Scene = scene_of turn s c.lend.new.locals c.args.pending.now in
-    let has = answer_for a turn.classes.now (in_use_view turn.in_use) turn.thread s.monitors s.heap (variables_view locals.variables) locals.frames c.args.pending.now f args (element_value c.wanted_element.result) (wanted_element locals.variables i.purpose) c.wanted_element.ensures c.answer_or_trap-answer.ensures in
+    let has = answer_for a turn.classes.now (in_use_view turn.in_use) turn.thread s.monitors s.heap (variables_view locals.variables) locals.frames (name_of c.args.pending.now) f args (element_value c.wanted_element.result) (wanted_element locals.variables i.purpose) c.wanted_element.ensures c.answer_or_trap-answer.ensures in
     subst (λ b. IfOk c.lend.result (λ o. MakesCall b before i.line i.purpose f args o after)) (sym c.if-turn.false)
     (both_ok c.lend.result (λ o varied is_for.
-    buffer_lent turn.classes.now (in_use_view turn.in_use) turn.thread s locals.variables locals.frames c.args.pending.now i.line i.purpose f args
+    buffer_lent turn.classes.now (in_use_view turn.in_use) turn.thread s locals.variables locals.frames (name_of c.args.pending.now) i.line i.purpose f args
     a c.in-Some-lent_in.buffer c.lend.new.locals.variables c.lend.new.locals.frames o has (sym c.lent_in.ensures ∙ c.in-Some-lent_in.is) (varied s.heap) c.lend.ensures.frames is_for)
     c.lend.ensures.variables c.lend.ensures.outcome)
 
@@ -115,7 +116,7 @@ returns-clause-step c =
     let before : Scene = scene_of turn s locals c.args.pending.now in
     let after : Scene = scene_of turn (shared_view c.complete.new.shared) c.complete.new.locals c.complete.new.pending in
     subst (λ b. IfOk c.complete.result (λ o. MakesCall b before i.line i.purpose f args o after)) (sym c.if-turn.false)
-    (c.complete.ensures.step args (answer_for (answer_view c.answer_or_trap-answer.result) turn.classes.now (in_use_view turn.in_use) turn.thread s.monitors s.heap (variables_view locals.variables) locals.frames c.args.pending.now f args (element_value c.wanted_element.result) (wanted_element locals.variables i.purpose) c.wanted_element.ensures c.answer_or_trap-answer.ensures))
+    (c.complete.ensures.step args (answer_for (answer_view c.answer_or_trap-answer.result) turn.classes.now (in_use_view turn.in_use) turn.thread s.monitors s.heap (variables_view locals.variables) locals.frames (name_of c.args.pending.now) f args (element_value c.wanted_element.result) (wanted_element locals.variables i.purpose) c.wanted_element.ensures c.answer_or_trap-answer.ensures))
 
 pub answer_or_trap-answer-requires : goal.answer_or_trap-answer-requires
 answer_or_trap-answer-requires c = c.requires.grown

@@ -1,5 +1,6 @@
 use Rattle.std.proofs.Common.{◌≡◌, ◌+◌, ◌++◌, ◌∷◌, List, ℕ, drop, sym, ap, ◌∙◌, append_assoc}
 use Rattle.std.specs.Prelude.{flat_map}
+use Rattle.semantics.specs.Views.{names_of}
 use Rattle.std.proofs.lemmas.List.{drop_more}
 use Rattle.std.proofs.lemmas.List.Concat.{flat_map-cons}
 use Rattle.replay_threads.specs.declared.thread.Thread.{Thread}
@@ -11,7 +12,7 @@ loop-thread-preserved c =
     let ts = c.args.threads.now in
     let i = c.loop-thread.thread-index in
     let x = c.thread-item.result in
-    let names = c.loop-thread.names.items in
+    let names = names_of c.loop-thread.names.items in
     let after = drop (i + 1) ts in
     let here : drop i ts ≡ x ∷ after = drop_more ts i x c.loop-thread-test.true ∙ ap (λ (t : Thread). t ∷ after) (sym c.thread-item.is) in
     ap (λ (l : List ℕ). l ++ flat_map thread_names after) c.in_ok-push_thread.ensures

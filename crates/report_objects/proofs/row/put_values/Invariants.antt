@@ -7,5 +7,5 @@ use Rattle.report_objects.proofs.row.put_values.Given as goal
 
 abbrev pub invariant-loop-index : goal.invariant-loop-index
 invariant-loop-index g l =
-    PutSoFar (g.S.Sink.written l.initial.sink) (g.S.Sink.written l.sink) (values_text (map (shown_value l.classes) (values_of (g.O.Objects.heap l.objects) l.name)))
-    (values_text (map (shown_value l.classes) (drop l.index (values_of (g.O.Objects.heap l.objects) l.name))))
+    PutSoFar (g.S.Sink.written l.initial.sink) (g.S.Sink.written l.sink) (values_text (map (shown_value l.classes) (values_of (g.O.Objects.heap l.objects) l.name.number)))
+    (values_text (map (shown_value l.classes) (drop l.index (values_of (g.O.Objects.heap l.objects) l.name.number))))

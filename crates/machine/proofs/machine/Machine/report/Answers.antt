@@ -1,4 +1,6 @@
-use Rattle.std.proofs.Common.{◌≡◌, ℕ, List, length, subst, arith}
+use Rattle.std.proofs.Common.{◌≡◌, List, length, subst, arith}
+use Rattle.semantics.specs.declared.object_id.ObjectId.{ObjectId}
+use Rattle.semantics.specs.Views.{names_of}
 use Rattle.report_objects.specs.Rows.{AreReported}
 use Rattle.machine.proofs.Reports.{shows_objects}
 use Rattle.machine.proofs.machine.Machine.report.Goals as goal
@@ -7,4 +9,4 @@ pub write_rows-requires-clause-rows : goal.write_rows-requires-clause-rows
 write_rows-requires-clause-rows g c =
     let loaded : c.len-loaded.result ≡ length c.self.inside.store.loaded.items = omega (arith, c.len-loaded.ensures, c.self.inside.store.loaded.ok) in
     shows_objects _ _ _ _ _ _ _ c.self.invariant c.args.self.now c.self.view_is _ _ _ _ _ c.classes.ensures.classes loaded c.in-Ok.ensures
-    (subst (λ (ns : List ℕ). AreReported c.classes.result.now c.in-Ok.objects c.len-loaded.result ns c.in-Ok-reached_rows.rows) c.deref.ensures.value c.in-Ok-reached_rows.ensures)
+    (subst (λ (ns : List ObjectId). AreReported c.classes.result.now c.in-Ok.objects c.len-loaded.result (names_of ns) c.in-Ok-reached_rows.rows) c.deref.ensures.value c.in-Ok-reached_rows.ensures)

@@ -10,35 +10,35 @@ use Rattle.machine.proofs.rows.NamedBlocksObjects.value.Goals as goal
 
 pub get-requires : goal.get-requires
 get-requires c =
-    let at = is_at c.self.inside.heap.now c.self.inside.addresses.items c.args.self.now c.args.name c.index.result.now _ c.self.view_is c.requires.name c.index.ensures c.in-Some.is in
-    let count = count_here c.self.inside.heap.now c.self.inside.addresses.items c.args.self.now c.args.name c.in-Some.addr at in
+    let at = is_at c.self.inside.heap.now c.self.inside.addresses.items c.args.self.now c.args.name.number c.index.result.now _ c.self.view_is c.requires.name c.index.ensures c.in-Some.is in
+    let count = count_here c.self.inside.heap.now c.self.inside.addresses.items c.args.self.now c.args.name.number c.in-Some.addr at in
     omega (arith, count, c.requires.index)
 
 pub birth_of-requires : goal.birth_of-requires
 birth_of-requires c =
-    let at = is_at c.self.inside.heap.now c.self.inside.addresses.items c.args.self.now c.args.name c.index.result.now _ c.self.view_is c.requires.name c.index.ensures c.in-Some.is in
+    let at = is_at c.self.inside.heap.now c.self.inside.addresses.items c.args.self.now c.args.name.number c.index.result.now _ c.self.view_is c.requires.name c.index.ensures c.in-Some.is in
     there_at c.self.inside.heap.now (values_at c.self.inside.heap.now c.in-Some.addr) c.args.index (Address c.in-Block.to) (c.self.invariant _ _ at.place).1 c.in-Block.ensures
 
 pub returns-in-Number : goal.returns-in-Number
 returns-in-Number c =
-    let at = is_at c.self.inside.heap.now c.self.inside.addresses.items c.args.self.now c.args.name c.index.result.now _ c.self.view_is c.requires.name c.index.ensures c.in-Some.is in
-    let value = value_here c.self.inside.heap.now c.self.inside.addresses.items c.args.self.now c.args.name c.in-Some.addr at c.args.index (Word c.in-Number.word) c.in-Number.ensures in
+    let at = is_at c.self.inside.heap.now c.self.inside.addresses.items c.args.self.now c.args.name.number c.index.result.now _ c.self.view_is c.requires.name c.index.ensures c.in-Some.is in
+    let value = value_here c.self.inside.heap.now c.self.inside.addresses.items c.args.self.now c.args.name.number c.in-Some.addr at c.args.index (Word c.in-Number.word) c.in-Number.ensures in
     let fits : FitsSigned w32 c.cast_signed.result = search rules in
     value ∙ ap (λ (z : ℤ). Some (Number z)) (sym c.cast_signed.ensures ∙ sym (to_z-of_z {w = w32} fits))
 
 pub returns-in-Null : goal.returns-in-Null
 returns-in-Null c =
-    let at = is_at c.self.inside.heap.now c.self.inside.addresses.items c.args.self.now c.args.name c.index.result.now _ c.self.view_is c.requires.name c.index.ensures c.in-Some.is in
-    value_here c.self.inside.heap.now c.self.inside.addresses.items c.args.self.now c.args.name c.in-Some.addr at c.args.index Null c.in-Null.ensures
+    let at = is_at c.self.inside.heap.now c.self.inside.addresses.items c.args.self.now c.args.name.number c.index.result.now _ c.self.view_is c.requires.name c.index.ensures c.in-Some.is in
+    value_here c.self.inside.heap.now c.self.inside.addresses.items c.args.self.now c.args.name.number c.in-Some.addr at c.args.index Null c.in-Null.ensures
 
 pub returns-in-Block : goal.returns-in-Block
 returns-in-Block c =
-    let at = is_at c.self.inside.heap.now c.self.inside.addresses.items c.args.self.now c.args.name c.index.result.now _ c.self.view_is c.requires.name c.index.ensures c.in-Some.is in
-    value_here c.self.inside.heap.now c.self.inside.addresses.items c.args.self.now c.args.name c.in-Some.addr at c.args.index (Address c.in-Block.to) c.in-Block.ensures
+    let at = is_at c.self.inside.heap.now c.self.inside.addresses.items c.args.self.now c.args.name.number c.index.result.now _ c.self.view_is c.requires.name c.index.ensures c.in-Some.is in
+    value_here c.self.inside.heap.now c.self.inside.addresses.items c.args.self.now c.args.name.number c.in-Some.addr at c.args.index (Address c.in-Block.to) c.in-Block.ensures
     ∙ ap (λ (r : Option ℕ). Some (Refers r)) c.birth_of.ensures
 
 -- an object without a block has no value
 pub unreachable-requires : goal.unreachable-requires
 unreachable-requires c =
-    let none = no_values c.self.inside.heap.now c.self.inside.addresses.items c.args.self.now c.args.name (is_at c.self.inside.heap.now c.self.inside.addresses.items c.args.self.now c.args.name c.index.result.now _ c.self.view_is c.requires.name c.index.ensures c.in-None.is) in
+    let none = no_values c.self.inside.heap.now c.self.inside.addresses.items c.args.self.now c.args.name.number (is_at c.self.inside.heap.now c.self.inside.addresses.items c.args.self.now c.args.name.number c.index.result.now _ c.self.view_is c.requires.name c.index.ensures c.in-None.is) in
     omega (arith, none, c.requires.index)

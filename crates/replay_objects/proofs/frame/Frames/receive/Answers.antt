@@ -22,5 +22,5 @@ returns c =
     let counted : length xs ≡ p + 1 = omega (arith, c.len-count.ensures, c.if-count-eq0.false) in
     let at = slice_get_read xs (length xs) p x refl (omega (arith, counted)) c.index_mut.ensures.value in
     IfOk-weaker c.receive_in.result _ _
-    (λ done has. received_view xs p x counted at c.receive_in.new.frame c.args.name c.receive_in.ensures.capacity has ∙ ap (with_local c.args.name) c.self.view_is)
+    (λ done has. received_view xs p x counted at c.receive_in.new.frame c.args.name.number c.receive_in.ensures.capacity has ∙ ap (with_local c.args.name.number) c.self.view_is)
     c.receive_in.ensures.references

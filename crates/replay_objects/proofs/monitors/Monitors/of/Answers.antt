@@ -9,6 +9,6 @@ use Rattle.replay_objects.proofs.monitors.Monitors.of.Goals as goal
 
 pub returns : goal.returns
 returns c =
-    ap (option_map monitor_view) (c.monitor_in.ensures ∙ ap (λ (l : List Monitor). find (λ (m : Monitor). m.object == c.args.object) l) c.deref.ensures.value)
-    ∙ found_as (λ m. m.object == c.args.object) c.self.inside.monitors.items
-    ∙ ap (λ l. monitor_of l c.args.object) c.self.view_is
+    ap (option_map monitor_view) (c.monitor_in.ensures ∙ ap (λ (l : List Monitor). find (λ (m : Monitor). m.object.number == c.args.object.number) l) c.deref.ensures.value)
+    ∙ found_as (λ m. m.object == c.args.object.number) c.self.inside.monitors.items
+    ∙ ap (λ l. monitor_of l c.args.object.number) c.self.view_is

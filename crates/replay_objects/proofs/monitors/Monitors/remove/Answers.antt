@@ -9,5 +9,5 @@ use Rattle.replay_objects.proofs.monitors.Monitors.remove.Goals as goal
 pub returns : goal.returns
 returns c =
     ap (map monitor_view) (filter_same _ _ _ (λ x b f' k. search rules) _ _ c.retain.ensures.filtered)
-    ∙ kept_as (λ m. not (m.object == c.args.object)) c.self.inside.monitors.items
-    ∙ ap (λ l. without_monitor l c.args.object) c.self.view_is
+    ∙ kept_as (λ m. not (m.object == c.args.object.number)) c.self.inside.monitors.items
+    ∙ ap (λ l. without_monitor l c.args.object.number) c.self.view_is

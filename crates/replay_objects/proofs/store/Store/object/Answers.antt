@@ -14,13 +14,13 @@ there objects (suc i) o some at =
     let e : suc i - 1 ≡ i = omega arith in
     sym (slice_get-map object_view objects i ∙ ap (option_map object_view) (ap (slice_get objects) (sym e) ∙ at))
 
-read : (c : After-index) → slice_get c.self.inside.objects.items (c.args.name - 1) ≡ Some c.index.result.now
+read : (c : After-index) → slice_get c.self.inside.objects.items (c.args.name.number - 1) ≡ Some c.index.result.now
 read c =
-    let some : c.args.name ≡ 0 → ⊥ = c.if-name-eq0.false in
-    slice_get_read c.self.inside.objects.items (length c.self.inside.objects.items) (c.args.name - 1) c.index.result.now refl (omega (arith, some, c.if-len-name.false, c.len.ensures)) c.index.ensures
+    let some : c.args.name.number ≡ 0 → ⊥ = c.if-name-eq0.false in
+    slice_get_read c.self.inside.objects.items (length c.self.inside.objects.items) (c.args.name.number - 1) c.index.result.now refl (omega (arith, some, c.if-len-name.false, c.len.ensures)) c.index.ensures
 
 pub returns-clause-view : goal.returns-clause-view
-returns-clause-view c = there c.self.inside.objects.items c.args.name c.index.result.now c.if-name-eq0.false (read c) ∙ ap (λ (heap : Heap). object_at heap c.args.name) c.self.view_is
+returns-clause-view c = there c.self.inside.objects.items c.args.name.number c.index.result.now c.if-name-eq0.false (read c) ∙ ap (λ (heap : Heap). object_at heap c.args.name.number) c.self.view_is
 
 pub returns-clause-short : goal.returns-clause-short
-returns-clause-short c = c.self.invariant.0 (c.args.name - 1) c.index.result.now (read c)
+returns-clause-short c = c.self.invariant.0 (c.args.name.number - 1) c.index.result.now (read c)

@@ -20,12 +20,12 @@ put_back heap (suc i) place o v low at =
 pub returns-else-name-eq0 : goal.returns-else-name-eq0
 returns-else-name-eq0 c =
     let objects = c.self.inside.objects.items in
-    let place = c.args.name - 1 in
+    let place = c.args.name.number - 1 in
     let o = c.index_mut-else-name-eq0.result.now in
     let v = object_value_view c.args.value in
     let here : slice_get objects place ≡ Some o = slice_get_read objects (length objects) place o refl (omega (arith, c.if-name-eq0.false, c.if-name-count.false, c.len-count.ensures, c.self.inside.objects.ok)) c.index_mut-else-name-eq0.ensures.value in
     let at : slice_get (map object_view objects) place ≡ Some (object_view o) = slice_get-map object_view objects place ∙ ap (option_map object_view) here in
     map-set object_view objects place c.put_value.new.object
     ∙ ap (λ (x : Object). slice_set (map object_view objects) place x) c.put_value.ensures.view
-    ∙ put_back (map object_view objects) c.args.name c.args.place (object_view o) v c.if-name-eq0.false at
-    ∙ ap (λ (h : Heap). with_value_at h c.args.name c.args.place v) c.self.view_is
+    ∙ put_back (map object_view objects) c.args.name.number c.args.place (object_view o) v c.if-name-eq0.false at
+    ∙ ap (λ (h : Heap). with_value_at h c.args.name.number c.args.place v) c.self.view_is
