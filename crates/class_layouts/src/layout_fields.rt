@@ -9,7 +9,7 @@ ghost use Rattle.classes.specs.FieldViews.{field_id_view};
 
 use crate::path::Path;
 use base::limits::MOST_CLASSES;
-use class_rules::ClassId;
+use class_rules::{ClassId, NO_CLASS};
 use classes::class::FieldHandle;
 use classes::fields::FieldId;
 use classes::table::ClassTable;
@@ -50,15 +50,15 @@ impl<'t> Model for LayoutFields<'t> {
 
 /// The way down to a class: the class, its superclass, and so on. A number past those of all classes has no fields.
 fn path_to(classes: &ClassTable, class: ClassId) -> Path
-    ensures { flat_map (own_fields classes.now) (reverse result) ≡ layout classes.now class }
+    ensures { flat_map (own_fields classes.now) (reverse result) ≡ layout classes.now class.number }
 {
     let mut ancestors = Path::new();
     let mut ancestor = class;
     for _ in 0..classes.len() {
-        if ancestor > MOST_CLASSES {
+        if ancestor.number > MOST_CLASSES {
             return ancestors;
         }
-        ancestors.push(ancestor as u16);
+        ancestors.push(ancestor.number as u16);
         match classes.superclass(ancestor) {
             Some(above) => ancestor = above,
             None => return ancestors,
@@ -69,7 +69,7 @@ fn path_to(classes: &ClassTable, class: ClassId) -> Path
 
 /// The field of this place among those that the class declares itself.
 fn own_field<'t>(classes: &'t ClassTable, class: ClassId, place: usize) -> Option<FieldId<'t>>
-    ensures { option_map field_id_view result ≡ slice_get (own_fields classes.now class) place }
+    ensures { option_map field_id_view result ≡ slice_get (own_fields classes.now class.number) place }
 {
     classes.field_at(FieldHandle {
         class,
@@ -83,13 +83,15 @@ fn first_field<'t>(classes: &'t ClassTable, position: &mut Position) -> Option<F
     ensures rest { rest_from classes.now position.new ≡ rest_from classes.now position.old }
     ensures first { option_map field_id_view result ≡ slice_get (rest_from classes.now position.new) 0 }
     ensures place { position.new.place ≤ position.old.place }
-    ensures own { IfSome result (λ f. slice_get (own_fields classes.now position.new.class) position.new.place ≡ Some (field_id_view f)) }
+    ensures own { IfSome result (λ f. slice_get (own_fields classes.now position.new.class.number) position.new.place ≡ Some (field_id_view f)) }
 {
     loop {
         if let Some(field) = own_field(classes, position.class, position.place) {
             return Some(field);
         }
-        position.class = usize::from(position.below.pop()?);
+        position.class = ClassId {
+            number: usize::from(position.below.pop()?),
+        };
         position.place = 0;
     }
 }
@@ -97,12 +99,12 @@ fn first_field<'t>(classes: &'t ClassTable, position: &mut Position) -> Option<F
 impl<'t> LayoutFields<'t> {
     /// All fields of the objects of a class.
     pub fn of(classes: &'t ClassTable, class: ClassId) -> LayoutFields<'t>
-        ensures { result ≡ layout classes.now class }
+        ensures { result ≡ layout classes.now class.number }
     {
         LayoutFields {
             classes,
             position: Position {
-                class: 0,
+                class: NO_CLASS,
                 place: 0,
                 below: path_to(classes, class),
             },

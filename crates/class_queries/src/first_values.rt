@@ -34,7 +34,7 @@ pub fn fresh_values(
     classes: &ClassTable,
     class: ClassId,
 ) -> Result<Vec<ObjectValue>, AllocError>
-    ensures values { IfOk result (λ values. map object_value_view values.items ≡ map (λ f. initial f.field.type) (layout classes.now class)) }
+    ensures values { IfOk result (λ values. map object_value_view values.items ≡ map (λ f. initial f.field.type) (layout classes.now class.number)) }
     ensures short { IfOk result (λ values. length values.items ≤ most_classes * most_fields) }
 {
     let mut fields = LayoutFields::of(classes, class);

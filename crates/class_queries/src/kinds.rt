@@ -12,7 +12,7 @@ use jni::ParameterKind;
 
 /// Whether an object of this class is of another kind than the parameter.
 pub fn class_misfits(classes: &ClassTable, parameter: ParameterKind, class: ClassId) -> bool
-    ensures { result ≡ class_misfits classes.now (parameter_value parameter) class }
+    ensures { result ≡ class_misfits classes.now (parameter_value parameter) class.number }
 {
     match parameter {
         ParameterKind::ClassObject => class != CLASS,

@@ -2,6 +2,7 @@
 
 ghost use Rattle.std.specs.Prelude.{◌≡◌, IfOk};
 ghost use Rattle.std.specs.Option.{option_and_then};
+ghost use Rattle.class_rules.specs.ClassIds.{number_of};
 ghost use Rattle.class_rules.specs.Class.{class_named};
 ghost use Rattle.class_rules.specs.Mangling.{native_class};
 
@@ -16,7 +17,7 @@ pub fn native_class(
     classes: &ClassTable,
     name: &[u8],
 ) -> Result<Option<ClassId>, AllocError>
-    ensures { IfOk result (λ class. class ≡ option_and_then (class_named classes.now) (native_class name.now)) }
+    ensures { IfOk result (λ class. number_of class ≡ option_and_then (class_named classes.now) (native_class name.now)) }
 {
     match unmangle(alloc, name)? {
         Some(native) => Ok(classes.find(&native.class)),

@@ -3,3 +3,4 @@ mod Assignable
 mod Mangled
 pub mod MangledNames
 mod Unescaping
+pub mod ClassIds

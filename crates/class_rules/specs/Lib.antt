@@ -5,3 +5,4 @@ pub mod Additions
 pub mod Mangling
 pub mod MangledNames
 pub mod Grown
+pub mod ClassIds

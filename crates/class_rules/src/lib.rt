@@ -4,10 +4,10 @@
 ghost use Rattle.class_rules.specs.Grown.{AssignableIsTheRelation};
 ghost use Rattle.class_rules.specs.Mangling.{IsInverse};
 
+mod class_id;
 pub mod mangling;
 
-/// A class of a table: its number in the order in which classes are declared, counted from 1.
-pub type ClassId = usize;
+pub use class_id::{ClassId, NO_CLASS};
 
 /// A function name is unmangled to a class and a method exactly where it is the mangled name of the two.
 pub fn unmangling_inverts_mangling()

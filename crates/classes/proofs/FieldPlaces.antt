@@ -197,13 +197,13 @@ at_no_place f fields h =
 -- by the handle: what its class declares at its place
 record IsDeclared (T : Classes) (h : FieldHandle) (s : Bool) (f : FieldId) : Type 0 where
   x : Field
-  at : slice_get (declared_as T h.class s) h.place ≡ Some x
-  is : identified s h.class x ≡ f
+  at : slice_get (declared_as T h.class.number s) h.place ≡ Some x
+  is : identified s h.class.number x ≡ f
 
 is_declared : (T : Classes) (h : FieldHandle) (s : Bool) (f : FieldId) → field_of T h ≡ Some f → h.is_static ≡ s → IsDeclared T h s f
-is_declared T h s f there kind = by_field (slice_get (declared_as T h.class s) h.place) refl (ap (λ b. option_map (identified b h.class) (slice_get (declared_as T h.class b) h.place)) (sym kind) ∙ sym (of_declared T h) ∙ there)
+is_declared T h s f there kind = by_field (slice_get (declared_as T h.class.number s) h.place) refl (ap (λ b. option_map (identified b h.class.number) (slice_get (declared_as T h.class.number b) h.place)) (sym kind) ∙ sym (of_declared T h) ∙ there)
   where
-    by_field : (o : Option Field) → slice_get (declared_as T h.class s) h.place ≡ o → option_map (identified s h.class) o ≡ Some f → IsDeclared T h s f
+    by_field : (o : Option Field) → slice_get (declared_as T h.class.number s) h.place ≡ o → option_map (identified s h.class.number) o ≡ Some f → IsDeclared T h s f
     by_field None e q = absurd (cc)
     by_field (Some x) e q = record { x = x; at = e; is = cc }
 
@@ -216,10 +216,10 @@ once_at (d ∷ T) (suc (suc i)) h = once_at T (suc i) (both (declares_once d) (l
 pub static_placed : (T : Classes) (h : FieldHandle) (f : FieldId) → list_all declares_once T ≡ true → field_of T h ≡ Some f → h.is_static ≡ true → h.place ≡ place_among f (own_statics T f.class)
 static_placed T h f once there kind =
     let d = is_declared T h true f there kind in
-    let statics = declared_as T h.class true in
-    let within : h.place < length (map (identified true h.class) statics) = omega (arith, slice_get_within statics h.place d.x d.at, length-map statics (identified true h.class)) in
+    let statics = declared_as T h.class.number true in
+    let within : h.place < length (map (identified true h.class.number) statics) = omega (arith, slice_get_within statics h.place d.x d.at, length-map statics (identified true h.class.number)) in
     subst (λ g. h.place ≡ place_among g (own_statics T g.class)) d.is
-    (at_place (identified true h.class d.x) (own_statics T h.class) h.place (own_place true h.class d.x statics h.place (once_at T h.class once).1 d.at) within)
+    (at_place (identified true h.class.number d.x) (own_statics T h.class.number) h.place (own_place true h.class.number d.x statics h.place (once_at T h.class.number once).1 d.at) within)
 
 -- the class of the table whose field it is
 declarer_within : (T : Classes) (c i : ℕ) (s : Bool) (x : Field) → slice_get (declared_as T c s) i ≡ Some x → c ≤ length T
@@ -233,31 +233,31 @@ declarer_within T c i s x at = by_class (class_at T c) refl at
     by_class None e q = absurd (cc)
     by_class (Some d) e q = in_table T c d e
 
-pub field_missing : (T : Classes) (h : FieldHandle) (f : FieldId) (class : ℕ) → IsOrdered T → field_of T h ≡ Some f → h.is_static ≡ false → is_subclass T class h.class ≡ false → 0 ≡ place_among f (layout T class)
+pub field_missing : (T : Classes) (h : FieldHandle) (f : FieldId) (class : ℕ) → IsOrdered T → field_of T h ≡ Some f → h.is_static ≡ false → is_subclass T class h.class.number ≡ false → 0 ≡ place_among f (layout T class)
 field_missing T h f class o there kind apart =
     let d = is_declared T h false f there kind in
-    subst (λ g. 0 ≡ place_among g (layout T class)) d.is (at_no_place (identified false h.class d.x) (layout T class) (misses T o h.class d.x (length T) class apart))
+    subst (λ g. 0 ≡ place_among g (layout T class)) d.is (at_no_place (identified false h.class.number d.x) (layout T class) (misses T o h.class.number d.x (length T) class apart))
 
-pub field_placed : (T : Classes) (h : FieldHandle) (f : FieldId) (class : ℕ) → IsOrdered T → list_all declares_once T ≡ true → field_of T h ≡ Some f → h.is_static ≡ false → is_subclass T class h.class ≡ true
-    → option_map_or (λ s. length (layout T s)) (superclass T h.class) 0 + h.place ≡ place_among f (layout T class)
+pub field_placed : (T : Classes) (h : FieldHandle) (f : FieldId) (class : ℕ) → IsOrdered T → list_all declares_once T ≡ true → field_of T h ≡ Some f → h.is_static ≡ false → is_subclass T class h.class.number ≡ true
+    → option_map_or (λ s. length (layout T s)) (superclass T h.class.number) 0 + h.place ≡ place_among f (layout T class)
 field_placed T h f class o once there kind below =
     let d = is_declared T h false f there kind in
-    let among = placed T o h.class d.x h.place d.at (once_at T h.class once).0 (length T) class (class_there (superclass T class) refl) below in
-    subst (λ g. start T o h.class d.x h.place d.at (once_at T h.class once).0 + h.place ≡ place_among g (layout T class)) d.is
-    (at_place (identified false h.class d.x) (layout T class) (start T o h.class d.x h.place d.at (once_at T h.class once).0 + h.place) among.0 among.1)
+    let among = placed T o h.class.number d.x h.place d.at (once_at T h.class.number once).0 (length T) class (class_there (superclass T class) refl) below in
+    subst (λ g. start T o h.class.number d.x h.place d.at (once_at T h.class.number once).0 + h.place ≡ place_among g (layout T class)) d.is
+    (at_place (identified false h.class.number d.x) (layout T class) (start T o h.class.number d.x h.place d.at (once_at T h.class.number once).0 + h.place) among.0 among.1)
   where
-    itself_or_below : (n : ℕ) → is_among n T class h.class ≡ true → superclass T class ≡ None → class ≡ h.class
+    itself_or_below : (n : ℕ) → is_among n T class h.class.number ≡ true → superclass T class ≡ None → class ≡ h.class.number
     itself_or_below zero q e = absurd (cc)
-    itself_or_below (suc n) q e = by_test (class == h.class) refl (sym (ap (λ k. (class == h.class) || list_any (λ y. y == h.class) (above (ancestry_within n T) k)) e) ∙ q)
+    itself_or_below (suc n) q e = by_test (class == h.class.number) refl (sym (ap (λ k. (class == h.class.number) || list_any (λ y. y == h.class.number) (above (ancestry_within n T) k)) e) ∙ q)
       where
-        by_test : (b : Bool) → (class == h.class) ≡ b → (b || false) ≡ true → class ≡ h.class
+        by_test : (b : Bool) → (class == h.class.number) ≡ b → (b || false) ≡ true → class ≡ h.class.number
         by_test true t r = grind (arith, nat_tests)
         by_test false t r = absurd (cc)
 
     class_there : (k : Option ℕ) → superclass T class ≡ k → class ≤ length T
     class_there None e =
         let d = is_declared T h false f there kind in
-        omega (arith, itself_or_below (length T) below e, declarer_within T h.class h.place false d.x d.at)
+        omega (arith, itself_or_below (length T) below e, declarer_within T h.class.number h.place false d.x d.at)
     class_there (Some s) e = (super_lower T o class s e).1
 
 -- a place of a field is small
@@ -268,4 +268,4 @@ place_small T h few there kind = by_field (field_of T h) refl there
     by_field None e q = absurd (cc)
     by_field (Some f) e q =
         let d = is_declared T h false f e kind in
-        omega (arith, slice_get_within (declared_as T h.class false) h.place d.x d.at, own-few T h.class few, length-map (declared_as T h.class false) (identified false h.class))
+        omega (arith, slice_get_within (declared_as T h.class.number false) h.place d.x d.at, own-few T h.class.number few, length-map (declared_as T h.class.number false) (identified false h.class.number))

@@ -12,25 +12,25 @@ use Rattle.classes.specs.FieldViews.{declared_as, field_of, place_among}
 use Rattle.classes.proofs.FoundFields.{fits, identified, found_within, found-here}
 
 -- the field of a handle is one of those that its class declares
-pub of_declared : (T : Classes) (h : FieldHandle) → field_of T h ≡ option_map (identified h.is_static h.class) (slice_get (declared_as T h.class h.is_static) h.place)
+pub of_declared : (T : Classes) (h : FieldHandle) → field_of T h ≡ option_map (identified h.is_static h.class.number) (slice_get (declared_as T h.class.number h.is_static) h.place)
 of_declared T h = by_kind h.is_static
   where
-    by_kind : (s : Bool) → field_of T (record h { is_static = s }) ≡ option_map (identified s h.class) (slice_get (declared_as T h.class s) h.place)
-    by_kind true = slice_get-map (identified true h.class) (declared_as T h.class true) h.place
-    by_kind false = slice_get-map (identified false h.class) (declared_as T h.class false) h.place
+    by_kind : (s : Bool) → field_of T (record h { is_static = s }) ≡ option_map (identified s h.class.number) (slice_get (declared_as T h.class.number s) h.place)
+    by_kind true = slice_get-map (identified true h.class.number) (declared_as T h.class.number true) h.place
+    by_kind false = slice_get-map (identified false h.class.number) (declared_as T h.class.number false) h.place
 
 module _ (T : Classes) (c : ℕ) (name : Identifier) (text : List ℕ) (s : Bool) where
   -- the handle of what a class declares itself
   pub found_own : (n place : ℕ) (o : Option FieldId) (fields : List Field) → 0 < n → fields ≡ declared_as T c s → Some (slice_get fields place) ≡ option_map (λ f. Some f) (find (fits T name text) fields) → found_within n T c name text s ≡ o
-      → Some (field_of T (record { class = c; place = place; is_static = s })) ≡ option_map (λ f. Some f) o
+      → Some (field_of T (record { class = record { number = c }; place = place; is_static = s })) ≡ option_map (λ f. Some f) o
   found_own n place o fields low is h found = by_field (find (fits T name text) (declared_as T c s)) refl (subst (λ fs. Some (slice_get fs place) ≡ option_map (λ f. Some f) (find (fits T name text) fs)) is h)
     where
-      by_field : (g : Option Field) → find (fits T name text) (declared_as T c s) ≡ g → Some (slice_get (declared_as T c s) place) ≡ option_map (λ f. Some f) g → Some (field_of T (record { class = c; place = place; is_static = s })) ≡ option_map (λ f. Some f) o
+      by_field : (g : Option Field) → find (fits T name text) (declared_as T c s) ≡ g → Some (slice_get (declared_as T c s) place) ≡ option_map (λ f. Some f) g → Some (field_of T (record { class = record { number = c }; place = place; is_static = s })) ≡ option_map (λ f. Some f) o
       by_field None e q = absurd (cc)
       by_field (Some f) e q =
           let there : slice_get (declared_as T c s) place ≡ Some f = cc in
           let whole : o ≡ Some (identified s c f) = sym found ∙ found-here T c name text s n f low e in
-          ap (λ (g : Option FieldId). Some g) (of_declared T (record { class = c; place = place; is_static = s }) ∙ ap (option_map (identified s c)) there)
+          ap (λ (g : Option FieldId). Some g) (of_declared T (record { class = record { number = c }; place = place; is_static = s }) ∙ ap (option_map (identified s c)) there)
           ∙ sym (ap (option_map (λ g. Some g)) whole)
 
 -- nothing was found
@@ -45,12 +45,12 @@ same_place f g fields class name =
     ∙ ap (λ (n : Identifier). option_map_or (λ (i : ℕ). i) (position (λ (x : FieldId). (f.class == x.class) && bytes_eq n x.field.name) fields) 0) name
 
 -- a field's place is that of the one that is there
-pub place_there : (T : Classes) (h : FieldHandle) (f : FieldId) (fields : List FieldId) (place : ℕ) → f.class ≡ h.class → (g : FieldId) × (field_of T h ≡ Some g) × (g.class ≡ h.class) × (g.field.name ≡ f.field.name)
+pub place_there : (T : Classes) (h : FieldHandle) (f : FieldId) (fields : List FieldId) (place : ℕ) → f.class ≡ h.class.number → (g : FieldId) × (field_of T h ≡ Some g) × (g.class ≡ h.class.number) × (g.field.name ≡ f.field.name)
     → ((g : FieldId) → field_of T h ≡ Some g → place ≡ place_among g fields) → place ≡ place_among f fields
 place_there T h f fields place class there is = is there.0 there.1 ∙ same_place f there.0 fields (there.2 ∙ sym class) there.3
 
 -- the same of a static, among those of its class
-pub static_there : (T : Classes) (h : FieldHandle) (f : FieldId) (place : ℕ) → f.class ≡ h.class → (g : FieldId) × (field_of T h ≡ Some g) × (g.class ≡ h.class) × (g.field.name ≡ f.field.name)
+pub static_there : (T : Classes) (h : FieldHandle) (f : FieldId) (place : ℕ) → f.class ≡ h.class.number → (g : FieldId) × (field_of T h ≡ Some g) × (g.class ≡ h.class.number) × (g.field.name ≡ f.field.name)
     → ((g : FieldId) → field_of T h ≡ Some g → place ≡ place_among g (own_statics T g.class)) → place ≡ place_among f (own_statics T f.class)
 static_there T h f place class there is =
     is there.0 there.1

@@ -6,6 +6,7 @@ use Rattle.base.specs.Limits.{most_classes}
 use Rattle.base.specs.declared.element.ElementType.{ElementType}
 use Rattle.classes.specs.declared.built_ins.BuiltIn.{BuiltIn}
 use Rattle.classes.specs.declared.built_ins.BuiltInField.{BuiltInField}
+use Rattle.class_rules.specs.ClassIds.{number_of}
 use Rattle.class_rules.specs.Class.{Field, Plain, ArrayOfNumbers, Class, Classes}
 use Rattle.class_rules.specs.BuiltIns.{array_class, number_array_classes, object_array_class}
 use Rattle.class_rules.specs.Mangling.{is_class_name}
@@ -17,7 +18,7 @@ abbrev pub listed_field : BuiltInField → Field
 listed_field f = record { name = f.name.now; type = field_type_view f.field_type }
 
 abbrev pub listed_class : BuiltIn → Class
-listed_class b = record { name = b.name.now; superclass = b.superclass; kind = Plain; fields = map listed_field b.fields.now; statics = [] }
+listed_class b = record { name = b.name.now; superclass = number_of b.superclass; kind = Plain; fields = map listed_field b.fields.now; statics = [] }
 
 -- a class of arrays of numbers, by its name and the type of the numbers
 abbrev pub listed_number_array : Bor (List ℕ) × ElementType → Class

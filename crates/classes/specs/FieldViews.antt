@@ -14,7 +14,7 @@ use Rattle.classes.specs.Refusals.{rule_view}
 use Rattle.classes.specs.Views.{field_view}
 
 abbrev pub field_id_view : IdInMemory → FieldId
-field_id_view f = record { class = f.class; is_static = f.is_static; field = field_view f.field }
+field_id_view f = record { class = f.class.number; is_static = f.is_static; field = field_view f.field }
 
 -- the fields, or the statics, that a class declares itself
 abbrev pub declared_as : Classes → ℕ → Bool → List Field
@@ -43,7 +43,7 @@ AnswersField broken class (Err (errors.Refused rule)) = broken ≡ Some (rule_vi
 
 -- the field, or the static, at a place among those that a class declares itself
 abbrev pub field_of : Classes → FieldHandle → Option FieldId
-field_of classes h = slice_get (if h.is_static then own_statics classes h.class else own_fields classes h.class) h.place
+field_of classes h = slice_get (if h.is_static then own_statics classes h.class.number else own_fields classes h.class.number) h.place
 
 -- the place of a field among these, and 0 where it isn't there
 abbrev pub place_among : FieldId → List FieldId → ℕ

@@ -9,7 +9,7 @@ use Rattle.class_rules.specs.Class.{FieldType, NumberField, ReferenceField, Fiel
 
 abbrev pub field_type_view : FieldTypeInMemory → FieldType
 field_type_view (type.Number t) = NumberField (element_value t)
-field_type_view (type.Reference c) = ReferenceField c
+field_type_view (type.Reference c) = ReferenceField c.number
 
 abbrev pub field_view : FieldInMemory → Field
 field_view f = record { name = f.name.now; type = field_type_view f.field_type }

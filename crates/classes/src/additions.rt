@@ -5,6 +5,7 @@ ghost use Rattle.std.specs.List.{list_any};
 ghost use Rattle.std.specs.Option.{option_map};
 ghost use Rattle.std.specs.Str.{bytes_eq};
 ghost use Rattle.base.specs.Limits.{most_fields};
+ghost use Rattle.class_rules.specs.ClassIds.{number_of};
 ghost use Rattle.class_rules.specs.Additions.{class_breaks, field_breaks, declared_fields, new_class, with_class};
 ghost use Rattle.class_rules.specs.BuiltIns.{has_own_making};
 ghost use Rattle.class_rules.specs.Class.{class_named};
@@ -20,13 +21,13 @@ use crate::class::FieldType;
 use crate::fault::{ClassError, ClassRule, FieldError};
 use crate::table::ClassTable;
 use base::limits::{MOST_CLASSES, MOST_FIELDS};
-use class_rules::ClassId;
+use class_rules::{ClassId, NO_CLASS};
 use std::alloc::AllocError;
 
 impl ClassTable {
     /// Whether its objects are made by a function of their own: it has no subclasses then.
     pub fn has_own_making(&self, class: ClassId) -> bool
-        ensures { result ≡ has_own_making self.now class }
+        ensures { result ≡ has_own_making self.now class.number }
     {
         self.is_array(class) || class == STRING || class == CLASS
     }
@@ -34,7 +35,8 @@ impl ClassTable {
     /// The superclass of this name for a new class, or the rule of the least number that the class breaks.
     fn superclass_for(&self, name: &[u8], superclass: &[u8]) -> Result<ClassId, ClassRule>
         ensures { MatchResult result
-            (λ above. (first_broken (λ rule. class_breaks rule self.now name.now superclass.now) ≡ None) × (class_named self.now superclass.now ≡ Some above))
+            (λ above. (first_broken (λ rule. class_breaks rule self.now name.now superclass.now) ≡ None)
+            × (class_named self.now superclass.now ≡ Some above.number))
             (λ rule. first_broken (λ rule. class_breaks rule self.now name.now superclass.now) ≡ Some (rule_view rule)) }
     {
         if self.find(name).is_some() {
@@ -66,12 +68,15 @@ impl ClassTable {
     /// After a refusal the table is what it was.
     pub fn add_class(&mut self, name: &[u8], superclass: &[u8]) -> Result<ClassId, ClassError>
         requires { IsTrue (is_class_name name.now) }
-        ensures answer { Answers (first_broken (λ rule. class_breaks rule self.old name.now superclass.now)) (λ class. class ≡ length self.old + 1) result }
+        ensures answer { Answers (first_broken (λ rule. class_breaks rule self.old name.now superclass.now))
+            (λ class. class.number ≡ length self.old + 1) result }
         ensures grown { IsGrown self.old → IsGrown self.new }
         ensures table { self.new ≡ (if is_ok result then with_class self.old (new_class name.now (class_named self.old superclass.now)) else self.old) }
     {
         let above = self.superclass_for(name, superclass)?;
-        let class = self.classes.len() + 1;
+        let class = ClassId {
+            number: self.classes.len() + 1,
+        };
         match self.classes.put_class(name, above) {
             Ok(()) => Ok(class),
             Err(AllocError) => Err(ClassError::Memory),
@@ -80,17 +85,17 @@ impl ClassTable {
 
     /// Whether the class declares a field or static of this name.
     fn declares(&self, class: Option<ClassId>, name: &[u8]) -> bool
-        ensures { result ≡ list_any (λ f. bytes_eq f.name name.now) (declared_fields self.now class) }
+        ensures { result ≡ list_any (λ f. bytes_eq f.name name.now) (declared_fields self.now (number_of class)) }
     {
-        let class = class.unwrap_or(0);
+        let class = class.unwrap_or(NO_CLASS);
         self.declared(class, false).has(name) || self.declared(class, true).has(name)
     }
 
     /// Whether the class declares as many fields and statics as it may.
     fn is_full(&self, class: Option<ClassId>) -> bool
-        ensures { result ≡ nat_lt most_fields (length (declared_fields self.now class) + 1) }
+        ensures { result ≡ nat_lt most_fields (length (declared_fields self.now (number_of class)) + 1) }
     {
-        let class = class.unwrap_or(0);
+        let class = class.unwrap_or(NO_CLASS);
         let fields = self.declared(class, false).len();
         let statics = self.declared(class, true).len();
         fields >= MOST_FIELDS || statics >= MOST_FIELDS - fields
@@ -104,9 +109,9 @@ impl ClassTable {
         signature: &[u8],
     ) -> Result<FieldType, ClassRule>
         ensures { MatchResult result
-            (λ field_type. (first_broken (λ rule. field_breaks rule self.now class name.now signature.now) ≡ None)
+            (λ field_type. (first_broken (λ rule. field_breaks rule self.now (number_of class) name.now signature.now) ≡ None)
             × (type_of_signature self.now signature.now ≡ Some (field_type_view field_type)))
-            (λ rule. first_broken (λ rule. field_breaks rule self.now class name.now signature.now) ≡ Some (rule_view rule)) }
+            (λ rule. first_broken (λ rule. field_breaks rule self.now (number_of class) name.now signature.now) ≡ Some (rule_view rule)) }
     {
         if self.declares(class, name) {
             return Err(ClassRule::NameTaken);
@@ -150,7 +155,7 @@ impl ClassTable {
         };
         match self
             .classes
-            .put_field(class - 1, name, field_type, is_static)
+            .put_field(class.number - 1, name, field_type, is_static)
         {
             Ok(()) => Ok(()),
             Err(AllocError) => Err(FieldError::Memory),

@@ -29,61 +29,61 @@ pub struct BuiltInField {
 }
 
 /// The number of `java/lang/Object`.
-pub const OBJECT: ClassId = 1;
+pub const OBJECT: ClassId = ClassId { number: 1 };
 
 /// The number of `java/lang/Class`.
-pub const CLASS: ClassId = 2;
+pub const CLASS: ClassId = ClassId { number: 2 };
 
 /// The number of `java/lang/String`.
-pub const STRING: ClassId = 3;
+pub const STRING: ClassId = ClassId { number: 3 };
 
 /// The number of `java/lang/Throwable`.
-pub const THROWABLE: ClassId = 4;
+pub const THROWABLE: ClassId = ClassId { number: 4 };
 
 /// The number of `java/lang/Error`.
-pub const ERROR: ClassId = 5;
+pub const ERROR: ClassId = ClassId { number: 5 };
 
 /// The number of `java/lang/LinkageError`.
-pub const LINKAGE_ERROR: ClassId = 6;
+pub const LINKAGE_ERROR: ClassId = ClassId { number: 6 };
 
 /// The number of `java/lang/IncompatibleClassChangeError`.
-pub const INCOMPATIBLE_CLASS_CHANGE_ERROR: ClassId = 7;
+pub const INCOMPATIBLE_CLASS_CHANGE_ERROR: ClassId = ClassId { number: 7 };
 
 /// The number of `java/lang/NoSuchFieldError`.
-pub const NO_SUCH_FIELD_ERROR: ClassId = 8;
+pub const NO_SUCH_FIELD_ERROR: ClassId = ClassId { number: 8 };
 
 /// The number of `java/lang/NoClassDefFoundError`.
-pub const NO_CLASS_DEF_FOUND_ERROR: ClassId = 9;
+pub const NO_CLASS_DEF_FOUND_ERROR: ClassId = ClassId { number: 9 };
 
 /// The number of `java/lang/VirtualMachineError`.
-pub const VIRTUAL_MACHINE_ERROR: ClassId = 10;
+pub const VIRTUAL_MACHINE_ERROR: ClassId = ClassId { number: 10 };
 
 /// The number of `java/lang/OutOfMemoryError`.
-pub const OUT_OF_MEMORY_ERROR: ClassId = 11;
+pub const OUT_OF_MEMORY_ERROR: ClassId = ClassId { number: 11 };
 
 /// The number of `java/lang/Exception`.
-pub const EXCEPTION: ClassId = 12;
+pub const EXCEPTION: ClassId = ClassId { number: 12 };
 
 /// The number of `java/lang/RuntimeException`.
-pub const RUNTIME_EXCEPTION: ClassId = 13;
+pub const RUNTIME_EXCEPTION: ClassId = ClassId { number: 13 };
 
 /// The number of `java/lang/IndexOutOfBoundsException`.
-pub const INDEX_OUT_OF_BOUNDS_EXCEPTION: ClassId = 14;
+pub const INDEX_OUT_OF_BOUNDS_EXCEPTION: ClassId = ClassId { number: 14 };
 
 /// The number of `java/lang/ArrayIndexOutOfBoundsException`.
-pub const ARRAY_INDEX_OUT_OF_BOUNDS_EXCEPTION: ClassId = 15;
+pub const ARRAY_INDEX_OUT_OF_BOUNDS_EXCEPTION: ClassId = ClassId { number: 15 };
 
 /// The number of `java/lang/StringIndexOutOfBoundsException`.
-pub const STRING_INDEX_OUT_OF_BOUNDS_EXCEPTION: ClassId = 16;
+pub const STRING_INDEX_OUT_OF_BOUNDS_EXCEPTION: ClassId = ClassId { number: 16 };
 
 /// The number of `java/lang/ArrayStoreException`.
-pub const ARRAY_STORE_EXCEPTION: ClassId = 17;
+pub const ARRAY_STORE_EXCEPTION: ClassId = ClassId { number: 17 };
 
 /// The number of `java/lang/NegativeArraySizeException`.
-pub const NEGATIVE_ARRAY_SIZE_EXCEPTION: ClassId = 18;
+pub const NEGATIVE_ARRAY_SIZE_EXCEPTION: ClassId = ClassId { number: 18 };
 
 /// The number of `java/lang/IllegalMonitorStateException`.
-pub const ILLEGAL_MONITOR_STATE_EXCEPTION: ClassId = 19;
+pub const ILLEGAL_MONITOR_STATE_EXCEPTION: ClassId = ClassId { number: 19 };
 
 /// What is told of a throwable.
 const MESSAGE: BuiltInField = BuiltInField {
@@ -200,20 +200,20 @@ const NUMBER_ARRAYS: [(&[u8], ElementType); 4] = [
 
 /// Whether a class of this number comes after the built-in ones.
 pub fn is_after_built_ins(class: ClassId) -> bool
-    ensures { result ≡ nat_lt (length built_ins) class }
+    ensures { result ≡ nat_lt (length built_ins) class.number }
 {
-    class > 42
+    class.number > 42
 }
 
 /// The number of the class of arrays of such numbers.
 pub fn number_array(element: ElementType) -> ClassId
-    ensures { result ≡ number_array (element_value element) }
+    ensures { result.number ≡ number_array (element_value element) }
 {
     match element {
-        ElementType::Byte => 20,
-        ElementType::Char => 21,
-        ElementType::Short => 22,
-        ElementType::Int => 23,
+        ElementType::Byte => ClassId { number: 20 },
+        ElementType::Char => ClassId { number: 21 },
+        ElementType::Short => ClassId { number: 22 },
+        ElementType::Int => ClassId { number: 23 },
     }
 }
 
@@ -303,7 +303,8 @@ fn put_object_arrays(
 {
     for (place, built_in) in built_ins.iter().enumerate() {
         let name = array_name(alloc, built_in.name)?;
-        put_array(alloc, classes, name, ClassKind::ArrayOfObjects(place + 1))?;
+        let elements = ClassId { number: place + 1 };
+        put_array(alloc, classes, name, ClassKind::ArrayOfObjects(elements))?;
     }
     Ok(())
 }

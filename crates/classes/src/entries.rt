@@ -5,6 +5,7 @@ ghost use Rattle.std.specs.List.{list_any};
 ghost use Rattle.std.specs.Option.{option_map};
 ghost use Rattle.std.specs.Str.{bytes_eq};
 ghost use Rattle.indexmap.specs.IndexMap.{spare};
+ghost use Rattle.class_rules.specs.ClassIds.{number_of};
 ghost use Rattle.class_rules.specs.Additions.{new_class, with_class};
 ghost use Rattle.class_rules.specs.BuiltIns.{array_class};
 ghost use Rattle.class_rules.specs.Class.{class_named, array_name};
@@ -52,7 +53,7 @@ impl Model for Entries {
 impl Entry {
     /// A plain class without fields.
     fn plain(alloc: Global, superclass: ClassId) -> Entry
-        ensures { (name : _) → class_view (name, result) ≡ new_class name.items (Some superclass) }
+        ensures { (name : _) → class_view (name, result) ≡ new_class name.items (Some superclass.number) }
     {
         Entry {
             superclass: Some(superclass),
@@ -121,12 +122,12 @@ impl Entries {
 
     /// The number of the class of this name.
     pub(crate) fn find(&self, name: &[u8]) -> Option<ClassId>
-        ensures { result ≡ class_named self.now name.now }
+        ensures { number_of result ≡ class_named self.now name.now }
     {
         // That there are fewer than 2^63 is told here, for the sum.
         let _ = self.classes.len();
         match self.classes.get_index_of(name) {
-            Some(place) => Some(place + 1),
+            Some(place) => Some(ClassId { number: place + 1 }),
             None => None,
         }
     }
@@ -153,7 +154,7 @@ impl Entries {
     pub(crate) fn put_class(&mut self, name: &[u8], superclass: ClassId) -> Result<(), AllocError>
         requires new { class_named self.old name.now ≡ None }
         requires new_arrays { class_named self.old (array_name name.now) ≡ None }
-        ensures { self.new ≡ (if is_ok result then with_class self.old (new_class name.now (Some superclass)) else self.old) }
+        ensures { self.new ≡ (if is_ok result then with_class self.old (new_class name.now (Some superclass.number)) else self.old) }
     {
         let alloc = *self.classes.allocator();
         self.classes.reserve(2)?;
@@ -164,7 +165,7 @@ impl Entries {
         put_in_room(
             &mut self.classes,
             arrays,
-            Entry::of_arrays(alloc, ClassKind::ArrayOfObjects(number)),
+            Entry::of_arrays(alloc, ClassKind::ArrayOfObjects(ClassId { number })),
         );
         Ok(())
     }

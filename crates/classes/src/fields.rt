@@ -5,6 +5,7 @@ ghost use Rattle.std.specs.Option.{option_map};
 ghost use Rattle.std.specs.List.{enumerate_from};
 ghost use Rattle.std.specs.Str.{bytes_eq};
 ghost use Rattle.base.specs.Options.{option_filter};
+ghost use Rattle.class_rules.specs.ClassIds.{number_of};
 ghost use Rattle.class_rules.specs.Class.{NumberField, ReferenceField, class_named, class_kind, is_plain};
 ghost use Rattle.classes.specs.FieldViews.{field_id_view, declared_as, find_as};
 ghost use Rattle.class_rules.specs.Fields.{signature, type_of_signature, own_statics};
@@ -68,7 +69,7 @@ fn referred_name(text: &[u8]) -> Option<&[u8]>
 
 /// The type of references to objects of the class.
 fn reference_to(class: Option<ClassId>) -> Option<FieldType>
-    ensures { option_map field_type_view result ≡ option_map ReferenceField class }
+    ensures { option_map field_type_view result ≡ option_map ReferenceField (number_of class) }
 {
     match class {
         Some(class) => Some(FieldType::Reference(class)),
@@ -108,7 +109,7 @@ impl ClassTable {
 
     /// The fields, or the statics, that a class declares itself.
     pub(crate) fn declared(&self, class: ClassId, is_static: bool) -> &OwnFields
-        ensures { result.now ≡ declared_as self.now class is_static }
+        ensures { result.now ≡ declared_as self.now class.number is_static }
     {
         match self.entry(class) {
             Some((_, entry)) if is_static => &entry.statics,
@@ -119,7 +120,7 @@ impl ClassTable {
 
     /// The statics that a class declares itself.
     pub fn own_statics(&self, class: ClassId) -> &OwnFields
-        ensures { map (λ f. record { class = class; is_static = true; field = f }) result.now ≡ own_statics self.now class }
+        ensures { map (λ f. record { class = class.number; is_static = true; field = f }) result.now ≡ own_statics self.now class.number }
     {
         self.declared(class, true)
     }
@@ -133,7 +134,7 @@ impl ClassTable {
         text: &[u8],
         is_static: bool,
     ) -> Option<FieldId<'_>>
-        ensures { option_map field_id_view result ≡ find_as self.now class name.now text.now is_static }
+        ensures { option_map field_id_view result ≡ find_as self.now class.number name.now text.now is_static }
     {
         let handle = self.find_handle(class, name, text, is_static)?;
         self.field_at(handle)
@@ -155,7 +156,7 @@ impl ClassTable {
 
     /// The class of this name, where it is no class of arrays.
     fn plain_class(&self, name: &[u8]) -> Option<ClassId>
-        ensures { result ≡ option_filter (λ c. is_plain (class_kind self.now c)) (class_named self.now name.now) }
+        ensures { number_of result ≡ option_filter (λ c. is_plain (class_kind self.now c)) (class_named self.now name.now) }
     {
         match self.find(name) {
             Some(class) if !self.is_array(class) => Some(class),
@@ -165,7 +166,7 @@ impl ClassTable {
 
     /// The class of arrays of this name.
     fn array_class(&self, name: &[u8]) -> Option<ClassId>
-        ensures { result ≡ option_filter (λ c. not (is_plain (class_kind self.now c))) (class_named self.now name.now) }
+        ensures { number_of result ≡ option_filter (λ c. not (is_plain (class_kind self.now c))) (class_named self.now name.now) }
     {
         match self.find(name) {
             Some(class) if self.is_array(class) => Some(class),

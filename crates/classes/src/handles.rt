@@ -33,9 +33,9 @@ impl ClassTable {
         text: &[u8],
         is_static: bool,
     ) -> Option<usize>
-        ensures { option_map (λ place. slice_get (declared_as self.now class is_static) place) result
+        ensures { option_map (λ place. slice_get (declared_as self.now class.number is_static) place) result
             ≡ option_map (λ f. Some f) (find (λ f. bytes_eq f.name name.now
-            && bytes_eq (signature self.now f.type) text.now) (declared_as self.now class is_static)) }
+            && bytes_eq (signature self.now f.type) text.now) (declared_as self.now class.number is_static)) }
     {
         // That no two of a class have one name is told here.
         let _ = &self.classes;
@@ -61,7 +61,7 @@ impl ClassTable {
         text: &[u8],
         is_static: bool,
     ) -> Option<FieldHandle>
-        ensures { option_map (field_of self.now) result ≡ option_map (λ f. Some f) (find_as self.now class name.now text.now is_static) }
+        ensures { option_map (field_of self.now) result ≡ option_map (λ f. Some f) (find_as self.now class.number name.now text.now is_static) }
     {
         let mut declarer = class;
         for _ in 0..self.len() {
@@ -113,7 +113,7 @@ impl ClassTable {
         requires grown { IsGrown self.now }
         requires there { IsSome (field_of self.now handle) }
         requires field { handle.is_static ≡ false }
-        ensures { (f : FieldId) → field_of self.now handle ≡ Some f → result ≡ place_among f (layout self.now class) }
+        ensures { (f : FieldId) → field_of self.now handle ≡ Some f → result ≡ place_among f (layout self.now class.number) }
     {
         let _ = &self.classes;
         if !self.is_subclass(class, handle.class) {
@@ -135,7 +135,7 @@ impl ClassTable {
 
     /// Whether the field of a handle has the class and the name of this one.
     fn is_at(&self, handle: FieldHandle, field: Found<'_>) -> bool
-        ensures { IsTrue result → (g : FieldId) × (field_of self.now handle ≡ Some g) × (g.class ≡ handle.class)
+        ensures { IsTrue result → (g : FieldId) × (field_of self.now handle ≡ Some g) × (g.class ≡ handle.class.number)
             × (g.field.name ≡ (field_id_view field.entry).field.name) }
     {
         match self.field_at(handle) {
@@ -148,7 +148,7 @@ impl ClassTable {
     /// field. None where it is no field of this table. The cost goes by the depth of the classes.
     pub fn place_of_field(&self, class: ClassId, field: Found<'_>) -> Option<usize>
         requires { IsGrown self.now }
-        ensures { IfSome result (λ place. place ≡ place_among (field_id_view field.entry) (layout self.now class)) }
+        ensures { IfSome result (λ place. place ≡ place_among (field_id_view field.entry) (layout self.now class.number)) }
     {
         let handle = FieldHandle {
             class: field.class,
@@ -165,7 +165,7 @@ impl ClassTable {
     /// The place of a static that this table found, among the values of the class object of the class that declares it. None
     /// where it is no static of this table.
     pub fn place_of_static(&self, field: Found<'_>) -> Option<usize>
-        ensures { IfSome result (λ place. place ≡ place_among (field_id_view field.entry) (own_statics self.now field.entry.class)) }
+        ensures { IfSome result (λ place. place ≡ place_among (field_id_view field.entry) (own_statics self.now field.entry.class.number)) }
     {
         let handle = FieldHandle {
             class: field.class,

@@ -13,7 +13,7 @@ use class_rules::ClassId;
 impl ClassTable {
     /// The number of fields that objects of the class have. The cost goes by the depth of the class.
     pub fn layout_len(&self, class: ClassId) -> usize
-        ensures len { result ≡ length (layout self.now class) }
+        ensures len { result ≡ length (layout self.now class.number) }
         ensures small { result ≤ most_classes * most_fields }
     {
         let _ = &self.classes;
@@ -31,7 +31,7 @@ impl ClassTable {
 
     /// The field at a place of the objects of the class. The cost goes by the depth of the class.
     pub fn layout_field(&self, class: ClassId, place: usize) -> Option<FieldId<'_>>
-        ensures { option_map field_id_view result ≡ slice_get (layout self.now class) place }
+        ensures { option_map field_id_view result ≡ slice_get (layout self.now class.number) place }
     {
         let mut count = self.layout_len(class);
         if place >= count {

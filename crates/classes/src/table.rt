@@ -3,6 +3,7 @@
 ghost use Rattle.std.specs.Prelude.{◌≡◌, ◌≤◌, length, not, IfOk, IsTrue};
 ghost use Rattle.std.specs.Option.{option_map};
 ghost use Rattle.base.specs.Limits.{most_classes};
+ghost use Rattle.class_rules.specs.ClassIds.{number_of};
 ghost use Rattle.class_rules.specs.BuiltIns.{built_ins};
 ghost use Rattle.classes.specs.BuiltInList.{listed_classes, is_class_list};
 ghost use Rattle.class_rules.specs.Class.{class_at, class_named, class_name, class_kind, superclass, is_plain, is_subclass, elements_fit, assignable, array_name};
@@ -70,14 +71,14 @@ impl ClassTable {
 
     /// The number of the class of this name.
     pub fn find(&self, name: &[u8]) -> Option<ClassId>
-        ensures { result ≡ class_named self.now name.now }
+        ensures { number_of result ≡ class_named self.now name.now }
     {
         self.classes.find(name)
     }
 
     /// The number of the class of arrays whose elements are of the class of this name.
     pub fn find_array_of(&self, name: &[u8]) -> Result<Option<ClassId>, AllocError>
-        ensures { IfOk result (λ class. class ≡ class_named self.now (array_name name.now)) }
+        ensures { IfOk result (λ class. number_of class ≡ class_named self.now (array_name name.now)) }
     {
         let name = array_name(self.classes.allocator(), name)?;
         Ok(self.find(&name))
@@ -85,17 +86,17 @@ impl ClassTable {
 
     /// The class of a number: its name, and what else is kept of it.
     pub(crate) fn entry(&self, class: ClassId) -> Option<(&Vec<u8>, &Entry)>
-        ensures { option_map (λ p. class_view (p.0.now, p.1.now)) result ≡ class_at self.now class }
+        ensures { option_map (λ p. class_view (p.0.now, p.1.now)) result ≡ class_at self.now class.number }
     {
-        if class == 0 {
+        if class.number == 0 {
             return None;
         }
-        self.classes.get(class - 1)
+        self.classes.get(class.number - 1)
     }
 
     /// Its name, which is empty where there is no class of this number.
     pub fn name(&self, class: ClassId) -> &[u8]
-        ensures { result.now ≡ class_name self.now class }
+        ensures { result.now ≡ class_name self.now class.number }
     {
         match self.entry(class) {
             Some((name, _)) => name,
@@ -105,7 +106,7 @@ impl ClassTable {
 
     /// Its superclass, where there is one.
     pub fn superclass(&self, class: ClassId) -> Option<ClassId>
-        ensures { result ≡ superclass self.now class }
+        ensures { number_of result ≡ superclass self.now class.number }
     {
         let (_, entry) = self.entry(class)?;
         entry.superclass
@@ -113,7 +114,7 @@ impl ClassTable {
 
     /// Its kind: `Plain` also where there is no class of this number.
     pub fn kind(&self, class: ClassId) -> ClassKind
-        ensures { kind_view result ≡ class_kind self.now class }
+        ensures { kind_view result ≡ class_kind self.now class.number }
     {
         match self.entry(class) {
             Some((_, entry)) => entry.kind,
@@ -123,14 +124,14 @@ impl ClassTable {
 
     /// Whether it is a class of arrays.
     pub fn is_array(&self, class: ClassId) -> bool
-        ensures { result ≡ not (is_plain (class_kind self.now class)) }
+        ensures { result ≡ not (is_plain (class_kind self.now class.number)) }
     {
         !matches!(self.kind(class), ClassKind::Plain)
     }
 
     /// Whether the first is the second or below it. The cost goes by the depth of the first.
     pub(crate) fn is_subclass(&self, class: ClassId, other: ClassId) -> bool
-        ensures { result ≡ is_subclass self.now class other }
+        ensures { result ≡ is_subclass self.now class.number other.number }
     {
         let mut ancestor = class;
         for _ in 0..self.len() {
@@ -147,7 +148,7 @@ impl ClassTable {
 
     /// Whether both are classes of arrays of objects, and the elements of the first go into arrays of the second.
     fn elements_fit(&self, class: ClassId, other: ClassId) -> bool
-        ensures { result ≡ elements_fit self.now (class_kind self.now class) (class_kind self.now other) }
+        ensures { result ≡ elements_fit self.now (class_kind self.now class.number) (class_kind self.now other.number) }
     {
         match (self.kind(class), self.kind(other)) {
             (ClassKind::ArrayOfObjects(element), ClassKind::ArrayOfObjects(wanted)) => {
@@ -159,7 +160,7 @@ impl ClassTable {
 
     /// Whether an object of the first can be used where one of the second is wanted. The cost goes by the depth of the hierarchy.
     pub fn assignable(&self, class: ClassId, other: ClassId) -> bool
-        ensures { result ≡ assignable self.now class other }
+        ensures { result ≡ assignable self.now class.number other.number }
     {
         self.is_subclass(class, other) || self.elements_fit(class, other)
     }

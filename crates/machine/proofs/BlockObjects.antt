@@ -1,6 +1,6 @@
 -- The objects that are read off the blocks are those of the heap that the blocks stand for.
 use Rattle.std.proofs.Common.{◌≡◌, ℕ, ℤ, zero, suc, ◌+◌, ◌-◌, ◌<◌, ◌≤◌, Bool, true, false, cond, eqb, List, [], ◌∷◌, length, map, set, get_or, Option, Some, None, refl, sym, ap, ◌∙◌, subst, arith, IsSome, ⊎_elim}
-use Rattle.std.specs.Prelude.{slice_get, find}
+use Rattle.std.specs.Prelude.{slice_get, find, unwrap_or}
 use Rattle.std.specs.Option.{option_map, option_map_or}
 use Rattle.std.specs.Int.{w32, cast_signed}
 use Rattle.std.proofs.Math.Facts.{to_z-of_z}
@@ -15,6 +15,7 @@ use Rattle.heap.proofs.Names.{one_address}
 use Rattle.semantics.specs.Object.{Object, ObjectValue, Number, Refers, Reference}
 use Rattle.semantics.specs.Heap.{Heap, object_at, class_of, values_of}
 use Rattle.machine_scenes.specs.HeapAgrees.{ValueAgrees, ValuesAgree, HeapAgrees}
+use Rattle.machine_scenes.specs.Given.{class_there}
 use Rattle.machine.specs.Rows.{value_in, object_in, object_of, heap_of, IsThere, AreSeen, AreThere, AreBlocks}
 use Rattle.machine_scenes.proofs.BlocksOfNames.{Named, named, is_address, name_within}
 
@@ -219,8 +220,12 @@ module _ (s : Space) (table : List (Option ℕ)) (heap : Heap) (name : ℕ) (h :
   no_values = ap (λ (o : Option Object). length (option_map_or (λ (x : Object). x.values) o [])) h.object
 
 module _ (s : Space) (table : List (Option ℕ)) (heap : Heap) (name a : ℕ) (h : IsAt s table heap name (Some a)) where
-  pub class_is : (r : ℕ) → class_at s a ≡ Some r → r ≡ class_of heap name
-  class_is r class = sym (ap (λ (o : Option Object). option_map_or (λ (x : Object). x.class) o 0) h.object ∙ ap (λ (o : Option ℕ). option_map_or (λ (c : ℕ). c) o 0) class)
+  pub class_is : class_there s a ≡ class_of heap name
+  class_is = or_none (class_at s a) ∙ sym (ap (λ (o : Option Object). option_map_or (λ (x : Object). x.class) o 0) h.object)
+    where
+      or_none : (o : Option ℕ) → unwrap_or o 0 ≡ option_map_or (λ (c : ℕ). c) o 0
+      or_none None = refl
+      or_none (Some c) = refl
 
   pub values_here : values_of heap name ≡ map (value_in s) (values_at s a)
   values_here = ap (λ (o : Option Object). option_map_or (λ (x : Object). x.values) o []) h.object

@@ -6,8 +6,9 @@ ghost use Rattle.semantics.specs.Heap.{Heap as SourceHeap};
 ghost use Rattle.machine_scenes.specs.HeapAgrees.{HeapAgrees};
 ghost use Rattle.machine.specs.Rows.{AreSeen};
 
-use class_rules::ClassId;
+use class_rules::{ClassId, NO_CLASS};
 use heap::{Addr, Heap, Value};
+use machine_scenes::operands::class_there;
 use report_objects::Objects;
 use semantics::ObjectId;
 use std::alloc::{AllocError, Global};
@@ -43,8 +44,8 @@ impl<'a> Objects for NamedBlocks<'a> {
 
     fn class_of(&self, name: ObjectId) -> ClassId {
         match self.addresses[name.number - 1] {
-            None => 0,
-            Some(addr) => self.heap.class_of(addr) as usize,
+            None => NO_CLASS,
+            Some(addr) => class_there(self.heap, addr),
         }
     }
 

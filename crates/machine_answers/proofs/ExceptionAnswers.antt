@@ -1,5 +1,6 @@
 -- What calls of functions of exceptions do.
 use Rattle.std.proofs.Common.{◌≡◌, ℕ, pos, true, false, List, [], ◌∷◌, None, refl, sym, ap, ◌∙◌, subst, arith}
+use Rattle.class_rules.specs.ClassIds.{class_id}
 use Rattle.class_rules.specs.BuiltIns.{string_class, throwable_class}
 use Rattle.class_rules.specs.Class.{assignable}
 use Rattle.code.specs.Effect.{truth_word}
@@ -34,7 +35,7 @@ module _ (both : TwoCalls) where
       let passed = has_passed p w store pending activation call others k shared s target ThrowNew args h free in
       let below : assignable w.classes (object_given args 0) throwable_class ≡ true = ap (λ (c : ℕ). assignable w.classes c throwable_class) (sym name) ∙ passed in
       let makeable : IsMakeable w.classes (object_given args 0) = record { low = class.low; high = class.high; no_class = λ e. absurd (let clash : false ≡ true = sym (class_is_no_throwable w.classes sound.grown) ∙ ap (λ (c : ℕ). assignable w.classes c throwable_class) (sym e) ∙ below in cc) } in
-      subst (λ (x : Answer). Does both ThrowNew x) (sym (is ∙ ap (λ (c : ℕ). Raises c 0) name))
+      subst (λ (x : Answer). Does both ThrowNew x) (sym (is ∙ ap (λ (c : ℕ). Raises (class_id c) 0) name))
       (refl, built_in_class both string_class (omega arith) (omega arith), makeable, ap (throw_new_effect w.classes shared s (object_given args 0)) (sym text))
 
   pub answers_occurred : Asked both ExceptionOccurred → (answer : Answer) → Works both ExceptionOccurred answer → Does both ExceptionOccurred answer

@@ -163,9 +163,9 @@ module _ (both : TwoCalls) where
   holder f h found =
       let there = handle_of w.classes (fields both) call.operands 1 (handles_there p w store pending activation call others k shared s target f args h) found.handle found.at_handle in
       let same : (field_there w.classes (field_at (fields both) (operand_of call.operands 1))).class ≡ (field_given args 1).class = ap (λ (x : FieldId). x.class) (field_at_place w.classes store.heap (references both) (fields both) call.operands args 1 h.given) in
-      let class : (field_given args 1).class ≡ found.handle.class = ap (λ (x : FieldId). x.class) (sym found.is_field) ∙ sym (class_of_field w.classes found.handle there) in
+      let class : (field_given args 1).class ≡ found.handle.class.number = ap (λ (x : FieldId). x.class) (sym found.is_field) ∙ sym (class_of_field w.classes found.handle there) in
       let within = class_within w.classes found.handle there in
-      let agrees_so = table_of both f h found.handle.class within.0 within.1 in
+      let agrees_so = table_of both f h found.handle.class.number within.0 within.1 in
       by_address (class_object store.loaded.items (Some (field_given args 1).class)) refl
       (subst (λ (c : ℕ). ReferenceAgrees store.heap (class_object store.loaded.items (Some c)) (Some c)) (sym class) agrees_so) same
       (ap (λ (o : Option FieldHandle). place_there w.classes o (own_statics w.classes (field_there w.classes o).class)) found.at_handle ∙ ap (λ (x : FieldId). place_in x (own_statics w.classes x.class)) found.is_field)

@@ -1,6 +1,7 @@
 -- What calls of functions of monitors do.
 use Rattle.std.proofs.Common.{◌≡◌, ℕ, is_none, [], ◌-◌, ◌^◌, Option, Some, None, refl, sym, ap, ◌∙◌, subst, arith}
 use Rattle.std.specs.Prelude.{◌&&◌, unwrap_or}
+use Rattle.class_rules.specs.ClassIds.{class_id}
 use Rattle.class_rules.specs.BuiltIns.{illegal_monitor_state}
 use Rattle.heap.specs.Heap.{name_at}
 use Rattle.jni.specs.JniFunction.{MonitorEnter, MonitorExit}
@@ -78,5 +79,5 @@ module _ (both : TwoCalls) where
       by_came : (came : Exit) → leaving k (table.monitor_of store.monitors n) ≡ came → GivesNumber (left_by n came) (exit_effect k shared s n (monitor_of shared.monitors n))
       by_came exit.Left e = let own = owns k store.monitors shared.monitors agree n (sym e) in (refl, record { monitor = own.monitor; owned = own.owned; own = own.own; is = refl })
       by_came exit.NotOwner e =
-          subst (GivesNumber (replies.Throws illegal_monitor_state)) (sym (refuses k shared s store.monitors agree n (sym e)))
+          subst (GivesNumber (replies.Throws (class_id illegal_monitor_state))) (sym (refuses k shared s store.monitors agree n (sym e)))
           (refl, built_in_class both illegal_monitor_state (omega arith) (omega arith))

@@ -5,6 +5,7 @@ use Rattle.std.specs.Int.{w32}
 use Rattle.std.specs.List.{AllZip}
 use Rattle.std.specs.Option.{option_map_or}
 use Rattle.std.proofs.Math.Facts.{to_z-of_z}
+use Rattle.class_rules.specs.ClassIds.{class_id}
 use Rattle.class_rules.specs.BuiltIns.{array_index_out_of_bounds, number_array, string_index_out_of_bounds}
 use Rattle.heap.specs.Heap.{name_at, values_at}
 use Rattle.jni.specs.JniFunction.{JniFunction, prototype, GetArrayRegion, SetArrayRegion, GetStringRegion}
@@ -67,16 +68,16 @@ module _ (both : TwoCalls) where
     -- where an answer and an effect go by the same tests
     tested : (answer : Answer) (effect : CallEffect) (start k : ℕ)
         → (nat_le k array.len ≡ true → nat_le (start + k) (length (values_at store.heap a)) ≡ true → Copies answer effect)
-        → Copies (if nat_le (start + k) (length (values_at store.heap a)) then (if nat_le k array.len then answer else replies.Halts OutOfRange) else replies.Throws exception)
+        → Copies (if nat_le (start + k) (length (values_at store.heap a)) then (if nat_le k array.len then answer else replies.Halts OutOfRange) else replies.Throws (class_id exception))
         (if nat_le (start + k) size then (if nat_le k (length held_elements) then effect else Halts trap.OutOfRange) else Throws exception)
     tested answer effect start k does =
-        subst (λ (l : ℕ). Copies (if nat_le (start + k) (length (values_at store.heap a)) then (if nat_le k array.len then answer else replies.Halts OutOfRange) else replies.Throws exception)
+        subst (λ (l : ℕ). Copies (if nat_le (start + k) (length (values_at store.heap a)) then (if nat_le k array.len then answer else replies.Halts OutOfRange) else replies.Throws (class_id exception))
         (if nat_le (start + k) l then (if nat_le k (length held_elements) then effect else Halts trap.OutOfRange) else Throws exception)) count
-        (subst (λ (l : ℕ). Copies (if nat_le (start + k) (length (values_at store.heap a)) then (if nat_le k array.len then answer else replies.Halts OutOfRange) else replies.Throws exception)
+        (subst (λ (l : ℕ). Copies (if nat_le (start + k) (length (values_at store.heap a)) then (if nat_le k array.len then answer else replies.Halts OutOfRange) else replies.Throws (class_id exception))
         (if nat_le (start + k) (length (values_at store.heap a)) then (if nat_le k l then effect else Halts trap.OutOfRange) else Throws exception)) long
         (by_tests (nat_le (start + k) (length (values_at store.heap a))) (nat_le k array.len) refl refl))
       where
-        by_tests : (b c : Bool) → nat_le (start + k) (length (values_at store.heap a)) ≡ b → nat_le k array.len ≡ c → Copies (if b then (if c then answer else replies.Halts OutOfRange) else replies.Throws exception) (if b then (if c then effect else Halts trap.OutOfRange) else Throws exception)
+        by_tests : (b c : Bool) → nat_le (start + k) (length (values_at store.heap a)) ≡ b → nat_le k array.len ≡ c → Copies (if b then (if c then answer else replies.Halts OutOfRange) else replies.Throws (class_id exception)) (if b then (if c then effect else Halts trap.OutOfRange) else Throws exception)
         by_tests false c inside few = (refl, makeable)
         by_tests true false inside few = refl
         by_tests true true inside few = does few inside
@@ -104,7 +105,7 @@ module _ (both : TwoCalls) where
           },
         )))
       where
-        answer_is : (b : Bool) → copies_out exception array (if b then Some (part i k) else None) ≡ (if b then (if nat_le k array.len then replies.CopiesOut (part i k) else replies.Halts OutOfRange) else replies.Throws exception)
+        answer_is : (b : Bool) → copies_out exception array (if b then Some (part i k) else None) ≡ (if b then (if nat_le k array.len then replies.CopiesOut (part i k) else replies.Halts OutOfRange) else replies.Throws (class_id exception))
         answer_is true = refl
         answer_is false = refl
 
@@ -129,7 +130,7 @@ module _ (both : TwoCalls) where
           },
         )))
       where
-        answer_is : (b : Bool) → copies_in exception array (if b then Some (part i k) else None) ≡ (if b then (if nat_le k array.len then replies.CopiesIn (part i k) else replies.Halts OutOfRange) else replies.Throws exception)
+        answer_is : (b : Bool) → copies_in exception array (if b then Some (part i k) else None) ≡ (if b then (if nat_le k array.len then replies.CopiesIn (part i k) else replies.Halts OutOfRange) else replies.Throws (class_id exception))
         answer_is true = refl
         answer_is false = refl
 

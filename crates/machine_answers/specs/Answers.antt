@@ -168,7 +168,7 @@ pub record IsExited (k : ℕ) (s : Shared) (t : Thread) (n : ℕ) (effect : Call
 
 -- The answer is what the call, which brings these, does to this state, all checks being passed.
 abbrev pub IsAnswer : Classes → Brought → Space → LocalTable → ResultKind → Shared → Thread → Answer → CallEffect → Type 0
-IsAnswer classes brought space locals kind s t (answer.Throws c) (Throws class) = (c ≡ class) × IsMakeable classes c
+IsAnswer classes brought space locals kind s t (answer.Throws c) (Throws class) = (c.number ≡ class) × IsMakeable classes c.number
 IsAnswer classes brought space locals kind s t (answer.Gives given) (Leaves [] s' t' c) = (s' ≡ s) × (t' ≡ t) × GivenAgrees classes space kind given c
 IsAnswer classes brought space locals kind s t (answer.Writes a place v) (Leaves [] s' t' NoResult) = (t' ≡ t)
     × (kind ≡ GivesNothing) × WritesAt space s s' a place v
@@ -177,7 +177,8 @@ IsAnswer classes brought space locals kind s t (answer.CopiesIn region) effect =
 IsAnswer classes brought space locals kind s t (answer.Makes new) (Leaves (o ∷ []) s' t' (ReferenceResult r)) =
     (s' ≡ s) × (t' ≡ t) × (kind ≡ NewLocal) × (r ≡ Some (next_name s.heap)) × Describes classes brought.texts space new o
 IsAnswer classes brought space locals kind s t (answer.Raises class place) effect =
-    (kind ≡ GivesInt) × IsMakeable classes string_class × IsMakeable classes class × (effect ≡ throw_new_effect classes s t class (text_in brought.texts place))
+    (kind ≡ GivesInt) × IsMakeable classes string_class × IsMakeable classes class.number
+    × (effect ≡ throw_new_effect classes s t class.number (text_in brought.texts place))
 IsAnswer classes brought space locals kind s t (answer.Pends a given) effect =
     (r : Reference) × ReferenceAgrees space a r × ((c : CallResult) × GivenAgrees classes space kind given c
     × (effect ≡ Leaves [] s (record t { pending = r }) c))

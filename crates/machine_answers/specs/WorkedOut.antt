@@ -2,6 +2,7 @@
 use Rattle.std.specs.Prelude.{◌==◌, ◌≡◌, ℕ, ◌+◌, ◌-◌, ◌^◌, ℤ, pos, negsuc, nat_lt, nat_le, Bool, true, false, List, [], ◌∷◌, length, slice_get, unwrap_or, is_some, if◌then◌else◌, Option, Some, None}
 use Rattle.std.specs.Int.{w32, cast_signed}
 use Rattle.base.specs.Element.{ElementType}
+use Rattle.class_rules.specs.ClassIds.{class_id}
 use Rattle.class_rules.specs.BuiltIns.{array_index_out_of_bounds, array_store_exception, illegal_monitor_state, negative_array_size, string_index_out_of_bounds, no_class_def_found_error, no_such_field_error, number_array}
 use Rattle.class_rules.specs.Class.{Classes, array_class_of, assignable, class_kind, class_named, element_class, superclass}
 use Rattle.class_rules.specs.Fields.{FieldId, find_field, find_static, layout, own_statics}
@@ -51,12 +52,12 @@ class_object loaded (Some c) = slice_get loaded (c - 1)
 
 -- a class that was found, or else an exception
 abbrev pub found_class : (loaded : List ℕ) → (class : Option ℕ) → Answer
-found_class loaded None = Throws no_class_def_found_error
+found_class loaded None = Throws (class_id no_class_def_found_error)
 found_class loaded (Some c) = Gives (Reference (class_object loaded (Some c)))
 
 -- a handle of the field that was found, or else an exception
 abbrev pub IsFoundField : Classes → Option FieldId → Answer → Type 0
-IsFoundField classes None answer = answer ≡ Throws no_such_field_error
+IsFoundField classes None answer = answer ≡ Throws (class_id no_such_field_error)
 IsFoundField classes (Some f) answer = (h : FieldHandle) × (answer ≡ Gives (given.FieldId (Some h))) × (field_of classes h ≡ Some f)
 
 -- room for this number of references more, which is refused for a negative number
@@ -121,8 +122,8 @@ place_there classes (Some h) fields = place_among (field_there classes (Some h))
 
 -- a new array of equal values is made, or an exception for a negative number of them
 abbrev pub new_array : (class : ℕ) → ℤ → Value → Answer
-new_array class (pos n) v = Makes (Array (record { class = class; count = n; value = v }))
-new_array class (negsuc n) v = Throws negative_array_size
+new_array class (pos n) v = Makes (Array (record { class = class_id class; count = n; value = v }))
+new_array class (negsuc n) v = Throws (class_id negative_array_size)
 
 -- an index of an array, where it has such an element
 abbrev pub index_there : Space → Option ℕ → ℤ → Option ℕ
@@ -132,13 +133,13 @@ index_there space (Some a) (negsuc n) = None
 
 -- an element of an array is given, or an exception where there is none of an index
 abbrev pub element_there : Space → Option ℕ → (index : Option ℕ) → Answer
-element_there space r None = Throws array_index_out_of_bounds
+element_there space r None = Throws (class_id array_index_out_of_bounds)
 element_there space r (Some i) = Gives (Reference (address_in (value_there space r i)))
 
 -- an element of an array changes, or an exception where there is none of an index, or where the value doesn't fit
 abbrev pub stores_there : Space → Option ℕ → (fits : Bool) → (index : Option ℕ) → Value → Answer
-stores_there space r fits None v = Throws array_index_out_of_bounds
-stores_there space r false (Some i) v = Throws array_store_exception
+stores_there space r fits None v = Throws (class_id array_index_out_of_bounds)
+stores_there space r false (Some i) v = Throws (class_id array_store_exception)
 stores_there space r true (Some i) v = writes_there space r i v
 
 -- the number on top of the stack, and 0 where there is none
@@ -164,12 +165,12 @@ region_in space r start n array = None
 
 -- a local array takes part in a region with its first elements: an exception where there is no region, and a trap where the array hasn't so many
 abbrev pub copies_out : (exception : ℕ) → LocalArray → Option ArrayRegion → Answer
-copies_out exception array None = Throws exception
+copies_out exception array None = Throws (class_id exception)
 copies_out exception array (Some r) = if nat_le r.count array.len then CopiesOut r else Halts OutOfRange
 
 -- the same into the object
 abbrev pub copies_in : (exception : ℕ) → LocalArray → Option ArrayRegion → Answer
-copies_in exception array None = Throws exception
+copies_in exception array None = Throws (class_id exception)
 copies_in exception array (Some r) = if nat_le r.count array.len then CopiesIn r else Halts OutOfRange
 
 -- ---- buffers
@@ -209,7 +210,7 @@ entered_by o e = Gives (Number (2 ^ 32 - 1))
 -- the monitor of an object is left, where the thread owns it; else it is an exception
 abbrev pub left_by : (name : ℕ) → Exit → Answer
 left_by name exit.Left = Exits name
-left_by name exit.NotOwner = Throws illegal_monitor_state
+left_by name exit.NotOwner = Throws (class_id illegal_monitor_state)
 
 -- a thread enters the monitor of the object at an address
 abbrev pub enters : Space → List Monitor → (thread : ℕ) → Option ℕ → Answer
@@ -282,7 +283,7 @@ module _ (scene : Scene) (call : Call) where
   worked_out IsInstanceOf = Gives (Number (truth_word (fits_there scene.classes scene.space (reference 0) (name_there scene.space (reference 1)))))
   worked_out IsAssignableFrom = Gives (Number (truth_word (assignable scene.classes
       (name_there scene.space (reference 0)) (name_there scene.space (reference 1)))))
-  worked_out AllocObject = Makes (Fresh (name_there scene.space (reference 0)))
+  worked_out AllocObject = Makes (Fresh (class_id (name_there scene.space (reference 0))))
   worked_out NewLocalRef = Gives (Reference (reference 0))
   worked_out NewGlobalRef = MakesGlobal (reference 0)
   worked_out DeleteGlobalRef = deletes_global (reference 0) (operand_of call.operands 0)
@@ -314,7 +315,7 @@ module _ (scene : Scene) (call : Call) where
   worked_out (GetBuffer access) = acquires access (reference 0)
   worked_out (ReleaseBuffer access) = releases scene.buffers (reference 0) (operand_of call.operands 1) (mode_of access (operand_of call.operands 2))
   worked_out Throw = Pends (reference 0) (Number 0)
-  worked_out ThrowNew = Raises (name_there scene.space (reference 0)) 0
+  worked_out ThrowNew = Raises (class_id (name_there scene.space (reference 0))) 0
   worked_out ExceptionOccurred = Gives (Reference scene.pending)
   worked_out ExceptionCheck = Gives (Number (truth_word (is_some scene.pending)))
   worked_out ExceptionClear = Pends None Nothing

@@ -2,6 +2,7 @@
 
 ghost use Rattle.std.specs.Prelude.{◌≡◌, ◌<◌, ℕ, [], Some, None, true, false, unwrap_or, slice_get, map};
 ghost use Rattle.classes.specs.FieldViews.{find_as};
+ghost use Rattle.class_rules.specs.ClassIds.{number_of};
 ghost use Rattle.class_rules.specs.Fields.{layout, own_statics};
 ghost use Rattle.class_rules.specs.Grown.{IsGrown};
 ghost use Rattle.code.specs.Call.{call_view};
@@ -40,7 +41,7 @@ use machine_scenes::operands::{
 use machine_scenes::scene::Scene;
 use machine_scenes::statics::StaticReference;
 use monitors::Object;
-use semantics::Trap;
+use semantics::{ObjectId, Trap};
 use tables::Local;
 
 /// What a call gives.
@@ -80,10 +81,10 @@ pub enum Answer {
     Releases(Release),
     /// An object is made, and given.
     Makes(New),
-    /// An exception of the class of this number is made and is pending.
+    /// An exception of this class is made and is pending.
     Throws(ClassId),
-    /// A string of the call's text at this place is made, and an exception of the class of this number with it as
-    /// message, which is pending; 0 is given.
+    /// A string of the call's text at this place is made, and an exception of this class with it as message, which is
+    /// pending; 0 is given.
     Raises {
         class: ClassId,
         text: usize,
@@ -153,7 +154,7 @@ fn work_out_class(scene: &Scene<'_>, call: &Call) -> Answer
             found_class(scene.loaded, class)
         }
         JniFunction::GetSuperclass => {
-            let class = name_of(scene, call, 0);
+            let class = class_given(scene, call, 0);
             gives_class(scene.loaded, scene.classes.superclass(class))
         }
         JniFunction::GetObjectClass => {
@@ -162,21 +163,21 @@ fn work_out_class(scene: &Scene<'_>, call: &Call) -> Answer
         }
         JniFunction::IsInstanceOf => {
             let first = argument(scene, call, 0);
-            let class = name_of(scene, call, 1);
+            let class = class_given(scene, call, 1);
             gives_truth(fits_there(scene.classes, scene.heap, first, class))
         }
         JniFunction::IsAssignableFrom => {
-            let below = name_of(scene, call, 0);
-            let above = name_of(scene, call, 1);
+            let below = class_given(scene, call, 0);
+            let above = class_given(scene, call, 1);
             gives_truth(scene.classes.assignable(below, above))
         }
-        JniFunction::AllocObject => Answer::Makes(New::Fresh(name_of(scene, call, 0))),
+        JniFunction::AllocObject => Answer::Makes(New::Fresh(class_given(scene, call, 0))),
         JniFunction::GetFieldID => {
-            let class = name_of(scene, call, 0);
+            let class = class_given(scene, call, 0);
             find_field(scene.classes, class, &call.texts, false)
         }
         JniFunction::GetStaticFieldID => {
-            let class = name_of(scene, call, 0);
+            let class = class_given(scene, call, 0);
             find_field(scene.classes, class, &call.texts, true)
         }
         _ => unreachable!(),
@@ -288,13 +289,24 @@ pub fn argument(scene: &Scene<'_>, call: &Call, place: usize) -> Option<Addr>
     reference_at(&scene.references, &call.operands, place)
 }
 
-/// The name of the object of the operand at a place, and 0 for NULL.
+/// The id of the object of the operand at a place, and the number 0 for NULL.
 #[inline(always)]
-pub(crate) fn name_of(scene: &Scene<'_>, call: &Call, place: usize) -> usize
+fn name_of(scene: &Scene<'_>, call: &Call, place: usize) -> ObjectId
     requires { AreAddresses scene.now.heap.now scene.now.references call.now.operands.items }
-    ensures { result ≡ name_there scene.now.heap.now (reference (scene_view scene.now) (call_view call.now) place) }
+    ensures { result.number ≡ name_there scene.now.heap.now (reference (scene_view scene.now) (call_view call.now) place) }
 {
     name_there(scene.heap, argument(scene, call, place))
+}
+
+/// The class whose class object the operand at a place is. The two have one number.
+#[inline(always)]
+pub(crate) fn class_given(scene: &Scene<'_>, call: &Call, place: usize) -> ClassId
+    requires { AreAddresses scene.now.heap.now scene.now.references call.now.operands.items }
+    ensures { result.number ≡ name_there scene.now.heap.now (reference (scene_view scene.now) (call_view call.now) place) }
+{
+    ClassId {
+        number: name_of(scene, call, place).number,
+    }
 }
 
 /// The field ID of operand 1, which is NULL or that of a field.
@@ -310,7 +322,7 @@ pub(crate) fn handle_of(scene: &Scene<'_>, call: &Call) -> Option<FieldHandle>
 /// A class object is given, or NULL.
 #[inline(always)]
 fn gives_class(loaded: &[Addr], class: Option<ClassId>) -> Answer
-    ensures { result ≡ Answer.Gives (Given.Reference (class_object loaded.now class)) }
+    ensures { result ≡ Answer.Gives (Given.Reference (class_object loaded.now (number_of class))) }
 {
     Answer::Gives(Given::Reference(class_object(loaded, class)))
 }
@@ -325,7 +337,7 @@ pub(crate) fn gives_truth(truth: bool) -> Answer
 
 /// A class that was found, or else an exception.
 fn found_class(loaded: &[Addr], class: Option<ClassId>) -> Answer
-    ensures { result ≡ found_class loaded.now class }
+    ensures { result ≡ found_class loaded.now (number_of class) }
 {
     match class {
         Some(class) => Answer::Gives(Given::Reference(class_object(loaded, Some(class)))),
@@ -377,7 +389,7 @@ fn deletes_global(reference: Option<Addr>, operand: Operand) -> Answer
 
 /// A handle of the field, or the static, with the name and the signature of a call's texts, or else an exception.
 fn find_field(classes: &ClassTable, class: ClassId, texts: &[Vec<u8>], is_static: bool) -> Answer
-    ensures { IsFoundField classes.now (find_as classes.now class (unwrap_or
+    ensures { IsFoundField classes.now (find_as classes.now class.number (unwrap_or
         (slice_get (map (λ text. text.items) texts.now) 0) []) (unwrap_or
         (slice_get (map (λ text. text.items) texts.now) 1) []) is_static) result }
 {
@@ -491,7 +503,7 @@ fn writes_static(scene: &Scene<'_>, call: &Call, value: Value) -> Answer
 fn field_place(classes: &ClassTable, class: ClassId, field: Option<FieldHandle>) -> usize
     requires grown { IsGrown classes.now }
     requires there { FieldIsThere classes.now field }
-    ensures { (field_there classes.now field).is_static ≡ false → result ≡ place_there classes.now field (layout classes.now class) }
+    ensures { (field_there classes.now field).is_static ≡ false → result ≡ place_there classes.now field (layout classes.now class.number) }
 {
     match field {
         Some(handle) => {
@@ -600,10 +612,10 @@ fn stored(element: syntax::ElementType, stack: &Stack) -> Value
 
 /// The address of a class object.
 fn class_object(loaded: &[Addr], class: Option<ClassId>) -> Option<Addr>
-    ensures { result ≡ class_object loaded.now class }
+    ensures { result ≡ class_object loaded.now (number_of class) }
 {
     match class {
-        Some(class) => loaded.get(class.saturating_sub(1)).copied(),
+        Some(class) => loaded.get(class.number.saturating_sub(1)).copied(),
         None => None,
     }
 }

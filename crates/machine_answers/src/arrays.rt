@@ -11,11 +11,11 @@ ghost use Rattle.machine_answers.specs.WorkedOut.{element_there, fits_element, i
 ghost use Rattle.jni.specs.declared.subject.Subject.TheVariants as subject;
 
 use crate::answer::{
-    Answer, Given, address_in, argument, count_there, held_reference, name_of, top_word,
+    Answer, Given, address_in, argument, class_given, count_there, held_reference, top_word,
     value_there, writes_there,
 };
 use class_queries::{array_class_of, element_class};
-use class_rules::ClassId;
+use class_rules::{ClassId, NO_CLASS};
 use classes::built_ins::{
     ARRAY_INDEX_OUT_OF_BOUNDS_EXCEPTION, ARRAY_STORE_EXCEPTION, NEGATIVE_ARRAY_SIZE_EXCEPTION,
     number_array,
@@ -45,9 +45,13 @@ pub(crate) fn work_out_array(scene: &Scene<'_>, call: &Call) -> Answer
             new_array(class, stack_number(scene.stack), Value::Number(0))
         }
         JniFunction::NewObjectArray => {
-            let class = array_class_of(scene.classes, name_of(scene, call, 1));
+            let class = array_class_of(scene.classes, class_given(scene, call, 1));
             let element = held_reference(argument(scene, call, 2));
-            new_array(class.unwrap_or(0), stack_number(scene.stack), element)
+            new_array(
+                class.unwrap_or(NO_CLASS),
+                stack_number(scene.stack),
+                element,
+            )
         }
         JniFunction::GetObjectArrayElement => {
             let array = argument(scene, call, 0);
@@ -73,7 +77,7 @@ pub(crate) fn stack_number(stack: &Stack) -> i32
 
 /// A new array of equal values is made; a negative number of them is an exception.
 fn new_array(class: ClassId, count: i32, value: Value) -> Answer
-    ensures { result ≡ new_array class count value }
+    ensures { result ≡ new_array class.number count value }
 {
     if count < 0 {
         Answer::Throws(NEGATIVE_ARRAY_SIZE_EXCEPTION)

@@ -18,7 +18,7 @@ ghost use Rattle.machine_answers.specs.WorkedOut.{field};
 ghost use Rattle.machine_scenes.specs.Scenes.{scene_view};
 ghost use Rattle.semantics.specs.EventViews.{trap_view};
 
-use crate::answer::{argument, handle_of, name_of};
+use crate::answer::{argument, class_given, handle_of};
 use class_queries::{class_misfits, holds_number, holds_reference};
 use classes::built_ins::{THROWABLE, number_array};
 use classes::class::{ElementType, FieldType};
@@ -26,7 +26,7 @@ use code::instr::{Call, Operand, Target};
 use heap::Addr;
 use jni::{Access, JniFunction, ParameterKind, ResultKind};
 use machine_scenes::operands::{
-    class_of_given, declaring, field_in, fits_there, is_static, reference_in, type_of,
+    class_of_given, class_there, declaring, field_in, fits_there, is_static, reference_in, type_of,
 };
 use machine_scenes::references::{Held, References};
 use machine_scenes::scene::Scene;
@@ -118,7 +118,7 @@ fn misfits(scene: &Scene<'_>, parameter: ParameterKind, operand: Operand) -> boo
         return false;
     }
     match reference_in(&scene.references, operand) {
-        Some(addr) => class_misfits(scene.classes, parameter, scene.heap.class_of(addr) as usize),
+        Some(addr) => class_misfits(scene.classes, parameter, class_there(scene.heap, addr)),
         None => false,
     }
 }
@@ -176,7 +176,7 @@ fn has_static(scene: &Scene<'_>, call: &Call) -> bool
     ensures { result ≡ has_static scene.now.classes.now scene.now.heap.now scene.now.references scene.now.fields.now call.now.operands.items }
 {
     let field = handle_of(scene, call);
-    let class = name_of(scene, call, 0);
+    let class = class_given(scene, call, 0);
     is_static(field) && scene.classes.assignable(class, declaring(field))
 }
 
@@ -189,7 +189,7 @@ fn fit_together(scene: &Scene<'_>, call: &Call) -> bool
 {
     let classes = scene.classes;
     match call.function {
-        JniFunction::AllocObject => !classes.has_own_making(name_of(scene, call, 0)),
+        JniFunction::AllocObject => !classes.has_own_making(class_given(scene, call, 0)),
         JniFunction::GetField(element) | JniFunction::SetField(element) => {
             has_field(scene, call) && holds_number(element, asked_type(scene, call))
         }
@@ -211,7 +211,7 @@ fn fit_together(scene: &Scene<'_>, call: &Call) -> bool
             has_static(scene, call) && fits_type(scene, value, asked_type(scene, call))
         }
         JniFunction::NewObjectArray => {
-            let class = name_of(scene, call, 1);
+            let class = class_given(scene, call, 1);
             let element = argument(scene, call, 2);
             !classes.is_array(class) && fits_there(classes, scene.heap, element, class)
         }
@@ -223,7 +223,7 @@ fn fit_together(scene: &Scene<'_>, call: &Call) -> bool
             let class = class_of_given(scene.heap, argument(scene, call, 0));
             classes.assignable(class, THROWABLE)
         }
-        JniFunction::ThrowNew => classes.assignable(name_of(scene, call, 0), THROWABLE),
+        JniFunction::ThrowNew => classes.assignable(class_given(scene, call, 0), THROWABLE),
         _ => true,
     }
 }

@@ -9,7 +9,7 @@ ghost use Rattle.jni.specs.Subjects.{subject_of};
 ghost use Rattle.machine_answers.specs.WorkedOut.{IsWorkedOut};
 ghost use Rattle.jni.specs.declared.subject.Subject.TheVariants as subject;
 
-use crate::answer::{Answer, Given, argument, gives_truth, name_of};
+use crate::answer::{Answer, Given, argument, class_given, gives_truth};
 use code::instr::Call;
 use jni::JniFunction;
 use machine_scenes::scene::Scene;
@@ -32,7 +32,7 @@ pub(crate) fn work_out_exception(scene: &Scene<'_>, call: &Call) -> Answer
         }
         JniFunction::ThrowNew => {
             Answer::Raises {
-                class: name_of(scene, call, 0),
+                class: class_given(scene, call, 0),
                 text: 0,
             }
         }

@@ -121,7 +121,7 @@ fn region_within(
 /// A region's numbers go into its slots; an exception of this class where there is no region, and a trap where the local array
 /// hasn't so many elements.
 fn copies_out(exception: ClassId, array: LocalArray, region: Option<ArrayRegion>) -> Answer
-    ensures { result ≡ copies_out exception array region }
+    ensures { result ≡ copies_out exception.number array region }
 {
     match region {
         None => Answer::Throws(exception),
@@ -132,7 +132,7 @@ fn copies_out(exception: ClassId, array: LocalArray, region: Option<ArrayRegion>
 
 /// What the slots of a region hold goes into its object; where it can't, the answer is that of `copies_out`.
 fn copies_in(exception: ClassId, array: LocalArray, region: Option<ArrayRegion>) -> Answer
-    ensures { result ≡ copies_in exception array region }
+    ensures { result ≡ copies_in exception.number array region }
 {
     match region {
         None => Answer::Throws(exception),

@@ -1,6 +1,7 @@
 -- Which effects an answer can have.
 use Rattle.std.proofs.Common.{◌≡◌, ℕ, [], ◌∷◌, Some, sym, ap}
 use Rattle.class_rules.specs.Class.{Classes}
+use Rattle.class_rules.specs.declared.class_id.ClassId.{ClassId}
 use Rattle.heap.specs.Heap.{Space}
 use Rattle.heap.specs.declared.value.Value.{Value}
 use Rattle.jni.specs.Prototype.{ResultKind, NewLocal, GivesNothing}
@@ -70,7 +71,7 @@ module _ (classes : Classes) (brought : Brought) (space : Space) (locals : Local
     pub is : effect ≡ Throws class
     pub makeable : IsMakeable classes class
 
-  pub throws_it : (class : ℕ) (effect : CallEffect) → IsAnswer classes brought space locals kind shared s (answer.Throws class) effect → ThrowsIt class effect
+  pub throws_it : (class : ClassId) (effect : CallEffect) → IsAnswer classes brought space locals kind shared s (answer.Throws class) effect → ThrowsIt class.number effect
   throws_it class (Throws c) h = record { is = ap Throws (sym h.0); makeable = h.1 }
   throws_it class (Halts trap) h = absurd h
   throws_it class (Leaves made s' t' c) h = absurd h

@@ -19,6 +19,7 @@ use Rattle.std.specs.Prelude.{slice_get, slice_set, nat_le, if◌then◌else◌}
 use Rattle.std.proofs.lemmas.Bool.{le-leb, leb-true}
 use Rattle.std.proofs.lemmas.Option.{slice_get_within}
 use Rattle.class_rules.specs.Class.{Classes}
+use Rattle.class_rules.specs.declared.class_id.ClassId.{ClassId}
 use Rattle.heap.specs.Heap.{Space, left_of, with_value}
 use Rattle.heap.specs.declared.value.Value.{Value}
 use Rattle.jni.specs.Prototype.{ResultKind, NewLocal, NewGlobal, GivesFlag, GivesInt, GivesField, GivesNothing, GivesBuffer}
@@ -180,7 +181,7 @@ module _ (p : Lowered) (w : World) (store : Store) (pending : Option ℕ) (local
       refuses (answer.Makes new) effect (ap makes_objects (makes_it w.classes brought store.heap locals kind shared s new effect does).is)
       (omega (arith, short, cells_made w.classes brought store.heap locals kind shared s (answer.Makes new) effect does))
 
-  pub refuses_exception : (class : ℕ) (effect : CallEffect) → Does (answer.Throws class) effect → left_of store.heap < cells_of_new w.classes texts (Fresh class) → Carries (answer.Throws class) effect true store (slice_get store.loaded.items (length w.classes)) (failed kind)
+  pub refuses_exception : (class : ClassId) (effect : CallEffect) → Does (answer.Throws class) effect → left_of store.heap < cells_of_new w.classes texts (Fresh class) → Carries (answer.Throws class) effect true store (slice_get store.loaded.items (length w.classes)) (failed kind)
   refuses_exception class effect does short =
       refuses (answer.Throws class) effect (ap makes_objects (throws_it w.classes brought store.heap locals kind shared s class effect does).is)
       (omega (arith, short, cells_made w.classes brought store.heap locals kind shared s (answer.Throws class) effect does))
@@ -459,11 +460,11 @@ module _ (p : Lowered) (w : World) (store : Store) (pending : Option ℕ) (local
         })
 
   -- an exception was made
-  module _ (after : Store) (class a : ℕ) (made : HasMade w.classes texts store (Fresh class) after a) where
+  module _ (after : Store) (class : ClassId) (a : ℕ) (made : HasMade w.classes texts store (Fresh class) after a) where
     pub throws : (effect : CallEffect) → Does (answer.Throws class) effect → Carries (answer.Throws class) effect false after (Some a) (failed kind)
     throws effect does =
         let it = throws_it w.classes brought store.heap locals kind shared s class effect does in
-        let o = fresh_object w.classes class in
+        let o = fresh_object w.classes class.number in
         let described : Describes w.classes texts store.heap (Fresh class) o = record { object = refl; makeable = it.makeable } in
         let names = making.names_stay p w texts store after shared (Fresh class) o a all h.store_agrees made described in
         subst (λ (e : CallEffect). Carries (answer.Throws class) e false after (Some a) (failed kind)) (sym it.is) (record {
@@ -479,7 +480,7 @@ module _ (p : Lowered) (w : World) (store : Store) (pending : Option ℕ) (local
         })
 
   -- a message and an exception were made
-  module _ (class place : ℕ) (effect : CallEffect) (does : Does (answer.Raises class place) effect) where
+  module _ (class : ClassId) (place : ℕ) (effect : CallEffect) (does : Does (answer.Raises class place) effect) where
     pub refuses_raise : left_of store.heap < cells_of_new w.classes texts (Text place) + cells_of_new w.classes texts (Fresh class) → Carries (answer.Raises class place) effect true store (slice_get store.loaded.items (length w.classes)) (failed kind)
     refuses_raise short =
         refuses (answer.Raises class place) effect (ap makes_objects does.3)
@@ -490,7 +491,7 @@ module _ (p : Lowered) (w : World) (store : Store) (pending : Option ℕ) (local
       string = string_object (text_in texts place)
 
       abbrev exception : Object
-      exception = with_message (fresh_object w.classes class) (Some (next_name shared.heap))
+      exception = with_message (fresh_object w.classes class.number) (Some (next_name shared.heap))
 
       -- the shared state with the message
       abbrev told : Shared

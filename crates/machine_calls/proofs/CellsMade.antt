@@ -6,6 +6,7 @@ use Rattle.std.proofs.lemmas.Bool.Decides.{nat_tests}
 use Rattle.std.proofs.lemmas.List.{length-set}
 use Rattle.std.proofs.lemmas.List.Sums.{sum_by-cons}
 use Rattle.class_rules.specs.Class.{Classes}
+use Rattle.class_rules.specs.declared.class_id.ClassId.{ClassId}
 use Rattle.heap.specs.Heap.{Space, left_of}
 use Rattle.jni.specs.Prototype.{ResultKind}
 use Rattle.base.specs.Bytes.{Identifier}
@@ -37,14 +38,14 @@ pub described_size : (classes : Classes) (texts : List (List ℕ)) (space : Spac
 described_size classes texts space new o is = let long : length (values_of_new classes texts new) ≡ length o.values = as_many classes texts space new o is in omega (arith, long, sum_by-cons size o [])
 
 -- that of an exception
-pub fresh_size : (classes : Classes) (texts : List (List ℕ)) (space : Space) (class : ℕ) → sizes (fresh_object classes class ∷ []) ≡ cells_of_new classes texts (Fresh class)
-fresh_size classes texts space class = described_size classes texts space (Fresh class) (fresh_object classes class) refl
+pub fresh_size : (classes : Classes) (texts : List (List ℕ)) (space : Space) (class : ClassId) → sizes (fresh_object classes class.number ∷ []) ≡ cells_of_new classes texts (Fresh class)
+fresh_size classes texts space class = described_size classes texts space (Fresh class) (fresh_object classes class.number) refl
 
 -- a message and its exception
-pub both_sizes : (classes : Classes) (texts : List (List ℕ)) (space : Space) (class place : ℕ) (r : Reference) → sizes (string_object (text_in texts place) ∷ with_message (fresh_object classes class) r ∷ []) ≡ cells_of_new classes texts (Text place) + cells_of_new classes texts (Fresh class)
+pub both_sizes : (classes : Classes) (texts : List (List ℕ)) (space : Space) (class : ClassId) (place : ℕ) (r : Reference) → sizes (string_object (text_in texts place) ∷ with_message (fresh_object classes class.number) r ∷ []) ≡ cells_of_new classes texts (Text place) + cells_of_new classes texts (Fresh class)
 both_sizes classes texts space class place r =
     let message = string_object (text_in texts place) in
-    let fresh = fresh_object classes class in
+    let fresh = fresh_object classes class.number in
     let exception = with_message fresh r in
     let long : length exception.values ≡ length fresh.values = length-set fresh.values 0 (Refers r) in
     omega (

@@ -1,6 +1,7 @@
 -- A new object in memory.
 use Rattle.std.specs.Prelude.{◌≡◌, ℕ, ◌+◌, ◌<◌, ◌≤◌, List, length, Option, Some, None}
 use Rattle.class_rules.specs.Class.{Classes}
+use Rattle.class_rules.specs.declared.class_id.ClassId.{ClassId}
 use Rattle.semantics.specs.Object.{object_size}
 use Rattle.heap.specs.Heap.{Block, Space, end_of, left_of, with_block}
 use Rattle.heap.specs.declared.value.Value.{Value}
@@ -52,7 +53,7 @@ cells_of classes texts (answer.Raises class place) = cells_of_new classes texts 
 cells_of classes texts a = 0
 
 -- a new string of a text and a new exception with it as message, where both have room, and else the store as it was
-abbrev pub Raises : Classes → (texts : List (List ℕ)) → Store → (class place : ℕ) → Store → Option ℕ → Type 0
+abbrev pub Raises : Classes → (texts : List (List ℕ)) → Store → (class : ClassId) → (place : ℕ) → Store → Option ℕ → Type 0
 Raises classes texts before class place after None = (after ≡ before) × (left_of before.heap < cells_of classes texts (answer.Raises class place))
 Raises classes texts before class place after (Some a) =
     (between : Store) × (message : ℕ) × HasMade classes texts before (Text place) between message

@@ -43,7 +43,7 @@ pub fn raise(
     class: ClassId,
     place: usize,
 ) -> Option<Addr>
-    requires class { class < 2 ^ 32 }
+    requires class { class.number < 2 ^ 32 }
     requires few { store.old.births + 2 < 2 ^ 32 }
     ensures { Raises classes.now (texts_in texts.now) store.old class place store.new result }
 {
@@ -93,14 +93,14 @@ fn allocate(
 
 /// Makes the block of an object with zero and null fields.
 fn allocate_fresh(classes: &ClassTable, heap: &mut Heap, class: ClassId, birth: u32) -> Option<Addr>
-    requires { class < 2 ^ 32 }
-    ensures { Allocates heap.old class birth (initial_values classes.now class) heap.new result }
+    requires { class.number < 2 ^ 32 }
+    ensures { Allocates heap.old class.number birth (initial_values classes.now class.number) heap.new result }
 {
     // The proof reads off this call how the heap lies.
     let _ = heap.count();
     let mut fields = LayoutFields::of(classes, class);
     let count = fields.len();
-    match heap.alloc(class as u32, birth, count, Value::Null) {
+    match heap.alloc(class.number as u32, birth, count, Value::Null) {
         Err(_) => None,
         Ok(addr) => {
             for place in 0..count {
@@ -120,8 +120,8 @@ fn allocate_exception(
     message: Addr,
     birth: u32,
 ) -> Option<Addr>
-    requires { class < 2 ^ 32 }
-    ensures { Allocates heap.old class birth (values_of_exception classes.now class message) heap.new result }
+    requires { class.number < 2 ^ 32 }
+    ensures { Allocates heap.old class.number birth (values_of_exception classes.now class.number message) heap.new result }
 {
     // The proof reads off this call how the heap lies.
     let _ = heap.count();
@@ -138,11 +138,11 @@ fn allocate_exception(
 
 /// Makes the block of an array.
 fn allocate_array(heap: &mut Heap, array: &NewArray, birth: u32) -> Option<Addr>
-    requires { array.now.class < 2 ^ 32 }
-    ensures { Allocates heap.old array.now.class birth (replicate array.now.count array.now.value) heap.new result }
+    requires { array.now.class.number < 2 ^ 32 }
+    ensures { Allocates heap.old array.now.class.number birth (replicate array.now.count array.now.value) heap.new result }
 {
     let count = array.count as usize;
-    match heap.alloc(array.class as u32, birth, count, array.value) {
+    match heap.alloc(array.class.number as u32, birth, count, array.value) {
         Err(_) => None,
         Ok(addr) => Some(addr),
     }
@@ -155,7 +155,7 @@ fn allocate_text(heap: &mut Heap, bytes: &[u8], birth: u32) -> Option<Addr>
 {
     // The proof reads off this call how the heap lies.
     let _ = heap.count();
-    match heap.alloc(STRING as u32, birth, bytes.len(), Value::Null) {
+    match heap.alloc(STRING.number as u32, birth, bytes.len(), Value::Null) {
         Err(_) => None,
         Ok(addr) => {
             for place in 0..bytes.len() {

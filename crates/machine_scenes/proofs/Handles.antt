@@ -22,14 +22,14 @@ mapped class is_static (f ∷ fields) zero h = record { field = record { class =
 mapped class is_static (f ∷ fields) (suc i) h = mapped class is_static fields i h
 
 module _ (classes : Classes) (h : FieldHandle) (there : IsSome (field_of classes h)) where
-  by_kind : (s : Bool) → IsSome (slice_get (if s then own_statics classes h.class else own_fields classes h.class) h.place) → IsOf h.class s (slice_get (if s then own_statics classes h.class else own_fields classes h.class) h.place)
-  by_kind true there = mapped h.class true (option_map_or (λ (d : Class). d.statics) (class_at classes h.class) []) h.place there
-  by_kind false there = mapped h.class false (option_map_or (λ (d : Class). d.fields) (class_at classes h.class) []) h.place there
+  by_kind : (s : Bool) → IsSome (slice_get (if s then own_statics classes h.class.number else own_fields classes h.class.number) h.place) → IsOf h.class.number s (slice_get (if s then own_statics classes h.class.number else own_fields classes h.class.number) h.place)
+  by_kind true there = mapped h.class.number true (option_map_or (λ (d : Class). d.statics) (class_at classes h.class.number) []) h.place there
+  by_kind false there = mapped h.class.number false (option_map_or (λ (d : Class). d.fields) (class_at classes h.class.number) []) h.place there
 
-  found : IsOf h.class h.is_static (field_of classes h)
+  found : IsOf h.class.number h.is_static (field_of classes h)
   found = by_kind h.is_static there
 
-  pub class_of_field : h.class ≡ (unwrap_or (field_of classes h) no_field).class
+  pub class_of_field : h.class.number ≡ (unwrap_or (field_of classes h) no_field).class
   class_of_field = sym (ap (λ (o : Option FieldId). (unwrap_or o no_field).class) found.is ∙ found.of_class)
 
   pub kind_of_field : h.is_static ≡ (unwrap_or (field_of classes h) no_field).is_static
@@ -46,13 +46,13 @@ class_known [] (suc i) d e = absurd (cc)
 class_known (x ∷ T) (suc zero) d e = (omega arith, omega arith)
 class_known (x ∷ T) (suc (suc i)) d e = (omega arith, omega (arith, (class_known T (suc i) d e).1))
 
-pub class_within : (classes : Classes) (h : FieldHandle) → IsSome (field_of classes h) → (0 < h.class) × (h.class ≤ length classes)
+pub class_within : (classes : Classes) (h : FieldHandle) → IsSome (field_of classes h) → (0 < h.class.number) × (h.class.number ≤ length classes)
 class_within classes h there = by_kind h.is_static there
   where
-    by_class : (get : Class → List Field) (is_static : Bool) (o : Option Class) → class_at classes h.class ≡ o → IsSome (slice_get (map (λ (f : Field). let id : FieldId = record { class = h.class; is_static = is_static; field = f } in id) (option_map_or get o [])) h.place) → (0 < h.class) × (h.class ≤ length classes)
+    by_class : (get : Class → List Field) (is_static : Bool) (o : Option Class) → class_at classes h.class.number ≡ o → IsSome (slice_get (map (λ (f : Field). let id : FieldId = record { class = h.class.number; is_static = is_static; field = f } in id) (option_map_or get o [])) h.place) → (0 < h.class.number) × (h.class.number ≤ length classes)
     by_class get is_static None e there = absurd (cc)
-    by_class get is_static (Some d) e there = class_known classes h.class d e
+    by_class get is_static (Some d) e there = class_known classes h.class.number d e
 
-    by_kind : (s : Bool) → IsSome (slice_get (if s then own_statics classes h.class else own_fields classes h.class) h.place) → (0 < h.class) × (h.class ≤ length classes)
-    by_kind true there = by_class (λ d. d.statics) true (class_at classes h.class) refl there
-    by_kind false there = by_class (λ d. d.fields) false (class_at classes h.class) refl there
+    by_kind : (s : Bool) → IsSome (slice_get (if s then own_statics classes h.class.number else own_fields classes h.class.number) h.place) → (0 < h.class.number) × (h.class.number ≤ length classes)
+    by_kind true there = by_class (λ d. d.statics) true (class_at classes h.class.number) refl there
+    by_kind false there = by_class (λ d. d.fields) false (class_at classes h.class.number) refl there

@@ -49,17 +49,17 @@ values_of_exception classes class message = slice_set (initial_values classes cl
 
 -- the class of an object to be made
 abbrev pub class_of_new : New → ℕ
-class_of_new (Fresh class) = class
-class_of_new (Array array) = array.class
+class_of_new (Fresh class) = class.number
+class_of_new (Array array) = array.class.number
 class_of_new (Text place) = string_class
-class_of_new (Exception class message) = class
+class_of_new (Exception class message) = class.number
 
 -- its values, where a call has these texts
 abbrev pub values_of_new : Classes → (texts : List (List ℕ)) → New → List Value
-values_of_new classes texts (Fresh class) = initial_values classes class
+values_of_new classes texts (Fresh class) = initial_values classes class.number
 values_of_new classes texts (Array array) = replicate array.count array.value
 values_of_new classes texts (Text place) = units (text_in texts place)
-values_of_new classes texts (Exception class message) = values_of_exception classes class message
+values_of_new classes texts (Exception class message) = values_of_exception classes class.number message
 
 -- the cells that it takes
 abbrev pub cells_of_new : Classes → (texts : List (List ℕ)) → New → ℕ
@@ -80,11 +80,12 @@ pub record IsMakeable (classes : Classes) (c : ℕ) : Type 0 where
 
 -- what is made is this object of the source
 abbrev pub IsObject : Classes → (texts : List (List ℕ)) → Space → New → Object → Type 0
-IsObject classes texts space (Fresh class) o = o ≡ fresh_object classes class
+IsObject classes texts space (Fresh class) o = o ≡ fresh_object classes class.number
 IsObject classes texts space (Array array) o = (v : ObjectValue) × ValueAgrees space array.value v
-    × (o ≡ record { class = array.class; values = replicate array.count v })
+    × (o ≡ record { class = array.class.number; values = replicate array.count v })
 IsObject classes texts space (Text place) o = o ≡ string_object (text_in texts place)
-IsObject classes texts space (Exception class message) o = (n : ℕ) × (name_at space message ≡ Some n) × (o ≡ with_message (fresh_object classes class) (Some n))
+IsObject classes texts space (Exception class message) o = (n : ℕ) × (name_at space message ≡ Some n)
+    × (o ≡ with_message (fresh_object classes class.number) (Some n))
 
 -- the same, and objects of its class can be made
 pub record Describes (classes : Classes) (texts : List (List ℕ)) (space : Space) (new : New) (o : Object) : Type 0 where

@@ -7,7 +7,7 @@ use class_rules::ClassId;
 use classes::table::ClassTable;
 use heap::{Addr, HEADER, Value};
 
-/// An array to be made: its class by number, how many elements it has, and what each of them is.
+/// An array to be made: its class, how many elements it has, and what each of them is.
 #[derive(Clone, Copy)]
 pub struct NewArray {
     pub class: ClassId,
@@ -18,12 +18,12 @@ pub struct NewArray {
 /// An object to be made by a call.
 #[derive(Clone, Copy)]
 pub enum New {
-    /// One of the class of this number, with zero and null fields.
+    /// One of this class, with zero and null fields.
     Fresh(ClassId),
     Array(NewArray),
     /// A string of the call's text at this place, one UTF-16 unit a byte.
     Text(usize),
-    /// An exception of the class of this number, with the string at this address as message.
+    /// An exception of this class, with the string at this address as message.
     Exception { class: ClassId, message: Addr },
 }
 

@@ -4,15 +4,16 @@ ghost use Rattle.std.specs.Prelude.{◌≡◌};
 ghost use Rattle.class_rules.specs.Class.{Classes};
 ghost use Rattle.base.specs.Element.{element_value};
 ghost use Rattle.classes.specs.Views.{field_type_view};
-ghost use Rattle.heap.specs.Heap.{Space};
-ghost use Rattle.machine_scenes.specs.Given.{operand_at, key_at, field_at, operand_of, class_of_given, name_there, fits_there, field_there, AreAddresses, AreHandles, FieldIsThere, ReferenceIsThere};
+ghost use Rattle.heap.specs.Heap.{Space, IsAddress};
+ghost use Rattle.machine_scenes.specs.Given.{operand_at, key_at, field_at, operand_of, class_of_given, class_there, name_there, fits_there, field_there, AreAddresses, AreHandles, FieldIsThere, ReferenceIsThere};
 
 use crate::references::{Held, References};
-use class_rules::ClassId;
+use class_rules::{ClassId, NO_CLASS};
 use classes::class::{ElementType, FieldHandle, FieldType};
 use classes::table::ClassTable;
 use code::instr::Operand;
 use heap::{Addr, Heap};
+use semantics::ObjectId;
 use tables::Local;
 
 /// The operand at a place, and NULL where there is none.
@@ -76,25 +77,37 @@ pub fn handle_at(
     field_in(fields, operand_of(operands, place))
 }
 
-/// The class of an object, and 0 for NULL.
-pub fn class_of_given(heap: &Heap, reference: Option<Addr>) -> ClassId
-    requires { ReferenceIsThere heap.now reference }
-    ensures { result ≡ class_of_given heap.now reference }
+/// The class of the object at an address.
+pub fn class_there(heap: &Heap, addr: Addr) -> ClassId
+    requires { IsAddress heap.now addr }
+    ensures { result.number ≡ class_there heap.now addr }
 {
-    match reference {
-        Some(addr) => heap.class_of(addr) as usize,
-        None => 0,
+    ClassId {
+        number: heap.class_of(addr) as usize,
     }
 }
 
-/// The name of an object, and 0 for NULL.
-pub fn name_there(heap: &Heap, reference: Option<Addr>) -> usize
+/// The class of an object, and no class for NULL.
+pub fn class_of_given(heap: &Heap, reference: Option<Addr>) -> ClassId
     requires { ReferenceIsThere heap.now reference }
-    ensures { result ≡ name_there heap.now reference }
+    ensures { result.number ≡ class_of_given heap.now reference }
 {
     match reference {
-        Some(addr) => heap.birth_of(addr) as usize,
-        None => 0,
+        Some(addr) => class_there(heap, addr),
+        None => NO_CLASS,
+    }
+}
+
+/// The id of an object, and the number 0 for NULL.
+pub fn name_there(heap: &Heap, reference: Option<Addr>) -> ObjectId
+    requires { ReferenceIsThere heap.now reference }
+    ensures { result.number ≡ name_there heap.now reference }
+{
+    match reference {
+        Some(addr) => ObjectId {
+            number: heap.birth_of(addr) as usize,
+        },
+        None => ObjectId { number: 0 },
     }
 }
 
@@ -106,10 +119,10 @@ pub fn fits_there(
     class: ClassId,
 ) -> bool
     requires { ReferenceIsThere heap.now reference }
-    ensures { result ≡ fits_there classes.now heap.now reference class }
+    ensures { result ≡ fits_there classes.now heap.now reference class.number }
 {
     match reference {
-        Some(addr) => classes.assignable(heap.class_of(addr) as usize, class),
+        Some(addr) => classes.assignable(class_there(heap, addr), class),
         None => true,
     }
 }
@@ -124,13 +137,13 @@ pub fn is_static(field: Option<FieldHandle>) -> bool
     }
 }
 
-/// The class that declares the field of a handle, and 0 for NULL.
+/// The class that declares the field of a handle, and no class for NULL.
 pub fn declaring(field: Option<FieldHandle>) -> ClassId
-    ensures { (classes : Classes) → FieldIsThere classes field → result ≡ (field_there classes field).class }
+    ensures { (classes : Classes) → FieldIsThere classes field → result.number ≡ (field_there classes field).class }
 {
     match field {
         Some(handle) => handle.class,
-        None => 0,
+        None => NO_CLASS,
     }
 }
 

@@ -255,7 +255,7 @@ owned_at s rest f class arguments = holders (entered s rest f class arguments).v
 
 -- the call stands for the function's statements
 begun : (p : Lowered) (classes : Classes) (space : Space) (copies : List (Option OwnedNumbers)) (k : ℕ) (loaded : List ℕ) (made : ℕ) (shared : Shared) (s : source.Thread) (rest : List Invocation) (n : PendingCall) (c : Invocation) (call : Activation) → IsLowered p → IsTable space loaded made → AreNamed p shared → (f : CallAgrees p classes made n c) → Begins p loaded n call
-    → CallStands p classes space copies k call (visible_to (owned_at s rest f.function n.class c.arguments) shared (entered s rest f.function n.class c.arguments)) (entry_frame (n.class ∷ filter_map named_object c.arguments) ∷ []) (tasks_of f.function.body)
+    → CallStands p classes space copies k call (visible_to (owned_at s rest f.function n.class.number c.arguments) shared (entered s rest f.function n.class.number c.arguments)) (entry_frame (n.class.number ∷ filter_map named_object c.arguments) ∷ []) (tasks_of f.function.body)
 begun p classes space copies k loaded made shared s rest n c call lowered table statics f b =
     let found = code_of p n.function f.function lowered f.numbered in
     let same : found.code ≡ b.code = cc (found.at, b.of_function) in
@@ -264,17 +264,17 @@ begun p classes space copies k loaded made shared s rest n c call lowered table 
     let words = begins.numbers in
     let slots = begins.given in
     let fields : List (Option FieldId) = replicate b.code.slots.field_ids None in
-    let references : List Reference = Some n.class ∷ filter_map argument_reference c.arguments ++ replicate slots.more None in
+    let references : List Reference = Some n.class.number ∷ filter_map argument_reference c.arguments ++ replicate slots.more None in
     let owners : List (Option ℕ) = replicate b.code.slots.references (Some 1) in
     let buffers : List Buffer = replicate b.code.slots.buffers NoBuffer in
-    let given : begins.addresses ≡ slice_get loaded (n.class - 1) ∷ filter_map (argument_address loaded) c.arguments ++ replicate slots.more None =
-    slots.given ∙ ap (λ (vs : List ObjectValue). slice_get loaded (n.class - 1) ∷ filter_map (argument_address loaded) vs ++ replicate slots.more None) f.arguments in
+    let given : begins.addresses ≡ slice_get loaded (n.class.number - 1) ∷ filter_map (argument_address loaded) c.arguments ++ replicate slots.more None =
+    slots.given ∙ ap (λ (vs : List ObjectValue). slice_get loaded (n.class.number - 1) ∷ filter_map (argument_address loaded) vs ++ replicate slots.more None) f.arguments in
     let agree : AddressesAgree space begins.addresses references =
-    subst (λ (l : List (Option ℕ)). AddressesAgree space l references) (sym given) (made_agrees space loaded made table n.class f.class_made.0 f.class_made.1, given_agree space loaded made table c.arguments slots.more f.given) in
+    subst (λ (l : List (Option ℕ)). AddressesAgree space l references) (sym given) (made_agrees space loaded made table n.class.number f.class_made.0 f.class_made.1, given_agree space loaded made table c.arguments slots.more f.given) in
     let keys : KeysAgree space call.locals call.slots.references.items references owners =
     subst (λ (l : List (Option ℕ)). KeysAgree space call.locals l references owners) (sym begins.references)
     (subst (λ (t : LocalTable). KeysAgree space t (keys_from 0 begins.addresses) references owners) (sym begins.locals) (entry_keys space begins.addresses references b.code.slots.references agree)) in
-    let entry : EntrySlots b.code n.class c.arguments (slots_of call (record { references = references; owners = owners; fields = fields; buffers = buffers })) =
+    let entry : EntrySlots b.code n.class.number c.arguments (slots_of call (record { references = references; owners = owners; fields = fields; buffers = buffers })) =
     record {
       fields = length-replicate {A = Option FieldId} b.code.slots.field_ids None;
       buffers = length-replicate {A = Buffer} b.code.slots.buffers NoBuffer;
@@ -299,10 +299,10 @@ begun p classes space copies k loaded made shared s rest n c call lowered table 
         buffers = subst (λ (l : List HeldBuffer). BuffersAgree space copies k l buffers) (sym begins.buffers) (no_buffers space copies k b.code.slots.buffers);
         small = none_small b.code.slots.buffers;
       };
-      frames_agree = subst (λ (t : LocalTable). FramesAgree space t (entry_frame (n.class ∷ filter_map named_object c.arguments) ∷ [])) (sym begins.locals)
-          (entry_frames space n.class c.arguments slots.more begins.addresses agree);
-      shows = is_code.shows (owned_at s rest f.function n.class c.arguments) shared s rest n.class c.arguments (slots_of call (record { references = references; owners = owners; fields = fields; buffers = buffers }))
-          f.fit entry (statics_shared shared (statics_of (unit_tree p.unit)) p.codes n.function f.function found statics) (entered_lowest s rest f.function n.class c.arguments);
+      frames_agree = subst (λ (t : LocalTable). FramesAgree space t (entry_frame (n.class.number ∷ filter_map named_object c.arguments) ∷ [])) (sym begins.locals)
+          (entry_frames space n.class.number c.arguments slots.more begins.addresses agree);
+      shows = is_code.shows (owned_at s rest f.function n.class.number c.arguments) shared s rest n.class.number c.arguments (slots_of call (record { references = references; owners = owners; fields = fields; buffers = buffers }))
+          f.fit entry (statics_shared shared (statics_of (unit_tree p.unit)) p.codes n.function f.function found statics) (entered_lowest s rest f.function n.class.number c.arguments);
       depth = ap (depth_at b.code.instrs) begins.place ∙ ap (λ (st : List ℕ). Some (length st)) (sym begins.stack);
     }
 
@@ -314,7 +314,7 @@ enters p w store others k own shared t after s n call lowered shares h none call
     let made : ℕ = length (loaded_objects w) in
     let c = coming p classes made n t.calls.items after.calls.items s.calls h.calls calls in
     let f = c.function in
-    let next : source.Thread = entered s c.rest f.function n.class c.call.arguments in
+    let next : source.Thread = entered s c.rest f.function n.class.number c.call.arguments in
     let now : Owners = holders next.variables in
     let found : enter (unit_tree p.unit) classes s s.calls ≡ Some next =
     ap (enter (unit_tree p.unit) classes s) c.is
@@ -325,7 +325,7 @@ enters p w store others k own shared t after s n call lowered shares h none call
       next_shared = shared;
       next = next;
       steps = ap (step_within (unit_tree p.unit) classes (in_use_with others s) k shared s false) rests ∙ ap (entry_advance shared) found;
-      store_agrees = store_same p w store shared others s.variables next.variables (entered_nothing f.function.class_name 1 n.class (zip f.function.parameters c.call.arguments) ∙ sym (ap taken_by (h.idle rests))) shares;
+      store_agrees = store_same p w store shared others s.variables next.variables (entered_nothing f.function.class_name 1 n.class.number (zip f.function.parameters c.call.arguments) ∙ sym (ap taken_by (h.idle rests))) shares;
       keeps = keeps_same space shared;
       keeps_copies = λ key c there other. there;
       agrees = subst (λ (o : Owners). ThreadAgrees p classes space store.elements made k o shared after next) (sym (ap (λ (o : Option (List Task)). after_tasks shared s o own source.Quiet next.variables) rests)) (record {

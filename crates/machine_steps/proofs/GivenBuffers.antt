@@ -159,7 +159,7 @@ module _ (classes : Classes) (brought : Brought) (space : Space) (locals : Local
   small_answer (answers.CopiesOut region) h gave = absurd (let clash : GivesBuffer access ≡ GivesNothing = h.0 in cc)
   small_answer (answers.CopiesIn region) h gave = absurd (let clash : GivesBuffer access ≡ GivesNothing = h.0 in cc)
   small_answer (answers.Makes new) h gave = absurd (let clash : GivesBuffer access ≡ NewLocal = (makes_it classes brought space locals (GivesBuffer access) shared s new effect h).kind_is in cc)
-  small_answer (answers.Throws class) h gave = absurd (let clash : NullResult ≡ BufferResult b = of_effect (Throws class) (throws_it classes brought space locals (GivesBuffer access) shared s class effect h).is gave in cc)
+  small_answer (answers.Throws class) h gave = absurd (let clash : NullResult ≡ BufferResult b = of_effect (Throws class.number) (throws_it classes brought space locals (GivesBuffer access) shared s class effect h).is gave in cc)
   small_answer (answers.Raises class place) h gave = absurd (let clash : GivesBuffer access ≡ GivesInt = h.0 in cc)
   small_answer (answers.Pends a g) h gave = absurd h.2.1
   small_answer (answers.Halts trap) h gave = absurd (let clash : NoResult ≡ BufferResult b = of_effect (Halts (trap_view trap)) h gave in cc)

@@ -1,5 +1,6 @@
 -- What a step of a thread is.
 use Rattle.std.specs.Prelude.{◌≡◌, ℕ, Bool, true, false, List, [], ◌∷◌, length, Option, Some, None}
+use Rattle.class_rules.specs.ClassIds.{class_id}
 use Rattle.heap.specs.Heap.{left_of}
 use Rattle.syntax.specs.Views.{unit_tree}
 use Rattle.semantics.specs.World.{World, loaded_objects}
@@ -89,7 +90,7 @@ IsHinderedAlways p w k store t may_refuse fault =
 
 -- how a thread with these calls to come has ended after a call, with an exception of this class pending or none
 abbrev pub ending_after : Option ℕ → List PendingCall → Ending → Ending
-ending_after (Some class) calls ending = Uncaught class
+ending_after (Some class) calls ending = Uncaught (class_id class)
 ending_after None [] ending = Ended
 ending_after None (n ∷ rest) ending = ending
 

@@ -20,6 +20,7 @@ use code::instr::Instr;
 use code_meaning::Program;
 use heap::{Addr, Heap};
 use machine_scenes::activation::Activation;
+use machine_scenes::operands::class_there;
 use machine_scenes::store::Store;
 use machine_threads::entry::begin;
 use machine_threads::thread::{PendingCall, Thread};
@@ -182,7 +183,7 @@ fn ends(heap: &Heap, thread: &mut Thread) -> bool
         Some(exception) => {
             thread.pending = None;
             thread.calls.clear();
-            thread.ending = Ending::Uncaught(heap.class_of(exception) as usize);
+            thread.ending = Ending::Uncaught(class_there(heap, exception));
             true
         }
         None => {

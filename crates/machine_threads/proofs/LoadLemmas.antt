@@ -105,17 +105,17 @@ class_made classes made None c few h = absurd (cc)
 class_made classes made (Some name) c few h = let w = class_within classes name c h in (w.0, omega (arith, w.1))
 
 -- a call whose function and class are there, and whose arguments fit
-pub call_found : (p : Lowered) (classes : Classes) (made : ℕ) (call : Invocation) (f : FunctionInMemory) (next : PendingCall) → IsTree (unit_tree p.unit) → IsNumberOf p call.function next.function f → length classes ≤ made → option_and_then (class_named classes) (native_class call.function) ≡ Some next.class
+pub call_found : (p : Lowered) (classes : Classes) (made : ℕ) (call : Invocation) (f : FunctionInMemory) (next : PendingCall) → IsTree (unit_tree p.unit) → IsNumberOf p call.function next.function f → length classes ≤ made → option_and_then (class_named classes) (native_class call.function) ≡ Some next.class.number
     → map object_value_view next.arguments.items ≡ call.arguments → are_arguments made call ≡ true → fit_parameters (function_tree f).parameters call.arguments ≡ true → IsCallOf p classes made call (Some next)
 call_found p classes made call f next tree n few known arguments given fits =
     let function : Function = function_tree f in
-    let class : class_of_function classes function ≡ Some next.class = ap (λ name. option_and_then (class_named classes) (native_class name)) n.has_name ∙ known in (
+    let class : class_of_function classes function ≡ Some next.class.number = ap (λ name. option_and_then (class_named classes) (native_class name)) n.has_name ∙ known in (
       record {
         function = function;
         named = n.named;
         numbered = n.numbered;
         of_class = class;
-        class_made = class_made classes made (native_class call.function) next.class few known;
+        class_made = class_made classes made (native_class call.function) next.class.number few known;
         arguments = arguments;
         given = given;
         fit = arguments_fit made function.parameters call.arguments fits given;

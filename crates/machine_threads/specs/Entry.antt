@@ -51,7 +51,7 @@ pub record BeginsIn (code : Listing) (loaded : List ℕ) (next : PendingCall) (a
   pub stack : activation.stack ≡ []
   pub numbers : IsNumbersOf code.slots.numbers (map object_value_view next.arguments.items) activation.slots.numbers.items
   pub addresses : List (Option ℕ)
-  pub given : IsReferencesOf code.slots.references loaded next.class (map object_value_view next.arguments.items) addresses
+  pub given : IsReferencesOf code.slots.references loaded next.class.number (map object_value_view next.arguments.items) addresses
   pub locals : activation.locals ≡ entry_locals addresses
   pub references : activation.slots.references.items ≡ keys_from 0 addresses
   pub fields : activation.slots.fields.items ≡ replicate code.slots.field_ids None
@@ -65,7 +65,7 @@ pub record Begins (p : Lowered) (loaded : List ℕ) (next : PendingCall) (activa
 
 -- the class and the arguments of a call are among this number of objects, and its code has room for them
 pub record IsReady (p : Lowered) (made : ℕ) (next : PendingCall) : Type 0 where
-  pub class : (0 < next.class) × (next.class ≤ made)
+  pub class : (0 < next.class.number) × (next.class.number ≤ made)
   pub given : IsTrue (list_all (is_argument made) (map object_value_view next.arguments.items))
   pub few : length next.arguments.items ≤ most_names
   pub code : Listing

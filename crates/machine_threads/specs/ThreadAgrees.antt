@@ -34,8 +34,8 @@ pub record CallAgrees (p : Lowered) (classes : Classes) (made : ℕ) (next : Pen
   pub function : Function
   pub named : function_at (unit_tree p.unit) call.function ≡ Some function
   pub numbered : slice_get (functions_of (unit_tree p.unit)) next.function ≡ Some function
-  pub of_class : class_of_function classes function ≡ Some next.class
-  pub class_made : (0 < next.class) × (next.class ≤ made)
+  pub of_class : class_of_function classes function ≡ Some next.class.number
+  pub class_made : (0 < next.class.number) × (next.class.number ≤ made)
   pub arguments : map object_value_view next.arguments.items ≡ call.arguments
   pub given : IsTrue (list_all (is_argument made) call.arguments)
   pub fit : ArgumentsFit function.parameters call.arguments

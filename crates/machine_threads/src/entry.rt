@@ -34,7 +34,7 @@ pub fn begin(
     loaded: &[Addr],
     next: &PendingCall,
 ) -> Result<Activation, AllocError>
-    requires class { (0 < next.now.class) × (next.now.class ≤ length loaded.now) }
+    requires class { (0 < next.now.class.number) × (next.now.class.number ≤ length loaded.now) }
     requires given { IsTrue (list_all (is_argument (length loaded.now)) (map object_value_view next.now.arguments.items)) }
     requires room { HasRoom code.now (map object_value_view next.now.arguments.items) }
     requires few { length next.now.arguments.items ≤ most_names }
@@ -97,13 +97,13 @@ fn addresses_given(
     arguments: &[ObjectValue],
     count: usize,
 ) -> Result<Vec<Option<Addr>>, AllocError>
-    requires class { 0 < class }
+    requires class { 0 < class.number }
     requires given { IsTrue (list_all (is_argument (length loaded.now)) (map object_value_view arguments.now)) }
     requires room { length (filter_map (argument_address loaded.now) (map object_value_view arguments.now)) < count }
-    ensures { IfOk result (λ v. IsReferencesOf count loaded.now class (map object_value_view arguments.now) v.items) }
+    ensures { IfOk result (λ v. IsReferencesOf count loaded.now class.number (map object_value_view arguments.now) v.items) }
 {
     let mut slots = Vec::new(alloc);
-    slots.push(object_of(loaded, ObjectId { number: class }))?;
+    slots.push(object_of(loaded, ObjectId::of_class(class)))?;
     for argument in arguments {
         match argument {
             ObjectValue::Number(_) => {}

@@ -97,7 +97,7 @@ fn make_class_objects(
 {
     let classes = world.classes();
     for place in 0..classes.len() {
-        let values = initial_values(alloc, classes.own_statics(place + 1))?;
+        let values = initial_values(alloc, classes.own_statics(ClassId { number: place + 1 }))?;
         make(heap, loaded, CLASS, &values)?;
     }
     Ok(())
@@ -141,19 +141,19 @@ fn make(
     class: ClassId,
     values: &[ObjectValue],
 ) -> Result<(), AllocError>
-    requires class { class < 2 ^ 32 }
+    requires class { class.number < 2 ^ 32 }
     requires room { 3 + length values.now ≤ left_of heap.old }
     requires few { length loaded.old.items < MOST_CELLS }
     requires laid_out { IsLaidOut heap.old }
     requires given { IsTrue (list_all (is_argument (length loaded.old.items)) (map object_value_view values.now)) }
     ensures made { (objects : Objects) → AreMade heap.old loaded.old.items objects
-        → OnOk result (AreMade heap.new loaded.new.items (objects ++ record { class = class; values = map object_value_view values.now } ∷ [])) }
+        → OnOk result (AreMade heap.new loaded.new.items (objects ++ record { class = class.number; values = map object_value_view values.now } ∷ [])) }
     ensures cells { OnOk result (heap.new.cells ≡ heap.old.cells) }
 {
     loaded.reserve(1)?;
     let birth = loaded.len() as u32 + 1;
     let addr = heap
-        .alloc(class as u32, birth, values.len(), Value::Null)
+        .alloc(class.number as u32, birth, values.len(), Value::Null)
         .unwrap();
     for place in 0..values.len() {
         heap.set(addr, place, held(loaded, values[place]));

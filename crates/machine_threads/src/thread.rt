@@ -35,7 +35,7 @@ impl Drop for Thread {
 pub struct PendingCall {
     /// The number of its function.
     pub function: usize,
-    /// The number of the function's class.
+    /// The function's class.
     pub class: ClassId,
     /// What the function is given.
     pub arguments: Vec<ObjectValue>,

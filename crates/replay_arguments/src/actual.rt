@@ -18,6 +18,7 @@ ghost use Rattle.replay_terms.specs.Views.{operand_view, held_view, term_view, v
 ghost use Rattle.replay_arguments.specs.Shares.{shared_view, sight_in};
 
 use crate::shared::Shared;
+use class_rules::ClassId;
 use classes::fields::FieldId;
 pub use jni::ReleaseMode;
 use jni::{JniFunction, ParameterKind};
@@ -292,6 +293,15 @@ pub fn object_given(actuals: &[Actual<'_>], place: usize) -> ObjectId
     match reference_given(actuals, place) {
         Some(name) => name,
         None => ObjectId { number: 0 },
+    }
+}
+
+/// The class whose object is at a place, which has the class's number; 0 for NULL.
+pub fn class_given(actuals: &[Actual<'_>], place: usize) -> ClassId
+    ensures { result.number ≡ object_given (map actual_view actuals.now) place }
+{
+    ClassId {
+        number: object_given(actuals, place).number,
     }
 }
 

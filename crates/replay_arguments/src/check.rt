@@ -14,7 +14,7 @@ ghost use Rattle.replay_arguments.specs.Checked.{fit_together, fits_new_array, h
 ghost use Rattle.semantics.specs.EventViews.{trap_view};
 ghost use Rattle.semantics.specs.Views.{name_of};
 
-use crate::actual::{Actual, field_given, object_given, reference_given};
+use crate::actual::{Actual, class_given, field_given, object_given, reference_given};
 use crate::field::{declaring, is_static, type_of};
 use crate::scene::Scene;
 use class_queries::{class_misfits, holds_number, holds_reference};
@@ -162,7 +162,7 @@ fn fit_together(
 {
     let field = field_given(actuals, 1);
     match function {
-        JniFunction::AllocObject => !classes.has_own_making(object_given(actuals, 0).number),
+        JniFunction::AllocObject => !classes.has_own_making(class_given(actuals, 0)),
         JniFunction::GetField(element) | JniFunction::SetField(element) => {
             has_field(classes, store, actuals) && holds_number(element, type_of(field))
         }
@@ -188,7 +188,7 @@ fn fit_together(
         }
         JniFunction::NewObjectArray => fits_new_array(classes, store, actuals),
         JniFunction::Throw => is_throwable(classes, store, object_given(actuals, 0)),
-        JniFunction::ThrowNew => classes.assignable(object_given(actuals, 0).number, THROWABLE),
+        JniFunction::ThrowNew => classes.assignable(class_given(actuals, 0), THROWABLE),
         _ => true,
     }
 }
@@ -207,14 +207,14 @@ fn has_static(classes: &ClassTable, actuals: &[Actual<'_>]) -> bool
     ensures { result ≡ has_static classes.now (map actual_view actuals.now) }
 {
     let field = field_given(actuals, 1);
-    is_static(field) && classes.assignable(object_given(actuals, 0).number, declaring(field))
+    is_static(field) && classes.assignable(class_given(actuals, 0), declaring(field))
 }
 
 /// Whether argument 1 is a class that arrays can be made of, and argument 2 may be an element.
 fn fits_new_array(classes: &ClassTable, store: &Store, actuals: &[Actual<'_>]) -> bool
     ensures { result ≡ fits_new_array classes.now store.now (map actual_view actuals.now) }
 {
-    let element = object_given(actuals, 1).number;
+    let element = class_given(actuals, 1);
     !classes.is_array(element) && fits_class(classes, store, reference_given(actuals, 2), element)
 }
 
@@ -232,7 +232,7 @@ pub fn fits_class(
     reference: Option<ObjectId>,
     class: ClassId,
 ) -> bool
-    ensures { result ≡ fits_class classes.now store.now (name_of reference) class }
+    ensures { result ≡ fits_class classes.now store.now (name_of reference) class.number }
 {
     match reference {
         Some(name) => classes.assignable(store.class_of(name), class),

@@ -9,7 +9,7 @@ ghost use Rattle.semantics.specs.Heap.{place_in};
 ghost use Rattle.replay_arguments.specs.Actuals.{given_field};
 
 use class_layouts::LayoutFields;
-use class_rules::ClassId;
+use class_rules::{ClassId, NO_CLASS};
 use classes::class::{ElementType, FieldHandle, FieldType};
 use classes::fields::FieldId;
 use classes::table::ClassTable;
@@ -26,11 +26,11 @@ pub fn is_static(field: Option<FieldId<'_>>) -> bool
 
 /// The class that declares the field, and 0 for NULL.
 pub fn declaring(field: Option<FieldId<'_>>) -> ClassId
-    ensures { result ≡ (given_field field.entry).class }
+    ensures { result.number ≡ (given_field field.entry).class }
 {
     match field {
         Some(field) => field.class,
-        None => 0,
+        None => NO_CLASS,
     }
 }
 
@@ -65,7 +65,7 @@ fn is_field(field: Option<FieldId<'_>>, other: FieldId<'_>) -> bool
 /// classes is known by its place in its own: the cost goes by the depth of the class.
 pub fn field_place(classes: &ClassTable, class: ClassId, field: Option<FieldId<'_>>) -> usize
     requires { IsGrown classes.now }
-    ensures { result ≡ place_in (given_field field.entry) (layout classes.now class) }
+    ensures { result ≡ place_in (given_field field.entry) (layout classes.now class.number) }
 {
     match known_field_place(classes, class, field) {
         Some(place) => place,
@@ -80,7 +80,7 @@ fn known_field_place(
     field: Option<FieldId<'_>>,
 ) -> Option<usize>
     requires { IsGrown classes.now }
-    ensures { IfSome result (λ place. place ≡ place_in (given_field field.entry) (layout classes.now class)) }
+    ensures { IfSome result (λ place. place ≡ place_in (given_field field.entry) (layout classes.now class.number)) }
 {
     match field {
         Some(field) => classes.place_of_field(class, field),
@@ -91,7 +91,7 @@ fn known_field_place(
 /// The place of a field, by comparing it with all fields: for NULL, and for a field of other classes, as in no accepted
 /// program.
 fn searched_field_place(classes: &ClassTable, class: ClassId, field: Option<FieldId<'_>>) -> usize
-    ensures { result ≡ place_in (given_field field.entry) (layout classes.now class) }
+    ensures { result ≡ place_in (given_field field.entry) (layout classes.now class.number) }
 {
     let mut fields = LayoutFields::of(classes, class);
     let count = fields.len();

@@ -69,8 +69,8 @@ abbrev pub answer_view : InMemory → Answer
 answer_view (answer.Gives g) = Gives (given_view g)
 answer_view (answer.Writes n i v) = Writes n.number i (object_value_view v)
 answer_view (answer.Makes n) = Makes (new_view n)
-answer_view (answer.Raises c) = Raises c
-answer_view (answer.ThrowsNew c text) = ThrowsNew c text.now
+answer_view (answer.Raises c) = Raises c.number
+answer_view (answer.ThrowsNew c text) = ThrowsNew c.number text.now
 answer_view (answer.Ensures n) = Ensures n
 answer_view (answer.Pushes n) = Pushes n
 answer_view answer.RefusesFrames = RefusesFrames

@@ -4,6 +4,7 @@ ghost use Rattle.std.specs.Prelude.{◌≡◌, is_some, map};
 ghost use Rattle.std.specs.Option.{option_map};
 ghost use Rattle.base.specs.Bytes.{lookup};
 ghost use Rattle.classes.specs.FieldViews.{field_id_view};
+ghost use Rattle.class_rules.specs.ClassIds.{number_of};
 ghost use Rattle.class_rules.specs.Grown.{IsGrown};
 ghost use Rattle.jni.specs.Table.{function_value};
 ghost use Rattle.semantics.specs.CallEffects.{level_of, same_reference};
@@ -35,8 +36,8 @@ use classes::fields::FieldId;
 use classes::table::ClassTable;
 use jni::{JniFunction, Subject};
 use replay_arguments::actual::{
-    Actual, field_given, level_of, number_given, object_given, reference_given, text_given,
-    variable_given,
+    Actual, class_given, field_given, level_of, number_given, object_given, reference_given,
+    text_given, variable_given,
 };
 use replay_arguments::check::{check, fits_class};
 use replay_arguments::{Scene, field};
@@ -226,26 +227,26 @@ fn class_answer<'a>(
     ensures { IsByObjects classes.now store.now (map actual_view actuals.now) (function_value function)
         (answer_view result) }
 {
-    let first = object_given(actuals, 0);
-    let second = object_given(actuals, 1);
+    let first = class_given(actuals, 0);
+    let second = class_given(actuals, 1);
     match function {
         JniFunction::FindClass => found_class(classes.find(text_given(actuals, 0))),
         JniFunction::GetSuperclass => {
-            let superclass = classes.superclass(first.number);
-            Answer::Gives(Given::Reference(superclass.map(|number| ObjectId { number })))
+            let superclass = classes.superclass(first);
+            Answer::Gives(Given::Reference(superclass.map(ObjectId::of_class)))
         }
         JniFunction::GetObjectClass => {
-            let number = store.class_of(first);
-            Answer::Gives(Given::Reference(Some(ObjectId { number })))
+            let class = store.class_of(object_given(actuals, 0));
+            Answer::Gives(Given::Reference(Some(ObjectId::of_class(class))))
         }
         JniFunction::IsInstanceOf => {
             let reference = reference_given(actuals, 0);
-            Answer::Gives(Given::Flag(fits_class(classes, store, reference, second.number)))
+            Answer::Gives(Given::Flag(fits_class(classes, store, reference, second)))
         }
         JniFunction::IsAssignableFrom => {
-            Answer::Gives(Given::Flag(classes.assignable(first.number, second.number)))
+            Answer::Gives(Given::Flag(classes.assignable(first, second)))
         }
-        JniFunction::AllocObject => Answer::Makes(New::Fresh(first.number)),
+        JniFunction::AllocObject => Answer::Makes(New::Fresh(first)),
         JniFunction::GetFieldID => field_named(classes, actuals, false),
         JniFunction::GetStaticFieldID => field_named(classes, actuals, true),
         _ => unreachable!(),
@@ -334,9 +335,7 @@ fn static_answer<'a>(
     ensures { IsByObjects classes.now store.now (map actual_view actuals.now) (function_value function)
         (answer_view result) }
 {
-    let class = ObjectId {
-        number: declarer(actuals),
-    };
+    let class = ObjectId::of_class(declarer(actuals));
     let place = place_of_static(classes, actuals);
     match function {
         JniFunction::GetStaticField(_) => {
@@ -397,15 +396,15 @@ fn field_named<'a>(classes: &'a ClassTable, actuals: &[Actual<'a>], is_static: b
     ensures { answer_view result ≡ found_field (field_named is_static classes.now (map actual_view actuals.now)) }
 {
     let (name, text) = (text_given(actuals, 1), text_given(actuals, 2));
-    found_field(classes.field(object_given(actuals, 0).number, name, text, is_static))
+    found_field(classes.field(class_given(actuals, 0), name, text, is_static))
 }
 
 /// A class that was found, or else an exception.
 fn found_class<'a>(class: Option<ClassId>) -> Answer<'a>
-    ensures { answer_view result ≡ found_class class }
+    ensures { answer_view result ≡ found_class (number_of class) }
 {
     match class {
-        Some(number) => Answer::Gives(Given::Reference(Some(ObjectId { number }))),
+        Some(class) => Answer::Gives(Given::Reference(Some(ObjectId::of_class(class)))),
         None => Answer::Raises(NO_CLASS_DEF_FOUND_ERROR),
     }
 }
@@ -519,7 +518,7 @@ fn place_of_field(classes: &ClassTable, store: &Store, actuals: &[Actual<'_>]) -
 
 /// The class that declares the static of argument 1.
 fn declarer(actuals: &[Actual<'_>]) -> ClassId
-    ensures { result ≡ (field_given (map actual_view actuals.now) 1).class }
+    ensures { result.number ≡ (field_given (map actual_view actuals.now) 1).class }
 {
     field::declaring(field_given(actuals, 1))
 }
@@ -555,7 +554,7 @@ fn reference_in(value: ObjectValue) -> Option<ObjectId>
 
 /// An array of this class with this many zeros, or else an exception.
 fn new_array<'a>(class: ClassId, count: i32) -> Answer<'a>
-    ensures { answer_view result ≡ new_array class count }
+    ensures { answer_view result ≡ new_array class.number count }
 {
     if count < 0 {
         return Answer::Raises(NEGATIVE_ARRAY_SIZE_EXCEPTION);
@@ -578,7 +577,7 @@ fn new_object_array<'a>(actuals: &[Actual<'_>]) -> Answer<'a>
         return Answer::Raises(NEGATIVE_ARRAY_SIZE_EXCEPTION);
     }
     Answer::Makes(New::ObjectArray {
-        element: object_given(actuals, 1).number,
+        element: class_given(actuals, 1),
         count: count as usize,
         reference: reference_given(actuals, 2),
     })

@@ -11,7 +11,7 @@ ghost use Rattle.semantics.specs.Views.{name_of};
 
 use crate::answer::Answer;
 use jni::JniFunction;
-use replay_arguments::actual::{Actual, object_given, reference_given, text_given};
+use replay_arguments::actual::{Actual, class_given, reference_given, text_given};
 use replay_terms::Given;
 use semantics::{ObjectId, Trap};
 
@@ -32,7 +32,7 @@ pub(crate) fn exception_answer<'a>(
         },
         JniFunction::ThrowNew => {
             Answer::ThrowsNew {
-                class: object_given(actuals, 0).number,
+                class: class_given(actuals, 0),
                 text: text_given(actuals, 1),
             }
         }

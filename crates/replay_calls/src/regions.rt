@@ -88,7 +88,7 @@ fn region_got<'a>(
     actuals: &[Actual<'a>],
 ) -> Answer<'a>
     ensures { answer_view result
-        ≡ region_got exception (variables_view variables.now) (region_given store.now (map actual_view actuals.now)) }
+        ≡ region_got exception.number (variables_view variables.now) (region_given store.now (map actual_view actuals.now)) }
 {
     match region_given(store, actuals) {
         None => Answer::Raises(exception),

@@ -20,9 +20,9 @@ pub data New : Type 0 where
   Text : (bytes : List ℕ) → New
 
 abbrev pub new_view : InMemory → New
-new_view (new.Fresh c) = Fresh c
-new_view (new.Array c n v) = Array c n (object_value_view v)
-new_view (new.ObjectArray c n r) = ObjectArray c n (name_of r)
+new_view (new.Fresh c) = Fresh c.number
+new_view (new.Array c n v) = Array c.number n (object_value_view v)
+new_view (new.ObjectArray c n r) = ObjectArray c.number n (name_of r)
 new_view (new.Text bytes) = Text bytes.now
 
 -- the class of arrays of objects of a class, and 0 where there is none

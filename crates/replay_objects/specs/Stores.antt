@@ -6,7 +6,7 @@ use Rattle.replay_objects.specs.declared.store.Object.{Object as ObjectInMemory}
 use Rattle.semantics.specs.Views.{object_value_view}
 
 abbrev pub object_view : ObjectInMemory → Object
-object_view o = record { class = o.class; values = map object_value_view o.values.items }
+object_view o = record { class = o.class.number; values = map object_value_view o.values.items }
 
 -- no object has more values than a `jint` can count
 abbrev pub AreShort : List ObjectInMemory → Type 0

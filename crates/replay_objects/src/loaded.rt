@@ -5,6 +5,7 @@ ghost use Rattle.semantics.specs.World.{loaded_objects};
 
 use crate::store::Store;
 use class_queries::{fresh_values, initial_values};
+use class_rules::ClassId;
 use classes::built_ins::{CLASS, OUT_OF_MEMORY_ERROR};
 use std::alloc::{AllocError, Global};
 use world_values::World;
@@ -37,7 +38,7 @@ fn make_class_objects(alloc: Global, store: &mut Store, world: &World) -> Result
 {
     let classes = world.classes();
     for place in 0..classes.len() {
-        let values = initial_values(alloc, classes.own_statics(place + 1))?;
+        let values = initial_values(alloc, classes.own_statics(ClassId { number: place + 1 }))?;
         store.add(CLASS, values)?;
     }
     Ok(())

@@ -11,7 +11,7 @@ ghost use Rattle.world_values.specs.Views.{object_value_view};
 
 use crate::store::{Object, Store, put_value};
 use class_queries::{array_class_of, fresh_values};
-use class_rules::ClassId;
+use class_rules::{ClassId, NO_CLASS};
 use classes::built_ins::STRING;
 use classes::table::ClassTable;
 use semantics::ObjectId;
@@ -31,7 +31,7 @@ pub enum New<'a> {
     },
     /// An array of equal references to objects of the class of this number.
     ObjectArray {
-        element: usize,
+        element: ClassId,
         count: usize,
         reference: Option<ObjectId>,
     },
@@ -40,8 +40,8 @@ pub enum New<'a> {
 }
 
 /// The number of its class.
-fn class_of(classes: &ClassTable, new: New<'_>) -> usize
-    ensures { result ≡ (object_of classes.now (new_view new.entry)).class }
+fn class_of(classes: &ClassTable, new: New<'_>) -> ClassId
+    ensures { result.number ≡ (object_of classes.now (new_view new.entry)).class }
 {
     match new {
         New::Fresh(class) | New::Array { class, .. } => class,
@@ -51,12 +51,12 @@ fn class_of(classes: &ClassTable, new: New<'_>) -> usize
 }
 
 /// The number of the class of arrays of objects of a class; 0 where there is none.
-fn array_of(classes: &ClassTable, element: usize) -> usize
-    ensures { result ≡ array_class classes.now element }
+fn array_of(classes: &ClassTable, element: ClassId) -> ClassId
+    ensures { result.number ≡ array_class classes.now element.number }
 {
     match array_class_of(classes, element) {
         Some(class) => class,
-        None => 0,
+        None => NO_CLASS,
     }
 }
 
@@ -142,7 +142,7 @@ pub fn make_thrown(
     class: ClassId,
     text: &[u8],
 ) -> Result<ObjectId, AllocError>
-    ensures store { IfOk result (λ _. store.new ≡ store.old ++ thrown classes.now store.old class text.now) }
+    ensures store { IfOk result (λ _. store.new ≡ store.old ++ thrown classes.now store.old class.number text.now) }
     ensures name { IfOk result (λ name. name.number ≡ next_name store.old + 1) }
     ensures err { OnErr result (store.new ≡ store.old) }
 {
@@ -170,7 +170,7 @@ fn exception_with(
 ) -> Result<Object, AllocError>
     ensures short { IfOk result (λ exception. length exception.values.items < 2 ^ 31) }
     ensures mark { IfOk result IsMarked }
-    ensures view { IfOk result (λ exception. object_view exception ≡ with_message (fresh_object classes.now class) (Some message.number)) }
+    ensures view { IfOk result (λ exception. object_view exception ≡ with_message (fresh_object classes.now class.number) (Some message.number)) }
 {
     let values = fresh_values(alloc, classes, class)?;
     let mut exception = Object {

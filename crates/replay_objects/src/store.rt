@@ -8,7 +8,7 @@ ghost use Rattle.semantics.specs.Object.{Number};
 ghost use Rattle.replay_objects.specs.Stores.{IsMarked, as_number, object_view};
 ghost use Rattle.semantics.specs.Views.{object_value_view};
 
-use class_rules::ClassId;
+use class_rules::{ClassId, NO_CLASS};
 use semantics::{ObjectId, ObjectValue, Objects};
 use std::alloc::{AllocError, Global};
 use std::marker::Model;
@@ -95,11 +95,11 @@ impl Store {
 
     /// The number of an object's class; 0 where there is no object of this name.
     pub fn class_of(&self, name: ObjectId) -> ClassId
-        ensures { result ≡ class_of self.now name.number }
+        ensures { result.number ≡ class_of self.now name.number }
     {
         match self.object(name) {
             Some(object) => object.class,
-            None => 0,
+            None => NO_CLASS,
         }
     }
 
@@ -181,7 +181,7 @@ impl Store {
     /// Makes the next object.
     pub fn add(&mut self, class: ClassId, values: Vec<ObjectValue>) -> Result<(), AllocError>
         requires { length values.items < 2 ^ 31 }
-        ensures ok { IfOk result (λ _. self.new ≡ self.old ++ record { class = class; values = map object_value_view values.items } ∷ []) }
+        ensures ok { IfOk result (λ _. self.new ≡ self.old ++ record { class = class.number; values = map object_value_view values.items } ∷ []) }
         ensures err { OnErr result (self.new ≡ self.old) }
     {
         self.objects.push(Object {
@@ -213,7 +213,7 @@ fn empty(object: &mut Object)
     ensures view { object_view object.new ≡ record { class = 0; values = [] } }
     ensures length { length object.new.values.items ≡ 0 }
 {
-    object.class = 0;
+    object.class = NO_CLASS;
     object.values.clear();
 }
 
@@ -265,7 +265,7 @@ fn overwrite(object: &mut Object, start: usize, numbers: &[i32])
     requires mark { IsMarked object.old }
     requires room { start + length numbers.now ≤ length object.old.values.items }
     ensures view { object_view object.new ≡ record {
-      class = object.old.class;
+      class = object.old.class.number;
       values = map Number (overwritten (map number_in (object_view object.old).values) start numbers.now);
     } }
     ensures length { length object.new.values.items ≡ length object.old.values.items }

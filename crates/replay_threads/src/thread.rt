@@ -10,6 +10,7 @@ ghost use Rattle.semantics.specs.EventViews.{ending_view};
 ghost use Rattle.semantics.specs.Thread.{Shared as SharedOfThreads};
 ghost use Rattle.semantics.specs.Variable.{LocalRef};
 ghost use Rattle.semantics.specs.Views.{name_of};
+ghost use Rattle.class_rules.specs.ClassIds.{number_of};
 ghost use Rattle.class_rules.specs.Grown.{IsGrown};
 ghost use Rattle.replay_threads.specs.Threads.{argument_content, BeginsNext, IsBegun, EndsStep, HasLeft, TakesTurn, ThreadWaits, WorkInRange, event_of};
 ghost use Rattle.replay_tasks.specs.Tasks.{StatementsInRange};
@@ -93,7 +94,7 @@ pub fn class_of(
     world: &World,
     function: &Function,
 ) -> Result<Option<ClassId>, AllocError>
-    ensures { IfOk result (λ class. class ≡ class_of_function world.now.classes (function_tree function.now)) }
+    ensures { IfOk result (λ class. number_of class ≡ class_of_function world.now.classes (function_tree function.now)) }
 {
     let class = native_class(alloc, world.classes(), function.name.as_bytes())?;
     Ok(class)
@@ -107,7 +108,7 @@ fn entry_variables<'a>(
     arguments: &[ObjectValue],
 ) -> Result<Variables<'a>, AllocError>
     ensures { IfOk result (λ variables. variables_view variables
-        ≡ assign_all ((function.entry.now.class_name, LocalRef 1 (Some class)) ∷ parameter_variables
+        ≡ assign_all ((function.entry.now.class_name, LocalRef 1 (Some class.number)) ∷ parameter_variables
         (zip (function_tree function.entry.now).parameters (map object_value_view arguments.now))) []) }
 {
     let mut variables = Variables::new(alloc);
@@ -115,7 +116,7 @@ fn entry_variables<'a>(
         &function.class_name,
         Content::Reference {
             level: Level { number: 1 },
-            object: Some(ObjectId { number: class }),
+            object: Some(ObjectId::of_class(class)),
         },
     )?;
     add_parameters(&mut variables, &function.parameters, arguments)?;
@@ -147,11 +148,11 @@ fn entry_frames(
     arguments: &[ObjectValue],
 ) -> Result<Frames, AllocError>
     ensures { IfOk result (λ frames. frames
-        ≡ entry_frame (class ∷ filter_map named_object (map object_value_view arguments.now)) ∷ []) }
+        ≡ entry_frame (class.number ∷ filter_map named_object (map object_value_view arguments.now)) ∷ []) }
 {
     let mut references = Names::new(alloc);
     add_references(&mut references, arguments)?;
-    references.push(ObjectId { number: class })?;
+    references.push(ObjectId::of_class(class))?;
     let capacity = references.len() + 16;
     Frames::new(alloc, capacity, references)
 }
@@ -173,7 +174,7 @@ fn begin_call<'a>(
     arguments: &[ObjectValue],
 ) -> Result<(), AllocError>
     requires { StatementsInRange (out-Block function.now.body).statements.items }
-    ensures { IfOk result (λ _. IsBegun function.entry.now class arguments.now place.new) }
+    ensures { IfOk result (λ _. IsBegun function.entry.now class.number arguments.now place.new) }
 {
     let work = work_of(alloc, &function.body)?;
     let variables = entry_variables(alloc, function, class, arguments)?;

@@ -9,6 +9,7 @@ ghost use Rattle.semantics.specs.ReportOf.{shown_value, shown_row};
 ghost use Rattle.report_objects.specs.Names.{IsWithin};
 ghost use Rattle.semantics.specs.Views.{object_value_view};
 
+use class_rules::ClassId;
 use classes::table::ClassTable;
 use report::{Shown, put_row_end, put_row_head, put_value};
 use semantics::{ObjectId, ObjectValue, Objects};
@@ -22,10 +23,11 @@ fn shown(classes: &ClassTable, value: ObjectValue) -> Shown<'_>
         ObjectValue::Number(number) => Shown::Number(number),
         ObjectValue::Reference(None) => Shown::Null,
         ObjectValue::Reference(Some(name)) => {
-            if name.number <= classes.len() {
-                Shown::Class(classes.name(name.number))
+            let number = name.number;
+            if number <= classes.len() {
+                Shown::Class(classes.name(ClassId { number }))
             } else {
-                Shown::Object(name.number)
+                Shown::Object(number)
             }
         }
     }

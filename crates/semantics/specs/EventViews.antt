@@ -38,7 +38,7 @@ stop_view stop = record { thread = stop.thread; trap = trap_view stop.trap; line
 abbrev pub ending_view : Ending → source.Ending
 ending_view Unfinished = source.Unfinished
 ending_view Ended = source.Ended
-ending_view (Uncaught class) = source.Uncaught class
+ending_view (Uncaught class) = source.Uncaught class.number
 
 -- the numbers printed after a step of thread k
 abbrev pub printed_after : List printed.Printed → (k : ℕ) → Event → List printed.Printed

@@ -21,7 +21,7 @@ pub trait Objects {
     /// The number of an object's class.
     fn class_of(&self, name: ObjectId) -> ClassId
         requires { IsWithin (length (heap self.now)) name.number }
-        ensures { result ≡ class_of (heap self.now) name.number };
+        ensures { result.number ≡ class_of (heap self.now) name.number };
 
     /// The number of an object's values.
     fn count(&self, name: ObjectId) -> usize

@@ -1,5 +1,6 @@
 //! Class tables: each public call once with success.
 
+use class_rules::{ClassId, NO_CLASS};
 use classes::built_ins::{is_after_built_ins, number_array};
 use classes::class::{ClassKind, ElementType, FieldType};
 use classes::fault::{ClassError, ClassRule, FieldError};
@@ -7,10 +8,15 @@ use classes::table::ClassTable;
 use std::alloc::Global;
 use std::test::Fail;
 
+/// The class of a number.
+pub(crate) fn id(number: usize) -> ClassId {
+    ClassId { number }
+}
+
 /// The built-in classes, and a class A below java/lang/Error.
 fn with_a(alloc: Global) -> Result<ClassTable, Fail> {
     let mut table = ClassTable::of_built_ins(alloc)?;
-    if table.add_class(b"A", b"java/lang/Error") != Ok(43) {
+    if table.add_class(b"A", b"java/lang/Error") != Ok(id(43)) {
         return Err(Fail::new("class A"));
     }
     Ok(table)
@@ -21,16 +27,16 @@ fn refuses_field(table: &mut ClassTable, name: &[u8], field_type: &[u8], rule: C
     table.add_field(b"A", name, field_type, false) == Err(FieldError::Refused(rule))
 }
 
-/// The class that declares the field at a place of a layout, or 0.
-fn declaring(table: &ClassTable, class: usize, place: usize) -> usize {
+/// The class that declares the field at a place of a layout, or none.
+fn declaring(table: &ClassTable, class: ClassId, place: usize) -> ClassId {
     match table.layout_field(class, place) {
         Some(found) => found.class,
-        None => 0,
+        None => NO_CLASS,
     }
 }
 
 /// Whether the field at a place of a layout has this type.
-fn has_type(table: &ClassTable, class: usize, place: usize, field_type: FieldType) -> bool {
+fn has_type(table: &ClassTable, class: ClassId, place: usize, field_type: FieldType) -> bool {
     match table.layout_field(class, place) {
         Some(found) => found.field.field_type == field_type,
         None => false,
@@ -42,11 +48,11 @@ fn built_in_classes(rt: HostRuntime) -> Result<(), Fail> {
     let table = ClassTable::of_built_ins(rt.alloc())?;
     let got = [
         table.len() == 42,
-        table.find(b"[I") == Some(23),
+        table.find(b"[I") == Some(id(23)),
         table.find(b"java/lang/Nothing") == None,
-        table.name(24) == b"[Ljava/lang/Object;".as_slice(),
-        table.superclass(1) == None,
-        table.superclass(19) == Some(13),
+        table.name(id(24)) == b"[Ljava/lang/Object;".as_slice(),
+        table.superclass(id(1)) == None,
+        table.superclass(id(19)) == Some(id(13)),
     ];
     assert!(rt; got == [true; 6]);
     Ok(())
@@ -56,10 +62,10 @@ fn built_in_classes(rt: HostRuntime) -> Result<(), Fail> {
 fn kinds_of_built_in_classes(rt: HostRuntime) -> Result<(), Fail> {
     let table = ClassTable::of_built_ins(rt.alloc())?;
     let got = [
-        table.kind(20) == ClassKind::ArrayOfNumbers(ElementType::Byte),
-        table.kind(42) == ClassKind::ArrayOfObjects(19),
-        table.is_array(20),
-        !table.is_array(19),
+        table.kind(id(20)) == ClassKind::ArrayOfNumbers(ElementType::Byte),
+        table.kind(id(42)) == ClassKind::ArrayOfObjects(id(19)),
+        table.is_array(id(20)),
+        !table.is_array(id(19)),
     ];
     assert!(rt; got == [true; 4]);
     Ok(())
@@ -70,13 +76,13 @@ fn kinds_of_built_in_classes(rt: HostRuntime) -> Result<(), Fail> {
 fn assignable_classes(rt: HostRuntime) -> Result<(), Fail> {
     let table = ClassTable::of_built_ins(rt.alloc())?;
     let got = [
-        table.assignable(15, 4),
-        table.assignable(38, 27),
-        table.assignable(20, 1),
-        table.assignable(15, 15),
-        table.assignable(4, 15),
-        table.assignable(27, 38),
-        table.assignable(20, 21),
+        table.assignable(id(15), id(4)),
+        table.assignable(id(38), id(27)),
+        table.assignable(id(20), id(1)),
+        table.assignable(id(15), id(15)),
+        table.assignable(id(4), id(15)),
+        table.assignable(id(27), id(38)),
+        table.assignable(id(20), id(21)),
     ];
     assert!(rt; got == [true, true, true, true, false, false, false]);
     Ok(())
@@ -87,8 +93,8 @@ fn an_added_class(rt: HostRuntime) -> Result<(), Fail> {
     let table = with_a(rt.alloc())?;
     let got = [
         table.len() == 44,
-        table.find(b"[LA;") == Some(44),
-        table.assignable(43, 4),
+        table.find(b"[LA;") == Some(id(44)),
+        table.assignable(id(43), id(4)),
     ];
     assert!(rt; got == [true; 3]);
     Ok(())
@@ -109,7 +115,7 @@ fn added_fields(rt: HostRuntime) -> Result<(), Fail> {
     let mut table = with_a(rt.alloc())?;
     let field = table.add_field(b"A", b"count", b"S", false);
     let global = table.add_field(b"A", b"all", b"[LA;", true);
-    assert!(rt; field == Ok(()) && global == Ok(()) && table.own_statics(43).len() == 1);
+    assert!(rt; field == Ok(()) && global == Ok(()) && table.own_statics(id(43)).len() == 1);
     Ok(())
 }
 
@@ -127,10 +133,10 @@ fn refused_fields(rt: HostRuntime) -> Result<(), Fail> {
 #[test]
 fn an_inherited_field(rt: HostRuntime) -> Result<(), Fail> {
     let table = with_a(rt.alloc())?;
-    let Some(found) = table.field(43, b"message", b"Ljava/lang/String;", false) else {
+    let Some(found) = table.field(id(43), b"message", b"Ljava/lang/String;", false) else {
         return Err(Fail::new("an inherited field"));
     };
-    assert!(rt; found.class == 4 && found.field.field_type == FieldType::Reference(3));
+    assert!(rt; found.class == id(4) && found.field.field_type == FieldType::Reference(id(3)));
     Ok(())
 }
 
@@ -160,14 +166,14 @@ fn classes_of_arrays(rt: HostRuntime) -> Result<(), Fail> {
     let table = ClassTable::of_built_ins(rt.alloc())?;
     let objects = table.find_array_of(b"java/lang/Object")?;
     let none = table.find_array_of(b"A")?;
-    assert!(rt; objects == Some(24) && none == None);
+    assert!(rt; objects == Some(id(24)) && none == None);
     Ok(())
 }
 
 #[test]
 fn numbers_of_classes(rt: HostRuntime) {
-    let got = [is_after_built_ins(43), is_after_built_ins(42)];
-    assert!(rt; number_array(ElementType::Int) == 23 && got == [true, false]);
+    let got = [is_after_built_ins(id(43)), is_after_built_ins(id(42))];
+    assert!(rt; number_array(ElementType::Int) == id(23) && got == [true, false]);
 }
 
 // The superclass's fields come first.
@@ -175,13 +181,14 @@ fn numbers_of_classes(rt: HostRuntime) {
 fn a_layout(rt: HostRuntime) -> Result<(), Fail> {
     let mut table = with_a(rt.alloc())?;
     table.add_field(b"A", b"count", b"S", false)?;
+    let a = id(43);
     let got = [
-        table.layout_len(43),
-        declaring(&table, 43, 0),
-        declaring(&table, 43, 1),
-        declaring(&table, 43, 2),
+        declaring(&table, a, 0),
+        declaring(&table, a, 1),
+        declaring(&table, a, 2),
     ];
     let short = FieldType::Number(ElementType::Short);
-    assert!(rt; got == [2, 4, 43, 0] && has_type(&table, 43, 1, short));
+    assert!(rt; got == [id(4), a, NO_CLASS]);
+    assert!(rt; table.layout_len(a) == 2 && has_type(&table, a, 1, short));
     Ok(())
 }

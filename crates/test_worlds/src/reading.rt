@@ -1,5 +1,7 @@
 //! Each public call that reads, once with success, and what it reads.
 
+use crate::class_tables::id;
+use class_rules::ClassId;
 use class_rules::mangling::{is_mangled, mangle, unmangle};
 use semantics::{Entry, ObjectId, ScheduleWord};
 use std::test::Fail;
@@ -39,18 +41,18 @@ fn classes_of_a_world(rt: HostRuntime) -> Result<(), Fail> {
     let got = [
         world.cells() == 1024,
         classes.len() == 46,
-        classes.find(b"p/B") == Some(45),
-        classes.superclass(45) == Some(43),
-        classes.name(44) == b"[LA;".as_slice(),
-        classes.layout_len(45) == 1,
-        classes.own_statics(45).len() == 1,
+        classes.find(b"p/B") == Some(id(45)),
+        classes.superclass(id(45)) == Some(id(43)),
+        classes.name(id(44)) == b"[LA;".as_slice(),
+        classes.layout_len(id(45)) == 1,
+        classes.own_statics(id(45)).len() == 1,
     ];
     assert!(rt; got == [true; 7]);
     Ok(())
 }
 
 /// Whether an object has this class and these values.
-fn is_object(object: &Object, class: usize, values: &[ObjectValue]) -> bool {
+fn is_object(object: &Object, class: ClassId, values: &[ObjectValue]) -> bool {
     object.class() == class && object.values() == values
 }
 
@@ -65,7 +67,7 @@ fn objects_of_a_world(rt: HostRuntime) -> Result<(), Fail> {
         ObjectValue::Reference(Some(ObjectId { number: 48 })),
         ObjectValue::Reference(None),
     ];
-    assert!(rt; is_object(o, 45, &[ObjectValue::Number(7)]) && is_object(r, 44, &elements));
+    assert!(rt; is_object(o, id(45), &[ObjectValue::Number(7)]) && is_object(r, id(44), &elements));
     Ok(())
 }
 
@@ -77,7 +79,7 @@ fn numbers_and_text_of_a_world(rt: HostRuntime) -> Result<(), Fail> {
     };
     let numbers = [7, 8, -9].map(ObjectValue::Number);
     let units = [97, 32, 98].map(ObjectValue::Number);
-    assert!(rt; is_object(b, 23, &numbers) && is_object(t, 3, &units));
+    assert!(rt; is_object(b, id(23), &numbers) && is_object(t, id(3), &units));
     Ok(())
 }
 

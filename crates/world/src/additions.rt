@@ -73,10 +73,7 @@ impl WorldBuilder {
     fn class_at(&self, name: &[u8]) -> Option<ObjectId>
         ensures { name_of result ≡ class_named self.now.classes name.now }
     {
-        match self.classes.find(name) {
-            Some(number) => Some(ObjectId { number }),
-            None => None,
-        }
+        self.classes.find(name).map(ObjectId::of_class)
     }
 
     /// A value in memory.
@@ -175,7 +172,7 @@ impl WorldBuilder {
         requires few { length self.old.names < most_objects }
         requires room { self.old.used + (3 + length values.items) ≤ self.old.cells }
         ensures { OnOk result (gathered_of self.new
-            ≡ with_object (gathered_of self.old) name.now class (map object_value_view values.items)) }
+            ≡ with_object (gathered_of self.old) name.now class.number (map object_value_view values.items)) }
     {
         let added = 3 + values.len();
         self.names.push(alloc, name, class)?;
@@ -198,7 +195,7 @@ impl WorldBuilder {
         requires room { self.old.used + (3 + length values.now) ≤ self.old.cells }
         requires numbers { IsTrue (list_all (value_in_range JInt) (map value_view values.now)) }
         ensures { OnOk result (gathered_of self.new
-            ≡ with_object (gathered_of self.old) name.now class (map (value_at self.old.classes self.old.names)
+            ≡ with_object (gathered_of self.old) name.now class.number (map (value_at self.old.classes self.old.names)
             (map value_view values.now))) }
     {
         let values = self.values_at(alloc, values)?;

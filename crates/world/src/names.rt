@@ -1,5 +1,6 @@
 //! The names of the objects that lines have said so far, each with its class.
 
+ghost use Rattle.class_rules.specs.ClassIds.{number_of};
 ghost use Rattle.std.specs.Prelude.{◌≡◌, ◌<◌, ◌++◌, ◌∷◌, [], None, length, position, OnOk, OnErr};
 ghost use Rattle.std.specs.Str.{bytes_eq};
 ghost use Rattle.base.specs.Bytes.{lookup};
@@ -49,7 +50,7 @@ impl ObjectNames {
 
     /// The class of the object of this name.
     pub fn class_of(&self, name: &[u8]) -> Option<ClassId>
-        ensures { result ≡ lookup name.now self.now }
+        ensures { number_of result ≡ lookup name.now self.now }
     {
         match self.classes.get(name) {
             Some(class) => Some(*class),
@@ -67,7 +68,7 @@ impl ObjectNames {
     /// Puts a name after the others, of which none is the same.
     pub fn push(&mut self, alloc: Global, name: &[u8], class: ClassId) -> Result<(), AllocError>
         requires { lookup name.now self.old ≡ None }
-        ensures ok { OnOk result (self.new ≡ self.old ++ (name.now, class) ∷ []) }
+        ensures ok { OnOk result (self.new ≡ self.old ++ (name.now, class.number) ∷ []) }
         ensures err { OnErr result (self.new ≡ self.old) }
     {
         let name = Vec::from_slice(alloc, name)?;

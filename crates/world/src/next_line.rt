@@ -12,6 +12,7 @@ ghost use Rattle.world_values.specs.WorldRules.{value_in_range};
 
 use crate::additions::units;
 use crate::builder::WorldBuilder;
+use class_rules::NO_CLASS;
 use classes::built_ins::{STRING, number_array};
 use std::alloc::{AllocError, Global};
 use world_lines::{ArrayWords, CallWords, FieldWords, Line, ObjectWords, class_number};
@@ -64,7 +65,10 @@ impl WorldBuilder {
             ≡ with_line (gathered_of self.old) 0 (ObjectsLine object.now.name.now object.now.class.now
             (map value_view object.now.values.items))) }
     {
-        let class = self.classes.find_array_of(object.class)?.unwrap_or(0);
+        let class = self
+            .classes
+            .find_array_of(object.class)?
+            .unwrap_or(NO_CLASS);
         self.put_values(alloc, object.name, class, &object.values)
     }
 

@@ -22,7 +22,7 @@ use crate::builder::WorldBuilder;
 use crate::names::ObjectNames;
 use base::limits::{MOST_CALLS, MOST_OBJECTS, MOST_THREADS};
 use class_layouts::LayoutFields;
-use class_rules::ClassId;
+use class_rules::{ClassId, NO_CLASS};
 use classes::built_ins::CLASS;
 use classes::class::FieldType;
 use classes::fault::ClassRule;
@@ -66,12 +66,12 @@ fn has_known_values(classes: &ClassTable, names: &ObjectNames, line: &Line) -> b
 
 /// Whether references to objects of a class can be this value.
 fn refers_to(classes: &ClassTable, names: &ObjectNames, class: ClassId, value: Value) -> bool
-    ensures { result ≡ refers_to classes.now names.now class (value_view value.entry) }
+    ensures { result ≡ refers_to classes.now names.now class.number (value_view value.entry) }
 {
     match value {
         Value::Number(_) => false,
         Value::Null => true,
-        Value::Object(name) => classes.assignable(names.class_of(name).unwrap_or(0), class),
+        Value::Object(name) => classes.assignable(names.class_of(name).unwrap_or(NO_CLASS), class),
         Value::Class(_) => classes.assignable(CLASS, class),
     }
 }
@@ -93,7 +93,7 @@ fn fields_can_hold(
     class: ClassId,
     values: &[Value],
 ) -> bool
-    ensures { result ≡ each_can_hold classes.now names.now (layout_types classes.now class)
+    ensures { result ≡ each_can_hold classes.now names.now (layout_types classes.now class.number)
         (map value_view values.now) }
 {
     let mut fields = LayoutFields::of(classes, class);

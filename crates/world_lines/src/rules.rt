@@ -20,7 +20,7 @@ use crate::ranges::{are_in_range, is_value_in_range};
 use crate::value::Value;
 use crate::words::{is_class_name, is_simple_name};
 use class_layouts::LayoutFields;
-use class_rules::ClassId;
+use class_rules::{ClassId, NO_CLASS};
 use classes::built_ins::is_after_built_ins;
 use classes::class::{ElementType, FieldType};
 use classes::fault::ClassRule;
@@ -50,9 +50,9 @@ pub fn broken_class_rule(classes: &ClassTable, line: &Line) -> Option<ClassRule>
 
 /// The number of the class of this name, and 0 where there is none.
 pub fn class_number(classes: &ClassTable, name: &[u8]) -> ClassId
-    ensures { result ≡ class_number classes.now name.now }
+    ensures { result.number ≡ class_number classes.now name.now }
 {
-    classes.find(name).unwrap_or(0)
+    classes.find(name).unwrap_or(NO_CLASS)
 }
 
 /// Whether there is a class of this name of which an object line may make an object.
@@ -157,7 +157,7 @@ fn is_place_in_range(field_type: Option<FieldType>, value: Value) -> bool
 
 /// Whether the numbers for the fields of a class are in their types' ranges.
 fn fields_in_range(classes: &ClassTable, class: ClassId, values: &[Value]) -> bool
-    ensures { result ≡ each_in_range (layout_types classes.now class) (map value_view values.now) }
+    ensures { result ≡ each_in_range (layout_types classes.now class.number) (map value_view values.now) }
 {
     let mut fields = LayoutFields::of(classes, class);
     for value in values {

@@ -28,20 +28,20 @@ impl Model for Object {
 
     ghost Value = { SourceObject };
 
-    ghost view = { λ o. record { class = o.class; values = map object_value_view o.values.items } };
+    ghost view = { λ o. record { class = o.class.number; values = map object_value_view o.values.items } };
 }
 
 impl Object {
     /// An object of the class of this number.
     pub fn new(class: ClassId, values: Vec<ObjectValue>) -> Object
-        ensures { result ≡ record { class = class; values = map object_value_view values.items } }
+        ensures { result ≡ record { class = class.number; values = map object_value_view values.items } }
     {
         Object { class, values }
     }
 
     /// The number of its class in the class table.
     pub fn class(&self) -> ClassId
-        ensures { result ≡ self.now.class }
+        ensures { result.number ≡ self.now.class }
     {
         self.class
     }

@@ -8,13 +8,13 @@ loop-preserved c =
     let left : c.len-end.result - c.loop.counter ≡ (c.len-end.result - (c.loop.counter + 1)) + 1 = omega arith in
     record {
       whole =
-          one_more c.args.classes.now (c.len-end.result - (c.loop.counter + 1)) (c.len-end.result - c.loop.counter) c.loop.ancestor c.in-Some.above c.loop.ancestors c.push.new.self left c.push.ensures c.in-Some.ensures
+          one_more c.args.classes.now (c.len-end.result - (c.loop.counter + 1)) (c.len-end.result - c.loop.counter) c.loop.ancestor.number c.in-Some.above.number c.loop.ancestors c.push.new.self left c.push.ensures c.in-Some.ensures
           ∙ c.loop.invariant.whole;
-      many = omega (arith, ap length c.push.ensures, length-append c.loop.ancestors (c.loop.ancestor ∷ []), c.loop.invariant.many);
+      many = omega (arith, ap length c.push.ensures, length-append c.loop.ancestors (c.loop.ancestor.number ∷ []), c.loop.invariant.many);
     }
 
 pub returns-then-ancestor-gt-MOST_CLASSES : goal.returns-then-ancestor-gt-MOST_CLASSES
 returns-then-ancestor-gt-MOST_CLASSES c =
     let T = c.args.classes.now in
     let n = c.len-end.result - c.loop.counter in
-    front_alone T c.loop.ancestors (ancestry_within n T c.loop.ancestor) (ancestry T c.args.class) c.loop.invariant.whole (past_all T n c.loop.ancestor (omega (arith, c.len-end.ensures.len, c.len-end.ensures.few, c.if-ancestor-gt-MOST_CLASSES.true)))
+    front_alone T c.loop.ancestors (ancestry_within n T c.loop.ancestor.number) (ancestry T c.args.class.number) c.loop.invariant.whole (past_all T n c.loop.ancestor.number (omega (arith, c.len-end.ensures.len, c.len-end.ensures.few, c.if-ancestor-gt-MOST_CLASSES.true)))

@@ -8,7 +8,7 @@ use Rattle.class_queries.proofs.first_values.fresh_values.Given as goal
 abbrev pub invariant-loop-id : goal.invariant-loop-id
 invariant-loop-id l =
     map object_value_view l.values.items ++ map (λ (f : FieldId). initial f.field.type) l.fields
-    ≡ map (λ (f : FieldId). initial f.field.type) (layout l.classes l.class)
+    ≡ map (λ (f : FieldId). initial f.field.type) (layout l.classes l.fn.class.number)
 
 abbrev pub decreases-loop-id : goal.decreases-loop-id
 decreases-loop-id l = length l.fields

@@ -1,6 +1,9 @@
 use Rattle.std.proofs.Common.{◌≡◌, ℕ, Option, w32, to_z, of_z, sym, ap, ◌∙◌, subst}
 use Rattle.std.specs.Prelude.{unwrap_or}
 use Rattle.std.proofs.Math.Facts.{to_z-of_z}
+use Rattle.class_rules.specs.declared.class_id.ClassId.{ClassId}
+use Rattle.class_rules.specs.ClassIds.{class_id}
+use Rattle.class_rules.proofs.ClassIds.{number_or}
 use Rattle.class_rules.specs.Class.{array_class_of}
 use Rattle.code.specs.Call.{call_view}
 use Rattle.jni.specs.Table.{function_value}
@@ -12,7 +15,7 @@ use Rattle.machine_answers.proofs.arrays.work_out_array.Goals as goal
 pub returns-in-NewObjectArray : goal.returns-in-NewObjectArray
 returns-in-NewObjectArray c =
     let classes = c.args.scene.now.classes.now in
-    let class = c.unwrap_or.ensures ∙ ap (λ (o : Option ℕ). unwrap_or o 0) (c.array_class_of-class.ensures ∙ ap (array_class_of classes) c.name_of.ensures) in
+    let class = ap (λ (k : ClassId). k.number) c.unwrap_or.ensures ∙ number_or c.array_class_of-class.result (class_id 0) ∙ ap (λ (o : Option ℕ). unwrap_or o 0) (c.array_class_of-class.ensures ∙ ap (array_class_of classes) c.class_given.ensures) in
     let number : to_z w32 (of_z w32 c.stack_number-in-NewObjectArray.result) ≡ stack_number c.args.scene.now.stack.now = to_z-of_z {w = w32} (record { sfits = c.stack_number-in-NewObjectArray.type_inv }) ∙ c.stack_number-in-NewObjectArray.ensures in
     let element = c.held_reference-element.ensures ∙ ap held_reference c.argument.ensures.reference in
     subst (λ (f : JniFunction). IsWorkedOut (scene_view c.args.scene.now) (call_view c.args.call.now) (function_value f) c.new_array-in-NewObjectArray.result) (sym c.in-NewObjectArray.is)

@@ -7,6 +7,7 @@ use Rattle.std.specs.Global.{Vec}
 use Rattle.std.specs.Prelude.{slice_get, IfOk, OnErr}
 use Rattle.std.specs.Vec.{with_items}
 use Rattle.class_rules.specs.Class.{Classes}
+use Rattle.class_rules.specs.declared.class_id.ClassId.{ClassId}
 use Rattle.heap.specs.Heap.{Space, left_of}
 use Rattle.jni.specs.Prototype.{ResultKind}
 use Rattle.jni.specs.Table.{result_value}
@@ -84,7 +85,7 @@ make-requires-in-Throws-clause-class c =
     let kind = result_value c.args.call.now.result in
     let texts = texts_in c.args.call.now.texts.items in
     let brought = brings texts c.args.activation.now.slots.numbers.items c.args.activation.now.slots.buffers.items c.args.store.now c.args.thread r.2 r.4 r.1 in
-    small w c.in-Throws.class c.threads.ensures.sound
+    small w c.in-Throws.class.number c.threads.ensures.sound
     (throws_it w.classes brought c.args.store.now.heap c.args.activation.now.locals kind r.3 r.4 c.in-Throws.class r.5 (subst (λ (a : Answer). IsAnswer w.classes brought c.args.store.now.heap c.args.activation.now.locals kind r.3 r.4 a r.5) c.in-Throws.is r.7)).makeable.high
 
 pub returns-in-Writes-clause-carried : goal.returns-in-Writes-clause-carried
@@ -191,10 +192,10 @@ carry_out_buffers-requires-clause-possible c =
     (r.0, result_value c.args.call.now.result, brings (texts_in c.args.call.now.texts.items) c.args.activation.now.slots.numbers.items c.args.activation.now.slots.buffers.items c.args.store.now c.args.thread r.2 r.4 r.1, r.2, r.3, r.4, r.5, r.6, r.7, ap (λ (l : List Buffer). holding l c.args.store.now.elements c.args.thread) (sym c.deref_mut-in_default.ensures.value), refl)
 
 -- a message and an exception were made in the store of the world's classes
-both_made : (classes table : Classes) (texts : List (List ℕ)) (old after : Store) (class place a : ℕ) (o : Option ℕ) → table ≡ classes → Raises table texts old class place after o → o ≡ Some a → Raises classes texts old class place after (Some a)
+both_made : (classes table : Classes) (texts : List (List ℕ)) (old after : Store) (class : ClassId) (place a : ℕ) (o : Option ℕ) → table ≡ classes → Raises table texts old class place after o → o ≡ Some a → Raises classes texts old class place after (Some a)
 both_made classes table texts old after class place a o same made is = subst (λ (t : Classes). Raises t texts old class place after (Some a)) same (subst (Raises table texts old class place after) is made)
 
-none_made : (classes table : Classes) (texts : List (List ℕ)) (old after : Store) (class place : ℕ) (o : Option ℕ) → table ≡ classes → Raises table texts old class place after o → o ≡ None → Raises classes texts old class place after None
+none_made : (classes table : Classes) (texts : List (List ℕ)) (old after : Store) (class : ClassId) (place : ℕ) (o : Option ℕ) → table ≡ classes → Raises table texts old class place after o → o ≡ None → Raises classes texts old class place after None
 none_made classes table texts old after class place o same made is = subst (λ (t : Classes). Raises t texts old class place after None) same (subst (Raises table texts old class place after) is made)
 
 pub raise-requires-clause-class : goal.raise-requires-clause-class
@@ -205,7 +206,7 @@ raise-requires-clause-class c =
     let texts = texts_in c.args.call.now.texts.items in
     let brought = brings texts c.args.activation.now.slots.numbers.items c.args.activation.now.slots.buffers.items c.args.store.now c.args.thread r.2 r.4 r.1 in
     let does = subst (λ (a : Answer). IsAnswer w.classes brought c.args.store.now.heap c.args.activation.now.locals kind r.3 r.4 a r.5) c.in-Raises.is r.7 in
-    small w c.in-Raises.class c.threads.ensures.sound does.2.high
+    small w c.in-Raises.class.number c.threads.ensures.sound does.2.high
 
 pub returns-in-Some-raise-clause-carried : goal.returns-in-Some-raise-clause-carried
 returns-in-Some-raise-clause-carried c p array others shared s effect h does =

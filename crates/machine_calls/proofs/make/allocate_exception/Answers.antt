@@ -35,14 +35,14 @@ module _ (s new : Space) (class birth a : ℕ) (values : List Value) (laid : IsL
 
 pub len_of-requires : goal.len_of-requires
 len_of-requires c =
-    let values = initial_values c.args.classes.now c.args.class in
-    there c.args.heap.now c.allocate_fresh.new.heap c.args.class c.args.birth c.in-Some.addr values c.count.ensures.laid_out (subst (Allocates c.args.heap.now c.args.class c.args.birth values c.allocate_fresh.new.heap) c.in-Some.is c.allocate_fresh.ensures)
+    let values = initial_values c.args.classes.now c.args.class.number in
+    there c.args.heap.now c.allocate_fresh.new.heap c.args.class.number c.args.birth c.in-Some.addr values c.count.ensures.laid_out (subst (Allocates c.args.heap.now c.args.class.number c.args.birth values c.allocate_fresh.new.heap) c.in-Some.is c.allocate_fresh.ensures)
 
 pub returns-after-len_of-gt0 : goal.returns-after-len_of-gt0
 returns-after-len_of-gt0 c =
     let s = c.args.heap.now in
     let new = c.allocate_fresh.new.heap in
-    let class = c.args.class in
+    let class = c.args.class.number in
     let birth = c.args.birth in
     let a = c.in-Some.addr in
     let values = initial_values c.args.classes.now class in

@@ -25,30 +25,30 @@ value_at classes class i f v at is =
 pub loop-place-init : goal.loop-place-init
 loop-place-init c =
     let s = c.args.heap.now in
-    let values = initial_values c.args.classes.now c.args.class in
-    let long : c.len-count.result ≡ length values = c.len-count.ensures.len ∙ ap (λ (fs : List FieldId). length fs) c.of-fields.ensures ∙ sym (length-map (layout c.args.classes.now c.args.class) (λ (x : FieldId). initial_value x.field.type)) in
+    let values = initial_values c.args.classes.now c.args.class.number in
+    let long : c.len-count.result ≡ length values = c.len-count.ensures.len ∙ ap (λ (fs : List FieldId). length fs) c.of-fields.ensures ∙ sym (length-map (layout c.args.classes.now c.args.class.number) (λ (x : FieldId). initial_value x.field.type)) in
     record {
       filled =
           c.in-Ok.ensures.block
-          ∙ ap (λ (a : ℕ). with_block s (fresh_block a c.args.class c.args.birth c.len-count.result Null)) c.in-Ok.ensures.address
-          ∙ filled_fresh s c.args.class c.args.birth c.len-count.result values long;
+          ∙ ap (λ (a : ℕ). with_block s (fresh_block a c.args.class.number c.args.birth c.len-count.result Null)) c.in-Ok.ensures.address
+          ∙ filled_fresh s c.args.class.number c.args.birth c.len-count.result values long;
       left = sym c.of-fields.ensures;
     }
 
 pub unwrap-id-requires : goal.unwrap-id-requires
 unwrap-id-requires c =
-    comes c.next.result field_id_view (layout c.args.classes.now c.args.class) c.loop-place.fields c.next.new.self c.loop-place.place c.next.ensures c.loop-place.invariant.left
+    comes c.next.result field_id_view (layout c.args.classes.now c.args.class.number) c.loop-place.fields c.next.new.self c.loop-place.place c.next.ensures c.loop-place.invariant.left
     (omega (arith, c.len-count.ensures.len, ap (λ (fs : List FieldId). length fs) c.of-fields.ensures, c.loop-place-test.true))
 
 pub set-requires : goal.set-requires
 set-requires c =
     let s = c.args.heap.now in
-    let values = initial_values c.args.classes.now c.args.class in
+    let values = initial_values c.args.classes.now c.args.class.number in
     let there : length (values_at c.loop-place.heap c.in-Ok.addr) ≡ length values =
     ap (λ (a : ℕ). length (values_at c.loop-place.heap a)) c.in-Ok.ensures.address
     ∙ ap (λ (t : Space). length (values_at t (end_of s))) c.loop-place.invariant.filled
-    ∙ filled_within s c.args.class c.args.birth values c.loop-place.place c.count.ensures.laid_out in
-    let long : length values ≡ length (layout c.args.classes.now c.args.class) = length-map (layout c.args.classes.now c.args.class) (λ (x : FieldId). initial_value x.field.type) in
+    ∙ filled_within s c.args.class.number c.args.birth values c.loop-place.place c.count.ensures.laid_out in
+    let long : length values ≡ length (layout c.args.classes.now c.args.class.number) = length-map (layout c.args.classes.now c.args.class.number) (λ (x : FieldId). initial_value x.field.type) in
     omega (arith, c.loop-place-test.true, c.len-count.ensures.len, ap (λ (fs : List FieldId). length fs) c.of-fields.ensures)
 
 pub loop-place-preserved : goal.loop-place-preserved
@@ -56,27 +56,27 @@ loop-place-preserved c =
     let s = c.args.heap.now in
     let i = c.loop-place.place in
     let birth = c.args.birth in
-    let values = initial_values c.args.classes.now c.args.class in
-    let came = comes_next c.next.result field_id_view (layout c.args.classes.now c.args.class) c.loop-place.fields c.next.new.self i c.unwrap-id.result c.next.ensures c.loop-place.invariant.left c.unwrap-id.ensures in
-    let value = value_at c.args.classes.now c.args.class i (field_id_view c.unwrap-id.result) c.initial_value.result came.0 c.initial_value.ensures in
+    let values = initial_values c.args.classes.now c.args.class.number in
+    let came = comes_next c.next.result field_id_view (layout c.args.classes.now c.args.class.number) c.loop-place.fields c.next.new.self i c.unwrap-id.result c.next.ensures c.loop-place.invariant.left c.unwrap-id.ensures in
+    let value = value_at c.args.classes.now c.args.class.number i (field_id_view c.unwrap-id.result) c.initial_value.result came.0 c.initial_value.ensures in
     let next : suc i ≡ i + 1 = omega arith in
     record {
       filled =
           c.set.ensures
           ∙ ap (λ (t : Space). with_value t c.in-Ok.addr i c.initial_value.result) c.loop-place.invariant.filled
-          ∙ ap (λ (a : ℕ). with_value (with_block s (filled_block s c.args.class birth values i)) a i c.initial_value.result) c.in-Ok.ensures.address
-          ∙ filled_more s c.args.class birth values i c.initial_value.result c.count.ensures.laid_out value
-          ∙ ap (λ (k : ℕ). with_block s (filled_block s c.args.class birth values k)) next;
+          ∙ ap (λ (a : ℕ). with_value (with_block s (filled_block s c.args.class.number birth values i)) a i c.initial_value.result) c.in-Ok.ensures.address
+          ∙ filled_more s c.args.class.number birth values i c.initial_value.result c.count.ensures.laid_out value
+          ∙ ap (λ (k : ℕ). with_block s (filled_block s c.args.class.number birth values k)) next;
       left = came.1;
     }
 
 pub returns-after-loop-place : goal.returns-after-loop-place
 returns-after-loop-place c =
     let s = c.args.heap.now in
-    let values = initial_values c.args.classes.now c.args.class in
-    let long : length values ≡ length (layout c.args.classes.now c.args.class) = length-map (layout c.args.classes.now c.args.class) (λ (x : FieldId). initial_value x.field.type) in
-    let all : filled_block s c.args.class c.args.birth values c.loop-place.place ≡ next_block s c.args.class c.args.birth values =
-    ap (λ (l : List Value). next_block s c.args.class c.args.birth l)
+    let values = initial_values c.args.classes.now c.args.class.number in
+    let long : length values ≡ length (layout c.args.classes.now c.args.class.number) = length-map (layout c.args.classes.now c.args.class.number) (λ (x : FieldId). initial_value x.field.type) in
+    let all : filled_block s c.args.class.number c.args.birth values c.loop-place.place ≡ next_block s c.args.class.number c.args.birth values =
+    ap (λ (l : List Value). next_block s c.args.class.number c.args.birth l)
     (cells_all values c.loop-place.place (omega (arith, c.loop-place-test.false, c.len-count.ensures.len, ap (λ (fs : List FieldId). length fs) c.of-fields.ensures))) in (
       c.loop-place.invariant.filled ∙ ap (with_block s) all,
       omega (arith, c.in-Ok.ensures.room, c.len-count.ensures.len, ap (λ (fs : List FieldId). length fs) c.of-fields.ensures),

@@ -7,6 +7,6 @@ use Rattle.machine_calls.proofs.make.allocate_fresh.Given as goal
 
 abbrev pub invariant-loop-place : goal.invariant-loop-place
 invariant-loop-place l = record {
-  filled : l.heap ≡ with_block l.fn.heap (filled_block l.fn.heap l.class l.birth (initial_values l.fn.classes l.class) l.place);
-  left : drop l.place (layout l.classes l.class) ≡ l.fields;
+  filled : l.heap ≡ with_block l.fn.heap (filled_block l.fn.heap l.fn.class.number l.birth (initial_values l.fn.classes l.fn.class.number) l.place);
+  left : drop l.place (layout l.classes l.fn.class.number) ≡ l.fields;
 }

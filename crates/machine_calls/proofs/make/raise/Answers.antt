@@ -1,6 +1,7 @@
 use Rattle.std.proofs.Common.{ℕ, ◌+◌, ◌≤◌, List, Option, Some, None, sym, subst, ◌∙◌, arith}
 use Rattle.std.proofs.lemmas.Bool.{leb-true}
 use Rattle.class_rules.specs.Class.{Classes}
+use Rattle.class_rules.specs.declared.class_id.ClassId.{ClassId}
 use Rattle.heap.specs.Heap.{left_of}
 use Rattle.machine_scenes.specs.declared.new_object.New.TheVariants.{Exception, Fresh, Text}
 use Rattle.machine_scenes.specs.declared.store.Store.{Store}
@@ -10,7 +11,7 @@ use Rattle.machine_calls.proofs.Makes.{left_after}
 use Rattle.machine_calls.proofs.NewValues.{same_cells}
 use Rattle.machine_calls.proofs.make.raise.Goals as goal
 
-module _ (classes : Classes) (texts : List (List ℕ)) (old between after : Store) (class place message : ℕ) (first : HasMade classes texts old (Text place) between message) (room : cells_of_new classes texts (Text place) + cells_of_new classes texts (Fresh class) ≤ left_of old.heap) where
+module _ (classes : Classes) (texts : List (List ℕ)) (old between after : Store) (class : ClassId) (place message : ℕ) (first : HasMade classes texts old (Text place) between message) (room : cells_of_new classes texts (Text place) + cells_of_new classes texts (Fresh class) ≤ left_of old.heap) where
   -- there is room for the exception
   raised : (o : Option ℕ) → Makes classes texts between (Exception class message) after o → Raises classes texts old class place after o
   raised (Some a) made = (between, message, first, made)

@@ -26,7 +26,7 @@ loop-argument-preserved c =
     let loaded = c.args.loaded.now in
     let xs = c.args.arguments.now in
     let i = c.loop-argument.argument-index in
-    let class : Option ℕ = slice_get loaded (c.args.class - 1) in
+    let class : Option ℕ = slice_get loaded (c.args.class.number - 1) in
     elim c.match-argument.branch as (λ w. c.match-argument.slots.items ≡ class ∷ filter_map (argument_address loaded) (map object_value_view (take (i + 1) xs))) [
       | in-Number w ↦
           let at = read_at xs i (Number (pos 0)) (Number w.in-Number.field-0) c.loop-argument-test.true w.in-Number.is in
@@ -51,7 +51,7 @@ pub returns : goal.returns
 returns c =
     let loaded = c.args.loaded.now in
     let xs = c.args.arguments.now in
-    let class : Option ℕ = slice_get loaded (c.args.class - 1) in
+    let class : Option ℕ = slice_get loaded (c.args.class.number - 1) in
     let given : List (Option ℕ) = filter_map (argument_address loaded) (map object_value_view xs) in
     let old : List (Option ℕ) = c.loop-argument.slots.items in
     let all : old ≡ class ∷ given =

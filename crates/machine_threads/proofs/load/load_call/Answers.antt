@@ -4,6 +4,7 @@ use Rattle.syntax.specs.declared.unit.Function.{Function}
 use Rattle.syntax.specs.declared.unit.Parameter.{Parameter as ParameterInMemory}
 use Rattle.syntax.specs.Views.{function_tree, parameter_tree}
 use Rattle.class_rules.specs.Class.{Classes, class_named}
+use Rattle.class_rules.specs.ClassIds.{number_of}
 use Rattle.class_rules.specs.Mangling.{native_class}
 use Rattle.semantics.specs.Object.{ObjectValue}
 use Rattle.world_values.specs.Views.{object_value_view}
@@ -41,6 +42,6 @@ returns c =
     let few : length w.classes ≤ length (loaded_objects w) = omega (arith, length-loaded w) in
     let known = ap (λ (n : List ℕ). option_and_then (class_named w.classes) (native_class n)) (sym c.function-2.ensures)
     ∙ ap (λ (t : Classes). option_and_then (class_named t) (native_class c.function-2.result.now)) (sym c.classes.ensures.classes)
-    ∙ sym c.in_ok-class.ensures ∙ c.in-Some-2.is in
+    ∙ sym c.in_ok-class.ensures ∙ ap number_of c.in-Some-2.is in
     let given = ap (map object_value_view) c.in_ok-from_slice.ensures.items ∙ c.arguments-2.ensures in
     call_found c.args.program.now w.classes (length (loaded_objects w)) c.args.call.now f (record { function = c.in-Some.found.number; class = c.in-Some-2.class; arguments = c.in_ok-from_slice.field-0 }) c.function_named.ensures.tree number few known given c.requires.given (fit ∙ c.if-not-arguments_fit.false)

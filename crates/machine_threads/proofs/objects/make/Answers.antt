@@ -33,9 +33,9 @@ loop-place-init c =
     let long : length c.args.values.now ≡ length held = sym (length-map vs (held_value c.args.loaded.now.items) ∙ length-map c.args.values.now object_value_view) in
     let made = rw c.unwrap-addr.ensures at (c.alloc.ensures.block) in
     made
-    ∙ ap (λ (a : ℕ). with_block s (fresh_block a c.args.class (c.len.result + 1) (length c.args.values.now) Null)) address
-    ∙ ap (λ (n : ℕ). with_block s (fresh_block (end_of s) c.args.class (n + 1) (length c.args.values.now) Null)) count
-    ∙ filled_fresh s c.args.class (length c.args.loaded.now.items + 1) (length c.args.values.now) held long
+    ∙ ap (λ (a : ℕ). with_block s (fresh_block a c.args.class.number (c.len.result + 1) (length c.args.values.now) Null)) address
+    ∙ ap (λ (n : ℕ). with_block s (fresh_block (end_of s) c.args.class.number (n + 1) (length c.args.values.now) Null)) count
+    ∙ filled_fresh s c.args.class.number (length c.args.loaded.now.items + 1) (length c.args.values.now) held long
 
 pub held-requires : goal.held-requires
 held-requires c =
@@ -55,7 +55,7 @@ set-requires c =
     let there : length (values_at c.loop-place.heap c.unwrap-addr.result) ≡ length held =
     ap (λ (a : ℕ). length (values_at c.loop-place.heap a)) address
     ∙ ap (λ (t : Space). length (values_at t (end_of s))) c.loop-place.invariant
-    ∙ filled_within s c.args.class birth held c.loop-place.place c.requires.laid_out in
+    ∙ filled_within s c.args.class.number birth held c.loop-place.place c.requires.laid_out in
     let long = length-map vs (held_value c.args.loaded.now.items) ∙ length-map c.args.values.now object_value_view in
     omega (arith, c.loop-place-test.true)
 
@@ -73,10 +73,10 @@ loop-place-preserved c =
     let next : suc i ≡ i + 1 = omega arith in
     c.set.ensures
     ∙ ap (λ (t : Space). with_value t c.unwrap-addr.result i c.held.result) c.loop-place.invariant
-    ∙ ap (λ (a : ℕ). with_value (with_block s (filled_block s c.args.class birth held i)) a i c.held.result) address
-    ∙ ap (λ w. with_value (with_block s (filled_block s c.args.class birth held i)) (end_of s) i w) value
-    ∙ filled_more s c.args.class birth held i (held_value loaded v) c.requires.laid_out (value_held loaded xs i _ c.loop-place-test.true)
-    ∙ ap (λ (k : ℕ). with_block s (filled_block s c.args.class birth held k)) next
+    ∙ ap (λ (a : ℕ). with_value (with_block s (filled_block s c.args.class.number birth held i)) a i c.held.result) address
+    ∙ ap (λ w. with_value (with_block s (filled_block s c.args.class.number birth held i)) (end_of s) i w) value
+    ∙ filled_more s c.args.class.number birth held i (held_value loaded v) c.requires.laid_out (value_held loaded xs i _ c.loop-place-test.true)
+    ∙ ap (λ (k : ℕ). with_block s (filled_block s c.args.class.number birth held k)) next
 
 pub returns-clause-made : goal.returns-clause-made
 returns-clause-made c objects h =
@@ -91,4 +91,4 @@ returns-clause-made c objects h =
     ∙ ap (λ (a : ℕ). loaded ++ a ∷ []) address in
     let room = c.requires.room in
     let all = c.loop-place-test.false in
-    rw (c.loop-place.invariant, table) (filled_made s loaded objects c.args.class c.loop-place.place vs h (omega arith) c.requires.given (omega arith))
+    rw (c.loop-place.invariant, table) (filled_made s loaded objects c.args.class.number c.loop-place.place vs h (omega arith) c.requires.given (omega arith))

@@ -51,7 +51,7 @@ loop-object-preserved c =
     let before : Heap = take place (loaded_objects w) in
     let there = made_next (goal.at.loop-object-preserved c).After-values in
     let later = next w c.objects-object-items.ensures.sound c.loop-object.heap c.loop-object.loaded.items place c.object-item.result c.loop-object.invariant.made there c.loop-object.invariant.cells in
-    let object : ◌≡◌ {A = Object} (record { class = c.class.result; values = map object_value_view c.values.result.now }) c.object-item.result =
+    let object : ◌≡◌ {A = Object} (record { class = c.class.result.number; values = map object_value_view c.values.result.now }) c.object-item.result =
     ap (λ (n : ℕ). let o : Object = record { class = n; values = map object_value_view c.values.result.now } in o) c.class.ensures
     ∙ ap (λ (vs : List ObjectValue). let o : Object = record { class = c.object-item.result.class; values = vs } in o) c.values.ensures in
     let e : place + 1 ≡ length w.classes + 1 + (c.loop-object.object-index + 1) = omega arith in

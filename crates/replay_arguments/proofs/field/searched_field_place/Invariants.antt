@@ -6,6 +6,6 @@ use Rattle.replay_arguments.proofs.field.searched_field_place.Given as goal
 
 abbrev pub invariant-loop-place : goal.invariant-loop-place
 invariant-loop-place l = record {
-  none : NonePasses (same_field (given_field l.field)) (layout l.classes l.class) l.place;
-  left : drop l.place (layout l.classes l.class) ≡ l.fields;
+  none : NonePasses (same_field (given_field l.field)) (layout l.classes l.fn.class.number) l.place;
+  left : drop l.place (layout l.classes l.fn.class.number) ≡ l.fields;
 }

@@ -27,19 +27,19 @@ there None (x ∷ xs) (suc i) e h = there None xs i e (omega arith)
 
 pub unwrap-other-requires : goal.unwrap-other-requires
 unwrap-other-requires c =
-    let own = counted c.args.classes.now c.declaring-class.result c.declaring-class.result c.own_statics.result.now refl c.own_statics.ensures in
-    there c.field_at.result (own_statics c.args.classes.now c.declaring-class.result) c.loop-place.place c.field_at.ensures.view (omega (arith, own, c.len-place-end.ensures, c.loop-place-test.true))
+    let own = counted c.args.classes.now c.declaring-class.result.number c.declaring-class.result.number c.own_statics.result.now refl c.own_statics.ensures in
+    there c.field_at.result (own_statics c.args.classes.now c.declaring-class.result.number) c.loop-place.place c.field_at.ensures.view (omega (arith, own, c.len-place-end.ensures, c.loop-place-test.true))
 
 pub returns-then-is_field : goal.returns-then-is_field
 returns-then-is_field c =
-    let fields = own_statics c.args.classes.now c.declaring-class.result in
+    let fields = own_statics c.args.classes.now c.declaring-class.result.number in
     let other = c.unwrap-other.result in
     let at : slice_get fields c.loop-place.place ≡ Some (field_id_view other) = sym c.field_at.ensures.view ∙ ap (option_map field_id_view) c.unwrap-other.ensures in
     place_found (same_field (given_field c.args.field)) (own_statics c.args.classes.now (given_field c.args.field).class) c.loop-place.place (field_id_view other) (ap (λ n. slice_get (own_statics c.args.classes.now n) c.loop-place.place) (sym c.declaring-class.ensures) ∙ at) (sym c.is_field.ensures ∙ c.if-is_field.true) c.loop-place.invariant
 
 pub loop-place-preserved : goal.loop-place-preserved
 loop-place-preserved c =
-    let fields = own_statics c.args.classes.now c.declaring-class.result in
+    let fields = own_statics c.args.classes.now c.declaring-class.result.number in
     let other = c.unwrap-other.result in
     let at : slice_get fields c.loop-place.place ≡ Some (field_id_view other) = sym c.field_at.ensures.view ∙ ap (option_map field_id_view) c.unwrap-other.ensures in
     none_more (same_field (given_field c.args.field)) (own_statics c.args.classes.now (given_field c.args.field).class) c.loop-place.place (field_id_view other) (ap (λ n. slice_get (own_statics c.args.classes.now n) c.loop-place.place) (sym c.declaring-class.ensures) ∙ at) (sym c.is_field.ensures ∙ c.if-is_field.false) c.loop-place.invariant
@@ -47,5 +47,5 @@ loop-place-preserved c =
 pub returns : goal.returns
 returns c =
     let f = given_field c.args.field in
-    let own = counted c.args.classes.now f.class c.declaring-class.result c.own_statics.result.now c.declaring-class.ensures c.own_statics.ensures in
+    let own = counted c.args.classes.now f.class c.declaring-class.result.number c.own_statics.result.now c.declaring-class.ensures c.own_statics.ensures in
     place_missing (same_field f) (own_statics c.args.classes.now f.class) (λ i y low within. c.loop-place.invariant i y (omega (arith, low, own, c.len-place-end.ensures, c.loop-place-test.false)) within)

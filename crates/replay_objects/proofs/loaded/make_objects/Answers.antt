@@ -36,12 +36,12 @@ loop-object-preserved c =
     ∙ slice_get_read items (length items) c.loop-object.object-index c.object-item.result refl c.loop-object-test.true c.object-item.is in
     let at = loaded_object w place c.loop-object.object-index refl ∙ here in
     let given = ap (map object_value_view) c.in_ok-values.ensures.items ∙ c.values.ensures in
-    let object : ◌≡◌ {A = Object} (record { class = c.class.result; values = map object_value_view c.in_ok-values.values.items }) c.object-item.result =
+    let object : ◌≡◌ {A = Object} (record { class = c.class.result.number; values = map object_value_view c.in_ok-values.values.items }) c.object-item.result =
     ap (λ (n : ℕ). let o : Object = record { class = n; values = map object_value_view c.in_ok-values.values.items } in o) c.class.ensures
     ∙ ap (λ (vs : List ObjectValue). let o : Object = record { class = c.object-item.result.class; values = vs } in o) given in
     let e : place + 1 ≡ length w.classes + 1 + (c.loop-object.object-index + 1) = omega arith in
     c.in_ok-add.ensures.ok
-    ∙ ap (λ (l : Heap). l ++ record { class = c.class.result; values = map object_value_view c.in_ok-values.values.items } ∷ []) c.loop-object.invariant
+    ∙ ap (λ (l : Heap). l ++ record { class = c.class.result.number; values = map object_value_view c.in_ok-values.values.items } ∷ []) c.loop-object.invariant
     ∙ ap (λ (o : Object). take place (loaded_objects w) ++ o ∷ []) object
     ∙ sym (take_next (loaded_objects w) place c.object-item.result at)
     ∙ ap (λ n. take n (loaded_objects w)) e

@@ -1,6 +1,7 @@
-use Rattle.std.proofs.Common.{◌≡◌, ℕ, ◌+◌, ◌++◌, List, length, map, take, drop, ap, ◌∙◌, arith}
+use Rattle.std.proofs.Common.{◌≡◌, ◌+◌, ◌++◌, List, length, map, take, drop, ap, ◌∙◌, arith}
 use Rattle.std.specs.Vec.{with_items}
 use Rattle.std.proofs.lemmas.List.{with_items_is}
+use Rattle.class_rules.specs.declared.class_id.ClassId.{ClassId}
 use Rattle.semantics.specs.CallEffects.{overwritten}
 use Rattle.semantics.specs.Heap.{number_in}
 use Rattle.semantics.specs.Object.{Object, ObjectValue, Number}
@@ -27,8 +28,8 @@ pub returns-clause-view : goal.returns-clause-view
 returns-clause-view c =
     let kept = c.keep_numbers.new.object in
     let values = map object_value_view (with_items kept.values c.write_numbers.new.values).items in
-    ap (λ (n : ℕ). let o : Object = record { class = n; values = values } in o) c.keep_numbers.ensures.class
-    ∙ ap (λ (vs : List ObjectValue). let o : Object = record { class = c.args.object.now.class; values = vs } in o) (left c)
+    ap (λ (class : ClassId). let o : Object = record { class = class.number; values = values } in o) c.keep_numbers.ensures.class
+    ∙ ap (λ (vs : List ObjectValue). let o : Object = record { class = c.args.object.now.class.number; values = vs } in o) (left c)
 
 pub returns-clause-mark : goal.returns-clause-mark
 returns-clause-mark c = λ marked.

@@ -8,7 +8,7 @@ use Rattle.replay_objects.proofs.store.put_value.Goals as goal
 
 pub returns-then-place-len-clause-view : goal.returns-then-place-len-clause-view
 returns-then-place-len-clause-view c =
-    ap (λ (vs : List ObjectValue). let o : Object = record { class = c.args.object.now.class; values = vs } in o) (map-set object_value_view c.args.object.now.values.items c.args.place c.args.value)
+    ap (λ (vs : List ObjectValue). let o : Object = record { class = c.args.object.now.class.number; values = vs } in o) (map-set object_value_view c.args.object.now.values.items c.args.place c.args.value)
 
 pub returns-then-place-len-clause-mark : goal.returns-then-place-len-clause-mark
 returns-then-place-len-clause-mark c = λ marked both.

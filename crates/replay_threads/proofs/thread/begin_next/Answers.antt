@@ -1,5 +1,6 @@
 use Rattle.std.proofs.Common.{◌∷◌, List, [], map, ap, sym, ◌∙◌, Some, zip, rules}
 use Rattle.syntax.specs.Views.{unit_tree, function_tree}
+use Rattle.class_rules.specs.ClassIds.{number_of}
 use Rattle.semantics.specs.Object.{ObjectValue}
 use Rattle.std.specs.Prelude.{filter_map}
 use Rattle.semantics.specs.Activation.{parameter_variables, named_object, entry_frame}
@@ -17,13 +18,13 @@ pub returns : goal.returns
 returns c =
     let begun = c.in_ok-begin_call.ensures in
     let f = c.in-Some.found.function.now in
-    let class = c.in-Some-2.class in
+    let class = c.in-Some-2.class.number in
     let given = map object_value_view c.arguments.result.now in
     record {
       function = function_tree f;
       found = search rules;
       class = class;
-      its_class = sym c.in_ok-class.ensures ∙ c.in-Some-2.is;
+      its_class = sym c.in_ok-class.ensures ∙ ap number_of c.in-Some-2.is;
       activation = begun.activation;
       is = begun.is;
       tasks = begun.tasks;

@@ -15,7 +15,7 @@ returns-in-Objects c =
     let names = c.args.names.now in
     let values = c.in-Objects.object.values.items in
     c.all_can_hold.ensures
-    ∙ held_alike classes names value_view (ReferenceField c.class_number-class-in-Objects.result) values c.deref-in-Objects.result.now c.deref-in-Objects.ensures.value
+    ∙ held_alike classes names value_view (ReferenceField c.class_number-class-in-Objects.result.number) values c.deref-in-Objects.result.now c.deref-in-Objects.ensures.value
     ∙ ap (λ n. each_can_hold classes names (map (λ v. ReferenceField n) (map value_view values)) (map value_view values)) c.class_number-class-in-Objects.ensures
     ∙ ap (λ (l : Line). each_can_hold classes names (types_of_line classes (line_view l)) (written_values (line_view l))) (sym c.in-Objects.is)
 

@@ -9,4 +9,4 @@ use Rattle.world.proofs.rules.fields_can_hold.Given as goal
 abbrev pub invariant-loop-value : goal.invariant-loop-value
 invariant-loop-value l =
     from_here l.classes l.names value_view l.values l.value-index l.fields
-    ≡ each_can_hold l.classes l.names (layout_types l.classes l.class) (map value_view l.values)
+    ≡ each_can_hold l.classes l.names (layout_types l.classes l.fn.class.number) (map value_view l.values)

@@ -8,4 +8,4 @@ use Rattle.world_lines.proofs.rules.fields_in_range.Given as goal
 abbrev pub invariant-loop-value : goal.invariant-loop-value
 invariant-loop-value l =
     each_in_range (types_of l.fields) (map value_view (drop l.value-index l.values))
-    ≡ each_in_range (layout_types l.classes l.class) (map value_view l.values)
+    ≡ each_in_range (layout_types l.classes l.fn.class.number) (map value_view l.values)

@@ -12,7 +12,7 @@ returns-in_err-field c =
 pub invariant_of-self-2 : goal.invariant_of-self-2
 invariant_of-self-2 c =
     let at = c.first_field.new.position in
-    let next = next_own c.self.inside.classes.now at.class at.place at.below (field_id_view c.in_ok-field.field) c.in_ok-field.ensures.own in
+    let next = next_own c.self.inside.classes.now at.class.number at.place at.below (field_id_view c.in_ok-field.field) c.in_ok-field.ensures.own in
     let many = ap length (sym c.first_field.ensures.rest ∙ next) in
     (omega (arith, c.self.invariant.0, many), omega (arith, c.self.invariant.0, c.self.invariant.1, c.first_field.ensures.place, many))
 
@@ -21,4 +21,4 @@ returns c =
     let at = c.first_field.new.position in
     sym c.self.view_is
     ∙ sym c.first_field.ensures.rest
-    ∙ next_own c.self.inside.classes.now at.class at.place at.below (field_id_view c.in_ok-field.field) c.in_ok-field.ensures.own
+    ∙ next_own c.self.inside.classes.now at.class.number at.place at.below (field_id_view c.in_ok-field.field) c.in_ok-field.ensures.own

@@ -21,7 +21,7 @@ invariant_of-self c =
     let T = c.self.inside.classes in
     let right = ap (λ t. first_broken (λ rule. class_breaks rule t c.args.name.now c.args.superclass.now)) c.self.view_is ∙ c.in_ok-above.ensures.0 in
     subst IsTable (sym c.put_class.ensures)
-    (after_either IsTable (is_ok c.put_class.result) _ T (added-table T c.args.name.now c.args.superclass.now c.in_ok-above.above c.requires right c.self.invariant) c.self.invariant)
+    (after_either IsTable (is_ok c.put_class.result) _ T (added-table T c.args.name.now c.args.superclass.now c.in_ok-above.above.number c.requires right c.self.invariant) c.self.invariant)
 
 pub returns-clause-grown : goal.returns-clause-grown
 returns-clause-grown c = λ g.
@@ -30,4 +30,4 @@ returns-clause-grown c = λ g.
     let above = ap (λ t. class_named t c.args.superclass.now) c.self.view_is ∙ c.in_ok-above.ensures.1 in
     let before = subst IsGrown (sym c.self.view_is) g in
     subst IsGrown (sym c.put_class.ensures)
-    (after_either IsGrown (is_ok c.put_class.result) _ T (grown-added T c.args.name.now c.args.superclass.now c.in_ok-above.above right above before) before)
+    (after_either IsGrown (is_ok c.put_class.result) _ T (grown-added T c.args.name.now c.args.superclass.now c.in_ok-above.above.number right above before) before)

@@ -5,5 +5,5 @@ use Rattle.classes.proofs.table.ClassTable.entry.Goals as goal
 
 pub returns : goal.returns
 returns c =
-    let some : 0 < c.args.class = omega arith in
-    c.get.ensures ∙ sym (class_at-place c.self.inside.classes c.args.class some) ∙ ap (λ t. class_at t c.args.class) c.self.view_is
+    let some : 0 < c.args.class.number = omega arith in
+    c.get.ensures ∙ sym (class_at-place c.self.inside.classes c.args.class.number some) ∙ ap (λ t. class_at t c.args.class.number) c.self.view_is

@@ -6,6 +6,6 @@ use Rattle.classes.proofs.table.ClassTable.layout_field.Given as goal
 abbrev pub invariant-loop : goal.invariant-loop
 invariant-loop l = record {
   within : l.place < l.count;
-  counted : l.count ≡ length (layout_within (l.end - l.counter) l.self l.declarer);
-  same : slice_get (layout_within (l.end - l.counter) l.self l.declarer) l.place ≡ slice_get (layout l.self l.class) l.place;
+  counted : l.count ≡ length (layout_within (l.end - l.counter) l.self l.declarer.number);
+  same : slice_get (layout_within (l.end - l.counter) l.self l.declarer.number) l.place ≡ slice_get (layout l.self l.fn.class.number) l.place;
 }

@@ -8,16 +8,16 @@ pub overflow_add-count : goal.overflow_add-count
 overflow_add-count c =
     let T = c.args.self.now in
     let left : c.len-end.result - c.loop.counter ≡ (c.len-end.result - (c.loop.counter + 1)) + 1 = omega arith in
-    omega (arith, c.loop.invariant, layout-small T (subst IsTable c.self.view_is c.self.invariant) c.args.class, own-length T c.loop.ancestor c.declared.result.now c.declared.ensures, own-within T (c.len-end.result - c.loop.counter) (c.len-end.result - (c.loop.counter + 1)) c.loop.ancestor left)
+    omega (arith, c.loop.invariant, layout-small T (subst IsTable c.self.view_is c.self.invariant) c.args.class.number, own-length T c.loop.ancestor.number c.declared.result.now c.declared.ensures, own-within T (c.len-end.result - c.loop.counter) (c.len-end.result - (c.loop.counter + 1)) c.loop.ancestor.number left)
 
 pub returns-in-None-clause-len : goal.returns-in-None-clause-len
 returns-in-None-clause-len c =
     let T = c.args.self.now in
     let left : c.len-end.result - c.loop.counter ≡ (c.len-end.result - (c.loop.counter + 1)) + 1 = omega arith in
-    omega (arith, c.loop.invariant, own-length T c.loop.ancestor c.declared.result.now c.declared.ensures, ap length (layout-top T c.loop.ancestor (c.len-end.result - c.loop.counter) (c.len-end.result - (c.loop.counter + 1)) left (sym c.in-None.ensures)))
+    omega (arith, c.loop.invariant, own-length T c.loop.ancestor.number c.declared.result.now c.declared.ensures, ap length (layout-top T c.loop.ancestor.number (c.len-end.result - c.loop.counter) (c.len-end.result - (c.loop.counter + 1)) left (sym c.in-None.ensures)))
 
 pub returns-in-None-clause-small : goal.returns-in-None-clause-small
-returns-in-None-clause-small c = omega (arith, returns-in-None-clause-len c, layout-small c.args.self.now (subst IsTable c.self.view_is c.self.invariant) c.args.class)
+returns-in-None-clause-small c = omega (arith, returns-in-None-clause-len c, layout-small c.args.self.now (subst IsTable c.self.view_is c.self.invariant) c.args.class.number)
 
 pub loop-preserved : goal.loop-preserved
 loop-preserved c =
@@ -26,10 +26,10 @@ loop-preserved c =
     omega (
       arith,
       c.loop.invariant,
-      own-length T c.loop.ancestor c.declared.result.now c.declared.ensures,
-      length-append (layout_within (c.len-end.result - (c.loop.counter + 1)) T c.in-Some.above) (own_fields T c.loop.ancestor),
-      ap length (layout-above T c.loop.ancestor (c.len-end.result - c.loop.counter) (c.len-end.result - (c.loop.counter + 1)) c.in-Some.above left (sym c.in-Some.ensures)),
+      own-length T c.loop.ancestor.number c.declared.result.now c.declared.ensures,
+      length-append (layout_within (c.len-end.result - (c.loop.counter + 1)) T c.in-Some.above.number) (own_fields T c.loop.ancestor.number),
+      ap length (layout-above T c.loop.ancestor.number (c.len-end.result - c.loop.counter) (c.len-end.result - (c.loop.counter + 1)) c.in-Some.above.number left (sym c.in-Some.ensures)),
     )
 
 pub returns-clause-small : goal.returns-clause-small
-returns-clause-small c = omega (arith, c.loop.invariant, layout-small c.args.self.now (subst IsTable c.self.view_is c.self.invariant) c.args.class)
+returns-clause-small c = omega (arith, c.loop.invariant, layout-small c.args.self.now (subst IsTable c.self.view_is c.self.invariant) c.args.class.number)

@@ -3,4 +3,4 @@ use Rattle.classes.proofs.FoundFields.{identified}
 use Rattle.classes.proofs.table.ClassTable.own_statics.Goals as goal
 
 pub returns : goal.returns
-returns c = ap (map (identified true c.args.class)) c.declared.ensures
+returns c = ap (map (identified true c.args.class.number)) c.declared.ensures

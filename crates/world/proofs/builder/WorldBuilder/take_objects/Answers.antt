@@ -8,6 +8,9 @@ use Rattle.world.specs.GatheredViews.{gathered_of}
 use Rattle.world_lines.specs.LineViews.{value_view}
 use Rattle.world_values.specs.WorldLines.{ObjectsLine}
 use Rattle.world_values.specs.WorldRules.{value_in_range}
+use Rattle.class_rules.specs.declared.class_id.ClassId.{ClassId}
+use Rattle.class_rules.specs.ClassIds.{class_id}
+use Rattle.class_rules.proofs.ClassIds.{number_or}
 use Rattle.world.proofs.KeptRules.{keeps, all_in_jint}
 use Rattle.world.proofs.builder.WorldBuilder.take_objects.Goals as goal
 
@@ -26,6 +29,6 @@ pub returns : goal.returns
 returns c =
     let g = gathered_of c.args.self.now in
     let held = map (value_at g.classes g.names) in
-    let class = c.unwrap_or-class.ensures ∙ ap (λ (o : Option ℕ). unwrap_or o 0) c.in_ok-find_array_of.ensures in
+    let class = ap (λ (k : ClassId). k.number) c.unwrap_or-class.ensures ∙ number_or c.in_ok-find_array_of.field-0 (class_id 0) ∙ ap (λ (o : Option ℕ). unwrap_or o 0) c.in_ok-find_array_of.ensures in
     subst (λ (k : ℕ). OnOk c.put_values.result (gathered_of c.put_values.new.self ≡ with_object g c.args.object.now.name.now k (held (map value_view c.args.object.now.values.items)))) class
-    (subst (λ (values : List Value). OnOk c.put_values.result (gathered_of c.put_values.new.self ≡ with_object g c.args.object.now.name.now c.unwrap_or-class.result (held (map value_view values)))) c.deref.ensures.value c.put_values.ensures)
+    (subst (λ (values : List Value). OnOk c.put_values.result (gathered_of c.put_values.new.self ≡ with_object g c.args.object.now.name.now c.unwrap_or-class.result.number (held (map value_view values)))) c.deref.ensures.value c.put_values.ensures)
