@@ -1,11 +1,12 @@
 //! The rules at a statement.
 
-ghost use Rattle.std.specs.Prelude.{◌≡◌, ℕ, [], ◌∷◌, not, ◌&&◌, ◌||◌, Some};
+ghost use Rattle.std.specs.Prelude.{◌≡◌, ℕ, List, [], ◌∷◌, not, ◌&&◌, ◌||◌, Some};
 ghost use Rattle.std.specs.List.{list_all};
 ghost use Rattle.std.specs.Option.{option_map};
 ghost use Rattle.base.specs.Options.{some_passes};
 ghost use Rattle.syntax.specs.Parts.{own_call, call_of_right_side, assigned_name, call_expressions};
-ghost use Rattle.syntax.specs.Tree.{Void};
+ghost use Rattle.base.specs.Bytes.{Identifier};
+ghost use Rattle.syntax.specs.Tree.{ResultType as ReturnType, Void};
 ghost use Rattle.syntax.specs.Views.{expr_tree, right_side_tree, test_tree, form_tree, stmt_tree, result_tree};
 ghost use Rattle.jni.specs.JniFunction.{function_named};
 ghost use Rattle.jni.specs.Table.{function_value};
@@ -91,12 +92,12 @@ fn assigns_unknown(known: &Known<'_, Sort>, form: &Form) -> bool
     }
 }
 
-/// Whether some name that a statement uses or sets is not known. A statement that fits and calls nothing has sorts for all of
-/// them, so it isn't looked at again.
+/// Whether some name that a statement uses or sets is not known. A statement that fits and calls nothing has sorts for
+/// all of them, so it isn't looked at again.
 #[tactic(auto, using(crate::proofs::StatementLemmas::unknown_names, crate::proofs::KnownLemmas::none_unknown))]
-fn names_unknown(known: &Known<'_, Sort>, returns: ResultType, form: &Form, misfits: bool) -> bool
-    requires { (line : ℕ) → misfits ≡ breaks_sort_rule SortMisfit (scope_of known.now) [] (result_tree returns)
-        (form_tree line form.now) }
+fn names_unknown(known: &Known<'_, Sort>, form: &Form, misfits: bool) -> bool
+    requires { (returns : ReturnType) × ((line : ℕ) → misfits ≡ breaks_sort_rule SortMisfit (scope_of known.now) []
+        returns (form_tree line form.now)) }
     ensures { (line : ℕ) → result ≡ breaks_sort_rule UnknownName (scope_of known.now) [] Void
         (form_tree line form.now) }
 {
@@ -248,7 +249,8 @@ fn call_misfits(known: &Known<'_, Sort>, form: &Form, function: Option<JniFuncti
     }
 }
 
-/// Whether a statement does not fit. Where it fits, each of its expressions beside a call's arguments is bare or has a sort.
+/// Whether a statement does not fit. Where it fits, each of its expressions beside a call's arguments is bare or has a
+/// sort.
 fn misfits(
     known: &Known<'_, Sort>,
     returns: ResultType,
@@ -333,15 +335,13 @@ fn writes_read_only(known: &Known<'_, Sort>, form: &Form) -> bool
 #[tactic(auto, using(crate::proofs::FindsLemmas::finds_rules))]
 fn check_uses(
     known: &Known<'_, Sort>,
-    taken: &[Name],
-    returns: ResultType,
     form: &Form,
     function: Option<JniFunction>,
     line: usize,
 ) -> Result<(), TypeError>
     requires { (line : ℕ) → option_map function_value function ≡ function_in (own_call (form_tree line form.now)) }
-    ensures { Finds result (refused_of (result_tree returns) (scope_of known.now) taken.now
-        (form_tree line form.now) line (ReferenceCopied ∷ BadMode ∷ ReadOnlyWrite ∷ [])) }
+    ensures { (returns : ReturnType) (taken : List Identifier) → Finds result (refused_of returns (scope_of known.now)
+        taken (form_tree line form.now) line (ReferenceCopied ∷ BadMode ∷ ReadOnlyWrite ∷ [])) }
 {
     refuse_if(
         copies_reference(known, form),
@@ -356,15 +356,13 @@ fn check_uses(
 #[tactic(auto, using(crate::proofs::FindsLemmas::finds_rules))]
 fn check_call(
     known: &Known<'_, Sort>,
-    taken: &[Name],
-    returns: ResultType,
     form: &Form,
     function: Option<JniFunction>,
     line: usize,
 ) -> Result<(), TypeError>
     requires { (line : ℕ) → option_map function_value function ≡ function_in (own_call (form_tree line form.now)) }
-    ensures { Finds result (refused_of (result_tree returns) (scope_of known.now) taken.now
-        (form_tree line form.now) line
+    ensures { (returns : ReturnType) (taken : List Identifier) → Finds result (refused_of returns (scope_of known.now)
+        taken (form_tree line form.now) line
         (UnknownFunction ∷ ArgumentCount ∷ ReferenceCopied ∷ BadMode ∷ ReadOnlyWrite ∷ [])) }
 {
     refuse_if(
@@ -373,7 +371,7 @@ fn check_call(
         line,
     )?;
     refuse_if(miscounts(form, function), SortRule::ArgumentCount, line)?;
-    check_uses(known, taken, returns, form, function, line)
+    check_uses(known, form, function, line)
 }
 
 /// The first rule that a statement on this line breaks, without the blocks inside it. All rules are judged, in the
@@ -392,13 +390,13 @@ fn judge_form(
     let function = function_called(form);
     let misfits = misfits(known, returns, form, function);
     refuse_if(
-        names_unknown(known, returns, form, misfits),
+        names_unknown(known, form, misfits),
         SortRule::UnknownName,
         line,
     )?;
     refuse_if(declares_taken(taken, form), SortRule::DeclaredTwice, line)?;
     refuse_if(misfits, SortRule::SortMisfit, line)?;
-    check_call(known, taken, returns, form, function, line)
+    check_call(known, form, function, line)
 }
 
 /// A fault of a statement, with what is told of it.
