@@ -1,5 +1,5 @@
 -- The report of the state that a machine's journal leads to.
-use Rattle.std.proofs.Common.{append_assoc, ⊎_elim, ◌≡◌, ℕ, suc, Bool, List, [], ◌∷◌, ◌++◌, length, map, Option, Some, None, Result, refl, sym, ap, ◌∙◌, subst, arith}
+use Rattle.std.proofs.Common.{append_assoc, ⊎_elim, ◌≡◌, ℕ, suc, Bool, List, [], ◌∷◌, ◌++◌, length, map, Option, Some, None, Result, refl, sym, ap, ◌∙◌, subst, arith, unwrap_or}
 use Rattle.std.specs.Prelude.{flat_map, is_some, ◌||◌}
 use Rattle.std.specs.List.{AllZip}
 use Rattle.std.specs.Option.{option_map, option_map_or}
@@ -49,7 +49,8 @@ use Rattle.machine.specs.Run as run
 use Rattle.semantics.specs.Run.{MarkedAreFair, UnmarkedFit}
 use Rattle.machine_scenes.specs.declared.store.Store.{Store}
 use Rattle.machine.specs.Run.{Run, Corresponds, WritesRun, AllRest, AreShown, ShowsObjects, ShowsStandings, IsFinished, standings_in}
-use Rattle.machine_collections.specs.Roots.{AreAddresses, name_of, pinned_names, root_places, ThreadsAreStacked}
+use Rattle.machine_collections.specs.Roots.{AreAddresses, pinned_names, root_places, ThreadsAreStacked}
+use Rattle.machine_scenes.specs.Given.{object_there}
 use Rattle.std.specs.Prelude.{Contains}
 use Rattle.compact.proofs.Blocks.{Contains-from_get}
 use Rattle.machine_scenes.proofs.BlocksOfNames.{is_address}
@@ -187,7 +188,7 @@ module _ (p : Lowered) (world : World) (store : Store) (ts : List Thread) (print
 
   -- the names of the objects at those addresses, and of those whose blocks are pinned
   abbrev gathered_names : List ℕ
-  gathered_names = map (name_of store.heap) (references_in (root_places store ts))
+  gathered_names = map (object_there store.heap) (references_in (root_places store ts))
 
   abbrev report_names : List ℕ
   report_names = gathered_names ++ pinned_names store.heap.blocks
@@ -197,18 +198,18 @@ module _ (p : Lowered) (world : World) (store : Store) (ts : List Thread) (print
   root_told m k = ⊎_elim
       (λ (l : In source_roots m).
       let r = name_gathered m l in
-      let named : name_of store.heap r.0 ≡ m = ap (λ (o : Option ℕ). option_map_or (λ (x : ℕ). x) o 0) r.1 in
+      let named : object_there store.heap r.0 ≡ m = ap (λ (o : Option ℕ). unwrap_or o 0) r.1 in
       in_append_left gathered_names (pinned_names store.heap.blocks) m
-      (subst (λ (x : ℕ). In gathered_names x) named (in_map (name_of store.heap) (references_in (root_places store ts)) r.0 (place_in (root_places store ts) r.0 r.2))))
+      (subst (λ (x : ℕ). In gathered_names x) named (in_map (object_there store.heap) (references_in (root_places store ts)) r.0 (place_in (root_places store ts) r.0 r.2))))
       (λ (l : In (views c.state) m). in_append_right gathered_names (pinned_names store.heap.blocks) m (view_held m l))
       (in_append_cases source_roots (views c.state) m (root_among m k))
 
   told_root : ThreadsAreStacked ts → (m : ℕ) → In report_names m → Contains (roots world c.state) m
   told_root stacked m k = ⊎_elim
       (λ (f : In gathered_names m).
-      let back = map_in (name_of store.heap) (references_in (root_places store ts)) m f in
+      let back = map_in (object_there store.heap) (references_in (root_places store ts)) m f in
       let r = gathered_name stacked back.0 (in_place (root_places store ts) back.0 back.1) in
-      let same : r.0 ≡ m = sym (ap (λ (o : Option ℕ). option_map_or (λ (x : ℕ). x) o 0) r.1) ∙ back.2 in
+      let same : r.0 ≡ m = sym (ap (λ (o : Option ℕ). unwrap_or o 0) r.1) ∙ back.2 in
       subst (λ (x : ℕ). Contains (roots world c.state) x) same r.2)
       (λ (f : In (pinned_names store.heap.blocks) m). view_root m (held_view m f))
       (in_append_cases gathered_names (pinned_names store.heap.blocks) m k)
@@ -234,7 +235,7 @@ module _ (p : Lowered) (world : World) (store : Store) (ts : List Thread) (print
 module _ (p : Lowered) (world : World) (store : Store) (ts : List Thread) (printed : List Printed) (stop : Option Stop) (journal : List Entry) (c : Corresponds p world store ts printed stop journal) (now : Run)
     (view : ◌≡◌ {A = Run} (record { unit = p.unit; world = world; journal = journal; left = left_of store.heap }) now) where
   -- the names of the tables lead to what is shown
-  pub are_shown : (objects : Heap) (names : List ℕ) → AreSeen store.heap c.state.shared.heap objects → names ≡ map (name_of store.heap) (references_in (root_places store ts)) ++ pinned_names store.heap.blocks → ThreadsAreStacked ts → AreShown now objects names
+  pub are_shown : (objects : Heap) (names : List ℕ) → AreSeen store.heap c.state.shared.heap objects → names ≡ map (object_there store.heap) (references_in (root_places store ts)) ++ pinned_names store.heap.blocks → ThreadsAreStacked ts → AreShown now objects names
   are_shown objects names h n stacked =
       subst (λ (r : Run). AreShown r objects names) view
       (λ rows told. (c.state, c.replays, rows_are p world store ts printed stop journal c world.classes objects (length (loaded_objects world)) names rows refl h (sym c.store_agrees.table.counted) n stacked told))

@@ -8,7 +8,7 @@ ghost use Rattle.machine.specs.Rows.{AreSeen};
 
 use class_rules::{ClassId, NO_CLASS};
 use heap::{Addr, Heap, Value};
-use machine_scenes::operands::class_there;
+use machine_scenes::operands::{class_there, object_there};
 use report_objects::Objects;
 use semantics::ObjectId;
 use std::alloc::{AllocError, Global};
@@ -62,9 +62,7 @@ impl<'a> Objects for NamedBlocks<'a> {
             Some(addr) => match self.heap.get(addr, index) {
                 Value::Number(word) => ObjectValue::Number(word.cast_signed()),
                 Value::Null => ObjectValue::Reference(None),
-                Value::Block(to) => ObjectValue::Reference(Some(ObjectId {
-                    number: self.heap.birth_of(to) as usize,
-                })),
+                Value::Block(to) => ObjectValue::Reference(Some(object_there(self.heap, to))),
             },
         }
     }

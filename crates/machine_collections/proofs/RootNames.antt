@@ -13,8 +13,8 @@ use Rattle.machine_scenes.specs.declared.activation.Activation.{Activation}
 use Rattle.machine_threads.specs.declared.thread.Thread.{Thread}
 use Rattle.machine_scenes.specs.HeapAgrees.{NamesAgree, ReferenceAgrees, times}
 use Rattle.machine_scenes.specs.Locals.{FrameAgrees, FramesAgree}
-use Rattle.machine_scenes.specs.Given.{ReferenceIsThere}
-use Rattle.machine_collections.specs.Roots.{name_of, reference_names, AreAddresses, CallIsStacked}
+use Rattle.machine_scenes.specs.Given.{object_there, ReferenceIsThere}
+use Rattle.machine_collections.specs.Roots.{reference_names, AreAddresses, CallIsStacked}
 use Rattle.machine_threads.proofs.EntryTables.{references_after}
 
 -- ---- names
@@ -121,10 +121,10 @@ root_there space (Some b ∷ slots) (suc place) r h at a is = root_there space s
 
 -- the names from a place on, that there being the next
 pub root_next : (space : Space) (slots : List (Option ℕ)) (place : ℕ) (r : Option ℕ) → slice_get slots place ≡ Some r
-    → map (name_of space) (references_in (drop place slots)) ≡ reference_names space r ++ map (name_of space) (references_in (drop (place + 1) slots))
+    → map (object_there space) (references_in (drop place slots)) ≡ reference_names space r ++ map (object_there space) (references_in (drop (place + 1) slots))
 root_next space [] place r at = absurd (cc)
-root_next space (None ∷ slots) zero r at = let same : None ≡ r = cc in ap (λ (o : Option ℕ). reference_names space o ++ map (name_of space) (references_in slots)) same
-root_next space (Some b ∷ slots) zero r at = let same : Some b ≡ r = cc in ap (λ (o : Option ℕ). reference_names space o ++ map (name_of space) (references_in slots)) same
+root_next space (None ∷ slots) zero r at = let same : None ≡ r = cc in ap (λ (o : Option ℕ). reference_names space o ++ map (object_there space) (references_in slots)) same
+root_next space (Some b ∷ slots) zero r at = let same : Some b ≡ r = cc in ap (λ (o : Option ℕ). reference_names space o ++ map (object_there space) (references_in slots)) same
 root_next space (s ∷ slots) (suc place) r at = let next : suc place + 1 ≡ suc (place + 1) = omega arith in rw next (root_next space slots place r at)
 
 -- ---- thread by thread

@@ -1,20 +1,17 @@
 -- The roots: what refers to objects from outside of the heap, place by place.
 use Rattle.std.specs.Prelude.{◌≡◌, ℕ, List, [], ◌∷◌, ◌++◌, flat_map, map, Option, Some, None, slice_get, nat_lt, if◌then◌else◌}
-use Rattle.std.specs.Option.{option_map, option_map_or, option_to_list}
-use Rattle.heap.specs.Heap.{Block, Space, IsAddress, name_at}
+use Rattle.std.specs.Option.{option_map, option_to_list}
+use Rattle.heap.specs.Heap.{Block, Space, IsAddress}
 use Rattle.machine_threads.specs.declared.thread.Thread.{Thread}
 use Rattle.tables.specs.Locals.{AreStacked}
 use Rattle.monitors.specs.Monitors.{addresses}
 use Rattle.machine_scenes.specs.declared.activation.Activation.{Activation}
 use Rattle.machine_scenes.specs.declared.store.Store.{Store}
-
--- the name of the object at an address
-abbrev pub name_of : Space → ℕ → ℕ
-name_of space a = option_map_or (λ (n : ℕ). n) (name_at space a) 0
+use Rattle.machine_scenes.specs.Given.{object_there}
 
 -- the name of a reference's object, and none for NULL
 abbrev pub reference_names : Space → Option ℕ → List ℕ
-reference_names space reference = option_to_list (option_map (name_of space) reference)
+reference_names space reference = option_to_list (option_map (object_there space) reference)
 
 -- the objects made at load
 abbrev pub loaded_places : List ℕ → List (Option ℕ)

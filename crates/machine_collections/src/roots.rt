@@ -12,12 +12,13 @@ ghost use Rattle.tables.specs.References.{references_in};
 ghost use Rattle.monitors.specs.Monitors.{addresses};
 ghost use Rattle.semantics.specs.Views.{names_of};
 ghost use Rattle.machine_collections.specs.Moving.{AreMoved, AreMovedAt, moved_call, moved_locals, moved_monitors, moved_slots, moved_thread};
-ghost use Rattle.machine_scenes.specs.Given.{ReferenceIsThere};
-ghost use Rattle.machine_collections.specs.Roots.{AreAddresses, CallIsStacked, ThreadsAreStacked, loaded_places, name_of, pinned_names, reference_names, root_places, slots_of, thread_places};
+ghost use Rattle.machine_scenes.specs.Given.{object_there, ReferenceIsThere};
+ghost use Rattle.machine_collections.specs.Roots.{AreAddresses, CallIsStacked, ThreadsAreStacked, loaded_places, pinned_names, reference_names, root_places, slots_of, thread_places};
 
 use compact::Roots;
 use heap::{Addr, Heap};
 use machine_scenes::activation::Activation;
+use machine_scenes::operands::object_there;
 use machine_scenes::store::Store;
 use machine_threads::thread::Thread;
 use monitors::Monitors;
@@ -82,7 +83,7 @@ pub fn root_names(
     roots: &RootPlaces,
 ) -> Result<Vec<ObjectId>, AllocError>
     requires { AreAddresses heap.now (references_in roots.now.places.items) }
-    ensures { IfOk result (λ names. names_of names.items ≡ map (name_of heap.now) (references_in roots.now.places.items)) }
+    ensures { IfOk result (λ names. names_of names.items ≡ map (object_there heap.now) (references_in roots.now.places.items)) }
 {
     let mut names = Vec::new(alloc);
     for place in 0..roots.len() {
@@ -98,8 +99,7 @@ pub fn push_viewed(names: &mut Vec<ObjectId>, heap: &Heap) -> Result<(), AllocEr
     for place in 0..heap.count() {
         let viewed = heap.address(place);
         if heap.pins(viewed) > 0 {
-            let number = heap.birth_of(viewed) as usize;
-            names.push(ObjectId { number })?;
+            names.push(object_there(heap, viewed))?;
         }
     }
     Ok(())
@@ -117,8 +117,7 @@ fn push_name(
     match reference {
         None => Ok(()),
         Some(addr) => {
-            let number = heap.birth_of(addr) as usize;
-            names.push(ObjectId { number })?;
+            names.push(object_there(heap, addr))?;
             Ok(())
         }
     }

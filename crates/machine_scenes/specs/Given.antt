@@ -126,10 +126,14 @@ abbrev pub class_of_given : Space → Option ℕ → ℕ
 class_of_given space None = 0
 class_of_given space (Some a) = class_there space a
 
--- the name of the object at an address, and 0 for NULL
+-- the name of the object at an address, and 0 where there is none
+abbrev pub object_there : Space → ℕ → ℕ
+object_there space a = unwrap_or (name_at space a) 0
+
+-- the same, and 0 for NULL
 abbrev pub name_there : Space → Option ℕ → ℕ
 name_there space None = 0
-name_there space (Some a) = unwrap_or (name_at space a) 0
+name_there space (Some a) = object_there space a
 
 -- NULL fits every class
 abbrev pub fits_there : Classes → Space → Option ℕ → (class : ℕ) → Bool

@@ -4,7 +4,7 @@ ghost use Rattle.std.specs.Prelude.{◌≡◌};
 ghost use Rattle.class_rules.specs.Class.{Classes};
 ghost use Rattle.base.specs.Element.{element_value};
 ghost use Rattle.classes.specs.Views.{field_type_view};
-ghost use Rattle.heap.specs.Heap.{Space, IsAddress};
+ghost use Rattle.heap.specs.Heap.{Space, IsAddress, name_at};
 ghost use Rattle.machine_scenes.specs.Given.{operand_at, key_at, field_at, operand_of, class_of_given, class_there, name_there, fits_there, field_there, AreAddresses, AreHandles, FieldIsThere, ReferenceIsThere};
 
 use crate::references::{Held, References};
@@ -98,15 +98,23 @@ pub fn class_of_given(heap: &Heap, reference: Option<Addr>) -> ClassId
     }
 }
 
+/// The object at an address.
+pub fn object_there(heap: &Heap, addr: Addr) -> ObjectId
+    requires { IsAddress heap.now addr }
+    ensures { name_at heap.now addr ≡ Some result.number }
+{
+    ObjectId {
+        number: heap.birth_of(addr) as usize,
+    }
+}
+
 /// The id of an object, and the number 0 for NULL.
 pub fn name_there(heap: &Heap, reference: Option<Addr>) -> ObjectId
     requires { ReferenceIsThere heap.now reference }
     ensures { result.number ≡ name_there heap.now reference }
 {
     match reference {
-        Some(addr) => ObjectId {
-            number: heap.birth_of(addr) as usize,
-        },
+        Some(addr) => object_there(heap, addr),
         None => ObjectId { number: 0 },
     }
 }

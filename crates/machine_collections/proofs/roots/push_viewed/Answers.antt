@@ -23,13 +23,13 @@ loop-place-preserved c =
     let next = pinned_next bs i b.0 b.1 in
     elim c.if-pins-gt0.branch [
       | then-pins-gt0+in_ok-push w ↦
-          let birth : b.0.birth ≡ w.birth_of-number.result = let both : Some b.0.birth ≡ Some w.birth_of-number.result = sym (ap (option_map (λ (x : Block). x.birth)) at) ∙ w.birth_of-number.ensures in cc in
+          let birth : b.0.birth ≡ w.object_there.result.number = let both : Some b.0.birth ≡ Some w.object_there.result.number = sym (ap (option_map (λ (x : Block). x.birth)) at) ∙ w.object_there.ensures in cc in
           let test : nat_lt 0 b.0.pins ≡ true = lt-ltb 0 b.0.pins (omega (arith, pins, w.if-pins-gt0.true)) in
-          let now : pinned_names (drop i bs) ≡ w.birth_of-number.result ∷ further = next ∙ ap (λ (t : Bool). if t then b.0.birth ∷ further else further) test ∙ ap (λ (n : ℕ). n ∷ further) birth in
+          let now : pinned_names (drop i bs) ≡ w.object_there.result.number ∷ further = next ∙ ap (λ (t : Bool). if t then b.0.birth ∷ further else further) test ∙ ap (λ (n : ℕ). n ∷ further) birth in
           ap (λ v. names_of v.items ++ further) w.names-is
           ∙ ap (λ (l : List ObjectId). names_of l ++ further) w.in_ok-push.ensures.items
           ∙ ap (λ (l : List ℕ). l ++ further) (map-append (λ (o : ObjectId). o.number) c.loop-place.names.items _)
-          ∙ append_assoc names (w.birth_of-number.result ∷ []) further
+          ∙ append_assoc names (w.object_there.result.number ∷ []) further
           ∙ ap (λ (l : List ℕ). names ++ l) (sym now)
           ∙ c.loop-place.invariant
       | else-pins-gt0 w ↦

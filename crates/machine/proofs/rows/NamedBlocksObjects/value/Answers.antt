@@ -14,8 +14,8 @@ get-requires c =
     let count = count_here c.self.inside.heap.now c.self.inside.addresses.items c.args.self.now c.args.name.number c.in-Some.addr at in
     omega (arith, count, c.requires.index)
 
-pub birth_of-requires : goal.birth_of-requires
-birth_of-requires c =
+pub object_there-requires : goal.object_there-requires
+object_there-requires c =
     let at = is_at c.self.inside.heap.now c.self.inside.addresses.items c.args.self.now c.args.name.number c.index.result.now _ c.self.view_is c.requires.name c.index.ensures c.in-Some.is in
     there_at c.self.inside.heap.now (values_at c.self.inside.heap.now c.in-Some.addr) c.args.index (Address c.in-Block.to) (c.self.invariant _ _ at.place).1 c.in-Block.ensures
 
@@ -35,7 +35,7 @@ pub returns-in-Block : goal.returns-in-Block
 returns-in-Block c =
     let at = is_at c.self.inside.heap.now c.self.inside.addresses.items c.args.self.now c.args.name.number c.index.result.now _ c.self.view_is c.requires.name c.index.ensures c.in-Some.is in
     value_here c.self.inside.heap.now c.self.inside.addresses.items c.args.self.now c.args.name.number c.in-Some.addr at c.args.index (Address c.in-Block.to) c.in-Block.ensures
-    ∙ ap (λ (r : Option ℕ). Some (Refers r)) c.birth_of.ensures
+    ∙ ap (λ (r : Option ℕ). Some (Refers r)) c.object_there.ensures
 
 -- an object without a block has no value
 pub unreachable-requires : goal.unreachable-requires
