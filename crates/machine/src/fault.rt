@@ -2,6 +2,7 @@
 
 ghost use Rattle.std.specs.Prelude.{◌≡◌};
 ghost use Rattle.machine.specs.declared.fault.ReportFault.TheVariants as reporting;
+ghost use Rattle.machine.specs.declared.fault.RunFault.TheVariants as running;
 
 use std::alloc::AllocError;
 use thiserror::Error;
@@ -15,6 +16,14 @@ pub enum RunFault {
     /// Host memory was refused.
     #[error("out of memory")]
     Memory,
+}
+
+impl From<AllocError> for RunFault {
+    ghost from_gives = { λ _ e. e ≡ running.Memory };
+
+    fn from(_e: AllocError) -> RunFault {
+        RunFault::Memory
+    }
 }
 
 /// Why a report was not written to its end.

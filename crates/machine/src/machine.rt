@@ -236,12 +236,9 @@ impl<'a> Machine<'a> {
         ensures err { IfErr result (λ fault. (self.new ≡ self.old) × EndsAt self.old fault (ScheduleWord.Turn k)) }
         ensures runs { IsSome (replay_of self.new) }
     {
-        match self.step(k) {
-            Err(_) => Err(RunFault::Memory),
-            Ok(turn) => match turn {
-                Turn::Full => Err(RunFault::Full),
-                _ => Ok(()),
-            },
+        match self.step(k)? {
+            Turn::Full => Err(RunFault::Full),
+            _ => Ok(()),
         }
     }
 
@@ -257,10 +254,7 @@ impl<'a> Machine<'a> {
         if times == 0 {
             return Ok(());
         }
-        match self.collect() {
-            Ok(()) => Ok(()),
-            Err(_) => Err(RunFault::Memory),
-        }
+        Ok(self.collect()?)
     }
 
     /// Takes a word this many times.
@@ -404,16 +398,10 @@ impl<'a> Machine<'a> {
         ensures run { ReportsRun self.now (S.written sink.old) (S.written sink.new) result }
         ensures none_waits { OnOk result ((S.written sink.new).waiting ≡ 0) }
     {
-        match self.shown(alloc) {
-            Ok((objects, names)) => {
-                let loaded = self.store.loaded.len();
-                match reached_rows(alloc, self.world.classes(), &objects, loaded, &names) {
-                    Ok(rows) => self.write_rows(&rows, sink),
-                    Err(_) => Err(ReportFault::Memory),
-                }
-            }
-            Err(_) => Err(ReportFault::Memory),
-        }
+        let (objects, names) = self.shown(alloc)?;
+        let loaded = self.store.loaded.len();
+        let rows = reached_rows(alloc, self.world.classes(), &objects, loaded, &names)?;
+        self.write_rows(&rows, sink)
     }
 
     /// The objects by their names, and the names of those that references lead to.

@@ -64,10 +64,10 @@ pub fn advance(
     ensures thread { OnErr result (thread.new ≡ thread.old) }
 {
     match &mut thread.call {
-        None => match enter(program, &store.loaded, thread) {
-            Ok(()) => Ok(Advanced::Did(Event::Quiet)),
-            Err(_) => Err(StepFault::Memory),
-        },
+        None => {
+            enter(program, &store.loaded, thread)?;
+            Ok(Advanced::Did(Event::Quiet))
+        }
         Some(activation) => match execute(
             program,
             world,

@@ -65,10 +65,8 @@ pub fn invoke(
 {
     match unchecked_answer(world, store, *pending, activation, call, thread) {
         Some(answer) => {
-            match finish_monitor(world, store, pending, activation, call, thread, answer) {
-                Ok(()) => Ok(Invoked::Done),
-                Err(_) => Err(StepFault::Memory),
-            }
+            finish_monitor(world, store, pending, activation, call, thread, answer)?;
+            Ok(Invoked::Done)
         }
         None => invoke_checked(world, store, pending, activation, call, thread, may_refuse),
     }
@@ -127,10 +125,7 @@ fn invoke_checked(
                 &answer,
                 may_refuse,
             ) {
-                match finish(world, store, pending, activation, call, thread, answer) {
-                    Ok(invoked) => Ok(invoked),
-                    Err(_) => Err(StepFault::Memory),
-                }
+                Ok(finish(world, store, pending, activation, call, thread, answer)?)
             } else {
                 Err(StepFault::NoRoom)
             }

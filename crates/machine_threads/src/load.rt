@@ -38,10 +38,8 @@ pub fn load_threads(
     ensures all { OnOk result (all_refused (unit_tree program.now.unit) world.now ≡ []) }
     ensures refused { IfErr result (IsFirstOf (all_refused (unit_tree program.now.unit) world.now)) }
 {
-    match Functions::of(alloc, program.items()) {
-        Ok(functions) => load_all(alloc, program, &functions, world),
-        Err(_) => Err(LoadFault::Memory),
-    }
+    let functions = Functions::of(alloc, program.items())?;
+    load_all(alloc, program, &functions, world)
 }
 
 /// The world's threads before their first calls, by the unit's functions.
@@ -85,10 +83,9 @@ fn load_thread(
 {
     let mut nexts = VecDeque::new(alloc);
     for call in calls {
-        match load_call(alloc, program, functions, world, call) {
-            Ok(Some(next)) => nexts.push_back(next)?,
-            Ok(None) => return Err(LoadFault::DoesNotFit(call.line())),
-            Err(_) => return Err(LoadFault::Memory),
+        match load_call(alloc, program, functions, world, call)? {
+            Some(next) => nexts.push_back(next)?,
+            None => return Err(LoadFault::DoesNotFit(call.line())),
         }
     }
     Ok(Thread {

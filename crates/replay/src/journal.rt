@@ -38,10 +38,8 @@ fn follow<'a>(
     ensures refused { IfErr result (IsRefusedFrom (unit_tree functions.now) state.old journal.now) }
 {
     for (done, entry) in journal.iter().enumerate() {
-        match take_entry(alloc, functions, state, *entry) {
-            Ok(true) => {}
-            Ok(false) => return Err(ReplayError::Impossible(done + 1)),
-            Err(_) => return Err(ReplayError::Memory),
+        if !take_entry(alloc, functions, state, *entry)? {
+            return Err(ReplayError::Impossible(done + 1));
         }
     }
     Ok(())
@@ -74,10 +72,7 @@ fn write_rows<W: Sink>(
     requires rows { ShowsRows state.now rows.now }
     ensures { WritesState state.now journal.now (W.written out.old) (W.written out.new) result }
 {
-    let standings = match standings_of(alloc, state) {
-        Ok(standings) => standings,
-        Err(_) => return Err(ReplayError::Memory),
-    };
+    let standings = standings_of(alloc, state)?;
     match write_run(out, &state.printed, &standings, rows, journal) {
         Ok(()) => Ok(()),
         Err(_) => Err(ReplayError::Writer),
@@ -94,10 +89,8 @@ fn write_report<W: Sink>(
     requires { CanFail (W.written out.old) }
     ensures { WritesState state.now journal.now (W.written out.old) (W.written out.new) result }
 {
-    match rows_of(alloc, state) {
-        Ok(rows) => write_rows(alloc, state, &rows, journal, out),
-        Err(_) => Err(ReplayError::Memory),
-    }
+    let rows = rows_of(alloc, state)?;
+    write_rows(alloc, state, &rows, journal, out)
 }
 
 /// The trap's number and line.
@@ -171,8 +164,6 @@ pub fn replay<W: Sink>(
     // Faults 82 and 91 are answered only where they must be.
     ensures only { IsReplayable (unit_tree checked.now) world.now journal.now → IfErr result IsFromOutside }
 {
-    match Functions::of(alloc, checked.items()) {
-        Ok(functions) => replay_with(alloc, &functions, world, journal, out),
-        Err(_) => Err(ReplayError::Memory),
-    }
+    let functions = Functions::of(alloc, checked.items())?;
+    replay_with(alloc, &functions, world, journal, out)
 }

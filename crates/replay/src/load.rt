@@ -180,13 +180,8 @@ pub(crate) fn start<'a>(
     ensures fits { IfOk result (λ _. first_load_fault (unit_tree functions.now) world.now ≡ None) }
     ensures fault { IfErr result (IsLoadFault (unit_tree functions.now) world.now) }
 {
-    match first_fault(alloc, functions, world) {
-        Ok(None) => {}
-        Ok(Some(line)) => return Err(ReplayError::DoesNotFit(line)),
-        Err(_) => return Err(ReplayError::Memory),
+    if let Some(line) = first_fault(alloc, functions, world)? {
+        return Err(ReplayError::DoesNotFit(line));
     }
-    match begun(alloc, functions, world) {
-        Ok(state) => Ok(state),
-        Err(_) => Err(ReplayError::Memory),
-    }
+    Ok(begun(alloc, functions, world)?)
 }

@@ -34,11 +34,11 @@ enter-requires-clause-ready c next rest is =
     let n = coming p classes made next c.args.thread.now.calls.items rest a.3.calls a.5.calls is in
     subst (λ (m : ℕ). IsReady p m next) (sym (ap length c.deref.ensures.value ∙ a.4.table.counted)) (ready_to_begin p classes made next n.call c.requires.lowered n.function)
 
-pub returns-in-Ok-clause-advances : goal.returns-in-Ok-clause-advances
-returns-in-Ok-clause-advances c others own shared s shares h steady free =
-    let e = c.in-Ok.ensures.calls in
+pub returns-in_ok-enter-in-None-clause-advances : goal.returns-in_ok-enter-in-None-clause-advances
+returns-in_ok-enter-in-None-clause-advances c others own shared s shares h steady free =
+    let e = c.in_ok-enter-in-None.ensures.calls in
     let begins = subst (λ (l : List ℕ). Begins c.args.program.now l e.0 e.1) c.deref.ensures.value e.4 in
-    enters c.args.program.now c.args.world.now c.args.store.now others c.args.number own shared c.args.thread.now c.enter.new.thread s e.0 e.1 c.requires.lowered shares h c.in-None.is e.2 e.3 begins c.in-Ok.ensures.pending c.in-Ok.ensures.ending
+    enters c.args.program.now c.args.world.now c.args.store.now others c.args.number own shared c.args.thread.now c.enter.new.thread s e.0 e.1 c.requires.lowered shares h c.in-None.is e.2 e.3 begins c.in_ok-enter-in-None.ensures.pending c.in_ok-enter-in-None.ensures.ending
 
 pub returns-in-Ok-Did-clause-advances : goal.returns-in-Ok-Did-clause-advances
 returns-in-Ok-Did-clause-advances c others own shared s shares h steady free =
@@ -92,11 +92,11 @@ returns-in-Ok-Returned-clause-advances c others own shared s shares h steady fre
     let left = subst (λ (x : Executed). Executes p w old c.execute.new.store others c.args.number own shared s b.rest c.execute.new.activation c.execute.new.pending (effect_of (sight_of shared s) b.task) x) c.in-Ok-Returned.field-0-is executed in
     returned p w old others c.args.number own shared c.args.thread.now s h c.execute.new.store c.leave.new.store c.execute.new.pending c.leave.new.thread b.task b.rest b.is left.1 left.2 (steady.return (ap (next_effect shared s) b.is ∙ left.0)) left.3 c.requires.agrees.6 left.0 c.leave.ensures.call c.leave.ensures.pending c.leave.ensures.calls c.leave.ensures.ending c.leave.ensures.monitors
 
-pub returns-in-Err-execute-clause-hindered : goal.returns-in-Err-execute-clause-hindered
-returns-in-Err-execute-clause-hindered c others own shared s shares h steady free =
+pub returns-in-Err-clause-hindered : goal.returns-in-Err-clause-hindered
+returns-in-Err-clause-hindered c others own shared s shares h steady free =
     let p = c.args.program.now in
     let w = c.args.world.now in
     let old = c.args.store.now in
     let b = work p w old others c.args.number own shared c.args.thread.now s c.in-Some.activation shares h c.in-Some.is steady in
-    let told = c.in-Err-execute.ensures.hindered others own shared s b.task b.rest (executes p w old others c.args.number own shared c.args.thread.now s c.in-Some.activation shares h c.in-Some.is steady free) in
-    subst (λ (a : source.Advance). IsHindered (left_of old.heap) (cells_made shared a) c.args.may_refuse c.in-Err-execute.fault) (sym (ap (step_within (unit_tree p.unit) w.classes (in_use_with others s) c.args.number shared s false) b.is)) told
+    let told = c.in-Err.ensures.hindered others own shared s b.task b.rest (executes p w old others c.args.number own shared c.args.thread.now s c.in-Some.activation shares h c.in-Some.is steady free) in
+    subst (λ (a : source.Advance). IsHindered (left_of old.heap) (cells_made shared a) c.args.may_refuse c.in-Err.fault) (sym (ap (step_within (unit_tree p.unit) w.classes (in_use_with others s) c.args.number shared s false) b.is)) told

@@ -2,6 +2,7 @@ use Rattle.std.specs.Global.{Vec}
 use Rattle.std.proofs.Common.{◌≡◌, ℕ, List, ◌<◌, ◌||◌, Bool, true, false, Some, ⊎_elim, refl, sym, ap, ◌∙◌, arith}
 use Rattle.std.specs.Prelude.{nat_le}
 use Rattle.std.proofs.lemmas.Bool.{leb-false}
+use Rattle.std.proofs.lemmas.Result.{err_from_is_err_and}
 use Rattle.class_rules.specs.Class.{Classes}
 use Rattle.heap.specs.Heap.{left_of}
 use Rattle.jni.specs.Table.{result_value}
@@ -41,7 +42,9 @@ returns-else-goes_ahead-clause-hindered c p others own shared s task rest h =
     (cells_asked p c.args.world.now c.args.store.now c.args.pending.now c.args.activation.now c.args.call.now others c.args.thread own shared s task rest h c.in-Ok.answer c.in-Ok.ensures.answer (result_value c.args.call.now.result) c.requires.prepared.result
     ∙ ap (λ (l : List (Vec ℕ)). cells_of c.args.world.now.classes (texts_in l) c.in-Ok.answer) (sym c.deref.ensures.value))
 
-pub returns-in-Err-finish-clause-hindered : goal.returns-in-Err-finish-clause-hindered
-returns-in-Err-finish-clause-hindered c p others own shared s task rest h =
+pub returns-in_err-finish-in-Ok-clause-hindered : goal.returns-in_err-finish-in-Ok-clause-hindered
+returns-in_err-finish-in-Ok-clause-hindered c =
+    let given = err_from_is_err_and c.from_residual.result c.from_residual.ensures.1 in
+    rw (given.1, given.2) (λ p others own shared s task rest h.
     cells_asked p c.args.world.now c.args.store.now c.args.pending.now c.args.activation.now c.args.call.now others c.args.thread own shared s task rest h c.in-Ok.answer c.in-Ok.ensures.answer (result_value c.args.call.now.result) c.requires.prepared.result
-    ∙ memory_free c.args.world.now.classes (texts_in c.args.call.now.texts.items) c.in-Ok.answer c.in-Err-finish.ensures.memory
+    ∙ memory_free c.args.world.now.classes (texts_in c.args.call.now.texts.items) c.in-Ok.answer c.in_err-finish-in-Ok.ensures.memory)

@@ -31,21 +31,21 @@ loop-call-preserved c =
     let calls = c.args.calls.now in
     let k = c.loop-call.call-index in
     let at = slice_get_read calls (length calls) k c.call-item.result refl c.loop-call-test.true c.call-item.is in
-    let call = subst (λ (o : Option PendingCall). IsCallOf p classes made c.call-item.result o) c.in-Ok-Some.field-0-is c.in-Ok-Some.ensures in
+    let call = subst (λ (o : Option PendingCall). IsCallOf p classes made c.call-item.result o) c.in-Some.is c.in_ok-next.ensures in
     record {
-      agree = subst (λ (nexts : List PendingCall). AgreeSoFar p classes made calls (k + 1) nexts) (sym {A = List PendingCall} c.in_ok-push_back-in-Ok-Some.ensures.items)
-          (one_more p classes made calls k c.call-item.result c.in-Ok-Some.next c.loop-call.nexts.items at call.0 c.loop-call.invariant.agree);
+      agree = subst (λ (nexts : List PendingCall). AgreeSoFar p classes made calls (k + 1) nexts) (sym {A = List PendingCall} c.in_ok-push_back-in-Some.ensures.items)
+          (one_more p classes made calls k c.call-item.result c.in-Some.next c.loop-call.nexts.items at call.0 c.loop-call.invariant.agree);
       all = c.loop-call.invariant.all ∙ loads_at (unit_tree p.unit) classes calls k c.call-item.result at call.1;
     }
 
-pub returns-in-Ok-None-clause-refused : goal.returns-in-Ok-None-clause-refused
-returns-in-Ok-None-clause-refused c =
+pub returns-in-None-clause-refused : goal.returns-in-None-clause-refused
+returns-in-None-clause-refused c =
     let p = c.args.program.now in
     let classes = c.args.world.now.classes in
     let calls = c.args.calls.now in
     let k = c.loop-call.call-index in
     let at = slice_get_read calls (length calls) k c.call-item.result refl c.loop-call-test.true c.call-item.is in
-    let refused = subst (λ (o : Option PendingCall). IsCallOf p classes (length (loaded_objects c.args.world.now)) c.call-item.result o) c.in-Ok-None.field-0-is c.in-Ok-None.ensures in
+    let refused = subst (λ (o : Option PendingCall). IsCallOf p classes (length (loaded_objects c.args.world.now)) c.call-item.result o) c.in-None.is c.in_ok-next.ensures in
     ap (λ (l : List Invocation). slice_get (map (λ (x : Invocation). x.line) l) 0) (c.loop-call.invariant.all ∙ refused_at (unit_tree p.unit) classes calls k c.call-item.result at refused)
     ∙ ap (λ (line : ℕ). Some line) (sym c.line.ensures)
 

@@ -7,13 +7,13 @@ use Rattle.replay_threads.specs.States.{TakesEntry}
 use Rattle.replay.proofs.RunLemmas.{stops, goes_on, at_end}
 use Rattle.replay.proofs.journal.follow.Goals as goal
 
-pub returns-in-Ok-false-clause-refused : goal.returns-in-Ok-false-clause-refused
-returns-in-Ok-false-clause-refused c = λ w first.
+pub returns-then-not-branch-clause-refused : goal.returns-then-not-branch-clause-refused
+returns-then-not-branch-clause-refused c = λ w first.
     let journal = c.args.journal.now in
     let entry : Entry = get_or journal c.loop-done.done (Step 0 false) in
     let at = slice_get-get_or journal c.loop-done.done (Step 0 false) c.loop-done-test.true in
     stops (unit_tree c.args.functions.now) w journal c.loop-done.done entry c.loop-done.state c.take_entry.new.state at (c.loop-done.invariant.replayed w first) c.loop-done-test.true
-    (subst (λ b. TakesEntry (unit_tree c.args.functions.now) c.loop-done.state entry b c.take_entry.new.state) c.in-Ok-false.field-0-test c.in-Ok-false.ensures.step)
+    (subst (λ b. TakesEntry (unit_tree c.args.functions.now) c.loop-done.state entry b c.take_entry.new.state) c.if-not-branch.true c.in_ok-take_entry.ensures.step)
 
 pub loop-done-preserved : goal.loop-done-preserved
 loop-done-preserved c =
@@ -22,9 +22,9 @@ loop-done-preserved c =
     let at = slice_get-get_or journal c.loop-done.done (Step 0 false) c.loop-done-test.true in
     record {
       replayed = λ w first. goes_on (unit_tree c.args.functions.now) w journal c.loop-done.done entry c.loop-done.state c.take_entry.new.state at (c.loop-done.invariant.replayed w first)
-          (subst (λ b. TakesEntry (unit_tree c.args.functions.now) c.loop-done.state entry b c.take_entry.new.state) c.in-Ok-true.field-0-test c.in-Ok-true.ensures.step)
-          c.in-Ok-true.ensures.range;
-      range = c.in-Ok-true.ensures.range;
+          (subst (λ b. TakesEntry (unit_tree c.args.functions.now) c.loop-done.state entry b c.take_entry.new.state) c.if-not-branch.false c.in_ok-take_entry.ensures.step)
+          c.in_ok-take_entry.ensures.range;
+      range = c.in_ok-take_entry.ensures.range;
     }
 
 pub returns-clause-end : goal.returns-clause-end

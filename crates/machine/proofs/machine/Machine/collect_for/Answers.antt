@@ -1,4 +1,5 @@
 use Rattle.std.proofs.Common.{ℕ, IsSome, refl, replicate, subst, sym}
+use Rattle.std.proofs.lemmas.Result.{err_from_is_err_and}
 use Rattle.semantics.specs.declared.schedule.ScheduleWord.TheVariants.{Collect}
 use Rattle.machine.specs.Run.{Run, RunsAlong, replay_of}
 use Rattle.machine.proofs.Runs.{collected_often, collection_refused, none_yet}
@@ -9,12 +10,13 @@ returns-then-times-eq0-clause-ok c =
     let runs : IsSome (replay_of c.args.self.now) = subst (λ (r : Run). IsSome (replay_of r)) c.self.view_is (rw c.self.invariant.replays refl) in
     subst (λ (n : ℕ). RunsAlong c.args.self.now c.args.self.now (replicate n Collect)) (sym c.if-times-eq0.true) (none_yet c.args.self.now runs)
 
-pub returns-in-Ok-clause-ok : goal.returns-in-Ok-clause-ok
-returns-in-Ok-clause-ok c =
+pub returns-clause-ok : goal.returns-clause-ok
+returns-clause-ok c =
     let runs : IsSome (replay_of c.args.self.now) = subst (λ (r : Run). IsSome (replay_of r)) c.self.view_is (rw c.self.invariant.replays refl) in
-    collected_often c.args.self.now c.collect.new.self c.args.times c.if-times-eq0.false c.in-Ok.ensures.ok runs c.in-Ok.ensures.runs
+    collected_often c.args.self.now c.collect.new.self c.args.times c.if-times-eq0.false c.in_ok-collect.ensures.ok runs c.in_ok-collect.ensures.runs
 
-pub returns-in-Err-clause-err : goal.returns-in-Err-clause-err
-returns-in-Err-clause-err c =
+pub returns-in_err-collect-clause-err : goal.returns-in_err-collect-clause-err
+returns-in_err-collect-clause-err c =
     let runs : IsSome (replay_of c.args.self.now) = subst (λ (r : Run). IsSome (replay_of r)) c.self.view_is (rw c.self.invariant.replays refl) in
-    collection_refused c.args.self.now c.collect.new.self c.args.times c.if-times-eq0.false c.in-Err.ensures.err runs
+    let given = err_from_is_err_and c.from_residual.result c.from_residual.ensures.1 in
+    rw (given.1, given.2) (collection_refused c.args.self.now c.collect.new.self c.args.times c.if-times-eq0.false c.in_err-collect.ensures.err runs)

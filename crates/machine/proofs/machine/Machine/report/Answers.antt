@@ -8,5 +8,5 @@ use Rattle.machine.proofs.machine.Machine.report.Goals as goal
 pub write_rows-requires-clause-rows : goal.write_rows-requires-clause-rows
 write_rows-requires-clause-rows g c =
     let loaded : c.len-loaded.result ≡ length c.self.inside.store.loaded.items = omega (arith, c.len-loaded.ensures, c.self.inside.store.loaded.ok) in
-    shows_objects _ _ _ _ _ _ _ c.self.invariant c.args.self.now c.self.view_is _ _ _ _ _ c.classes.ensures.classes loaded c.in-Ok.ensures
-    (subst (λ (ns : List ObjectId). AreReported c.classes.result.now c.in-Ok.objects c.len-loaded.result (names_of ns) c.in-Ok-reached_rows.rows) c.deref.ensures.value c.in-Ok-reached_rows.ensures)
+    shows_objects _ _ _ _ _ _ _ c.self.invariant c.args.self.now c.self.view_is _ _ _ _ _ c.classes.ensures.classes loaded c.in_ok-objects.ensures
+    (subst (λ (ns : List ObjectId). AreReported c.classes.result.now c.in_ok-objects.objects c.len-loaded.result (names_of ns) c.in_ok-rows.rows) c.deref.ensures.value c.in_ok-rows.ensures)
