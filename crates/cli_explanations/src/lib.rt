@@ -1,4 +1,4 @@
-//! What each fault and trap means, in plain words, with the smallest text that earns it and its cure.
+//! What each fault and trap means, in plain words, with a minimal example and the fix.
 #![tactic(auto)]
 
 ghost use Rattle.std.specs.Prelude.{◌≡◌, IfSome, map};

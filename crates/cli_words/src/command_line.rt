@@ -144,7 +144,7 @@ fn explain_command<'a>(alloc: Global) -> Result<Command<'a>, AllocError>
     ensures { IfOk result (IsLeaf explain_words) }
 {
     Command::new(alloc, "explain")
-        .about("Explains fault N, or trap N: its rule, the smallest text that has it, and its cure")
+        .about("Explains fault N, or trap N: its rule, a minimal example, and the fix")
         .arg(required(alloc, "N", "The number of a fault, or `trap`"))?
         .arg(optional(alloc, "NUMBER", "The number of a trap, after `trap`"))
 }
