@@ -1,12 +1,13 @@
 //! Calls of functions of the JNI (JNI Specification, chapter 4).
 
-ghost use Rattle.std.specs.Prelude.{◌≡◌, ◌+◌, ◌<◌, ◌^◌, ◌||◌, nat_le, false, true, Option, Some, Ok, slice_get, IfOk, IfErr, IfSome, OnOk, OnErr};
+ghost use Rattle.std.specs.Prelude.{◌≡◌, ℕ, ◌+◌, ◌<◌, ◌^◌, ◌||◌, nat_le, false, true, Option, Some, Ok, slice_get, IfOk, IfErr, IfSome, OnOk, OnErr};
 ghost use Rattle.code.specs.Call.{IsPrepared};
 ghost use Rattle.heap.specs.Heap.{left_of};
 ghost use Rattle.machine_calls.specs.CarriedOut.{takes_memory};
 ghost use Rattle.machine_calls.specs.Made.{cells_of};
 ghost use Rattle.machine_scenes.specs.NewObjects.{texts_in};
 ghost use Rattle.machine_answers.specs.Answers.{is_halt};
+ghost use Rattle.semantics.specs.World.{World as SourceWorld};
 ghost use Rattle.machine_steps.specs.Received.{told_slot};
 ghost use Rattle.machine_steps.specs.MonitorCalls.{changes_monitor};
 ghost use Rattle.machine_steps.specs.Invoked.{DoesCall, IsAnswered, IsHinderedAtCall, IsStopped, StandsAtCall, done_or_refused};
@@ -65,7 +66,7 @@ pub fn invoke(
 {
     match unchecked_answer(world, store, *pending, activation, call, thread) {
         Some(answer) => {
-            finish_monitor(world, store, pending, activation, call, thread, answer)?;
+            finish_monitor(store, activation, call, thread, answer)?;
             Ok(Invoked::Done)
         }
         None => invoke_checked(world, store, pending, activation, call, thread, may_refuse),
@@ -231,24 +232,22 @@ fn finish(
 /// Enters or leaves a monitor, as a call answers, and puts 0 where it goes.
 #[inline(always)]
 fn finish_monitor(
-    world: &World,
     store: &mut Store,
-    pending: &Option<Addr>,
     activation: &mut Activation,
     call: &Call,
     thread: u8,
     answer: Answer,
 ) -> Result<(), AllocError>
-    requires at_call { StandsAtCall world.now store.old pending.now activation.old call.now thread }
+    requires at_call { (w : SourceWorld) × (pending : Option ℕ)
+        × StandsAtCall w store.old pending activation.old call.now thread }
     requires place { activation.old.place + 1 < 2 ^ 64 }
-    requires answered { IsAnswered world.now store.old pending.now activation.old thread call.now answer }
     requires changes { changes_monitor answer ≡ true }
-    ensures done { OnOk result (DoesCall world.now store.old store.new pending.now pending.now
-        activation.old activation.new call.now thread Invoked.Done) }
+    ensures done { OnOk result ((w : SourceWorld) (pending : Option ℕ)
+        → IsAnswered w store.old pending activation.old thread call.now answer
+        → DoesCall w store.old store.new pending pending activation.old activation.new call.now thread Invoked.Done) }
     ensures store { OnErr result (store.new ≡ store.old) }
     ensures activation { OnErr result (activation.new ≡ activation.old) }
 {
-    let _ = world;
     change_monitor(&mut store.monitors, thread, answer)?;
     // Here the proof takes up what is known of a table.
     let _ = activation.locals.frames();

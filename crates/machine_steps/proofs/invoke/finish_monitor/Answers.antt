@@ -13,19 +13,17 @@ use Rattle.machine_steps.proofs.invoke.finish_monitor.Goals as goal
 
 pub receive_number-requires-clause-target : goal.receive_number-requires-clause-target
 receive_number-requires-clause-target c =
-    let a = c.requires.at_call in
-    has_target a.0 c.args.world.now c.args.store.now c.args.pending.now c.args.activation.now c.args.call.now a.1 c.args.thread a.2 a.3 a.4 a.5 a.6 a.7
+    let at = c.requires.at_call in
+    let a = at.2 in
+    has_target a.0 at.0 c.args.store.now at.1 c.args.activation.now c.args.call.now a.1 c.args.thread a.2 a.3 a.4 a.5 a.6 a.7
 
 pub returns-clause-done : goal.returns-clause-done
-returns-clause-done c p others own shared s task rest h =
-    let w = c.args.world.now in
+returns-clause-done c w pending told p others own shared s task rest h =
     let store = c.args.store.now in
-    let pending = c.args.pending.now in
     let activation = c.args.activation.now in
     let call = c.args.call.now in
     let k = c.args.thread in
     let a = c.args.answer in
-    let told = c.requires.answered in
     let changes = c.requires.changes in
     let same = sym (kind_is p w store pending activation call others k own shared s task rest h a told (prototype (function_value call.function)).result refl) in
     let kind = (prototype (it p w store pending activation call others k own shared s task rest h a told).f).result in

@@ -6,6 +6,12 @@ use Rattle.machine_steps.proofs.AnsweredCalls.{cells_asked}
 use Rattle.machine_steps.proofs.MonitorCalls.{makes_nothing}
 use Rattle.machine_steps.proofs.invoke.invoke.Goals as goal
 
+pub finish_monitor-requires-clause-at_call : goal.finish_monitor-requires-clause-at_call
+finish_monitor-requires-clause-at_call c = (c.args.world.now, c.args.pending.now, c.requires.at_call)
+
+pub returns-in_ok-finish_monitor-in-Some-clause-done : goal.returns-in_ok-finish_monitor-in-Some-clause-done
+returns-in_ok-finish_monitor-in-Some-clause-done c = c.in_ok-finish_monitor-in-Some.ensures.done c.args.world.now c.args.pending.now c.in-Some.ensures.answer
+
 pub returns-in_err-finish_monitor-in-Some-clause-hindered : goal.returns-in_err-finish_monitor-in-Some-clause-hindered
 returns-in_err-finish_monitor-in-Some-clause-hindered c =
     let given = err_from_is_err_and c.from_residual.result c.from_residual.ensures.1 in
