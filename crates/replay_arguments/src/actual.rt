@@ -296,7 +296,7 @@ pub fn object_given(actuals: &[Actual<'_>], place: usize) -> ObjectId
     }
 }
 
-/// The class whose object is at a place, which has the class's number; 0 for NULL.
+/// The class whose object is at a place, which has the class's number, and `NO_CLASS` for NULL.
 pub fn class_given(actuals: &[Actual<'_>], place: usize) -> ClassId
     ensures { result.number ≡ object_given (map actual_view actuals.now) place }
 {

@@ -39,7 +39,7 @@ pub enum New<'a> {
     Text(&'a [u8]),
 }
 
-/// The number of its class.
+/// Its class.
 fn class_of(classes: &ClassTable, new: New<'_>) -> ClassId
     ensures { result.number ≡ (object_of classes.now (new_view new.entry)).class }
 {
@@ -50,7 +50,7 @@ fn class_of(classes: &ClassTable, new: New<'_>) -> ClassId
     }
 }
 
-/// The number of the class of arrays of objects of a class; 0 where there is none.
+/// The class of arrays of objects of a class, and `NO_CLASS` where there is none.
 fn array_of(classes: &ClassTable, element: ClassId) -> ClassId
     ensures { result.number ≡ array_class classes.now element.number }
 {

@@ -13,7 +13,7 @@ use semantics::{ObjectId, ObjectValue, Objects};
 use std::alloc::{AllocError, Global};
 use std::marker::Model;
 
-/// An object: the number of its class, and its values.
+/// An object: its class, and its values.
 #[derive(Drop)]
 pub(crate) struct Object {
     pub(crate) class: ClassId,
@@ -93,7 +93,7 @@ impl Store {
         Some(&self.objects[name.number - 1])
     }
 
-    /// The number of an object's class; 0 where there is no object of this name.
+    /// The class of an object, and `NO_CLASS` where there is no object of this name.
     pub fn class_of(&self, name: ObjectId) -> ClassId
         ensures { result.number ≡ class_of self.now name.number }
     {

@@ -88,7 +88,7 @@ fn add_parameters<'a>(
     }
 }
 
-/// The number of the class whose native method a function is.
+/// The class whose native method a function is.
 pub fn class_of(
     alloc: Global,
     world: &World,

@@ -48,7 +48,7 @@ pub fn broken_class_rule(classes: &ClassTable, line: &Line) -> Option<ClassRule>
     }
 }
 
-/// The number of the class of this name, and 0 where there is none.
+/// The class of this name, and `NO_CLASS` where there is none.
 pub fn class_number(classes: &ClassTable, name: &[u8]) -> ClassId
     ensures { result.number ≡ class_number classes.now name.now }
 {
