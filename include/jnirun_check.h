@@ -14,7 +14,7 @@
 extern "C" {
 #endif
 
-/* Why a text is refused. docs/FAULTS.md has each number, with its rule and its cure. */
+/* Why a text is refused. docs/FAULTS.md has each number, with its rule and the fix. */
 struct jnirun_fault {
     uint32_t number;
     size_t line; /* counted from 1; 0 where the fault has no line (51) */
