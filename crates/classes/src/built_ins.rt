@@ -205,7 +205,7 @@ pub fn is_after_built_ins(class: ClassId) -> bool
     class.number > 42
 }
 
-/// The number of the class of arrays of such numbers.
+/// The class of arrays of such numbers.
 pub fn number_array(element: ElementType) -> ClassId
     ensures { result.number ≡ number_array (element_value element) }
 {

@@ -120,7 +120,7 @@ impl Entries {
         self.classes.len()
     }
 
-    /// The number of the class of this name.
+    /// The class of this name.
     pub(crate) fn find(&self, name: &[u8]) -> Option<ClassId>
         ensures { number_of result ≡ class_named self.now name.now }
     {

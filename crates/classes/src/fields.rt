@@ -17,8 +17,8 @@ use crate::own_fields::OwnFields;
 use crate::table::ClassTable;
 use class_rules::ClassId;
 
-/// A field or static, with the number of the class that declares it, and its place, counted from 0, among the fields, or the
-/// statics, that the class declares.
+/// A field or static, with the class that declares it, and its place, counted from 0, among the fields, or the statics,
+/// that the class declares.
 #[derive(Clone, Copy)]
 pub struct FieldId<'t> {
     pub class: ClassId,

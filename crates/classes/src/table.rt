@@ -69,14 +69,14 @@ impl ClassTable {
         self.classes.len()
     }
 
-    /// The number of the class of this name.
+    /// The class of this name.
     pub fn find(&self, name: &[u8]) -> Option<ClassId>
         ensures { number_of result ≡ class_named self.now name.now }
     {
         self.classes.find(name)
     }
 
-    /// The number of the class of arrays whose elements are of the class of this name.
+    /// The class of arrays whose elements are of the class of this name.
     pub fn find_array_of(&self, name: &[u8]) -> Result<Option<ClassId>, AllocError>
         ensures { IfOk result (λ class. number_of class ≡ class_named self.now (array_name name.now)) }
     {

@@ -13,7 +13,7 @@ use classes::class::{ElementType, FieldHandle, FieldType};
 use classes::table::ClassTable;
 use code::instr::Operand;
 use heap::{Addr, Heap};
-use semantics::ObjectId;
+use semantics::{NO_OBJECT, ObjectId};
 use tables::Local;
 
 /// The operand at a place, and NULL where there is none.
@@ -108,14 +108,14 @@ pub fn object_there(heap: &Heap, addr: Addr) -> ObjectId
     }
 }
 
-/// The id of an object, and the number 0 for NULL.
+/// The object of a reference, and `NO_OBJECT` for NULL.
 pub fn name_there(heap: &Heap, reference: Option<Addr>) -> ObjectId
     requires { ReferenceIsThere heap.now reference }
     ensures { result.number ≡ name_there heap.now reference }
 {
     match reference {
         Some(addr) => object_there(heap, addr),
-        None => ObjectId { number: 0 },
+        None => NO_OBJECT,
     }
 }
 

@@ -7,7 +7,7 @@ use jni::JniFunction;
 use region_states::calls::{MadeCall, called, deleted, got, released};
 use region_states::found::Sought;
 use region_states::states::{Condition, Facts, FlowState, VariableState};
-use semantics::Level;
+use semantics::CALL_LEVEL;
 use syntax::{Form, Name};
 
 /// Whether a variable meets a condition; an untested buffer only where an element of it is read or written.
@@ -113,12 +113,9 @@ fn dead_detail(state: &FlowState<'_>, form: &Form) -> Detail {
         None => None,
     };
     match known {
-        Some(
-            VariableState::Reference {
-                level: Level { number: 1 },
-                ..
-            },
-        ) => of_variable(b"reference ", name, b" was deleted"),
+        Some(VariableState::Reference { level, .. }) if level == CALL_LEVEL => {
+            of_variable(b"reference ", name, b" was deleted")
+        }
         _ => of_variable(
             b"reference ",
             name,

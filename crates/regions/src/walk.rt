@@ -19,7 +19,7 @@ use crate::rules::{first_broken, is_return};
 use crate::telling::{end_detail, held_detail, statement_detail, unreached_detail};
 use details::{Fault, Line};
 use region_states::states::{FlowState, VariableState};
-use semantics::Level;
+use semantics::CALL_LEVEL;
 use std::alloc::{AllocError, Global};
 use syntax::{Block, Form, Function, Item, ParameterType, Stmt, Test};
 
@@ -179,7 +179,7 @@ fn enter<'a>(state: &mut FlowState<'a>, f: &'a Function) -> Result<(), AllocErro
 {
     state.clear();
     let known = VariableState::Reference {
-        level: Level { number: 1 },
+        level: CALL_LEVEL,
         live: true,
     };
     let mut left = f.parameters.len();

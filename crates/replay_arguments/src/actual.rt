@@ -23,7 +23,7 @@ use classes::fields::FieldId;
 pub use jni::ReleaseMode;
 use jni::{JniFunction, ParameterKind};
 use replay_terms::{Content, Operand, StaticReference, Term, Value, Variables};
-use semantics::{Level, ObjectId};
+use semantics::{Level, NO_OBJECT, ObjectId};
 use std::alloc::{AllocError, Global};
 use syntax::{Argument, Constant, Expr, Name};
 
@@ -286,13 +286,13 @@ pub fn address_given<'a>(actuals: &[Actual<'a>], place: usize) -> Option<&'a [u8
     }
 }
 
-/// The name of the object at a place, and 0 for NULL.
+/// The object at a place, and `NO_OBJECT` for NULL.
 pub fn object_given(actuals: &[Actual<'_>], place: usize) -> ObjectId
     ensures { result.number ≡ object_given (map actual_view actuals.now) place }
 {
     match reference_given(actuals, place) {
         Some(name) => name,
-        None => ObjectId { number: 0 },
+        None => NO_OBJECT,
     }
 }
 

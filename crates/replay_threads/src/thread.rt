@@ -27,7 +27,7 @@ use replay_objects::{Frames, Names, Store};
 use replay_steps::{Activation, advance, waits, work_of};
 use replay_tasks::Outcome;
 use replay_terms::{Content, Value, Variables};
-use semantics::{Ending, Event, Level, ObjectId};
+use semantics::{CALL_LEVEL, Ending, Event, ObjectId};
 use std::alloc::{AllocError, Global};
 use syntax::{Function, Parameter};
 use world_values::{Call, ObjectValue, World};
@@ -60,7 +60,7 @@ fn content_of<'a>(argument: ObjectValue) -> Content<'a>
     match argument {
         ObjectValue::Number(z) => Content::Number(Value::Int(z)),
         ObjectValue::Reference(reference) => Content::Reference {
-            level: Level { number: 1 },
+            level: CALL_LEVEL,
             object: reference,
         },
     }
@@ -115,7 +115,7 @@ fn entry_variables<'a>(
     variables.set(
         &function.class_name,
         Content::Reference {
-            level: Level { number: 1 },
+            level: CALL_LEVEL,
             object: Some(ObjectId::of_class(class)),
         },
     )?;

@@ -6,3 +6,6 @@
 pub struct Level {
     pub number: usize,
 }
+
+/// The level of a call itself, of which its parameters are.
+pub const CALL_LEVEL: Level = Level { number: 1 };

@@ -19,8 +19,8 @@ ghost use Rattle.semantics.specs.Reachable.{ReachableIsComputed};
 
 pub use event::{Ending, Event, Stop};
 pub use journal::Entry;
-pub use level::Level;
-pub use object_id::ObjectId;
+pub use level::{CALL_LEVEL, Level};
+pub use object_id::{NO_OBJECT, ObjectId};
 pub use object_value::ObjectValue;
 pub use objects::Objects;
 pub use printed::Printed;

@@ -11,6 +11,9 @@ pub struct ObjectId {
     pub number: usize,
 }
 
+/// No object, where NULL is given for one.
+pub const NO_OBJECT: ObjectId = ObjectId { number: 0 };
+
 impl ObjectId {
     /// The class object of a class, which has the class's number.
     pub fn of_class(class: ClassId) -> ObjectId

@@ -18,7 +18,7 @@ pub trait Objects {
         ensures len { result ≡ length (heap self.now) }
         ensures few { result < 2 ^ 63 };
 
-    /// The number of an object's class.
+    /// The class of an object.
     fn class_of(&self, name: ObjectId) -> ClassId
         requires { IsWithin (length (heap self.now)) name.number }
         ensures { result.number ≡ class_of (heap self.now) name.number };

@@ -10,7 +10,7 @@ use indexmap::IndexMap;
 use std::alloc::{AllocError, Global};
 use std::marker::Model;
 
-/// Names in their order, each with the number of its object's class. A name is found in constant time.
+/// Names in their order, each with its object's class. A name is found in constant time.
 pub struct ObjectNames {
     classes: IndexMap<Vec<u8>, ClassId>,
 }

@@ -39,7 +39,7 @@ impl Object {
         Object { class, values }
     }
 
-    /// The number of its class in the class table.
+    /// Its class, in the class table.
     pub fn class(&self) -> ClassId
         ensures { result.number ≡ self.now.class }
     {
