@@ -1,5 +1,5 @@
 -- Several words go along with a schedule.
-use Rattle.std.proofs.Common.{◌≡◌, ℕ, zero, suc, ◌+◌, ◌-◌, ◌<◌, ◌≤◌, Bool, true, false, List, [], ◌∷◌, ◌++◌, length, take, drop, get_or, replicate, Option, Some, None, refl, sym, ap, ◌∙◌, subst, arith, IsSome, append_assoc, append-nil}
+use Rattle.std.proofs.Common.{◌≡◌, ℕ, zero, suc, ◌+◌, ◌-◌, ◌<◌, ◌≤◌, Bool, true, false, List, [], ◌∷◌, ◌++◌, length, take, drop, get_or, replicate, Option, Some, None, refl, sym, ap, ◌∙◌, subst, arith, IsSome, append_assoc, append-nil, inl, inr}
 use Rattle.std.specs.Prelude.{slice_get, is_none, not, ◌&&◌, flat_map}
 use Rattle.std.specs.Option.{option_and_then}
 use Rattle.std.proofs.lemmas.Bool.{and_left, and_right}
@@ -19,6 +19,7 @@ use Rattle.semantics.specs.declared.schedule.ScheduleWord.TheVariants.{Turn, Col
 use Rattle.semantics.specs.World.{World}
 use Rattle.semantics.specs.Schedule.{Schedule}
 use Rattle.semantics.specs.Run.{replay, replay_from, Follows, Over, Collects, Waits, Steps}
+use Rattle.semantics.specs.Reachable.{live_size}
 use Rattle.semantics.specs.Start.{start}
 use Rattle.semantics.specs.State.{State, Stop, thread_at}
 use Rattle.semantics.specs.Step.{can_step, is_live, is_waiting, world_step}
@@ -28,7 +29,8 @@ use Rattle.machine.specs.declared.turn.Turn.TheVariants as turn
 use Rattle.machine_threads.proofs.Lists.{take_next}
 use Rattle.machine.specs.declared.fault.RunFault.{RunFault}
 use Rattle.machine.specs.declared.fault.RunFault.TheVariants as running
-use Rattle.machine.specs.Run.{Run, replay_of, can_turn, EndsAt, HasEnded, IsCollected, TurnHolds, GivesNoStep, RunsAlong, RunsInto}
+use Rattle.machine.specs.Run.AreTaken.{NoWord, Taken}
+use Rattle.machine.specs.Run.{Run, replay_of, can_turn, AreTaken, IsTaken, EndsAt, HasEnded, IsCollected, TurnHolds, GivesNoStep, RunsAlong, RunsInto}
 
 -- the walk from a state of a run along these words
 abbrev pub Walk : Run → State → List Entry → Schedule → State → Type 0
@@ -58,6 +60,15 @@ leads old new words r =
 
 -- ---- walks
 
+-- some words and then others
+both_taken : {a b c : Run} {words more : Schedule} → AreTaken a words b → AreTaken b more c → AreTaken a (words ++ more) c
+both_taken (NoWord r) q = q
+both_taken {c = c} {more = more} (Taken a mid b word words h p) q = Taken a mid c word (words ++ more) h (both_taken p q)
+
+-- one word
+once : (a b : Run) (word : ScheduleWord) → IsTaken a word b → AreTaken a (word ∷ []) b
+once a b word h = Taken a b b word [] h (NoWord b)
+
 -- one walk after another
 pub along_both : (a b c : Run) (words more : Schedule) → RunsAlong a b words → RunsAlong b c more → RunsAlong a c (words ++ more)
 along_both a b c words more p q =
@@ -65,6 +76,7 @@ along_both a b c words more p q =
     let on_unit : Follows (unit_tree a.unit) b.world q.before q.steps more q.after = subst (λ (x : List Item). Follows (unit_tree x) b.world q.before q.steps more q.after) p.same_unit q.follows in
     let on_world : Walk a q.before q.steps more q.after = subst (λ (x : World). Follows (unit_tree a.unit) x q.before q.steps more q.after) p.same_world on_unit in
     record {
+      taken = both_taken p.taken q.taken;
       same_unit = q.same_unit ∙ p.same_unit;
       same_world = q.same_world ∙ p.same_world;
       steps = p.steps ++ q.steps;
@@ -107,20 +119,17 @@ none_yet r d = by_state (replay_of r) refl d
   where
     by_state : (o : Option State) → replay_of r ≡ o → IsSome o → RunsAlong r r []
     by_state None e d = absurd (let f : false ≡ true = d in cc)
-    by_state (Some s) e d = record { same_unit = refl; same_world = refl; steps = []; journal = sym (append-nil r.journal); before = s; replays = e; after = s; follows = Over s }
+    by_state (Some s) e d = record { taken = NoWord r; same_unit = refl; same_world = refl; steps = []; journal = sym (append-nil r.journal); before = s; replays = e; after = s; follows = Over s }
 
 -- ---- one word
 
-no_step : (r : Run) (word : ScheduleWord) → GivesNoStep r word → RunsAlong r r (word ∷ [])
-no_step r Collect h = record { same_unit = refl; same_world = refl; steps = []; journal = sym (append-nil r.journal); before = h.0; replays = h.1; after = h.0; follows = Collects h.0 h.0 [] [] (Over h.0) }
-no_step r (Turn k) h = record { same_unit = refl; same_world = refl; steps = []; journal = sym (append-nil r.journal); before = h.0; replays = h.1; after = h.0; follows = Waits h.0 h.0 k [] [] h.2 (Over h.0) }
+no_step : (r : Run) (word : ScheduleWord) → (word ≡ Collect → ⊥) → GivesNoStep r word → RunsAlong r r (word ∷ [])
+no_step r Collect other h = absurd (other refl)
+no_step r (Turn k) other h = record { taken = once r r (Turn k) (inl (refl, h)); same_unit = refl; same_world = refl; steps = []; journal = sym (append-nil r.journal); before = h.0; replays = h.1; after = h.0; follows = Waits h.0 h.0 k [] [] h.2 (Over h.0) }
 
-pub word_without_step : (r : Run) (word : ScheduleWord) → GivesNoStep r word → RunsAlong r r (word ∷ [])
-word_without_step r word h = no_step r word h
-
-pub words_without_step : (r : Run) (word : ScheduleWord) (n : ℕ) → GivesNoStep r word → IsSome (replay_of r) → RunsAlong r r (replicate n word)
-words_without_step r word zero h d = none_yet r d
-words_without_step r word (suc n) h d = along_both r r r (word ∷ []) (replicate n word) (word_without_step r word h) (words_without_step r word n h d)
+pub words_without_step : (r : Run) (word : ScheduleWord) (n : ℕ) → (word ≡ Collect → ⊥) → GivesNoStep r word → IsSome (replay_of r) → RunsAlong r r (replicate n word)
+words_without_step r word zero other h d = none_yet r d
+words_without_step r word (suc n) other h d = along_both r r r (word ∷ []) (replicate n word) (no_step r word other h) (words_without_step r word n other h d)
 
 -- ---- collections
 
@@ -131,16 +140,27 @@ collected_once r new h d = by_state (replay_of r) refl d
     by_state : (o : Option State) → replay_of r ≡ o → IsSome o → RunsAlong r new (Collect ∷ [])
     by_state None e d = absurd (let f : false ≡ true = d in cc)
     by_state (Some s) e d = subst (λ (x : Run). RunsAlong r x (Collect ∷ [])) (sym h.same)
-        (record { same_unit = refl; same_world = refl; steps = []; journal = sym (append-nil r.journal); before = s; replays = e; after = s; follows = Collects s s [] [] (Over s) })
+        (record { taken = subst (λ (x : Run). AreTaken r (Collect ∷ []) x) h.same (once r new Collect h); same_unit = refl; same_world = refl; steps = []; journal = sym (append-nil r.journal); before = s; replays = e; after = s; follows = Collects s s [] [] (Over s) })
+
+-- one right after another leaves what it left
+collected_still : (r new : Run) → IsCollected r new → IsCollected new new
+collected_still r new h = record {
+  same = refl;
+  left = (
+    h.left.0,
+    ap replay_of h.same ∙ h.left.1,
+    λ none. h.left.2 none ∙ ap (λ (x : Run). x.world.cells - live_size x.world h.left.0) (sym h.same),
+  );
+}
 
 -- nor do more of them, if there is one
 pub collected_often : (r new : Run) (times : ℕ) → (times ≡ 0 → ⊥) → IsCollected r new → IsSome (replay_of r) → IsSome (replay_of new) → RunsAlong r new (replicate times Collect)
 collected_often r new zero some h d e = absurd (some refl)
-collected_often r new (suc n) some h d e = along_both r new new (Collect ∷ []) (replicate n Collect) (collected_once r new h d) (words_without_step new Collect n (standing (replay_of new) refl e) e)
+collected_often r new (suc n) some h d e = along_both r new new (Collect ∷ []) (replicate n Collect) (collected_once r new h d) (more n)
   where
-    standing : (o : Option State) → replay_of new ≡ o → IsSome o → GivesNoStep new Collect
-    standing None is e = absurd (let f : false ≡ true = e in cc)
-    standing (Some s) is e = (s, is, tt)
+    more : (n : ℕ) → RunsAlong new new (replicate n Collect)
+    more zero = none_yet new e
+    more (suc n) = along_both new new new (Collect ∷ []) (replicate n Collect) (collected_once new new (collected_still r new h) e) (more n)
 
 -- a run ends at a collection that memory is refused to
 pub collection_refused : (r new : Run) (times : ℕ) → (times ≡ 0 → ⊥) → new ≡ r → IsSome (replay_of r) → RunsInto r new (replicate times Collect) running.Memory
@@ -178,10 +198,11 @@ step_of r new e left s is h defined = there (world_step (unit_tree r.unit) r.wor
     there (Some n) d = (n, refl)
 
 -- a step, whose allocation was refused or not
-stepped_once : (r new : Run) (k : ℕ) (refused : Bool) (left : ℕ) (s : State) → new ≡ record r { journal = r.journal ++ Step k refused ∷ []; left = left } → replay_of r ≡ Some s → can_turn r s k ≡ true → IsSome (replay_of new) → RunsAlong r new (Turn k ∷ [])
-stepped_once r new k refused left s is h can defined =
+stepped_once : (r new : Run) (k : ℕ) (refused : Bool) (left : ℕ) (s : State) → new ≡ record r { journal = r.journal ++ Step k refused ∷ []; left = left } → replay_of r ≡ Some s → can_turn r s k ≡ true → IsSome (replay_of new) → AreTaken r (Turn k ∷ []) new → RunsAlong r new (Turn k ∷ [])
+stepped_once r new k refused left s is h can defined each =
     let n = step_of r new (Step k refused) left s is h defined in
     subst (λ x. RunsAlong r x (Turn k ∷ [])) (sym is) (record {
+      taken = subst (λ (x : Run). AreTaken r (Turn k ∷ []) x) is each;
       same_unit = refl;
       same_world = refl;
       steps = Step k refused ∷ [];
@@ -192,17 +213,20 @@ stepped_once r new k refused left s is h can defined =
       follows = Steps s n.0 n.0 k refused [] [] can n.1 (Over n.0);
     })
 
+turn_other : {k : ℕ} → Turn k ≡ Collect → ⊥
+turn_other same = absurd (cc)
+
 -- a turn, but where the journal is full
 pub turned : (r new : Run) (k : ℕ) (t : Answer) → TurnHolds r k new t → IsSome (replay_of new) → (t ≡ turn.Full → ⊥) → RunsAlong r new (Turn k ∷ [])
 turned r new k turn.Stopped h defined full =
-    subst (λ x. RunsAlong r x (Turn k ∷ [])) (sym h.0) (no_step r (Turn k) (h.1.0, h.1.1, stopped_waits r.world.classes h.1.0 k h.1.2))
+    subst (λ x. RunsAlong r x (Turn k ∷ [])) (sym h.0) (no_step r (Turn k) turn_other (h.1.0, h.1.1, stopped_waits r.world.classes h.1.0 k h.1.2))
 turned r new k turn.Ended h defined full =
-    subst (λ x. RunsAlong r x (Turn k ∷ [])) (sym h.0) (no_step r (Turn k) (h.1.0, h.1.1, ended_waits r.world.classes h.1.0 k h.1.2))
+    subst (λ x. RunsAlong r x (Turn k ∷ [])) (sym h.0) (no_step r (Turn k) turn_other (h.1.0, h.1.1, ended_waits r.world.classes h.1.0 k h.1.2))
 turned r new k (turn.Blocked all) h defined full =
-    subst (λ x. RunsAlong r x (Turn k ∷ [])) (sym h.0) (no_step r (Turn k) (h.1.0, h.1.1, blocked_waits r.world.classes h.1.0 k h.1.2.waits))
+    subst (λ x. RunsAlong r x (Turn k ∷ [])) (sym h.0) (no_step r (Turn k) turn_other (h.1.0, h.1.1, blocked_waits r.world.classes h.1.0 k h.1.2.waits))
 turned r new k turn.Full h defined full = absurd (full refl)
-turned r new k turn.Short h defined full = let could = h.1.1 in stepped_once r new k true new.left could.0 h.0 could.1 could.2 defined
-turned r new k turn.Stepped h defined full = let could = h.1.1 in stepped_once r new k false new.left could.0 h.0 could.1 could.2 defined
+turned r new k turn.Short h defined full = let could = h.1.1 in stepped_once r new k true new.left could.0 h.0 could.1 could.2 defined (once r new (Turn k) (inr (inr h)))
+turned r new k turn.Stepped h defined full = let could = h.1.1 in stepped_once r new k false new.left could.0 h.0 could.1 could.2 defined (once r new (Turn k) (inr (inl h)))
 
 -- ---- threads that are not there
 

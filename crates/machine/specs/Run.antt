@@ -260,8 +260,19 @@ EndsAt r running.Full word = (most_entries ≤ length r.journal) × GivesStep r 
 EndsAt r running.Memory Collect = Unit {0}
 EndsAt r running.Memory (Turn k) = (length r.journal < most_entries) × GivesStep r (Turn k)
 
--- The steps taken follow the schedule.
+-- A word of a schedule was taken: a collection was made; a turn was the step of its thread, or gave none where the thread couldn't take it.
+abbrev pub IsTaken : Run → ScheduleWord → Run → Type 0
+IsTaken old Collect new = IsCollected old new
+IsTaken old (Turn k) new = ((new ≡ old) × GivesNoStep old (Turn k)) ⊎ (TurnHolds old k new turn.Stepped ⊎ TurnHolds old k new turn.Short)
+
+-- the words of a schedule were taken, one after another
+pub data AreTaken : Run → Schedule → Run → Type 0 where
+  NoWord : (r : Run) → AreTaken r [] r
+  Taken : (old mid new : Run) (word : ScheduleWord) (words : Schedule) → IsTaken old word mid → AreTaken mid words new → AreTaken old (word ∷ words) new
+
+-- The words of the schedule were taken, and the steps follow it.
 pub record RunsAlong (old new : Run) (schedule : Schedule) : Type 0 where
+  pub taken : AreTaken old schedule new
   pub same_unit : new.unit ≡ old.unit
   pub same_world : new.world ≡ old.world
   pub steps : List Entry

@@ -11,7 +11,7 @@ use Rattle.machine.proofs.machine.Machine.repeat.Goals as goal
 pub returns-in_default-turn_of-clause-ok : goal.returns-in_default-turn_of-clause-ok
 returns-in_default-turn_of-clause-ok c =
     let runs : IsSome (replay_of c.args.self.now) = subst (λ (r : Run). IsSome (replay_of r)) c.self.view_is (rw c.self.invariant.replays refl) in
-    words_without_step c.args.self.now c.args.word c.args.times (rw c.in_default-turn_of.is at c.turn_of.ensures.none) runs
+    words_without_step c.args.self.now c.args.word c.args.times c.in_default.not-Collect (rw c.in_default-turn_of.is at c.turn_of.ensures.none) runs
 
 pub loop-left-init : goal.loop-left-init
 loop-left-init c =
