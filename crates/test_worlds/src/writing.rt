@@ -60,6 +60,39 @@ impl Write for Narrow {
     }
 }
 
+/// A writer that keeps what it takes until it is flushed, and can fail then.
+#[derive(Drop)]
+struct Keeping {
+    kept: Vec<u8>,
+    taken: Vec<u8>,
+    fails: bool,
+}
+
+impl Write for Keeping {
+    fn write(&mut self, bytes: &[u8]) -> io::Result<usize> {
+        self.kept.extend_from_slice(bytes)?;
+        Ok(bytes.len())
+    }
+
+    fn flush(&mut self) -> io::Result<()> {
+        if self.fails {
+            return Err(io::Error::from(ErrorKind::StorageFull));
+        }
+        self.taken.extend_from_slice(self.kept.as_slice())?;
+        self.kept.clear();
+        Ok(())
+    }
+}
+
+/// A writer that has taken nothing.
+fn keeping_writer(rt: &impl AllocGlobal, fails: bool) -> Keeping {
+    Keeping {
+        kept: Vec::new(rt.alloc()),
+        taken: Vec::new(rt.alloc()),
+        fails,
+    }
+}
+
 const PRINTED: [Printed; 2] = [
     Printed {
         thread: 1,
@@ -167,4 +200,21 @@ fn a_failing_writer_has_a_beginning(rt: HostRuntime) -> Result<(), Fail> {
         assert!(rt; sink.into_inner().taken.as_slice() == &TEXT[..room]);
     }
     Ok(())
+}
+
+#[test]
+fn a_writer_that_keeps_bytes_is_flushed(rt: HostRuntime) -> Result<(), Fail> {
+    let mut sink = StdSink::new(keeping_writer(&rt, false));
+    write_text(&mut sink)?;
+    assert!(rt; sink.failures() == 0);
+    assert!(rt; sink.into_inner().taken.as_slice() == TEXT);
+    Ok(())
+}
+
+#[test]
+fn a_writer_that_fails_at_its_flush_is_told(rt: HostRuntime) {
+    let mut sink = StdSink::new(keeping_writer(&rt, true));
+    let failed = write_text(&mut sink).is_err();
+    assert!(rt; failed && sink.failures() == 1);
+    assert!(rt; sink.into_inner().taken.is_empty());
 }
