@@ -1,18 +1,21 @@
 -- What a collection leaves stands for the same state, and the cells that it leaves are those of what can't be reached.
-use Rattle.std.proofs.Common.{◌≡◌, ◌≢◌, ℕ, zero, suc, ◌-◌, ◌<◌, List, [], ◌∷◌, ◌++◌, Option, Some, None, Result, Ok, Err, OnOk, OnErr, refl, sym, ap, ◌∙◌, subst, arith, IsSome, ⊎_elim}
+use Rattle.std.proofs.Common.{◌≡◌, ◌≢◌, ℕ, zero, suc, ◌-◌, ◌<◌, ◌≤◌, length, List, [], ◌∷◌, ◌++◌, Option, Some, None, Result, Ok, Err, OnOk, OnErr, refl, sym, ap, ◌∙◌, subst, arith, IsSome, ⊎_elim}
 use Rattle.std.specs.Prelude.{Contains, flat_map, slice_get}
 use Rattle.std.specs.Option.{option_map, option_map_or, option_to_list}
 use Rattle.std.proofs.lemmas.Bool.{false≢true}
+use Rattle.std.proofs.lemmas.List.{length-map}
 use Rattle.std.proofs.lemmas.List.Concat.{flat_map-cons}
 use Rattle.heap.specs.declared.value.Value.{Value}
 use Rattle.heap.specs.declared.value.Value.TheVariants.{Number, Null, Block as Address}
-use Rattle.heap.specs.Heap.{Block, Space, block_at, end_of, left_of, name_at, pins_at, values_at}
+use Rattle.heap.specs.Heap.{Block, Space, IsAddress, IsLaidOut, block_at, block_end, end_from, end_of, left_of, name_at, pins_at, values_at}
+use Rattle.compact.specs.Same.{MovesBy, moved, moved_value, size_of}
 use Rattle.heap.proofs.Lookups.{block_at-place}
 use Rattle.heap.proofs.Places.{IsAddress-from_place}
+use Rattle.heap.proofs.Relocated.{ends_below}
 use Rattle.compact.specs.Reach as compact
 use Rattle.compact.specs.Reach.{IsClosed, IsKept, Refers}
 use Rattle.compact.specs.Reach.IsKept.{root, pinned, referred}
-use Rattle.compact.proofs.Tight.{get_map}
+use Rattle.compact.proofs.Tight.{get_map, some_block}
 use Rattle.compact.proofs.Blocks.{IsAddress-from_kept}
 use Rattle.tables.specs.References.{references_in}
 use Rattle.code_meaning.specs.Lowered.{Lowered}
@@ -31,12 +34,12 @@ use Rattle.machine_threads.specs.declared.thread.Thread.{Thread}
 use Rattle.semantics.specs.declared.event.Stop.{Stop}
 use Rattle.machine_collections.specs.Moving.{AreCollected, AreReferred, moved_thread}
 use Rattle.machine_collections.specs.Roots.{ThreadsAreStacked, root_places, slots_of}
-use Rattle.machine.specs.Run.{Run, Corresponds, IsBetween, IsCollected, replay_of}
+use Rattle.machine.specs.Run.{Run, Corresponds, IsBetween, IsCollected, LeavesAll, replay_of, seen}
 use Rattle.machine.proofs.CollectedRuns.{corresponds_moved}
 use Rattle.machine_collections.proofs.Collections.{name_moved}
 use Rattle.machine_collections.proofs.GatheredRoots.{gathered, in_place, places_are, thread_addresses}
 use Rattle.machine_collections.proofs.OwnedMonitors.{monitor_addresses}
-use Rattle.machine_collections.proofs.KeptCells.{live_is}
+use Rattle.machine_collections.proofs.KeptCells.{live_taken}
 use Rattle.machine_collections.proofs.KeptNames.{kept_reachable, referred_name}
 use Rattle.machine_collections.proofs.KeptReferences.{AreKept, CallIsKept, IsClosedUnder, ThreadsAreKept, ValueIsKept, ValuesAreKept}
 use Rattle.machine_collections.proofs.LiveBlocks.{births}
@@ -77,6 +80,32 @@ birth_at (b ∷ bs) n h =
     (λ (e : b.birth ≡ n). (0, b, refl, e))
     (λ (l : In (births bs) n). let r = birth_at bs n l in (suc r.0, r.1, r.2, r.3))
     (in_cases b.birth (births bs) n h)
+
+-- ---- the highest block
+
+-- blocks that end no higher than this
+ends_by : (from : ℕ) (bs : List Block) (top : ℕ) → from ≤ top → ((k : ℕ) (b : Block) → slice_get bs k ≡ Some b → block_end b ≤ top) → end_from from bs ≤ top
+ends_by from [] top low each = low
+ends_by from (b ∷ bs) top low each = ends_by (block_end b) bs top (each 0 b refl) (λ k c at. each (suc k) c at)
+
+-- what has moved ends no higher than before
+left_grows : (Kept : ℕ → Type 0) (f : ℕ → ℕ) (s t : Space) → ((a : ℕ) → Kept a → IsAddress s a) → IsLaidOut s → MovesBy Kept f s t → left_of s ≤ left_of t
+left_grows Kept f s t there laid h =
+    let top : end_of t ≤ end_of s = ends_by 0 t.blocks (end_of s) (omega arith) (λ k b at.
+    let place = get_map (λ (x : Block). x.address) t.blocks k b at in
+    let here : block_at t b.address ≡ Some b = block_at-place t k b.address h.laid_out place ∙ at in
+    let old = h.only b.address (IsAddress-from_place t k b.address h.laid_out place) in
+    let was = some_block s old.0 (there old.0 old.1) in
+    let now : block_at t b.address ≡ Some (moved f was.0) = subst (λ n. block_at t n ≡ Some (moved f was.0)) old.2 (h.kept old.0 was.0 old.1 was.1) in
+    let same : b ≡ moved f was.0 = let both : Some b ≡ Some (moved f was.0) = sym here ∙ now in cc in
+    let size : length b.values ≡ length (was.0).values = ap (λ (x : Block). length x.values) same ∙ length-map (was.0).values (moved_value f) in
+    let long : length (values_at s old.0) ≡ length (was.0).values = ap (λ (o : Option Block). length (option_map_or (λ (x : Block). x.values) o [])) was.1 in
+    let end = ends_below s old.0 laid (there old.0 old.1) in
+    let down : f old.0 ≤ old.0 = h.down old.0 old.1 in
+    let at_new : f old.0 ≡ b.address = old.2 in
+    omega (arith, size, long, end, down, at_new)) in
+    let cells : t.cells ≡ s.cells = h.cells in
+    omega (arith, top, cells)
 
 -- ---- what is kept
 
@@ -187,16 +216,28 @@ module _ (p : Lowered) (world : World) (store : Store) (ts : List Thread) (print
         let same : r.0 ≡ n = let first : b.birth ≡ r.0 = cc in sym first ∙ at.3 in
         subst (λ (m : ℕ). Reachable world c.state m) same r.2
 
+    -- the blocks are those of what can be reached
+    pub held_collected : size_of after.heap.blocks ≡ live_size world c.state
+    held_collected =
+        let d = corresponds_collected in
+        let same : c.state ≡ d.state = cc (sym c.replays, d.replays) in
+        live_taken world d.state after.heap d.store_agrees.heap (reachable_there p world after later printed stop journal d) (λ n k. subst (λ (s : State). Reachable world s n) same (left_reachable n k))
+        ∙ ap (live_size world) (sym same)
+
+    -- no fewer cells are left
+    pub more_collected : left_of store.heap ≤ left_of after.heap
+    more_collected = left_grows Kept h.to store.heap after.heap kept_closed.there c.store_agrees.laid_out h.blocks
+
     -- where nothing is viewed, all cells are left but those of what can be reached
     pub left_collected : views c.state ≡ [] → left_of after.heap ≡ world.cells - live_size world c.state
     left_collected none =
-        let d = corresponds_collected in
-        let same : c.state ≡ d.state = cc (sym c.replays, d.replays) in
-        let live : end_of after.heap ≡ live_size world d.state = live_is world d.state after.heap d.store_agrees.heap d.store_agrees.laid_out (reachable_there p world after later printed stop journal d)
-        (λ n k. subst (λ (s : State). Reachable world s n) same (left_reachable n k)) (h.blocks.lowest (λ a. unpinned store.heap (views c.state) a c.store_agrees.buffers.pins none)) in
-        let cells : after.heap.cells ≡ world.cells = d.store_agrees.cells in
-        let back : live_size world d.state ≡ live_size world c.state = ap (live_size world) (sym same) in
-        omega (arith, live, cells, back)
+        let tight : end_of after.heap ≡ size_of after.heap.blocks = h.blocks.lowest (λ a. unpinned store.heap (views c.state) a c.store_agrees.buffers.pins none) in
+        let cells : after.heap.cells ≡ world.cells = corresponds_collected.store_agrees.cells in
+        omega (arith, tight, cells, held_collected)
+
+    -- all of this of a run
+    pub leaves_collected : (old : Run) → ◌≡◌ {A = Run} (seen p world store journal) old → LeavesAll old (left_of after.heap) (size_of after.heap.blocks)
+    leaves_collected old view = subst (λ (r : Run). LeavesAll r (left_of after.heap) (size_of after.heap.blocks)) view (more_collected, (c.state, c.replays, (held_collected, left_collected)))
 
 -- ---- a collection by itself
 
@@ -207,38 +248,39 @@ module _ (p : Lowered) (world : World) (store : Store) (ts : List Thread) (print
   stands_after (Err x) after later h e f = subst (λ (y : Store). Corresponds p world y later printed stop journal) (sym e) (subst (λ (l : List Thread). Corresponds p world store l printed stop journal) (sym f) c)
 
   -- and the run is as it was, but for the cells that are left
-  pub run_after : (r : Result T E) (after : Store) (later : List Thread) (old : Run) → ◌≡◌ {A = Run} (record { unit = p.unit; world = world; journal = journal; left = left_of store.heap }) old → OnOk r (AreCollected store ts after later)
-      → OnOk r (IsCollected old (record { unit = p.unit; world = world; journal = journal; left = left_of after.heap }))
+  pub run_after : (r : Result T E) (after : Store) (later : List Thread) (old : Run) → ◌≡◌ {A = Run} (record { unit = p.unit; world = world; journal = journal; left = left_of store.heap; held = size_of store.heap.blocks }) old → OnOk r (AreCollected store ts after later)
+      → OnOk r (IsCollected old (record { unit = p.unit; world = world; journal = journal; left = left_of after.heap; held = size_of after.heap.blocks }))
   run_after (Ok x) after later old view h = record {
-    same = ap (λ (r : Run). let s : Run = record r { left = left_of after.heap } in s) view;
-    left = (
-      c.state,
-      subst (λ (r : Run). replay_of r ≡ Some c.state) view c.replays,
-      λ none. subst (λ (r : Run). left_of after.heap ≡ r.world.cells - live_size r.world c.state) view (left_collected p world store ts printed stop journal c after later h none),
-    );
+    same = ap (λ (r : Run). let s : Run = record r { left = left_of after.heap; held = size_of after.heap.blocks } in s) view;
+    left = leaves_collected p world store ts printed stop journal c after later h old view;
   }
   run_after (Err x) after later old view h = tt
 
 -- ---- between two steps
 
--- a machine that stands for the same state as another, and has all cells left but those of what can be reached, where it has to and nothing
--- is viewed
-pub record StandsBetween (p : Lowered) (world : World) (state : State) (store : Store) (ts : List Thread) (printed : List Printed) (stop : Option Stop) (journal : List Entry) (refused : Type 0) : Type 0 where
+-- a machine that stands for the same state as another, and has what a collection leaves, where it has to
+pub record StandsBetween (p : Lowered) (world : World) (state : State) (run : Run) (store : Store) (ts : List Thread) (printed : List Printed) (stop : Option Stop) (journal : List Entry) (refused : Type 0) : Type 0 where
   pub stands : Corresponds p world store ts printed stop journal
   pub same : stands.state ≡ state
   pub left : refused → views stands.state ≡ [] → left_of store.heap ≡ world.cells - live_size world stands.state
+  pub leaves : refused → LeavesAll run (left_of store.heap) (size_of store.heap.blocks)
 
 module _ (p : Lowered) (world : World) (store : Store) (ts : List Thread) (printed : List Printed) (stop : Option Stop) (journal : List Entry) (c : Corresponds p world store ts printed stop journal) where
-  pub stands_between : (between : Store) (among : List Thread) (x : Advanced) → IsBetween store ts between among x → StandsBetween p world c.state between among printed stop journal (x ≡ advanced.Refused)
+  pub stands_between : (between : Store) (among : List Thread) (x : Advanced) → IsBetween store ts between among x → StandsBetween p world c.state (seen p world store journal) between among printed stop journal (x ≡ advanced.Refused)
   stands_between between among x is =
       ⊎_elim
       (λ (h : (between ≡ store) × (among ≡ ts) × (x ≢ advanced.Refused)).
       let d : Corresponds p world between among printed stop journal = subst (λ (y : Store). Corresponds p world y among printed stop journal) (sym h.0) (subst (λ (l : List Thread). Corresponds p world store l printed stop journal) (sym h.1) c) in
-      record { stands = d; same = cc (sym d.replays, c.replays); left = λ refused. absurd (h.2 refused) })
+      record { stands = d; same = cc (sym d.replays, c.replays); left = λ refused. absurd (h.2 refused); leaves = λ refused. absurd (h.2 refused) })
       (λ (h : AreCollected store ts between among).
       let d = corresponds_collected p world store ts printed stop journal c between among h in
       let same : d.state ≡ c.state = cc (sym d.replays, c.replays) in
-      record { stands = d; same = same; left = λ refused none. left_collected p world store ts printed stop journal c between among h (ap views (sym same) ∙ none) ∙ ap (λ (s : State). world.cells - live_size world s) (sym same) })
+      record {
+        stands = d;
+        same = same;
+        left = λ refused none. left_collected p world store ts printed stop journal c between among h (ap views (sym same) ∙ none) ∙ ap (λ (s : State). world.cells - live_size world s) (sym same);
+        leaves = λ refused. leaves_collected p world store ts printed stop journal c between among h (seen p world store journal) refl;
+      })
       is
 
 -- threads go on where they have moved

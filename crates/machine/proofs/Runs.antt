@@ -146,11 +146,14 @@ collected_once r new h d = by_state (replay_of r) refl d
 collected_still : (r new : Run) → IsCollected r new → IsCollected new new
 collected_still r new h = record {
   same = refl;
-  left = (
-    h.left.0,
-    ap replay_of h.same ∙ h.left.1,
-    λ none. h.left.2 none ∙ ap (λ (x : Run). x.world.cells - live_size x.world h.left.0) (sym h.same),
-  );
+  left = (omega arith, (
+    h.left.1.0,
+    ap replay_of h.same ∙ h.left.1.1,
+    (
+      h.left.1.2.0 ∙ ap (λ (x : Run). live_size x.world h.left.1.0) (sym h.same),
+      λ none. h.left.1.2.1 none ∙ ap (λ (x : Run). x.world.cells - live_size x.world h.left.1.0) (sym h.same),
+    ),
+  ));
 }
 
 -- nor do more of them, if there is one
@@ -190,17 +193,17 @@ blocked_waits : (classes : Classes) (s : State) (k : ℕ) → is_waiting classes
 blocked_waits classes s k h = and_right (is_none s.stop && is_live (thread_at s k)) (not (is_waiting classes k s.shared (thread_at s k))) (ap not h)
 
 -- the step of a journal with one more entry
-step_of : (r new : Run) (e : Entry) (left : ℕ) (s : State) → new ≡ record r { journal = r.journal ++ e ∷ []; left = left } → replay_of r ≡ Some s → IsSome (replay_of new) → (n : State) × (world_step (unit_tree r.unit) r.world.classes s e ≡ Some n)
-step_of r new e left s is h defined = there (world_step (unit_tree r.unit) r.world.classes s e) (subst IsSome (ap replay_of is ∙ replay_with r (e ∷ []) s h) defined)
+step_of : (r new : Run) (e : Entry) (left held : ℕ) (s : State) → new ≡ record r { journal = r.journal ++ e ∷ []; left = left; held = held } → replay_of r ≡ Some s → IsSome (replay_of new) → (n : State) × (world_step (unit_tree r.unit) r.world.classes s e ≡ Some n)
+step_of r new e left held s is h defined = there (world_step (unit_tree r.unit) r.world.classes s e) (subst IsSome (ap replay_of is ∙ replay_with r (e ∷ []) s h) defined)
   where
     there : (o : Option State) → IsSome (option_and_then (λ t. replay_from (unit_tree r.unit) r.world t []) o) → (n : State) × (o ≡ Some n)
     there None d = absurd (let f : false ≡ true = d in cc)
     there (Some n) d = (n, refl)
 
 -- a step, whose allocation was refused or not
-stepped_once : (r new : Run) (k : ℕ) (refused : Bool) (left : ℕ) (s : State) → new ≡ record r { journal = r.journal ++ Step k refused ∷ []; left = left } → replay_of r ≡ Some s → can_turn r s k ≡ true → IsSome (replay_of new) → AreTaken r (Turn k ∷ []) new → RunsAlong r new (Turn k ∷ [])
-stepped_once r new k refused left s is h can defined each =
-    let n = step_of r new (Step k refused) left s is h defined in
+stepped_once : (r new : Run) (k : ℕ) (refused : Bool) (left held : ℕ) (s : State) → new ≡ record r { journal = r.journal ++ Step k refused ∷ []; left = left; held = held } → replay_of r ≡ Some s → can_turn r s k ≡ true → IsSome (replay_of new) → AreTaken r (Turn k ∷ []) new → RunsAlong r new (Turn k ∷ [])
+stepped_once r new k refused left held s is h can defined each =
+    let n = step_of r new (Step k refused) left held s is h defined in
     subst (λ x. RunsAlong r x (Turn k ∷ [])) (sym is) (record {
       taken = subst (λ (x : Run). AreTaken r (Turn k ∷ []) x) is each;
       same_unit = refl;
@@ -225,8 +228,8 @@ turned r new k turn.Ended h defined full =
 turned r new k (turn.Blocked all) h defined full =
     subst (λ x. RunsAlong r x (Turn k ∷ [])) (sym h.0) (no_step r (Turn k) turn_other (h.1.0, h.1.1, blocked_waits r.world.classes h.1.0 k h.1.2.waits))
 turned r new k turn.Full h defined full = absurd (full refl)
-turned r new k turn.Short h defined full = let could = h.1.1 in stepped_once r new k true new.left could.0 h.0 could.1 could.2 defined (once r new (Turn k) (inr (inr h)))
-turned r new k turn.Stepped h defined full = let could = h.1.1 in stepped_once r new k false new.left could.0 h.0 could.1 could.2 defined (once r new (Turn k) (inr (inl h)))
+turned r new k turn.Short h defined full = let could = h.1.1 in stepped_once r new k true new.left new.held could.0 h.0 could.1 could.2 defined (once r new (Turn k) (inr (inr h)))
+turned r new k turn.Stepped h defined full = let could = h.1.1 in stepped_once r new k false new.left new.held could.0 h.0 could.1 could.2 defined (once r new (Turn k) (inr (inl h)))
 
 -- ---- threads that are not there
 

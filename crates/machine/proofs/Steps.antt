@@ -232,7 +232,7 @@ module _ (p : Lowered) (world : World) (store : Store) (ts : List Thread) (print
   fits_entry false next room step = has_room p world store c.state next k c.store_agrees (reachable_there p world store ts printed stop journal c) room step
 
   -- a step that was refused had no room for what it would have made
-  no_room : (store' : Store) (after : Thread) → stop ≡ None → t.ending ≡ Unfinished → Free → StepsAlways p world k store store' t after true event.Quiet → (left_of store.heap < sizes (made (unit_tree p.unit) world c.state k)) × (left_of store'.heap ≡ left_of store.heap)
+  no_room : (store' : Store) (after : Thread) → stop ≡ None → t.ending ≡ Unfinished → Free → StepsAlways p world k store store' t after true event.Quiet → (left_of store.heap < sizes (made (unit_tree p.unit) world c.state k)) × (store'.heap ≡ store.heap)
   no_room store' after goes live free advances =
       let f = the_thread in
       let a = advances rest (owners k) c.state.shared f.source shared_agrees f.agrees steady (ready free) in
@@ -241,7 +241,7 @@ module _ (p : Lowered) (world : World) (store : Store) (ts : List Thread) (print
       let cells : sizes (made (unit_tree p.unit) world c.state k) ≡ cells_made c.state.shared (thread_step (unit_tree p.unit) classes (in_use_with rest f.source) k c.state.shared f.source false) =
       ap sizes step ∙ made_cells c.state k (thread_step (unit_tree p.unit) classes (in_use c.state) k c.state.shared f.source false)
       ∙ ap (λ (u : BuffersInUse). cells_made c.state.shared (thread_step (unit_tree p.unit) classes u k c.state.shared f.source false)) used in
-      (omega (arith, short.0, cells), ap left_of short.1)
+      (omega (arith, short.0, cells), short.1)
 
   -- where nothing is viewed, all cells are left but those of what can be reached
   abbrev AreLeft : Type 0
@@ -321,25 +321,25 @@ module _ (p : Lowered) (world : World) (store : Store) (ts : List Thread) (print
     pub steps_freely : stop ≡ None → t.ending ≡ Unfinished → Corresponds p world store (slice_set ts i after) (printed_after printed k e) (stop_after stop k e) (journal ++ Step k false ∷ [])
     steps_freely goes live = steps_on store after false e goes live is_free (λ others own shared s shares h steady free. (freely others own shared s (shares, h, steady)).1) (λ h. absurd (cc)) (λ h. absurd (cc))
 
-  -- a step that was refused had no room, and where nothing is viewed, it left all cells but those of what can be reached
-  pub short_by : (store' : Store) (after : Thread) (x : Advanced) → stop ≡ None → t.ending ≡ Unfinished → Free → AdvancesAlways p world k store store' t after x → (x ≡ advanced.Refused → AreLeft)
-      → x ≡ advanced.Refused → (left_of store'.heap < sizes (made (unit_tree p.unit) world c.state k)) × (views c.state ≡ [] → left_of store'.heap ≡ world.cells - live_size world c.state)
-  short_by store' after (advanced.Did e) goes live free advances left is = absurd (cc)
-  short_by store' after advanced.Refused goes live free advances left is =
+  -- a step that was refused had no room, and left the heap as it was
+  pub short_by : (store' : Store) (after : Thread) (x : Advanced) → stop ≡ None → t.ending ≡ Unfinished → Free → AdvancesAlways p world k store store' t after x
+      → x ≡ advanced.Refused → (left_of store'.heap < sizes (made (unit_tree p.unit) world c.state k)) × (store'.heap ≡ store.heap)
+  short_by store' after (advanced.Did e) goes live free advances is = absurd (cc)
+  short_by store' after advanced.Refused goes live free advances is =
       let short = no_room store' after goes live free advances in
       let first : left_of store.heap < sizes (made (unit_tree p.unit) world c.state k) = short.0 in
-      let same : left_of store'.heap ≡ left_of store.heap = short.1 in
-      (omega (arith, first, same), λ none. same ∙ left refl none)
+      let same : left_of store'.heap ≡ left_of store.heap = ap left_of short.1 in
+      (omega (arith, first, same), short.1)
 
 -- the turn was the step that the run has more
-pub turn_holds : (old : Run) (unit : List Item) (world : World) (before after : List Entry) (had left : ℕ) (k : ℕ) (x : Advanced) → record { unit = unit; world = world; journal = before; left = had } ≡ old → after ≡ before ++ Step k (is_refused x) ∷ []
-    → CouldStep old k → (x ≡ advanced.Refused → HadNoRoom old k left × LeavesAll old left) → TurnHolds old k (record { unit = unit; world = world; journal = after; left = left }) (turn_after x)
-turn_holds old unit world before after had left k (advanced.Did e) is more could short = (
-  ap (λ (j : List Entry). let r : Run = record { unit = unit; world = world; journal = j; left = left } in r) more ∙ ap (λ (r : Run). let s : Run = record r { journal = r.journal ++ Step k false ∷ []; left = left } in s) is,
+pub turn_holds : (old : Run) (unit : List Item) (world : World) (before after : List Entry) (had full left held : ℕ) (k : ℕ) (x : Advanced) → record { unit = unit; world = world; journal = before; left = had; held = full } ≡ old → after ≡ before ++ Step k (is_refused x) ∷ []
+    → CouldStep old k → (x ≡ advanced.Refused → HadNoRoom old k left × LeavesAll old left held) → TurnHolds old k (record { unit = unit; world = world; journal = after; left = left; held = held }) (turn_after x)
+turn_holds old unit world before after had full left held k (advanced.Did e) is more could short = (
+  ap (λ (j : List Entry). let r : Run = record { unit = unit; world = world; journal = j; left = left; held = held } in r) more ∙ ap (λ (r : Run). let s : Run = record r { journal = r.journal ++ Step k false ∷ []; left = left; held = held } in s) is,
   could,
 )
-turn_holds old unit world before after had left k advanced.Refused is more could short = (
-  ap (λ (j : List Entry). let r : Run = record { unit = unit; world = world; journal = j; left = left } in r) more ∙ ap (λ (r : Run). let s : Run = record r { journal = r.journal ++ Step k true ∷ []; left = left } in s) is,
+turn_holds old unit world before after had full left held k advanced.Refused is more could short = (
+  ap (λ (j : List Entry). let r : Run = record { unit = unit; world = world; journal = j; left = left; held = held } in r) more ∙ ap (λ (r : Run). let s : Run = record r { journal = r.journal ++ Step k true ∷ []; left = left; held = held } in s) is,
   could,
   (short refl).0,
   (short refl).1,

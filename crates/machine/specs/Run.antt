@@ -21,6 +21,7 @@ use Rattle.semantics.specs.ReportOf.{shown, shown_row, standing_of}
 use Rattle.semantics.specs.Heap.{Heap}
 use Rattle.report_objects.specs.Rows.{AreReported}
 use Rattle.heap.specs.Heap.{left_of}
+use Rattle.compact.specs.Same.{size_of}
 use Rattle.semantics.specs.Object.{sizes}
 use Rattle.semantics.specs.Reachable.{live_size}
 use Rattle.semantics.specs.Run.{replay, made, Follows, MarkedAreFair, UnmarkedFit}
@@ -54,12 +55,13 @@ use Rattle.machine_threads.specs.ThreadAgrees.{ThreadsAgree}
 use Rattle.machine_collections.specs.Moving.{AreCollected}
 use Rattle.semantics.specs.EventViews.{stop_view}
 
--- a program's items, the world, the steps taken, and the cells after the heap's highest block
+-- a program's items, the world, the steps taken, the cells after the heap's highest block, and those that its blocks take
 pub record Run : Type 0 where
   pub unit : List Item
   pub world : World
   pub journal : List Entry
   pub left : ℕ
+  pub held : ℕ
 
 -- the state that the journal leads to
 abbrev pub replay_of : Run → Option State
@@ -184,13 +186,13 @@ entry_of k = Step k false
 abbrev pub refused_entry_of : ℕ → Entry
 refused_entry_of k = Step k true
 
--- the run with a step of thread k more, after which this many cells are left
-abbrev pub stepped : Run → ℕ → (left : ℕ) → Run
-stepped r k left = record r { journal = r.journal ++ entry_of k ∷ []; left = left }
+-- the run with a step of thread k more, after which this many cells are left, and blocks take this many
+abbrev pub stepped : Run → ℕ → (left held : ℕ) → Run
+stepped r k left held = record r { journal = r.journal ++ entry_of k ∷ []; left = left; held = held }
 
--- the run with a step of thread k more whose allocation was refused, after which this many cells are left
-abbrev pub refused : Run → ℕ → (left : ℕ) → Run
-refused r k left = record r { journal = r.journal ++ refused_entry_of k ∷ []; left = left }
+-- the same with a step whose allocation was refused
+abbrev pub refused : Run → ℕ → (left held : ℕ) → Run
+refused r k left held = record r { journal = r.journal ++ refused_entry_of k ∷ []; left = left; held = held }
 
 -- thread k can step, and the journal has room for the step
 abbrev pub CouldStep : Run → ℕ → Type 0
@@ -205,14 +207,15 @@ turn_after advanced.Refused = turn.Short
 abbrev pub HadNoRoom : Run → ℕ → (left : ℕ) → Type 0
 HadNoRoom r k left = InState r (λ s. left < sizes (made (unit_tree r.unit) r.world s k))
 
--- where nothing is viewed, all cells are left but those of what can be reached
-abbrev pub LeavesAll : Run → (left : ℕ) → Type 0
-LeavesAll r left = InState r (λ s. views s ≡ [] → left ≡ r.world.cells - live_size r.world s)
+-- A heap has blocks of what can be reached alone, and no fewer cells are left than were. Where nothing is viewed all cells are left but
+-- those of these blocks.
+abbrev pub LeavesAll : Run → (left held : ℕ) → Type 0
+LeavesAll r left held = (r.left ≤ left) × InState r (λ s. (held ≡ live_size r.world s) × (views s ≡ [] → left ≡ r.world.cells - live_size r.world s))
 
--- what a collection leaves: the run as it was, but for the cells that are left
+-- what a collection leaves: the run as it was, but for the cells that are left, and the blocks
 pub record IsCollected (old new : Run) : Type 0 where
-  pub same : new ≡ record old { left = new.left }
-  pub left : LeavesAll old new.left
+  pub same : new ≡ record old { left = new.left; held = new.held }
+  pub left : LeavesAll old new.left new.held
 
 -- what a turn of thread k was; an allocation was refused only where it had no room after a collection
 abbrev pub TurnHolds : Run → ℕ → Run → Answer → Type 0
@@ -220,8 +223,8 @@ TurnHolds old k new turn.Stopped = (new ≡ old) × InState old (λ s. IsSome s.
 TurnHolds old k new turn.Ended = (new ≡ old) × InState old (λ s. HasEnded s k)
 TurnHolds old k new (turn.Blocked all) = (new ≡ old) × InState old (λ s. IsWaiting old.world.classes s k all)
 TurnHolds old k new turn.Full = (new ≡ old) × (most_entries ≤ length old.journal) × InState old (λ s. can_turn old s k ≡ true)
-TurnHolds old k new turn.Short = (new ≡ refused old k new.left) × CouldStep old k × HadNoRoom old k new.left × LeavesAll old new.left
-TurnHolds old k new turn.Stepped = (new ≡ stepped old k new.left) × CouldStep old k
+TurnHolds old k new turn.Short = (new ≡ refused old k new.left new.held) × CouldStep old k × HadNoRoom old k new.left × LeavesAll old new.left new.held
+TurnHolds old k new turn.Stepped = (new ≡ stepped old k new.left new.held) × CouldStep old k
 
 -- the turn of a thread that has no step to take: the machine has stopped, or the thread has ended
 abbrev pub turn_at_rest : (stopped unfinished : Bool) → Option Answer
@@ -284,7 +287,7 @@ pub record RunsAlong (old new : Run) (schedule : Schedule) : Type 0 where
 
 -- The run of a machine with this journal.
 abbrev pub seen : Lowered → World → Store → List Entry → Run
-seen p w store journal = record { unit = p.unit; world = w; journal = journal; left = left_of store.heap }
+seen p w store journal = record { unit = p.unit; world = w; journal = journal; left = left_of store.heap; held = size_of store.heap.blocks }
 
 -- Thread k, the one at a place among those of a machine with this journal, has not ended, and no trap has stopped the machine.
 pub record CanGoOn (p : Lowered) (w : World) (store : Store) (threads : List Thread) (index : ℕ)

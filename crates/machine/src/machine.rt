@@ -88,13 +88,14 @@ impl<'a> Model for Machine<'a> {
     ghost use Rattle.std.specs.Coded.{codes as all_codes};
     ghost use Rattle.syntax.specs.contracts.unit.Item as item;
     ghost use Rattle.heap.specs.Heap.{left_of};
+    ghost use Rattle.compact.specs.Same.{size_of};
     ghost use Rattle.machine.specs.Run.{Run, Corresponds};
 
     ghost Value = { Run };
 
     ghost coded = { Prim.hlevel (all_codes, item.the_row.coded) };
 
-    ghost view = { λ m. record { unit = m.program.unit; world = m.world; journal = m.journal.items; left = left_of m.store.heap } };
+    ghost view = { λ m. record { unit = m.program.unit; world = m.world; journal = m.journal.items; left = left_of m.store.heap; held = size_of m.store.heap.blocks } };
 
     ghost invariant = { λ m. Corresponds m.program m.world m.store m.threads.items m.printed.items m.stop m.journal.items };
 }

@@ -1,10 +1,10 @@
--- After a collection with nothing pinned, the cells that are used are those of what can be reached.
+-- After a collection the blocks take the cells of what can be reached.
 use Rattle.std.proofs.Common.{◌≡◌, ◌≢◌, ℕ, suc, ◌+◌, ◌<◌, ◌≤◌, Bool, true, false, cond, eqb, List, [], ◌∷◌, length, get_or, sym, ap, ◌∙◌, subst, arith, ⊎_elim}
 use Rattle.std.specs.Prelude.{◌==◌, not, sum_by, AllPairs}
 use Rattle.std.proofs.lemmas.Bool.{cond_both, false≢true}
 use Rattle.std.proofs.lemmas.Bool.Decides.{eqb_tells}
 use Rattle.std.proofs.lemmas.List.Sums.{sum_by-cons}
-use Rattle.heap.specs.Heap.{Block, Space, IsLaidOut, block_size, end_of}
+use Rattle.heap.specs.Heap.{Block, Space, block_size}
 use Rattle.semantics.specs.Heap.{Heap}
 use Rattle.semantics.specs.Reachable.{live_size, reachable, size_at, Reachable}
 use Rattle.semantics.specs.State.{State}
@@ -12,7 +12,7 @@ use Rattle.semantics.specs.World.{World}
 use Rattle.semantics.proofs.ShownNames.{is_reachable}
 use Rattle.semantics.proofs.ReachableLemmas.{In, in_cases, in_head, in_tail}
 use Rattle.machine_scenes.specs.HeapAgrees.{BlocksAgree, HeapAgrees, IsNamed}
-use Rattle.machine_collections.proofs.LiveBlocks.{AreApart, births, live_below, others, size_is}
+use Rattle.machine_collections.proofs.LiveBlocks.{AreApart, births, live_within, others, size_is}
 
 -- some names take no more than all
 sum_some : (f : ℕ → ℕ) (n : ℕ) (xs : List ℕ) → sum_by f (others n xs) ≤ sum_by f xs
@@ -79,10 +79,9 @@ births_apart (b ∷ bs) h = (
 
 -- ---- what is used
 
--- where the blocks lie lowest, and each can be reached, just the cells of what can be reached are used
-pub live_is : (w : World) (s : State) (space : Space) → HeapAgrees space s.shared.heap → IsLaidOut space → ((n : ℕ) → Reachable w s n → IsNamed space n) → ((n : ℕ) → In (births space.blocks) n → Reachable w s n) → end_of space ≡ sum_by block_size space.blocks
-    → end_of space ≡ live_size w s
-live_is w s space h laid named kept lowest =
-    let low = live_below w s space h.blocks laid named in
+-- where each block can be reached, they take just the cells of what can be reached
+pub live_taken : (w : World) (s : State) (space : Space) → HeapAgrees space s.shared.heap → ((n : ℕ) → Reachable w s n → IsNamed space n) → ((n : ℕ) → In (births space.blocks) n → Reachable w s n) → sum_by block_size space.blocks ≡ live_size w s
+live_taken w s space h named kept =
+    let low = live_within w s space h.blocks named in
     let high = blocks_within space s.shared.heap space.blocks (reachable w s) h.blocks (births_apart space.blocks h.unique) (λ n k. is_reachable w s n (kept n k)) in
-    omega (arith, low, high, lowest)
+    omega (arith, low, high)

@@ -131,11 +131,14 @@ blocks_below from (b ∷ bs) cells h =
 
 -- ---- the reachable objects
 
-pub live_below : (w : World) (s : State) (space : Space) → BlocksAgree space s.shared.heap space.blocks → IsLaidOut space → ((n : ℕ) → Reachable w s n → IsNamed space n) → live_size w s ≤ end_of space
-live_below w s space agree laid named =
+-- where each that is reachable has a block, they take no more cells than the blocks
+pub live_within : (w : World) (s : State) (space : Space) → BlocksAgree space s.shared.heap space.blocks → ((n : ℕ) → Reachable w s n → IsNamed space n) → live_size w s ≤ sum_by block_size space.blocks
+live_within w s space agree named =
     let names = reachable w s in
     let heap = s.shared.heap in
     let lists = reachable_lists w s in
     let apart : AreApart names = subst (λ (l : List ℕ). AreApart l) (sym lists.in_order) (apart_filter (is_in names) (from_one (length heap)) (from_one_apart (length heap))) in
-    let sums = names_within space heap space.blocks names agree apart (λ n k. let t = named n (lists.sound n (to_contains names n k)) in found_birth space.blocks t.0 n t.1) in
-    omega (arith, sums, blocks_below 0 space.blocks space.cells laid)
+    names_within space heap space.blocks names agree apart (λ n k. let t = named n (lists.sound n (to_contains names n k)) in found_birth space.blocks t.0 n t.1)
+
+pub live_below : (w : World) (s : State) (space : Space) → BlocksAgree space s.shared.heap space.blocks → IsLaidOut space → ((n : ℕ) → Reachable w s n → IsNamed space n) → live_size w s ≤ end_of space
+live_below w s space agree laid named = omega (arith, live_within w s space agree named, blocks_below 0 space.blocks space.cells laid)

@@ -31,13 +31,13 @@ use Rattle.shared_accounts.specs.Accounts.{account_of, account_view, ending_view
 -- ---- the entry of a step
 
 -- the run with an entry of thread k
-abbrev with_entry : Run → ℕ → Bool → (left : ℕ) → Run
-with_entry r k b left = record r { journal = r.journal ++ Step k b ∷ []; left = left }
+abbrev with_entry : Run → ℕ → Bool → (left held : ℕ) → Run
+with_entry r k b left held = record r { journal = r.journal ++ Step k b ∷ []; left = left; held = held }
 
 -- An answer that is no step leaves the run as it was; a step is an entry of a thread that can step.
 pub data Change (old : Run) (k : ℕ) (new : Run) : Type 0 where
   Same : new ≡ old → Change old k new
-  More : (b : Bool) → new ≡ with_entry old k b new.left → CouldStep old k → Change old k new
+  More : (b : Bool) → new ≡ with_entry old k b new.left new.held → CouldStep old k → Change old k new
 
 changed : (old new : Run) (k : ℕ) (answer : Turn) → TurnHolds old k new answer → Change old k new
 changed old new k Stopped h = Same h.0
@@ -54,12 +54,12 @@ change old new k (Err x) h e = Same e
 -- ---- the accounts
 
 -- an entry of a thread changes no other thread's account
-account_else : (r : Run) (k j : ℕ) (b : Bool) (left : ℕ) → IsSome (replay_of (with_entry r k b left)) → j ≢ k → account_of (with_entry r k b left) j ≡ account_of r j
-account_else r k j b left runs apart = ap (λ o. option_map_or account_view o nothing) (others_stay (unit_tree r.unit) r.world r.journal k b j runs apart)
+account_else : (r : Run) (k j : ℕ) (b : Bool) (left held : ℕ) → IsSome (replay_of (with_entry r k b left held)) → j ≢ k → account_of (with_entry r k b left held) j ≡ account_of r j
+account_else r k j b left held runs apart = ap (λ o. option_map_or account_view o nothing) (others_stay (unit_tree r.unit) r.world r.journal k b j runs apart)
 
 pub others : (old new : Run) (k : ℕ) → Change old k new → IsSome (replay_of new) → (j : ℕ) → j ≢ k → account_of new j ≡ account_of old j
 others old new k (Same e) runs j apart = ap (λ (r : Run). account_of r j) e
-others old new k (More b e could) runs j apart = ap (λ (r : Run). account_of r j) e ∙ account_else old k j b new.left (subst (λ (r : Run). IsSome (replay_of r)) e runs) apart
+others old new k (More b e could) runs j apart = ap (λ (r : Run). account_of r j) e ∙ account_else old k j b new.left new.held (subst (λ (r : Run). IsSome (replay_of r)) e runs) apart
 
 pub same_world : (old new : Run) (k : ℕ) → Change old k new → new.world ≡ old.world
 same_world old new k (Same e) = ap (λ (r : Run). r.world) e
@@ -151,8 +151,8 @@ kept_now old new k (Err x) h e kept w = subst (λ (r : Run). IsWithin kept (fate
 -- ---- what is printed
 
 -- the state after a step, where both runs have one
-after_step : (r : Run) (k : ℕ) (b : Bool) (left : ℕ) (s s' : State) → replay_of r ≡ Some s → replay_of (with_entry r k b left) ≡ Some s' → world_step (unit_tree r.unit) r.world.classes s (Step k b) ≡ Some s'
-after_step r k b left s s' h h' = one (world_step (unit_tree r.unit) r.world.classes s (Step k b)) (sym (replay_from-append (unit_tree r.unit) r.world (start (unit_tree r.unit) r.world) r.journal (Step k b ∷ []) ∙ ap (option_and_then (λ x. replay_from (unit_tree r.unit) r.world x (Step k b ∷ []))) h) ∙ h')
+after_step : (r : Run) (k : ℕ) (b : Bool) (left held : ℕ) (s s' : State) → replay_of r ≡ Some s → replay_of (with_entry r k b left held) ≡ Some s' → world_step (unit_tree r.unit) r.world.classes s (Step k b) ≡ Some s'
+after_step r k b left held s s' h h' = one (world_step (unit_tree r.unit) r.world.classes s (Step k b)) (sym (replay_from-append (unit_tree r.unit) r.world (start (unit_tree r.unit) r.world) r.journal (Step k b ∷ []) ∙ ap (option_and_then (λ x. replay_from (unit_tree r.unit) r.world x (Step k b ∷ []))) h) ∙ h')
   where
     one : (o : Option State) → option_and_then (λ x. replay_from (unit_tree r.unit) r.world x []) o ≡ Some s' → o ≡ Some s'
     one None e = absurd (cc)
@@ -180,7 +180,7 @@ printed_more old new k (More b e could) s s' h h' =
     (λ (one : (z : ℤ) × (s'.printed ≡ s.printed ++ record { thread = k; number = z } ∷ [])).
     ap (λ l. numbers_of l k) one.1 ∙ numbers_end s.printed k one.0
     ∙ ap (λ o. more_of (numbers_of s.printed k) (option_map (λ (p : Printed). p.number) o)) (sym (ap (λ l. slice_get l (length s.printed)) one.1 ∙ number_there s.printed (record { thread = k; number = one.0 }))))
-    (steps_print (unit_tree old.unit) old.world.classes s s' k b (after_step old k b new.left s s' h (subst (λ (r : Run). replay_of r ≡ Some s') e h')))
+    (steps_print (unit_tree old.unit) old.world.classes s s' k b (after_step old k b new.left new.held s s' h (subst (λ (r : Run). replay_of r ≡ Some s') e h')))
 
 -- what a thread has printed, by its account
 pub printed_in : (r : Run) (k : ℕ) (s : State) → replay_of r ≡ Some s → (account_of r k).printed ≡ numbers_of s.printed k
@@ -221,7 +221,7 @@ one_entry journal k b =
     let one : filter (is_step_of k) (Step k b ∷ []) ≡ Step k b ∷ [] = (let e : (k == k) ≡ true = eq-eqb k k refl in rw e refl) in
     ap length (filter-append (is_step_of k) journal (Step k b ∷ [])) ∙ length-append (filter (is_step_of k) journal) _ ∙ ap (λ l. entries_of journal k + length l) one
 
-more_entries : (old new : Run) (k : ℕ) (b : Bool) → new ≡ with_entry old k b new.left → CouldStep old k → IsSome (replay_of new) → (account_of new k).entries ≡ (account_of old k).entries + 1
+more_entries : (old new : Run) (k : ℕ) (b : Bool) → new ≡ with_entry old k b new.left new.held → CouldStep old k → IsSome (replay_of new) → (account_of new k).entries ≡ (account_of old k).entries + 1
 more_entries old new k b e could runs =
     entries_in new k runs ∙ ap (λ (r : Run). entries_of r.journal k) e ∙ one_entry old.journal k b ∙ ap (λ n. n + 1) (sym (entries_in old k (rw could.1.1 refl)))
 

@@ -8,7 +8,8 @@ use Rattle.semantics.specs.declared.journal.Entry.TheVariants.{Step}
 use Rattle.semantics.specs.State as state
 use Rattle.semantics.specs.Step.{is_blocked, is_unfinished}
 use Rattle.semantics.specs.World.{World}
-use Rattle.heap.specs.Heap.{left_of}
+use Rattle.heap.specs.Heap.{Space, left_of}
+use Rattle.compact.specs.Same.{size_of}
 use Rattle.semantics.specs.declared.event.Ending.{Ending}
 use Rattle.semantics.specs.declared.event.Ending.TheVariants.{Unfinished, Ended, Uncaught}
 use Rattle.semantics.specs.declared.event.Stop.{Stop}
@@ -19,10 +20,9 @@ use Rattle.machine_threads.specs.declared.thread.Thread.{Thread}
 use Rattle.machine_steps.specs.declared.advance.Advanced.{Advanced}
 use Rattle.machine_steps.specs.declared.advance.Advanced.TheVariants as advanced
 use Rattle.machine_steps.specs.Advances.{AdvancesAlways}
-use Rattle.machine.specs.Run.{AdvancesFrom, CanAdvance, Corresponds, Run, InState, CouldStep, HadNoRoom, LeavesAll, TurnHolds, Waits, turn_at_rest, replay_of, can_turn, event_of, is_refused}
+use Rattle.machine.specs.Run.{AdvancesFrom, CanAdvance, Corresponds, Run, InState, CouldStep, HadNoRoom, LeavesAll, TurnHolds, Waits, turn_at_rest, replay_of, can_turn, event_of, is_refused, seen}
 use Rattle.machine_scenes.specs.declared.store.Store.{Store}
 use Rattle.semantics.specs.Object.{sizes}
-use Rattle.semantics.specs.Reachable.{live_size}
 use Rattle.semantics.specs.Run.{made}
 use Rattle.syntax.specs.Views.{unit_tree}
 use Rattle.machine.proofs.Collected.{StandsBetween, lives_between, stands_between}
@@ -132,12 +132,12 @@ returns-in_err-make_room-clause-runs c = rw (invariant_of-self c).replays refl
 
 -- with this journal and this store the machine is seen as it was
 err_so : {T E : Type 0} (unit : List Item) (world : World) (journal before : List Entry) (store had : Store) (now : Run) (k : ℕ) (r : Result T E) → journal ≡ before → store ≡ had
-    → ◌≡◌ {A = Run} (record { unit = unit; world = world; journal = before; left = left_of had.heap }) now → CouldStep now k
-    → OnErr r ((◌≡◌ {A = Run} (record { unit = unit; world = world; journal = journal; left = left_of store.heap }) now) × CouldStep now k)
+    → ◌≡◌ {A = Run} (record { unit = unit; world = world; journal = before; left = left_of had.heap; held = size_of had.heap.blocks }) now → CouldStep now k
+    → OnErr r ((◌≡◌ {A = Run} (record { unit = unit; world = world; journal = journal; left = left_of store.heap; held = size_of store.heap.blocks }) now) × CouldStep now k)
 err_so unit world journal before store had now k (Ok x) same kept view could = tt
 err_so unit world journal before store had now k (Err e) same kept view could = (
-  ap (λ (j : List Entry). let r : Run = record { unit = unit; world = world; journal = j; left = left_of store.heap } in r) same
-      ∙ ap (λ (h : Store). let r : Run = record { unit = unit; world = world; journal = before; left = left_of h.heap } in r) kept ∙ view,
+  ap (λ (j : List Entry). let r : Run = record { unit = unit; world = world; journal = j; left = left_of store.heap; held = size_of store.heap.blocks } in r) same
+      ∙ ap (λ (h : Store). let r : Run = record { unit = unit; world = world; journal = before; left = left_of h.heap; held = size_of h.heap.blocks } in r) kept ∙ view,
   could,
 )
 
@@ -179,7 +179,7 @@ one_more old before after e written kept = written ∙ ap (λ (j : List Entry). 
 -- what the step began with, and the machine after it
 module _ (a : After-index) (free : Free a) (store' : Store) (later : List Thread) (x : Advanced) (f : AdvancesFrom a.self.inside.program a.self.inside.world a.self.inside.store a.self.inside.threads.items (a.from-index.result - 1) store' later x) where
   abbrev Between : Type 0
-  Between = StandsBetween a.self.inside.program a.self.inside.world a.self.invariant.state f.between f.among a.self.inside.printed.items a.self.inside.stop a.self.inside.journal.items (x ≡ advanced.Refused)
+  Between = StandsBetween a.self.inside.program a.self.inside.world a.self.invariant.state (seen a.self.inside.program a.self.inside.world a.self.inside.store a.self.inside.journal.items) f.between f.among a.self.inside.printed.items a.self.inside.stop a.self.inside.journal.items (x ≡ advanced.Refused)
 
   between : Between
   between = stands_between a.self.inside.program a.self.inside.world a.self.inside.store a.self.inside.threads.items a.self.inside.printed.items a.self.inside.stop a.self.inside.journal.items a.self.invariant f.between f.among x f.is
@@ -200,12 +200,13 @@ module _ (a : After-index) (free : Free a) (store' : Store) (later : List Thread
       (steps_by _ _ _ _ _ _ _ between.stands a.args.k (a.from-index.result - 1) f.old (number a) f.at store' f.new x (running a free) still_live still_free advances_here between.left)
 
   -- where it was refused
-  no_room : x ≡ advanced.Refused → HadNoRoom a.args.self.now a.args.k (left_of store'.heap) × LeavesAll a.args.self.now (left_of store'.heap)
+  no_room : x ≡ advanced.Refused → HadNoRoom a.args.self.now a.args.k (left_of store'.heap) × LeavesAll a.args.self.now (left_of store'.heap) (size_of store'.heap.blocks)
   no_room refused =
-      let short = short_by _ _ _ _ _ _ _ between.stands a.args.k (a.from-index.result - 1) f.old (number a) f.at store' f.new x (running a free) still_live still_free advances_here between.left refused in
+      let short = short_by _ _ _ _ _ _ _ between.stands a.args.k (a.from-index.result - 1) f.old (number a) f.at store' f.new x (running a free) still_live still_free advances_here refused in
       let here = subst (λ (r : Run). replay_of r ≡ Some between.stands.state) a.self.view_is between.stands.replays in (
         (between.stands.state, here, subst (λ (r : Run). left_of store'.heap < sizes (made (unit_tree r.unit) r.world between.stands.state a.args.k)) a.self.view_is short.0),
-        (between.stands.state, here, λ none. subst (λ (r : Run). left_of store'.heap ≡ r.world.cells - live_size r.world between.stands.state) a.self.view_is (short.1 none)),
+        subst (λ (t : Space). LeavesAll a.args.self.now (left_of t) (size_of t.blocks)) (sym short.1)
+            (subst (λ (r : Run). LeavesAll r (left_of f.between.heap) (size_of f.between.heap.blocks)) a.self.view_is (between.leaves refused)),
       )
 
 pub invariant_of-self-2 : goal.invariant_of-self-2
@@ -230,7 +231,7 @@ returns-clause-turn c =
     let x = c.in_ok-advanced.advanced in
     let journal = one_more i.journal.items c.make_room.new.journal.items c.write_step.new.journal.items (Step c.args.k (is_refused x)) c.write_step.ensures.journal c.make_room.ensures.journal in
     let advances = subst (λ (ts : List Thread). AdvancesFrom i.program i.world i.store ts (c.from-index.result - 1) c.advance_or_collect.new.store c.advance_or_collect.new.threads x) c.deref_mut.ensures.value c.in_ok-advanced.ensures.advances in
-    rw c.write_step.ensures.turn (turn_holds c.args.self.now i.program.unit i.world i.journal.items c.write_step.new.journal.items (left_of i.store.heap) (left_of c.advance_or_collect.new.store.heap) c.args.k x c.self.view_is journal
+    rw c.write_step.ensures.turn (turn_holds c.args.self.now i.program.unit i.world i.journal.items c.write_step.new.journal.items (left_of i.store.heap) (size_of i.store.heap.blocks) (left_of c.advance_or_collect.new.store.heap) (size_of c.advance_or_collect.new.store.heap.blocks) c.args.k x c.self.view_is journal
     (could_step a free) (no_room a free c.advance_or_collect.new.store c.advance_or_collect.new.threads x advances))
 
 pub returns-clause-runs : goal.returns-clause-runs
