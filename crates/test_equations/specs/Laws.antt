@@ -14,7 +14,7 @@ without_collections [] = []
 without_collections (Collect ∷ words) = without_collections words
 without_collections (Turn k ∷ words) = Turn k ∷ without_collections words
 
--- Collections change no run: the same journals follow a schedule with them and without them, to the same states.
+-- Collections allow no other journals: the same follow a schedule with them and without them, to the same states.
 abbrev pub CollectionsChangeNothing : Type 0
 CollectionsChangeNothing =
     (unit : SourceUnit) (w : World) (s end : State) (journal : Journal) (words : Schedule)

@@ -4,7 +4,8 @@
 
 ghost use Rattle.test_equations.specs.Laws.{CollectionsChangeNothing};
 
-/// Nothing is run here: the examples are in proofs/. A law of all runs: collections in a schedule change none.
+/// Nothing is run here: the examples are in proofs/. A law of all runs: the same journals follow a schedule with its
+/// collections and without them.
 pub fn collections_change_nothing()
     ensures { CollectionsChangeNothing }
 {}
