@@ -10,6 +10,7 @@ use crate::instr::{ElementType, Instr, LocalArray, Operator, Plain, PlainTrap, T
 use crate::stack::Stack;
 
 /// Does an instruction that works on the stack and the number slots alone, and answers where it leads.
+#[inline(always)]
 pub fn plain(instr: &Instr, stack: &mut Stack, numbers: &mut [u32]) -> Plain
     requires operands { IsSome (plain_of instr.now stack.old numbers.old) }
     requires room { IsSome (depth_after instr.now (length stack.old)) }
