@@ -1,6 +1,6 @@
 //! Texts that are words, separated by spaces and line feeds.
 
-ghost use Rattle.std.specs.Prelude.{◌≡◌, ℕ, ◌+◌, ◌-◌, ◌^◌, ◌<◌, ◌≤◌, List, Option, Bool, IfOk, min, sum_by};
+ghost use Rattle.std.specs.Prelude.{◌≡◌, ℕ, [], ◌+◌, ◌-◌, ◌^◌, ◌<◌, ◌≤◌, List, Option, Bool, IfOk, min, sum_by};
 ghost use Rattle.std.specs.Option.{option_map};
 ghost use Rattle.std.specs.List.{list_all};
 ghost use Rattle.base.specs.Limits.{most_entries};
@@ -35,11 +35,12 @@ pub trait Word: Drop {
         ensures { result ≡ times self.now };
 }
 
-/// The words of a line, or `None` where one of them has no form.
-fn formed<W: Word>(alloc: Global, line: &[u8]) -> Result<Option<Vec<W>>, AllocError>
+/// The words of a line, put into an empty list, or `None` where one of them has no form.
+fn formed<W: Word>(empty: Vec<W>, line: &[u8]) -> Result<Option<Vec<W>>, AllocError>
+    requires { empty.items ≡ [] }
     ensures { IfOk result (λ words. option_map (λ v. v.items) words ≡ formed_words W.spelled (parts_of 32 line.now)) }
 {
-    let mut words = Vec::new(alloc);
+    let mut words = empty;
     for part in Split::new(line, b' ') {
         if !part.is_empty() {
             match W::read(part) {
@@ -69,19 +70,20 @@ fn all_known<W: Word>(words: &[W], threads: u8) -> bool
     words.iter().all(|word| word.is_known(threads))
 }
 
-/// The words of a line, after this number of words before it.
+/// The words of a line, after this number of words before it, put into an empty list.
 fn read_line<W: Word>(
-    alloc: Global,
+    empty: Vec<W>,
     line: &[u8],
     number: usize,
     threads: u8,
     count: u64,
 ) -> Result<Vec<W>, ReadError>
-    requires { count ≤ most_entries }
+    requires empty { empty.items ≡ [] }
+    requires count { count ≤ most_entries }
     ensures words { Gives (λ v. v.items) result (line_words W.spelled (W.known threads) W.times number count line.now) }
     ensures within { IfOk result (λ v. count + sum_by W.times v.items ≤ most_entries) }
 {
-    let Some(words) = formed::<W>(alloc, line)? else {
+    let Some(words) = formed::<W>(empty, line)? else {
         let rule = Rule::Form;
         return Err(ReadError::Fault(TextFault { rule, line: number }));
     };
@@ -96,18 +98,20 @@ fn read_line<W: Word>(
     Ok(words)
 }
 
-/// All words of a text.
+/// All words of a text. The words of each line are gathered in one list, whose memory serves for all lines.
 pub fn read_words<W: Word>(alloc: Global, text: &[u8], threads: u8) -> Result<Vec<W>, ReadError>
     ensures { Gives (λ v. v.items) result (text_words W.spelled (W.known threads) W.times text.now) }
 {
     let mut words = Vec::new(alloc);
+    let mut empty = Vec::new(alloc);
     let mut count = 0;
     let mut number = 0;
     for line in Split::new(text, b'\n') {
         number += 1;
-        let mut more = read_line::<W>(alloc, line, number, threads, count)?;
+        let mut more = read_line::<W>(empty, line, number, threads, count)?;
         count += total(&more);
         words.append(&mut more)?;
+        empty = more;
     }
     Ok(words)
 }

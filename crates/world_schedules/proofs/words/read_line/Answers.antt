@@ -21,12 +21,12 @@ returns-then-total-count-clause-words g c =
     let e = rw c.in-Some.is at c.in_ok-words.ensures in
     let k : list_all (g.W.Word.known c.args.threads) c.in-Some.words.items ≡ true = ap (list_all (g.W.Word.known c.args.threads)) (sym c.deref.ensures.value) ∙ sym c.if-not-all_known.ensures in
     let s = ap (sum_by g.W.Word.times) c.deref-2.ensures.value in
-    refused_limit (g.W.Word.known c.args.threads) g.W.Word.times c.args.number c.args.count c.in-Some.words.items (formed_words g.W.Word.spelled (parts_of 32 c.args.line.now)) e k c.requires (rw (← s, ← c.total.ensures) c.if-total-count.true)
+    refused_limit (g.W.Word.known c.args.threads) g.W.Word.times c.args.number c.args.count c.in-Some.words.items (formed_words g.W.Word.spelled (parts_of 32 c.args.line.now)) e k c.requires.count (rw (← s, ← c.total.ensures) c.if-total-count.true)
 
 pub returns-clause-words : goal.returns-clause-words
 returns-clause-words g c =
     let e = rw c.in-Some.is at c.in_ok-words.ensures in
     let k : list_all (g.W.Word.known c.args.threads) c.in-Some.words.items ≡ true = ap (list_all (g.W.Word.known c.args.threads)) (sym c.deref.ensures.value) ∙ sym c.if-not-all_known.ensures in
     let s = ap (sum_by g.W.Word.times) c.deref-2.ensures.value in
-    let h = stays_within c.args.count (sum_by g.W.Word.times c.in-Some.words.items) c.requires (rw (← s, ← c.total.ensures) c.if-total-count.false) in
+    let h = stays_within c.args.count (sum_by g.W.Word.times c.in-Some.words.items) c.requires.count (rw (← s, ← c.total.ensures) c.if-total-count.false) in
     are_allowed (g.W.Word.known c.args.threads) g.W.Word.times c.args.number c.args.count c.in-Some.words.items (formed_words g.W.Word.spelled (parts_of 32 c.args.line.now)) e k h

@@ -24,6 +24,7 @@ loop-line-preserved g c =
     record {
       words = rw (c.in_ok-append.ensures.items, sum) (goes_on w.spelled (w.known c.args.threads) w.times (c.loop-line.number + 1) c.loop-line.count c.in-Some.line.now (parts_left c.loop-line.line-iterator) (parts_left c.next.new.self) c.loop-line.words.items
           (text_words w.spelled (w.known c.args.threads) w.times c.args.text.now) c.in-Some.ensures.steps c.loop-line.invariant.words first c.in_ok-more.ensures.words);
+      empty = c.in_ok-append.ensures.other_items;
       count = rw sum c.in_ok-more.ensures.within;
       number = omega (arith, c.loop-line.invariant.number, ap length c.in-Some.ensures.steps);
     }
