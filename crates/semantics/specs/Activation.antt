@@ -1,4 +1,4 @@
--- How a thread enters its next call, and how it leaves it.
+-- How a thread enters its next call.
 use Rattle.std.specs.Prelude.{ℕ, ◌+◌, List, [], ◌∷◌, length, filter_map, find, zip, Option, Some, None}
 use Rattle.std.specs.Option.{option_map, option_and_then}
 use Rattle.std.specs.Str.{bytes_eq}
@@ -7,11 +7,10 @@ use Rattle.syntax.specs.Parts.{functions_of}
 use Rattle.syntax.specs.Tree.{Function, Parameter, SourceUnit}
 use Rattle.class_rules.specs.Class.{Classes, class_named}
 use Rattle.class_rules.specs.Mangling.{native_class}
-use Rattle.semantics.specs.Object.{ObjectValue, Number, Refers, Reference}
+use Rattle.semantics.specs.Object.{ObjectValue, Number, Refers}
 use Rattle.semantics.specs.World.{Invocation}
-use Rattle.semantics.specs.Heap.{Heap, class_of}
 use Rattle.semantics.specs.Task.{tasks_of}
-use Rattle.semantics.specs.Thread.{Frame, Ending, Unfinished, Ended, Uncaught, Thread, Monitor, Shared, Quiet, Advance, Advances, NoAdvance, without_owner}
+use Rattle.semantics.specs.Thread.{Frame, Thread, Shared, Quiet, Advance, Advances, NoAdvance}
 use Rattle.semantics.specs.Value.{Int}
 use Rattle.semantics.specs.Variable.{Variable, Scalar, LocalRef, Variables}
 
@@ -71,28 +70,3 @@ entry_advance s (Some t) = Advances s t Quiet
 -- the entry into the next call
 abbrev pub entry_step : SourceUnit → Classes → Shared → Thread → Advance
 entry_step unit classes s t = entry_advance s (enter unit classes t t.calls)
-
--- ---- return
-
--- the ending of a thread after its call
-abbrev pub ending_after : Heap → Reference → List Invocation → Ending
-ending_after heap (Some n) calls = Uncaught (class_of heap n)
-ending_after heap None [] = Ended
-ending_after heap None (call ∷ calls) = Unfinished
-
--- a thread that has ended owns no monitor
-abbrev pub monitors_after : Ending → ℕ → List Monitor → List Monitor
-monitors_after Unfinished k monitors = monitors
-monitors_after ending k monitors = without_owner monitors k
-
--- a thread that has ended drops its other calls
-abbrev pub calls_after : Ending → List Invocation → List Invocation
-calls_after Unfinished calls = calls
-calls_after ending calls = []
-
--- frame and variables are dropped, and with an exception pending the thread has ended
-abbrev pub return_step : (k : ℕ) → Shared → Thread → Advance
-return_step k s t =
-    let ending = ending_after s.heap t.pending t.calls in
-    Advances (record s { monitors = monitors_after ending k s.monitors })
-    (record { calls = calls_after ending t.calls; tasks = None; variables = []; frames = []; pending = None; ending = ending }) Quiet

@@ -25,6 +25,7 @@ pub mod Checks
 pub mod CallStep
 -- a step of a thread, and of a run
 pub mod Activation
+pub mod Return
 pub mod ThreadStep
 pub mod State
 pub mod Step

@@ -5,7 +5,7 @@ use Rattle.std.specs.List.{list_any}
 use Rattle.semantics.specs.World.{World}
 use Rattle.semantics.specs.Heap.{Heap, reference_in, values_of}
 use Rattle.semantics.specs.State.{State, views}
-use Rattle.semantics.specs.Thread.{Frame, Thread, Monitor}
+use Rattle.semantics.specs.Thread.{Frame, Caller, Thread, Monitor}
 use Rattle.semantics.specs.Object.{object_size}
 
 -- the numbers from one on, n of them
@@ -13,9 +13,13 @@ abbrev pub from_one : ℕ → List ℕ
 from_one zero = []
 from_one (suc n) = from_one n ++ suc n ∷ []
 
+-- the names in frames
+abbrev pub frame_roots : List Frame → List ℕ
+frame_roots frames = flat_map (λ (f : Frame). f.references) frames
+
 -- the names in the frames of a thread, and its pending exception
 abbrev pub thread_roots : Thread → List ℕ
-thread_roots t = flat_map (λ (f : Frame). f.references) t.frames ++ option_to_list t.pending
+thread_roots t = flat_map (λ (c : Caller). frame_roots c.frames) t.callers ++ frame_roots t.frames ++ option_to_list t.pending
 
 -- how many objects are made at load: they stay
 abbrev pub loaded_count : World → ℕ

@@ -10,7 +10,7 @@ use Rattle.semantics.specs.Variable.{StaticReference, Empty, Statics}
 
 -- a thread before the entry of its first call
 abbrev pub waiting_thread : List Invocation → Thread
-waiting_thread calls = record { calls = calls; tasks = None; variables = []; frames = []; pending = None; ending = Unfinished }
+waiting_thread calls = record { calls = calls; callers = []; tasks = None; variables = []; frames = []; pending = None; ending = Unfinished }
 
 -- a static that is NULL
 abbrev pub null_static : Static → Identifier × StaticReference

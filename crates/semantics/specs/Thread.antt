@@ -1,12 +1,13 @@
 -- A thread, what all threads share, and what a step of one thread leaves. Memory addresses are no part of it, nor when
 -- objects are collected.
-use Rattle.std.specs.Prelude.{ℕ, ◌==◌, ℤ, List, filter, find, flat_map, not, sum_by, Option}
+use Rattle.std.specs.Prelude.{ℕ, ◌+◌, ◌==◌, ℤ, List, ◌++◌, filter, find, flat_map, not, sum_by, Option}
 use Rattle.base.specs.Bytes.{Identifier}
+use Rattle.jni.specs.Prototype.{ResultKind}
 use Rattle.semantics.specs.Object.{Reference}
 use Rattle.semantics.specs.World.{Invocation}
 use Rattle.semantics.specs.Heap.{Heap}
 use Rattle.semantics.specs.Sight.{Sight, seen}
-use Rattle.semantics.specs.Task.{Task}
+use Rattle.semantics.specs.Task.{Task, Target}
 use Rattle.semantics.specs.Value.{Trap}
 use Rattle.semantics.specs.Variable.{Variable, Variables, Statics, copied_length, viewed}
 
@@ -21,10 +22,21 @@ pub data Ending : Type 0 where
   Ended : Ending
   Uncaught : (class : ℕ) → Ending
 
--- a thread, with its calls to come and the one in progress
+-- a call from which another was made: what it has still to do once that is over, and where the other's result goes
+pub record Caller : Type 0 where
+  pub target : Target
+  pub result : ResultKind
+  pub tasks : List Task
+  pub variables : Variables
+  -- the current frame first
+  pub frames : List Frame
+
+-- a thread, with its calls to come, the one in progress, and those from which it was made
 pub record Thread : Type 0 where
   -- calls to come
   pub calls : List Invocation
+  -- the last one first
+  pub callers : List Caller
   -- what is to do of the call in progress; none before its entry
   pub tasks : Option (List Task)
   pub variables : Variables
@@ -74,13 +86,21 @@ pub data Advance : Type 0 where
 abbrev pub sight_of : Shared → Thread → Sight
 sight_of s t = seen t.variables s.statics s.heap
 
+-- the lengths of the copied lists of a call together
+abbrev pub lengths_copied : Variables → ℕ
+lengths_copied vs = sum_by (λ (v : Identifier × Variable). copied_length v.1) vs
+
+-- the objects of a call's views
+abbrev pub objects_viewed : Variables → List ℕ
+objects_viewed vs = flat_map (λ (v : Identifier × Variable). viewed v.1) vs
+
 -- the lengths of a thread's copied lists together
 abbrev pub copied_by : Thread → ℕ
-copied_by t = sum_by (λ (v : Identifier × Variable). copied_length v.1) t.variables
+copied_by t = sum_by (λ (c : Caller). lengths_copied c.variables) t.callers + lengths_copied t.variables
 
 -- the objects of a thread's views
 abbrev pub viewed_by : Thread → List ℕ
-viewed_by t = flat_map (λ (v : Identifier × Variable). viewed v.1) t.variables
+viewed_by t = flat_map (λ (c : Caller). objects_viewed c.variables) t.callers ++ objects_viewed t.variables
 
 -- the capacities of all frames together
 abbrev pub capacities : List Frame → ℕ

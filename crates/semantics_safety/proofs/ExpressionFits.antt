@@ -5,11 +5,11 @@ use Rattle.std.specs.Option.{option_or}
 use Rattle.std.proofs.lemmas.List.Folds.{list_any-append}
 use Rattle.base.specs.Bytes.{Identifier}
 use Rattle.base.specs.Element.{ElementType}
-use Rattle.syntax.specs.Parts.{null_tested, names_in, elements_in}
+use Rattle.syntax.specs.Parts.{names_in, elements_in}
 use Rattle.syntax.specs.Tree.{Constant, True, False, Null, PrefixOp, LogicalNot, Complement, ToWord, ToInt, BinaryOp, LogicalOr, LogicalAnd, Equal, NotEqual, Expr, Number, Named, Variable, Element, Prefix, Binary, Paren}
 use Rattle.type_rules.specs.Sorts.{Sort, Word, Jint, Flag, Truth, Ref, Global, Buffer, Array, OperatorGroup, Logic, Equality, Order, OnWords, group, binary_sort, prefix_sort, is_castable, is_index, has_elements, is_nullable, constant_sort, null_test_sort, sort_in, sort_of}
 use Rattle.type_rules.specs.Sorts as sort
-use Rattle.type_rules.specs.SortGroups.{IsIndexSort, IsNumberSort, OperatorFits}
+use Rattle.type_rules.specs.SortGroups.{IsNumberSort, OperatorFits}
 use Rattle.type_rules.proofs.SortCases.{IsValueSort, given, and_true, castable, indexed, operands, number_is_value, index_is_value, null_cases, none_right, or_none}
 use Rattle.region_rules.specs.RegionRules.{is_dead, is_untested, is_free}
 use Rattle.region_rules.specs.RegionStates.{RegionState, BufferState, Free, Untested, Usable, ReferenceAt, BufferIn, state_of}

@@ -1,5 +1,5 @@
--- A step within a call leaves the calls to come as they were, or drops them all.
-use Rattle.std.proofs.Common.{◌≡◌, ◌⊎◌, inl, inr, ℕ, ◌+◌, Bool, true, false, List, [], ◌∷◌, ◌++◌, length, Option, Some, None, refl, ◌∙◌}
+-- A step within a call leaves the calls to come as they were, or drops them all; it leaves the callers as they were.
+use Rattle.std.proofs.Common.{◌≡◌, ◌⊎◌, inl, inr, ℕ, ◌+◌, Bool, true, false, List, [], ◌∷◌, ◌++◌, length, Option, Some, None, refl, sym, subst, ◌∙◌}
 use Rattle.std.specs.Prelude.{ℤ, pos, negsuc, nat_lt, nat_le, ◌==◌}
 use Rattle.std.proofs.lemmas.Bool.{cond_both}
 use Rattle.base.specs.Bytes.{Identifier, lookup}
@@ -10,7 +10,7 @@ use Rattle.jni.specs.Access.{ElementsCopy, ArrayView, CharsCopy, CharsView}
 use Rattle.jni.specs.JniFunction as jni
 use Rattle.jni.specs.JniFunction.{JniFunction, prototype}
 use Rattle.jni.specs.Prototype.{ResultKind, NewLocal}
-use Rattle.semantics.specs.Activation.{ending_after, calls_after}
+use Rattle.semantics.specs.Return.{ending_after, calls_after, return_by}
 use Rattle.semantics.specs.Arguments.{Actual, ReleaseMode, CopyBackAndFree, CopyBack, FreeUncopied, number_given, object_given, reference_given, text_given, variable_given, mode_given}
 use Rattle.semantics.specs.CallEffects.{CallResult, NoResult, NullResult, ScalarResult, ReferenceResult, FieldResult, BufferResult, CallEffect, Throws, Halts, Leaves, out_of_memory, with_capacity, ensure_effect, push_effect, delete_local_effect, delete_global_effect, found_class_effect, found_field_effect, new_array_effect, at_index, at_region, local_array, get_region_effect, set_region_effect, store_effect, release_effect, enter_effect, exit_effect}
 use Rattle.semantics.specs.CallStep.{put, put_assigned, received, failure, resumed, trap_of_call, checked, completed, after_call, after_refusal, call_step}
@@ -19,36 +19,44 @@ use Rattle.semantics.specs.Effect.{Effect, Becomes, Sets, SetsNull, SetsElement,
 use Rattle.semantics.specs.Heap.{next_name}
 use Rattle.semantics.specs.Object.{Object, ObjectValue, Reference}
 use Rattle.semantics.specs.Task.{Task, Target, Declared, Assigned, Tested, Dropped}
-use Rattle.semantics.specs.Thread.{Thread, Shared, BuffersInUse, Monitor, Ending, Unfinished, Ended, Uncaught, Advance, Advances, NoAdvance, capacities, monitor_of, sight_of}
+use Rattle.semantics.specs.Thread.{Thread, Caller, Shared, BuffersInUse, Monitor, Ending, Unfinished, Ended, Uncaught, Advance, Advances, NoAdvance, capacities, monitor_of, sight_of}
 use Rattle.semantics.specs.ThreadStep.{set_element, with_tasks, after_effect, after_refused_effect, step_within}
 use Rattle.semantics.specs.Value.{Trap}
 use Rattle.semantics.specs.Variable.{Variable, Scalar, LocalRef, FieldHandle, Elements, LocalArray, NoBuffer, Copy, View}
 use Rattle.semantics.specs.World.{Invocation, fresh_object}
 
--- what a step leaves has these calls, or none
-abbrev pub KeepsCalls : List Invocation → Advance → Type 0
-KeepsCalls calls (Advances s t event) = (t.calls ≡ calls) ⊎ (t.calls ≡ [])
+-- calls to come, and callers
+abbrev pub Held : Type 0
+Held = List Invocation × List Caller
+
+-- those of a thread
+abbrev pub held : Thread → Held
+held t = (t.calls, t.callers)
+
+-- what a step leaves has these, or none
+abbrev pub KeepsCalls : Held → Advance → Type 0
+KeepsCalls calls (Advances s t event) = (held t ≡ calls) ⊎ (held t ≡ ([], []))
 KeepsCalls calls NoAdvance = Unit {0}
 
 -- the same of a call's effect
-abbrev EffectKeeps : List Invocation → CallEffect → Type 0
-EffectKeeps calls (Leaves made s t given) = t.calls ≡ calls
+abbrev EffectKeeps : Held → CallEffect → Type 0
+EffectKeeps calls (Leaves made s t given) = held t ≡ calls
 EffectKeeps calls (Throws c) = Unit {0}
 EffectKeeps calls (Halts trap) = Unit {0}
 
 -- ---- results
 
-assigned_keeps : (x : Identifier) (given : CallResult) (s : Shared) (t : Thread) (calls : List Invocation) (o : Option Variable) → t.calls ≡ calls → KeepsCalls calls (put_assigned x given s t o)
+assigned_keeps : (x : Identifier) (given : CallResult) (s : Shared) (t : Thread) (calls : Held) (o : Option Variable) → held t ≡ calls → KeepsCalls calls (put_assigned x given s t o)
 assigned_keeps x given s t calls None e = inl e
 assigned_keeps x given s t calls (Some v) e = inl e
 
-put_keeps : (target : Target) (given : CallResult) (s : Shared) (t : Thread) (calls : List Invocation) → t.calls ≡ calls → KeepsCalls calls (put target given s t)
+put_keeps : (target : Target) (given : CallResult) (s : Shared) (t : Thread) (calls : Held) → held t ≡ calls → KeepsCalls calls (put target given s t)
 put_keeps (Declared kind x) given s t calls e = inl e
 put_keeps (Assigned x) given s t calls e = assigned_keeps x given s t calls (lookup x t.variables) e
 put_keeps (Tested a b) given s t calls e = inl e
 put_keeps Dropped given s t calls e = inl e
 
-received_calls : (kind : ResultKind) (given : CallResult) (t : Thread) → (received kind given t).calls ≡ t.calls
+received_calls : (kind : ResultKind) (given : CallResult) (t : Thread) → held (received kind given t) ≡ held t
 received_calls NewLocal NoResult t = refl
 received_calls NewLocal NullResult t = refl
 received_calls NewLocal (ScalarResult v) t = refl
@@ -58,74 +66,74 @@ received_calls NewLocal (FieldResult f) t = refl
 received_calls NewLocal (BufferResult b) t = refl
 received_calls kind given t = refl
 
-checked_keeps : (calls : List Invocation) (o : Option Trap) (e : CallEffect) → EffectKeeps calls e → EffectKeeps calls (checked o e)
+checked_keeps : (calls : Held) (o : Option Trap) (e : CallEffect) → EffectKeeps calls e → EffectKeeps calls (checked o e)
 checked_keeps calls None e h = h
 checked_keeps calls (Some trap) e h = tt
 
 -- ---- what calls do
 
 module _ (classes : Classes) (in_use : BuffersInUse) (k : ℕ) (s : Shared) (t : Thread) where
-  field_keeps : (c : ℕ) (o : Option FieldId) → EffectKeeps t.calls (found_field_effect s t c o)
+  field_keeps : (c : ℕ) (o : Option FieldId) → EffectKeeps (held t) (found_field_effect s t c o)
   field_keeps c None = tt
   field_keeps c (Some f) = refl
 
-  class_keeps : (c : ℕ) (o : Option ℕ) → EffectKeeps t.calls (found_class_effect s t c o)
+  class_keeps : (c : ℕ) (o : Option ℕ) → EffectKeeps (held t) (found_class_effect s t c o)
   class_keeps c None = tt
   class_keeps c (Some n) = refl
 
-  array_keeps : (class : ℕ) (z : ℤ) (v : ObjectValue) → EffectKeeps t.calls (new_array_effect s t class z v)
+  array_keeps : (class : ℕ) (z : ℤ) (v : ObjectValue) → EffectKeeps (held t) (new_array_effect s t class z v)
   array_keeps class (pos n) v = refl
   array_keeps class (negsuc n) v = tt
 
-  index_keeps : (c n : ℕ) (z : ℤ) (go : ℕ → CallEffect) → ((i : ℕ) → EffectKeeps t.calls (go i)) → EffectKeeps t.calls (at_index c n z go)
-  index_keeps c n (pos i) go h = cond_both (nat_lt i n) _ _ (EffectKeeps t.calls) (λ e. h i) (λ e. tt)
+  index_keeps : (c n : ℕ) (z : ℤ) (go : ℕ → CallEffect) → ((i : ℕ) → EffectKeeps (held t) (go i)) → EffectKeeps (held t) (at_index c n z go)
+  index_keeps c n (pos i) go h = cond_both (nat_lt i n) _ _ (EffectKeeps (held t)) (λ e. h i) (λ e. tt)
   index_keeps c n (negsuc i) go h = tt
 
-  region_keeps : (c n : ℕ) (z l : ℤ) (go : ℕ → ℕ → CallEffect) → ((i j : ℕ) → EffectKeeps t.calls (go i j)) → EffectKeeps t.calls (at_region c n z l go)
-  region_keeps c n (pos i) (pos j) go h = cond_both (nat_le (i + j) n) _ _ (EffectKeeps t.calls) (λ e. h i j) (λ e. tt)
+  region_keeps : (c n : ℕ) (z l : ℤ) (go : ℕ → ℕ → CallEffect) → ((i j : ℕ) → EffectKeeps (held t) (go i j)) → EffectKeeps (held t) (at_region c n z l go)
+  region_keeps c n (pos i) (pos j) go h = cond_both (nat_le (i + j) n) _ _ (EffectKeeps (held t)) (λ e. h i j) (λ e. tt)
   region_keeps c n (pos i) (negsuc j) go h = tt
   region_keeps c n (negsuc i) l go h = tt
 
-  store_keeps : (fits : Bool) (n : ℕ) (r : Reference) (i : ℕ) → EffectKeeps t.calls (store_effect s t fits n r i)
+  store_keeps : (fits : Bool) (n : ℕ) (r : Reference) (i : ℕ) → EffectKeeps (held t) (store_effect s t fits n r i)
   store_keeps true n r i = refl
   store_keeps false n r i = tt
 
-  set_region_keeps : (n : ℕ) (x : Identifier) (i j : ℕ) → EffectKeeps t.calls (set_region_effect s t n x i j)
-  set_region_keeps n x i j = cond_both (nat_le j (length (local_array (lookup x t.variables)))) _ _ (EffectKeeps t.calls) (λ e. refl) (λ e. tt)
+  set_region_keeps : (n : ℕ) (x : Identifier) (i j : ℕ) → EffectKeeps (held t) (set_region_effect s t n x i j)
+  set_region_keeps n x i j = cond_both (nat_le j (length (local_array (lookup x t.variables)))) _ _ (EffectKeeps (held t)) (λ e. refl) (λ e. tt)
 
-  get_region_keeps : (n : ℕ) (x : Identifier) (i j : ℕ) → EffectKeeps t.calls (get_region_effect s t n x i j)
-  get_region_keeps n x i j = cond_both (nat_le j (length (local_array (lookup x t.variables)))) _ _ (EffectKeeps t.calls) (λ e. refl) (λ e. tt)
+  get_region_keeps : (n : ℕ) (x : Identifier) (i j : ℕ) → EffectKeeps (held t) (get_region_effect s t n x i j)
+  get_region_keeps n x i j = cond_both (nat_le j (length (local_array (lookup x t.variables)))) _ _ (EffectKeeps (held t)) (λ e. refl) (λ e. tt)
 
-  ensure_keeps : (z : ℤ) → EffectKeeps t.calls (ensure_effect classes s t z)
-  ensure_keeps (pos n) = cond_both (nat_le (capacities (with_capacity n t.frames)) 1024) _ _ (EffectKeeps t.calls) (λ e. refl) (λ e. refl)
+  ensure_keeps : (z : ℤ) → EffectKeeps (held t) (ensure_effect classes s t z)
+  ensure_keeps (pos n) = cond_both (nat_le (capacities (with_capacity n t.frames)) 1024) _ _ (EffectKeeps (held t)) (λ e. refl) (λ e. refl)
   ensure_keeps (negsuc n) = refl
 
-  push_keeps : (z : ℤ) → EffectKeeps t.calls (push_effect classes s t z)
-  push_keeps (pos n) = cond_both (nat_le (capacities (record { capacity = n; references = [] } ∷ t.frames)) 1024) _ _ (EffectKeeps t.calls) (λ e. refl) (λ e. refl)
+  push_keeps : (z : ℤ) → EffectKeeps (held t) (push_effect classes s t z)
+  push_keeps (pos n) = cond_both (nat_le (capacities (record { capacity = n; references = [] } ∷ t.frames)) 1024) _ _ (EffectKeeps (held t)) (λ e. refl) (λ e. refl)
   push_keeps (negsuc n) = refl
 
-  delete_local_keeps : (o : Option Variable) (r : Reference) → EffectKeeps t.calls (delete_local_effect s t o r)
+  delete_local_keeps : (o : Option Variable) (r : Reference) → EffectKeeps (held t) (delete_local_effect s t o r)
   delete_local_keeps o None = refl
   delete_local_keeps o (Some n) = refl
 
-  delete_global_keeps : (x : Identifier) (r : Reference) → EffectKeeps t.calls (delete_global_effect s t x r)
+  delete_global_keeps : (x : Identifier) (r : Reference) → EffectKeeps (held t) (delete_global_effect s t x r)
   delete_global_keeps x None = refl
   delete_global_keeps x (Some n) = refl
 
-  release_keeps : (n : ℕ) (x : Identifier) (mode : ReleaseMode) → EffectKeeps t.calls (release_effect s t n x mode)
+  release_keeps : (n : ℕ) (x : Identifier) (mode : ReleaseMode) → EffectKeeps (held t) (release_effect s t n x mode)
   release_keeps n x CopyBackAndFree = refl
   release_keeps n x CopyBack = refl
   release_keeps n x FreeUncopied = refl
 
-  enter_keeps : (n : ℕ) (m : Option Monitor) → EffectKeeps t.calls (enter_effect k s t n m)
+  enter_keeps : (n : ℕ) (m : Option Monitor) → EffectKeeps (held t) (enter_effect k s t n m)
   enter_keeps n None = refl
-  enter_keeps n (Some m) = cond_both (nat_lt m.count 255) _ _ (EffectKeeps t.calls) (λ e. refl) (λ e. refl)
+  enter_keeps n (Some m) = cond_both (nat_lt m.count 255) _ _ (EffectKeeps (held t)) (λ e. refl) (λ e. refl)
 
-  exit_keeps : (n : ℕ) (m : Option Monitor) → EffectKeeps t.calls (exit_effect k s t n m)
+  exit_keeps : (n : ℕ) (m : Option Monitor) → EffectKeeps (held t) (exit_effect k s t n m)
   exit_keeps n None = tt
-  exit_keeps n (Some m) = cond_both (m.owner == k) _ _ (EffectKeeps t.calls) (λ e. refl) (λ e. tt)
+  exit_keeps n (Some m) = cond_both (m.owner == k) _ _ (EffectKeeps (held t)) (λ e. refl) (λ e. tt)
 
-  effect_keeps : (args : List Actual) (f : JniFunction) → EffectKeeps t.calls (call_effect classes in_use k s t args f)
+  effect_keeps : (args : List Actual) (f : JniFunction) → EffectKeeps (held t) (call_effect classes in_use k s t args f)
   unfolding call_effect
   effect_keeps args jni.FindClass = class_keeps _ (class_named classes (text_given args 0))
   effect_keeps args jni.EnsureLocalCapacity = ensure_keeps (number_given args 0)
@@ -155,25 +163,25 @@ module _ (classes : Classes) (in_use : BuffersInUse) (k : ℕ) (s : Shared) (t :
   effect_keeps args f = refl
 
   module _ (line : ℕ) (target : Target) (f : JniFunction) (args : List Actual) (rest : List Task) where
-    completed_keeps : (made : List Object) (s' : Shared) (t' : Thread) (given : CallResult) → t'.calls ≡ t.calls → KeepsCalls t.calls (completed classes in_use k s t line target f args rest made s' t' given)
-    completed_keeps made s' t' given e = put_keeps target given (record s' { heap = s'.heap ++ made }) (resumed classes in_use k s t line target f args rest t' given) t.calls (received_calls (prototype f).result given t' ∙ e)
+    completed_keeps : (made : List Object) (s' : Shared) (t' : Thread) (given : CallResult) → held t' ≡ held t → KeepsCalls (held t) (completed classes in_use k s t line target f args rest made s' t' given)
+    completed_keeps made s' t' given e = put_keeps target given (record s' { heap = s'.heap ++ made }) (resumed classes in_use k s t line target f args rest t' given) (held t) (received_calls (prototype f).result given t' ∙ e)
 
-    after_keeps : (e : CallEffect) → EffectKeeps t.calls e → KeepsCalls t.calls (after_call classes in_use k s t line target f args rest e)
+    after_keeps : (e : CallEffect) → EffectKeeps (held t) e → KeepsCalls (held t) (after_call classes in_use k s t line target f args rest e)
     after_keeps (Throws c) h = completed_keeps (fresh_object classes c ∷ []) s (record t { pending = Some (next_name s.heap) }) (failure (prototype f).result) refl
     after_keeps (Halts trap) h = inl refl
     after_keeps (Leaves made s' t' given) h = completed_keeps made s' t' given h
 
-    refusal_keeps : (makes : Bool) → KeepsCalls t.calls (after_refusal classes in_use k s t line target f args rest makes)
+    refusal_keeps : (makes : Bool) → KeepsCalls (held t) (after_refusal classes in_use k s t line target f args rest makes)
     refusal_keeps true = completed_keeps [] s (record t { pending = Some (out_of_memory classes) }) (failure (prototype f).result) refl
     refusal_keeps false = tt
 
-    call_keeps : (refused : Bool) → KeepsCalls t.calls (call_step classes in_use k s t line target f args rest refused)
-    call_keeps false = after_keeps _ (checked_keeps t.calls (trap_of_call classes s t target f args) _ (effect_keeps args f))
+    call_keeps : (refused : Bool) → KeepsCalls (held t) (call_step classes in_use k s t line target f args rest refused)
+    call_keeps false = after_keeps _ (checked_keeps (held t) (trap_of_call classes s t target f args) _ (effect_keeps args f))
     call_keeps true = refusal_keeps _
 
   -- ---- steps
 
-  element_keeps : (x : Identifier) (i : ℕ) (z : ℤ) (rest : List Task) (o : Option Variable) → KeepsCalls t.calls (set_element s (with_tasks t rest) x i z o)
+  element_keeps : (x : Identifier) (i : ℕ) (z : ℤ) (rest : List Task) (o : Option Variable) → KeepsCalls (held t) (set_element s (with_tasks t rest) x i z o)
   element_keeps x i z rest (Some (LocalArray u zs)) = inl refl
   element_keeps x i z rest (Some (Elements u (Copy n zs))) = inl refl
   element_keeps x i z rest (Some (Elements u (View n))) = inl refl
@@ -183,28 +191,35 @@ module _ (classes : Classes) (in_use : BuffersInUse) (k : ℕ) (s : Shared) (t :
   element_keeps x i z rest (Some (FieldHandle f)) = tt
   element_keeps x i z rest None = tt
 
-  ending_keeps : (e : Ending) → (calls_after e t.calls ≡ t.calls) ⊎ (calls_after e t.calls ≡ [])
+  abbrev returned_held : Ending → List Caller → Held
+  returned_held e callers = (calls_after e t.calls, callers)
+
+  ending_keeps : (e : Ending) → (returned_held e [] ≡ (t.calls, [])) ⊎ (returned_held e [] ≡ ([], []))
   ending_keeps Unfinished = inl refl
   ending_keeps Ended = inr refl
   ending_keeps (Uncaught c) = inr refl
 
-  effects_keep : (rest : List Task) (e : Effect) → KeepsCalls t.calls (after_effect classes in_use k s t rest e)
-  effects_keep rest (Becomes tasks) = inl refl
-  effects_keep rest (Sets x v) = inl refl
-  effects_keep rest (SetsNull target) = put_keeps target NullResult s (with_tasks t rest) t.calls refl
-  effects_keep rest (SetsElement x i z) = element_keeps x i z rest (lookup x t.variables)
-  effects_keep rest (MakesArray u x n) = inl refl
-  effects_keep rest (Prints z) = inl refl
-  effects_keep rest (Calls line target f args) = call_keeps line target f args rest false
-  effects_keep rest Returns = ending_keeps (ending_after s.heap t.pending t.calls)
-  effects_keep rest (TrapsAt trap line) = inl refl
-  effects_keep rest NoEffect = tt
+  return_keeps : t.callers ≡ [] → KeepsCalls (held t) (return_by k s t NoResult t.callers)
+  return_keeps alone =
+      subst (λ (l : List Caller). KeepsCalls (t.calls, l) (return_by k s t NoResult l)) (sym alone) (ending_keeps (ending_after s.heap t.pending t.calls))
 
-  refused_keep : (rest : List Task) (e : Effect) → KeepsCalls t.calls (after_refused_effect classes in_use k s t rest e)
+  effects_keep : t.callers ≡ [] → (rest : List Task) (e : Effect) → KeepsCalls (held t) (after_effect classes in_use k s t rest e)
+  effects_keep alone rest (Becomes tasks) = inl refl
+  effects_keep alone rest (Sets x v) = inl refl
+  effects_keep alone rest (SetsNull target) = put_keeps target NullResult s (with_tasks t rest) (held t) refl
+  effects_keep alone rest (SetsElement x i z) = element_keeps x i z rest (lookup x t.variables)
+  effects_keep alone rest (MakesArray u x n) = inl refl
+  effects_keep alone rest (Prints z) = inl refl
+  effects_keep alone rest (Calls line target f args) = call_keeps line target f args rest false
+  effects_keep alone rest Returns = return_keeps alone
+  effects_keep alone rest (TrapsAt trap line) = inl refl
+  effects_keep alone rest NoEffect = tt
+
+  refused_keep : (rest : List Task) (e : Effect) → KeepsCalls (held t) (after_refused_effect classes in_use k s t rest e)
   refused_keep rest (Calls line target f args) = call_keeps line target f args rest true
   refused_keep rest e = tt
 
   -- each step within a call
-  pub calls_kept : (unit : SourceUnit) (refused : Bool) (task : Task) (rest : List Task) → KeepsCalls t.calls (step_within unit classes in_use k s t refused (Some (task ∷ rest)))
-  calls_kept unit false task rest = effects_keep rest (effect_of (sight_of s t) task)
-  calls_kept unit true task rest = refused_keep rest (effect_of (sight_of s t) task)
+  pub calls_kept : t.callers ≡ [] → (unit : SourceUnit) (refused : Bool) (task : Task) (rest : List Task) → KeepsCalls (held t) (step_within unit classes in_use k s t refused (Some (task ∷ rest)))
+  calls_kept alone unit false task rest = effects_keep alone rest (effect_of (sight_of s t) task)
+  calls_kept alone unit true task rest = refused_keep rest (effect_of (sight_of s t) task)

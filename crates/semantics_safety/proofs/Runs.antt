@@ -36,7 +36,7 @@ use Rattle.semantics_safety.specs.Wanted.{GoesOn}
 use Rattle.semantics_safety.proofs.CallLaws.{each_step_lands}
 use Rattle.semantics_safety.proofs.EntryPoints.{entry_point, SeesStatics, HasNamesOnce, stands_at_entry}
 use Rattle.semantics_safety.proofs.FrameLaws.{both_true}
-use Rattle.semantics_safety.proofs.KeptCalls.{KeepsCalls, calls_kept}
+use Rattle.semantics_safety.proofs.KeptCalls.{Held, held, KeepsCalls, calls_kept}
 use Rattle.semantics_safety.proofs.OwnerLaws.{LandsBy, LandsByIfPossible}
 use Rattle.semantics_safety.proofs.RefusedLaws.{marked_step_lands}
 use Rattle.semantics_safety.proofs.StepClauses.{view, return, references, owned, release, declared, free, possible}
@@ -95,7 +95,7 @@ module _ (ss us : Statics) (stay : NamesStay ss us) where
 
 module _ (unit : SourceUnit) (classes : Classes) (first : Statics) (enters : AllByRecursion (Enters first) (functions_of unit)) where
   sound_later : (own : Owners) (ss us : Statics) (t : Thread) → NamesStay ss us → IsSound unit classes own ss t → IsSound unit classes own us t
-  sound_later own ss us t stay h = record { goes = goes_later ss us stay own t t.tasks h.goes; loads = h.loads }
+  sound_later own ss us t stay h = record { goes = goes_later ss us stay own t t.tasks h.goes; alone = h.alone; loads = h.loads }
 
   -- ---- lists of threads
 
@@ -141,20 +141,26 @@ module _ (unit : SourceUnit) (classes : Classes) (first : Statics) (enters : All
   StepsOn refused give ss (Advances s t event) = IsSound unit classes (give event t.variables) s.statics t × NamesStay ss s.statics
   StepsOn refused give ss NoAdvance = refused ≡ true
 
-  loads_kept : (calls now : List Invocation) → (now ≡ calls) ⊎ (now ≡ []) → IsTrue (list_all (call_loads unit classes) calls) → IsTrue (list_all (call_loads unit classes) now)
-  loads_kept calls now (inl e) h = subst (λ (l : List Invocation). IsTrue (list_all (call_loads unit classes) l)) (sym e) h
-  loads_kept calls now (inr e) h = subst (λ (l : List Invocation). IsTrue (list_all (call_loads unit classes) l)) (sym e) refl
+  -- calls to come that load, and no callers
+  abbrev AllLoad : Held → Type 0
+  AllLoad now = IsTrue (list_all (call_loads unit classes) now.0) × (now.1 ≡ [])
+
+  loads_kept : (calls now : Held) → (now ≡ calls) ⊎ (now ≡ ([], [])) → AllLoad calls → AllLoad now
+  loads_kept calls now (inl e) h = subst AllLoad (sym e) h
+  loads_kept calls now (inr e) h = subst AllLoad (sym e) (refl, refl)
 
   module _ (s : Shared) (t : Thread) (task : Task) (rest : List Task) (own : Owners) where
     -- the step's effect
     abbrev effect : Effect
     effect = effect_of (sight_of s t) task
 
-    lands_on : (refused : Bool) (ss : Statics) (calls : List Invocation) (e : Advance) → LandsBy effect (length t.frames) own ss e → KeepsCalls calls e → IsTrue (list_all (call_loads unit classes) calls) → StepsOn refused (after_tasks s t (Some (task ∷ rest)) own) ss e
-    lands_on refused ss calls (Advances s' t' event) h kept loads = (record { goes = h.0; loads = loads_kept calls t'.calls kept loads }, h.1)
+    lands_on : (refused : Bool) (ss : Statics) (calls : Held) (e : Advance) → LandsBy effect (length t.frames) own ss e → KeepsCalls calls e → AllLoad calls → StepsOn refused (after_tasks s t (Some (task ∷ rest)) own) ss e
+    lands_on refused ss calls (Advances s' t' event) h kept loads =
+        let all = loads_kept calls (held t') kept loads in
+        (record { goes = h.0; alone = all.1; loads = all.0 }, h.1)
     lands_on refused ss calls NoAdvance h kept loads = absurd h
 
-    lands_if_possible : (ss : Statics) (calls : List Invocation) (e : Advance) → LandsByIfPossible effect (length t.frames) own ss e → KeepsCalls calls e → IsTrue (list_all (call_loads unit classes) calls) → StepsOn true (after_tasks s t (Some (task ∷ rest)) own) ss e
+    lands_if_possible : (ss : Statics) (calls : Held) (e : Advance) → LandsByIfPossible effect (length t.frames) own ss e → KeepsCalls calls e → AllLoad calls → StepsOn true (after_tasks s t (Some (task ∷ rest)) own) ss e
     lands_if_possible ss calls (Advances s' t' event) h kept loads = lands_on true ss calls (Advances s' t' event) h kept loads
     lands_if_possible ss calls NoAdvance h kept loads = refl
 
@@ -168,11 +174,11 @@ module _ (unit : SourceUnit) (classes : Classes) (first : Statics) (enters : All
       by_test true e later = let same : g ≡ f = cc in subst (Enters first) same h.0
       by_test false e later = later e
 
-  module _ (s : Shared) (t : Thread) (own : Owners) (stay : NamesStay first s.statics) (call : Invocation) (calls : List Invocation) (loads : IsTrue (list_all (call_loads unit classes) calls)) where
+  module _ (s : Shared) (t : Thread) (own : Owners) (stay : NamesStay first s.statics) (call : Invocation) (calls : List Invocation) (loads : IsTrue (list_all (call_loads unit classes) calls)) (alone : t.callers ≡ []) where
     enters_class : (f : Function) (o : Option ℕ) → Enters first f → is_some o ≡ true → fit_parameters f.parameters call.arguments ≡ true → StepsOn false (after_tasks s t None own) s.statics (entry_advance s (option_map (λ c. entered t calls f c call.arguments) o))
     enters_class f None h there fits = absurd (cc)
     enters_class f (Some c) (scope, sees, once, goes) there fits =
-        (record { goes = (entry_point f scope, stands_at_entry s.statics scope f c call.arguments (sees_later first s.statics stay scope sees) fits once, goes); loads = loads }, λ x r e. (r, e))
+        (record { alone = alone; goes = (entry_point f scope, stands_at_entry s.statics scope f c call.arguments (sees_later first s.statics stay scope sees) fits once, goes); loads = loads }, λ x r e. (r, e))
 
     enters_function : (o : Option Function) → function_at unit call.function ≡ o → some_passes (is_callable classes call.arguments) o ≡ true → StepsOn false (after_tasks s t None own) s.statics (entry_advance s (entered_function classes t call calls o))
     enters_function None e h = absurd (cc)
@@ -180,25 +186,25 @@ module _ (unit : SourceUnit) (classes : Classes) (first : Statics) (enters : All
         let both = both_true (is_some (class_of_function classes f)) (fit_parameters f.parameters call.arguments) h in
         enters_class f (class_of_function classes f) (found_enters (functions_of unit) call.function f enters e) both.0 both.1
 
-  entry_steps : (s : Shared) (t : Thread) (own : Owners) → NamesStay first s.statics → (calls : List Invocation) → IsTrue (has_calls calls) → IsTrue (list_all (call_loads unit classes) calls) → StepsOn false (after_tasks s t None own) s.statics (entry_advance s (enter unit classes t calls))
-  entry_steps s t own stay [] has loads = absurd (cc)
-  entry_steps s t own stay (call ∷ calls) has loads =
+  entry_steps : (s : Shared) (t : Thread) (own : Owners) → NamesStay first s.statics → t.callers ≡ [] → (calls : List Invocation) → IsTrue (has_calls calls) → IsTrue (list_all (call_loads unit classes) calls) → StepsOn false (after_tasks s t None own) s.statics (entry_advance s (enter unit classes t calls))
+  entry_steps s t own stay alone [] has loads = absurd (cc)
+  entry_steps s t own stay alone (call ∷ calls) has loads =
       let both = both_true (call_loads unit classes call) (list_all (call_loads unit classes) calls) loads in
-      enters_function s t own stay call calls both.1 (function_at unit call.function) refl both.0
+      enters_function s t own stay call calls both.1 alone (function_at unit call.function) refl both.0
 
   -- ---- a thread's step
 
   module _ (room : BuffersInUse) (k : ℕ) (s : Shared) (t : Thread) (own : Owners) (stay : NamesStay first s.statics) (live : is_unfinished t.ending ≡ true) (sound : IsSound unit classes own s.statics t) where
     steps_at : (refused : Bool) (o : Option (List Task)) → Goes own s.statics t o → StepsOn refused (after_tasks s t o own) s.statics (step_within unit classes room k s t refused o)
     steps_at true None g = refl
-    steps_at false None g = entry_steps s t own stay t.calls (g.1 live) sound.loads
+    steps_at false None g = entry_steps s t own stay sound.alone t.calls (g.1 live) sound.loads
     steps_at refused (Some []) g = absurd (g.2)
     steps_at false (Some (task ∷ rest)) (p, stands, runs) =
-        lands_on s t task rest own false s.statics t.calls (step_within unit classes room k s t false (Some (task ∷ rest)))
-        (each_step_lands unit classes room k s t task rest p stands runs sound.goes) (calls_kept classes room k s t unit false task rest) sound.loads
+        lands_on s t task rest own false s.statics (held t) (step_within unit classes room k s t false (Some (task ∷ rest)))
+        (each_step_lands unit classes room k s t task rest p stands sound.alone runs sound.goes) (calls_kept classes room k s t sound.alone unit false task rest) (sound.loads, sound.alone)
     steps_at true (Some (task ∷ rest)) (p, stands, runs) =
-        lands_if_possible s t task rest own s.statics t.calls (step_within unit classes room k s t true (Some (task ∷ rest)))
-        (marked_step_lands unit classes room k s t task rest p stands runs sound.goes) (calls_kept classes room k s t unit true task rest) sound.loads
+        lands_if_possible s t task rest own s.statics (held t) (step_within unit classes room k s t true (Some (task ∷ rest)))
+        (marked_step_lands unit classes room k s t task rest p stands runs sound.goes) (calls_kept classes room k s t sound.alone unit true task rest) (sound.loads, sound.alone)
 
     thread_steps : (refused : Bool) → StepsOn refused (after_tasks s t t.tasks own) s.statics (thread_step unit classes room k s t refused)
     thread_steps refused = steps_at refused t.tasks sound.goes
@@ -283,7 +289,7 @@ module _ (unit : SourceUnit) (w : World) (enters : AllByRecursion (Enters (null_
   all_waiting owners k (calls ∷ threads) loads has =
       let l = both_true (list_all (call_loads unit w.classes) calls) (list_all (list_all (call_loads unit w.classes)) threads) loads in
       let c = both_true (has_calls calls) (list_all has_calls threads) has in
-      (record { goes = (refl, λ e. c.0); loads = l.0 }, all_waiting owners (k + 1) threads l.1 c.1)
+      (record { goes = (refl, λ e. c.0); alone = refl; loads = l.0 }, all_waiting owners (k + 1) threads l.1 c.1)
 
   start_running : Loads unit w → HasCalls w → Running (λ k. no_owner) (start unit w)
   start_running loads has = record { sound = all_waiting (λ k. no_owner) 1 w.threads loads has; stay = λ x r e. (r, e) }
@@ -299,7 +305,7 @@ module _ (unit : SourceUnit) (w : World) (enters : AllByRecursion (Enters (null_
       let running : Running (owners_after unit w journal) s = replay_running journal (λ k. no_owner) (start unit w) s (start_running loads has) replayed in
       let sound = thread_sound unit w.classes (null_statics unit) enters (owners_after unit w journal) s k t running there in
       record {
-        view = view (owners_after unit w journal k) s.shared t sound.goes;
+        view = view (owners_after unit w journal k) s.shared t sound.goes sound.alone;
         return = return (owners_after unit w journal k) s.shared t sound.goes;
         references = references (owners_after unit w journal k) s.shared t sound.goes;
         owned = owned (owners_after unit w journal k) s.shared t sound.goes;

@@ -1,5 +1,5 @@
 -- What is asked of each step holds of a thread that goes on from the point where it is.
-use Rattle.std.proofs.Common.{◌≡◌, ◌≢◌, ℕ, List, [], ◌∷◌, length, Option, Some, None, sym, subst}
+use Rattle.std.proofs.Common.{◌≡◌, ◌≢◌, ℕ, List, [], ◌∷◌, ◌++◌, length, flat_map, Option, Some, None, sym, subst, ap, ◌∙◌}
 use Rattle.std.specs.List.{AllByRecursion}
 use Rattle.base.specs.Bytes.{Identifier, lookup}
 use Rattle.jni.specs.Access.{Access}
@@ -10,7 +10,7 @@ use Rattle.semantics.specs.Checks.{frames_after}
 use Rattle.semantics.specs.Effect.{Calls, Returns, NoEffect, effect_of}
 use Rattle.semantics.specs.Object.{Reference}
 use Rattle.semantics.specs.Task.{Task, Target, Assigned}
-use Rattle.semantics.specs.Thread.{Thread, Shared, sight_of, viewed_by}
+use Rattle.semantics.specs.Thread.{Thread, Caller, Shared, sight_of, viewed_by, objects_viewed}
 use Rattle.semantics.specs.ThreadStep.{next_effect}
 use Rattle.semantics.specs.Variable.{LocalRef}
 use Rattle.semantics_safety.specs.Owners.{Owners, IsOwn}
@@ -72,8 +72,11 @@ module _ (own : Owners) (s : Shared) (t : Thread) where
       absurd (subst (Follows own (sight_of s t) s.statics t.variables t.frames p rest) e (effect_follows s.heap s.statics t.variables t.frames p stands rest task runs))
 
   module _ (goes : Goes own s.statics t t.tasks) where
-    pub view : (task : Task) (rest : List Task) → t.tasks ≡ Some (task ∷ rest) → viewed_by t ≢ [] → MayMeetView task
-    view task rest e held = let g : Goes own s.statics t (Some (task ∷ rest)) = subst (Goes own s.statics t) e goes in view_clause s.statics t.variables t.frames g.0 g.1 task (GoesOn rest) g.2 held
+    pub view : t.callers ≡ [] → (task : Task) (rest : List Task) → t.tasks ≡ Some (task ∷ rest) → viewed_by t ≢ [] → MayMeetView task
+    view alone task rest e held =
+        let g : Goes own s.statics t (Some (task ∷ rest)) = subst (Goes own s.statics t) e goes in
+        let views : objects_viewed t.variables ≡ viewed_by t = ap (λ (l : List Caller). flat_map (λ (c : Caller). objects_viewed c.variables) l ++ objects_viewed t.variables) (sym alone) in
+        view_clause s.statics t.variables t.frames g.0 g.1 task (GoesOn rest) g.2 (λ none. held (sym views ∙ none))
 
     pub return : next_effect s t t.tasks ≡ Returns → MayReturn t
     return e = at_return t.tasks goes e

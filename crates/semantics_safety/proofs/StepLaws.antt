@@ -24,7 +24,9 @@ use Rattle.semantics_safety.specs.Follows.{Follows}
 use Rattle.semantics_safety.proofs.NameLaws.{one_or_other, lookup_same, lookup_other, front_same, front_other}
 use Rattle.semantics.specs.Object.{Reference}
 use Rattle.semantics.specs.World.{Invocation}
-use Rattle.semantics.specs.Activation.{ending_after, calls_after}
+use Rattle.semantics.specs.CallEffects.{NoResult}
+use Rattle.semantics.specs.Thread.{Caller}
+use Rattle.semantics.specs.Return.{ending_after, calls_after, return_by}
 use Rattle.semantics.specs.Sight.{Sight}
 use Rattle.semantics.specs.Step.{is_unfinished}
 use Rattle.semantics_safety.specs.StepSafe.{has_calls}
@@ -264,14 +266,15 @@ module _ (classes : Classes) (in_use : BuffersInUse) (k : ℕ) (s : Shared) (t :
   IsPlain (SetsNull target) = ⊥
   IsPlain e = Unit {0}
 
-  pub plain_lands : (sight : Sight) (e : Effect) → IsPlain e → Goes own s.statics t t.tasks → Follows own sight s.statics t.variables t.frames p rest e → Lands own s.statics (after_effect classes in_use k s t rest e)
-  plain_lands sight (Becomes tasks) plain whole (q, there, g) = ((q, there, g), same_statics s.statics)
-  plain_lands sight (Sets x v) plain whole h = (sets_lands x v h.0 h.1, same_statics s.statics)
-  plain_lands sight (SetsNull target) plain whole h = absurd plain
-  plain_lands sight (SetsElement x i z) plain whole h = element_lands x i z (lookup x t.variables) refl (stores x (sort_in p.names x) refl h.0) h.0 h.1
-  plain_lands sight (MakesArray u x size) plain whole h = (makes_lands u x size h.0 h.1, same_statics s.statics)
-  plain_lands sight (Prints z) plain whole h = ((p, stands, h.1), same_statics s.statics)
-  plain_lands sight (Calls line target f args) plain whole h = absurd plain
-  plain_lands sight Returns plain whole h = ((refl, calls_there s.heap t.pending t.calls), same_statics s.statics)
-  plain_lands sight (TrapsAt trap line) plain whole h = (whole, same_statics s.statics)
-  plain_lands sight NoEffect plain whole h = absurd h
+  pub plain_lands : t.callers ≡ [] → (sight : Sight) (e : Effect) → IsPlain e → Goes own s.statics t t.tasks → Follows own sight s.statics t.variables t.frames p rest e → Lands own s.statics (after_effect classes in_use k s t rest e)
+  plain_lands alone sight (Becomes tasks) plain whole (q, there, g) = ((q, there, g), same_statics s.statics)
+  plain_lands alone sight (Sets x v) plain whole h = (sets_lands x v h.0 h.1, same_statics s.statics)
+  plain_lands alone sight (SetsNull target) plain whole h = absurd plain
+  plain_lands alone sight (SetsElement x i z) plain whole h = element_lands x i z (lookup x t.variables) refl (stores x (sort_in p.names x) refl h.0) h.0 h.1
+  plain_lands alone sight (MakesArray u x size) plain whole h = (makes_lands u x size h.0 h.1, same_statics s.statics)
+  plain_lands alone sight (Prints z) plain whole h = ((p, stands, h.1), same_statics s.statics)
+  plain_lands alone sight (Calls line target f args) plain whole h = absurd plain
+  plain_lands alone sight Returns plain whole h =
+      subst (λ (l : List Caller). Lands own s.statics (return_by k s t NoResult l)) (sym alone) ((refl, calls_there s.heap t.pending t.calls), same_statics s.statics)
+  plain_lands alone sight (TrapsAt trap line) plain whole h = (whole, same_statics s.statics)
+  plain_lands alone sight NoEffect plain whole h = absurd h

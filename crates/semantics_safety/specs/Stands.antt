@@ -1,5 +1,5 @@
 -- What it is for a thread to be at a point: its variables are of their sorts, and hold what is known of them.
-use Rattle.std.specs.Prelude.{◌≡◌, ℕ, ◌≤◌, ◌==◌, Bool, true, false, ◌⊎◌, ℤ, List, [], ◌∷◌, length, Option, Some, None, IsTrue, filter}
+use Rattle.std.specs.Prelude.{◌≡◌, ℕ, ◌≤◌, ◌==◌, Bool, true, false, ◌⊎◌, ℤ, List, [], length, Option, Some, None, IsTrue, filter}
 use Rattle.std.specs.List.{list_all}
 use Rattle.base.specs.Bytes.{Identifier, lookup}
 use Rattle.base.specs.Element.{ElementType}
@@ -92,4 +92,6 @@ Goes own statics t (Some tasks) = (p : Point) × Stands own statics t.variables 
 -- what holds of a thread before each step
 pub record IsSound (unit : SourceUnit) (classes : Classes) (own : Owners) (statics : Statics) (t : Thread) : Type 0 where
   pub goes : Goes own statics t t.tasks
+  -- no call has made another yet
+  pub alone : t.callers ≡ []
   pub loads : IsTrue (list_all (call_loads unit classes) t.calls)
