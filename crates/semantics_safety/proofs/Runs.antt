@@ -305,6 +305,7 @@ module _ (unit : SourceUnit) (w : World) (enters : AllByRecursion (Enters (null_
       let running : Running (owners_after unit w journal) s = replay_running journal (λ k. no_owner) (start unit w) s (start_running loads has) replayed in
       let sound = thread_sound unit w.classes (null_statics unit) enters (owners_after unit w journal) s k t running there in
       record {
+        alone = sound.alone;
         view = view (owners_after unit w journal k) s.shared t sound.goes sound.alone;
         return = return (owners_after unit w journal k) s.shared t sound.goes;
         references = references (owners_after unit w journal k) s.shared t sound.goes;

@@ -111,11 +111,12 @@ module _ (unit : SourceUnit) (w : World) (sorted : IsSorted unit) (regions : Has
     thread_next : (o : Option Thread) → thread_at s k ≡ o → step_of unit w.classes s k refused o ≡ Some next → IsNext w.classes s next
     thread_next None there e = absurd (cc)
     thread_next (Some t) there e =
+        let stands = unit_is_sound unit w sorted regions loads has journal s k t replayed there in
         advance_next w.classes s k (thread_step unit w.classes (in_use s) k s.shared t refused) next h
         (step_fits unit w.classes sound.declares sound.grown (in_use s) k s.shared t h.typed.heap
         (thread_in (λ (t : Thread). AreTypedVariables w.classes s.shared.heap t.variables) s k t h.typed.variables there)
         (thread_in (λ (t : Thread). TasksHaveTexts t.tasks) s k t h.texts there) all (owners_after unit w journal k)
-        ((unit_is_sound unit w sorted regions loads has journal s k t replayed there).goes) refused) e
+        stands.alone stands.goes refused) e
 
     can_next : (b : Bool) → (if b then step_of unit w.classes s k refused (thread_at s k) else None) ≡ Some next → IsNext w.classes s next
     can_next true e = thread_next (thread_at s k) refl e

@@ -27,7 +27,9 @@ use Rattle.semantics.specs.Heap.{Heap, with_value_at}
 use Rattle.semantics.specs.Object.{ObjectValue, Number, Refers}
 use Rattle.semantics.specs.Sight.{Sight, seen, held_reference}
 use Rattle.semantics.specs.Task.{Task, Invoke, Target, Declared, Assigned, Tested, Dropped, VariableKind, ScalarKind, ReferenceKind, FieldKind, BufferKind, Operand, Given}
-use Rattle.semantics.specs.Thread.{Thread, Shared, BuffersInUse, Frame, Advance, sight_of}
+use Rattle.semantics.specs.CallEffects.{NoResult}
+use Rattle.semantics.specs.Return.{return_by}
+use Rattle.semantics.specs.Thread.{Thread, Caller, Shared, BuffersInUse, Frame, Advance, sight_of}
 use Rattle.semantics.specs.ThreadStep.{set_element, with_tasks, after_effect, after_refused_effect, step_within, thread_step}
 use Rattle.semantics.specs.Value.{Trap, convert}
 use Rattle.semantics.specs.Variable.{Variable, Scalar, LocalRef, FieldHandle, Elements, LocalArray, NoBuffer, Copy, View, Variables, Statics}
@@ -167,17 +169,17 @@ module _ (unit : SourceUnit) (classes : Classes) (well : DeclaresWell classes) (
 
     -- ---- effects
 
-    effect_step : (p : Point) {own : Owners} (stands : Stands own s.statics t.variables t.frames p) (e : Effect) → EffectHasTexts e → Follows own (sight_of s t) s.statics t.variables t.frames p rest e → Fits (after_effect classes in_use k s t rest e)
-    effect_step p stands (Becomes tasks) h f = (same, vars, all_append TaskHasTexts tasks rest h texts)
-    effect_step p stands (Sets x v) h f = (same, assign_typed classes s.heap x (Scalar v) t.variables vars tt, texts)
-    effect_step p stands (SetsNull target) h f = null_target target
-    effect_step p stands (SetsElement x i z) h f = element_set x i z (lookup x t.variables) refl
-    effect_step p stands (MakesArray e x n) h f = (same, assign_typed classes s.heap x (LocalArray e (replicate n (pos 0))) t.variables vars (zeros_in_range e n), texts)
-    effect_step p stands (Prints z) h f = (same, vars, texts)
-    effect_step p stands (Calls line target fn args) h f = call_fitting line target fn args h.0 h.1 p stands f.0 f.1 f.3
-    effect_step p stands Returns h f = (same, tt, tt)
-    effect_step p stands (TrapsAt trap line) h f = (same, vars, own_texts)
-    effect_step p stands NoEffect h f = tt
+    effect_step : (alone : t.callers ≡ []) (p : Point) {own : Owners} (stands : Stands own s.statics t.variables t.frames p) (e : Effect) → EffectHasTexts e → Follows own (sight_of s t) s.statics t.variables t.frames p rest e → Fits (after_effect classes in_use k s t rest e)
+    effect_step alone p stands (Becomes tasks) h f = (same, vars, all_append TaskHasTexts tasks rest h texts)
+    effect_step alone p stands (Sets x v) h f = (same, assign_typed classes s.heap x (Scalar v) t.variables vars tt, texts)
+    effect_step alone p stands (SetsNull target) h f = null_target target
+    effect_step alone p stands (SetsElement x i z) h f = element_set x i z (lookup x t.variables) refl
+    effect_step alone p stands (MakesArray e x n) h f = (same, assign_typed classes s.heap x (LocalArray e (replicate n (pos 0))) t.variables vars (zeros_in_range e n), texts)
+    effect_step alone p stands (Prints z) h f = (same, vars, texts)
+    effect_step alone p stands (Calls line target fn args) h f = call_fitting line target fn args h.0 h.1 p stands f.0 f.1 f.3
+    effect_step alone p stands Returns h f = subst (λ (l : List Caller). Fits (return_by k s t NoResult l)) (sym alone) (same, tt, tt)
+    effect_step alone p stands (TrapsAt trap line) h f = (same, vars, own_texts)
+    effect_step alone p stands NoEffect h f = tt
 
     refused_step : (e : Effect) → EffectHasTexts e → Fits (after_refused_effect classes in_use k s t rest e)
     refused_step (Calls line target fn args) h = refusal_fits classes in_use k s t typed vars line target fn args rest texts h.1 (makes_objects (effect_of_call classes in_use k s t line target fn args rest))
@@ -212,13 +214,13 @@ module _ (unit : SourceUnit) (classes : Classes) (well : DeclaresWell classes) (
 
   -- ---- a thread's step
 
-  within_fits : HasTexts unit → (own : Owners) (refused : Bool) (o : Option (List Task)) → TasksHaveTexts o → Goes own s.statics t o → Fits (step_within unit classes in_use k s t refused o)
-  within_fits all own true None texts goes = tt
-  within_fits all own false None texts goes = entry_fits all t.calls
-  within_fits all own refused (Some []) texts goes = absurd (goes.2)
-  within_fits all own false (Some (task ∷ rest)) texts (p, stands, runs) =
-      effect_step rest texts.1 p stands (effect_of (sight_of s t) task) (effect_texts (sight_of s t) task texts.0) (effect_follows s.heap s.statics t.variables t.frames p stands rest task runs)
-  within_fits all own true (Some (task ∷ rest)) texts (p, stands, runs) = refused_step rest texts.1 (effect_of (sight_of s t) task) (effect_texts (sight_of s t) task texts.0)
+  within_fits : HasTexts unit → (own : Owners) (refused : Bool) (o : Option (List Task)) → t.callers ≡ [] → TasksHaveTexts o → Goes own s.statics t o → Fits (step_within unit classes in_use k s t refused o)
+  within_fits all own true None alone texts goes = tt
+  within_fits all own false None alone texts goes = entry_fits all t.calls
+  within_fits all own refused (Some []) alone texts goes = absurd (goes.2)
+  within_fits all own false (Some (task ∷ rest)) alone texts (p, stands, runs) =
+      effect_step rest texts.1 alone p stands (effect_of (sight_of s t) task) (effect_texts (sight_of s t) task texts.0) (effect_follows s.heap s.statics t.variables t.frames p stands rest task runs)
+  within_fits all own true (Some (task ∷ rest)) alone texts (p, stands, runs) = refused_step rest texts.1 (effect_of (sight_of s t) task) (effect_texts (sight_of s t) task texts.0)
 
-  pub step_fits : HasTexts unit → (own : Owners) → Goes own s.statics t t.tasks → (refused : Bool) → Fits (thread_step unit classes in_use k s t refused)
-  step_fits all own goes refused = within_fits all own refused t.tasks own_texts goes
+  pub step_fits : HasTexts unit → (own : Owners) → t.callers ≡ [] → Goes own s.statics t t.tasks → (refused : Bool) → Fits (thread_step unit classes in_use k s t refused)
+  step_fits all own alone goes refused = within_fits all own refused t.tasks alone own_texts goes
