@@ -1,15 +1,17 @@
 -- What the first step of a task does.
-use Rattle.std.specs.Prelude.{ℕ, Bool, true, false, if◌then◌else◌, ℤ, List, [], ◌∷◌, ◌++◌}
+use Rattle.std.specs.Prelude.{ℕ, Bool, true, false, if◌then◌else◌, ℤ, List, [], ◌∷◌, ◌++◌, None}
 use Rattle.std.specs.List.{list_all}
 use Rattle.base.specs.Bytes.{Identifier}
 use Rattle.base.specs.Element.{ElementType}
 use Rattle.syntax.specs.Tree.{Null, Expr, Block}
 use Rattle.jni.specs.JniFunction.{JniFunction}
 use Rattle.semantics.specs.Arguments.{Actual, actuals}
+use Rattle.semantics.specs.CallEffects.{CallResult, NoResult, ScalarResult, ReferenceResult}
 use Rattle.semantics.specs.Sight.{Sight}
 use Rattle.semantics.specs.Task.{Task, SetScalar, SetElement, SetNull, MakeArray, Invoke, Print, Branch, EndIf, Loop, EndTurn, Return, ReturnValue, Impossible, Target, Tested, Operand, NumberOperand, Given, tasks_of}
 use Rattle.semantics.specs.Term.{Term, Done, Named, Read, term_of, index_of, reduce}
 use Rattle.semantics.specs.Value.{Value, Int, Truth, Trap, Outcome, Gives, Traps, Stuck, outcome_map}
+use Rattle.semantics.specs.Variable.{StaticReference, as_reference}
 
 -- What a step of a task does. Where it becomes no others and no trap stops it, it is over then.
 pub data Effect : Type 0 where
@@ -27,8 +29,8 @@ pub data Effect : Type 0 where
   Prints : ℤ → Effect
   -- the function is called with these arguments, and its result goes there
   Calls : (line : ℕ) → Target → JniFunction → List Actual → Effect
-  -- the call in progress is over
-  Returns : Effect
+  -- the call in progress is over, and gives this
+  Returns : CallResult → Effect
   -- the machine stops
   TrapsAt : Trap → (line : ℕ) → Effect
   -- nothing fits, as in no accepted program
@@ -108,15 +110,15 @@ tasks_after line (Tested then' else') gave_zero = Branch line (Done (Truth gave_
 tasks_after line target gave_zero = []
 
 -- a number variable's value is worked out first, and a reference is returned as it is
-abbrev pub returned_name : ℕ → Outcome Value → Effect
-returned_name line (Gives v) = Becomes (ReturnValue line (Done v) ∷ [])
-returned_name line v = Returns
+abbrev pub returned_name : ℕ → Outcome Value → StaticReference → Effect
+returned_name line (Gives v) r = Becomes (ReturnValue line (Done v) ∷ [])
+returned_name line v r = Returns (ReferenceResult (as_reference r))
 
--- a return of a value, which nobody sees
+-- a return of a value
 abbrev pub return_effect : Sight → ℕ → Term → Effect
-return_effect sight line (Named Null) = Returns
-return_effect sight line (Read x) = returned_name line (sight.number x)
-return_effect sight line e = with_value sight line (λ v. Returns) (ReturnValue line) e
+return_effect sight line (Named Null) = Returns (ReferenceResult None)
+return_effect sight line (Read x) = returned_name line (sight.number x) (sight.reference x)
+return_effect sight line e = with_value sight line (λ v. Returns (ScalarResult v)) (ReturnValue line) e
 
 -- ---- all tasks
 
@@ -133,6 +135,6 @@ effect_of sight (Branch line e then' else') = with_value sight line (branch_effe
 effect_of sight EndIf = Becomes []
 effect_of sight (Loop line test e body) = with_value sight line (loop_effect line test body) (λ u. Loop line test u body) e
 effect_of sight (EndTurn line test body) = Becomes (Loop line test (term_of test) body ∷ [])
-effect_of sight Return = Returns
+effect_of sight Return = Returns NoResult
 effect_of sight (ReturnValue line e) = return_effect sight line e
 effect_of sight Impossible = NoEffect

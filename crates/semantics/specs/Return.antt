@@ -3,7 +3,7 @@ use Rattle.std.specs.Prelude.{ℕ, pos, List, [], ◌∷◌, Some, None}
 use Rattle.jni.specs.Prototype.{ResultKind, NewLocal, GivesInt}
 use Rattle.semantics.specs.Object.{Reference}
 use Rattle.semantics.specs.World.{Invocation}
-use Rattle.semantics.specs.CallEffects.{CallResult, NoResult, NullResult, ScalarResult}
+use Rattle.semantics.specs.CallEffects.{CallResult, NoResult, NullResult, ScalarResult, ReferenceResult}
 use Rattle.semantics.specs.CallStep.{put, received}
 use Rattle.semantics.specs.Heap.{Heap, class_of}
 use Rattle.semantics.specs.Thread.{Ending, Unfinished, Ended, Uncaught, Thread, Caller, Monitor, Shared, Quiet, Advance, Advances, without_owner}
@@ -50,9 +50,15 @@ nothing_of NewLocal = NullResult
 nothing_of GivesInt = ScalarResult (Int (pos 0))
 nothing_of kind = NoResult
 
--- what the caller is given
+-- what a caller that wants this is given: a reference or a `jint`, and nothing for what doesn't fit, as in no accepted program
+abbrev pub fitted : ResultKind → CallResult → CallResult
+fitted NewLocal (ReferenceResult r) = ReferenceResult r
+fitted GivesInt (ScalarResult (Int z)) = ScalarResult (Int z)
+fitted kind given = nothing_of kind
+
+-- the same, but nothing where an exception is pending
 abbrev pub given_back : Reference → ResultKind → CallResult → CallResult
-given_back None kind given = given
+given_back None kind given = fitted kind given
 given_back (Some n) kind given = nothing_of kind
 
 -- a caller goes on in its place: with its variables, its frames and what is left of its tasks

@@ -5,7 +5,7 @@ use Rattle.syntax.specs.Tree.{SourceUnit}
 use Rattle.class_rules.specs.Class.{Classes}
 use Rattle.semantics.specs.Object.{Number}
 use Rattle.semantics.specs.Activation.{entry_step}
-use Rattle.semantics.specs.CallEffects.{NoResult, NullResult}
+use Rattle.semantics.specs.CallEffects.{NullResult}
 use Rattle.semantics.specs.CallStep.{put, call_step, waits_with}
 use Rattle.semantics.specs.Effect.{Effect, Becomes, Sets, SetsNull, SetsElement, MakesArray, Prints, Calls, Returns, TrapsAt, NoEffect, effect_of}
 use Rattle.semantics.specs.Heap.{with_value_at}
@@ -43,7 +43,7 @@ module _ (classes : Classes) (in_use : BuffersInUse) (k : ℕ) (s : Shared) (t :
   after_effect (MakesArray T x n) = set_variable s (with_tasks t rest) x (LocalArray T (replicate n (pos 0)))
   after_effect (Prints z) = Advances s (with_tasks t rest) (PrintedNumber z)
   after_effect (Calls line target f args) = call_step classes in_use k s t line target f args rest false
-  after_effect Returns = return_step k s t NoResult
+  after_effect (Returns given) = return_step k s t given
   after_effect (TrapsAt trap line) = Advances s t (Trapped trap line)
   after_effect NoEffect = NoAdvance
 

@@ -50,6 +50,11 @@ abbrev pub as_static : Reference → StaticReference
 as_static None = Empty
 as_static (Some n) = Live n
 
+-- the object that it is, if it is one
+abbrev pub as_reference : StaticReference → Reference
+as_reference (Live n) = Some n
+as_reference s = None
+
 -- how many copied elements a variable holds
 abbrev pub copied_length : Variable → ℕ
 copied_length (Elements kind (Copy n zs)) = length zs

@@ -1,5 +1,5 @@
 -- The step of each call of the JNI keeps what holds of its thread, and so does each step within a call.
-use Rattle.std.proofs.Common.{◌≡◌, ℕ, false, List, [], ◌∷◌, Some, sym, subst, length}
+use Rattle.std.proofs.Common.{◌≡◌, ℕ, false, List, ◌∷◌, Some, sym, subst, length}
 use Rattle.class_rules.specs.Class.{Classes}
 use Rattle.syntax.specs.Tree.{SourceUnit}
 use Rattle.jni.specs.JniFunction.{JniFunction, DeleteLocalRef, DeleteGlobalRef, PushLocalFrame, PopLocalFrame, GetArrayRegion, GetStringRegion, GetBuffer, ReleaseBuffer}
@@ -40,19 +40,24 @@ module _ (classes : Classes) (in_use : BuffersInUse) (k : ℕ) (s : Shared) (t :
       subst (λ (l : List Actual). LandsBy (Calls line target (ReleaseBuffer access) l) (length t.frames) own s.statics (call_step classes in_use k s t line target (ReleaseBuffer access) l rest false)) (sym is) (release_lands classes in_use k s t line rest p stands whole access target operands runs)
   each_call_lands f target operands args is runs = call_lands classes in_use k s t line f args rest p stands tt whole target operands runs
 
-module _ (unit : SourceUnit) (classes : Classes) (in_use : BuffersInUse) (k : ℕ) (s : Shared) (t : Thread) (task : Task) (rest : List Task) (p : Point) {own : Owners} (stands : Stands own s.statics t.variables t.frames p) (alone : t.callers ≡ []) (runs : Runs task (GoesOn rest) p) (whole : Goes own s.statics t t.tasks) where
-  each_lands : (e : Effect) → Follows own (sight_of s t) s.statics t.variables t.frames p rest e → LandsBy e (length t.frames) own s.statics (after_effect classes in_use k s t rest e)
-  each_lands (Calls line target f args) (operands, is, ready, r) = each_call_lands classes in_use k s t line rest p stands whole f target operands args is r
-  each_lands (SetsNull target) h = plain_by (SetsNull target) tt (length t.frames) own s.statics (after_effect classes in_use k s t rest (SetsNull target)) (null_lands classes in_use k s t rest p stands target h)
-  each_lands (Becomes tasks) h = plain_by (Becomes tasks) tt (length t.frames) own s.statics (after_effect classes in_use k s t rest (Becomes tasks)) (plain_lands classes in_use k s t rest p stands alone (sight_of s t) (Becomes tasks) tt whole h)
-  each_lands (Sets x v) h = plain_by (Sets x v) tt (length t.frames) own s.statics (after_effect classes in_use k s t rest (Sets x v)) (plain_lands classes in_use k s t rest p stands alone (sight_of s t) (Sets x v) tt whole h)
-  each_lands (SetsElement x i z) h = plain_by (SetsElement x i z) tt (length t.frames) own s.statics (after_effect classes in_use k s t rest (SetsElement x i z)) (plain_lands classes in_use k s t rest p stands alone (sight_of s t) (SetsElement x i z) tt whole h)
-  each_lands (MakesArray u x size) h = plain_by (MakesArray u x size) tt (length t.frames) own s.statics (after_effect classes in_use k s t rest (MakesArray u x size)) (plain_lands classes in_use k s t rest p stands alone (sight_of s t) (MakesArray u x size) tt whole h)
-  each_lands (Prints z) h = plain_by (Prints z) tt (length t.frames) own s.statics (after_effect classes in_use k s t rest (Prints z)) (plain_lands classes in_use k s t rest p stands alone (sight_of s t) (Prints z) tt whole h)
-  each_lands Returns h = plain_by Returns tt (length t.frames) own s.statics (after_effect classes in_use k s t rest Returns) (plain_lands classes in_use k s t rest p stands alone (sight_of s t) Returns tt whole h)
-  each_lands (TrapsAt trap line) h = plain_by (TrapsAt trap line) tt (length t.frames) own s.statics (after_effect classes in_use k s t rest (TrapsAt trap line)) (plain_lands classes in_use k s t rest p stands alone (sight_of s t) (TrapsAt trap line) tt whole h)
-  each_lands NoEffect h = absurd h
+-- an effect that doesn't return
+abbrev pub IsNoReturn : Effect → Type 0
+IsNoReturn (Returns given) = ⊥
+IsNoReturn e = Unit {0}
 
-  -- each step within a call, unmarked, leads to a point again, and is possible
-  pub each_step_lands : LandsBy (effect_of (sight_of s t) task) (length t.frames) own s.statics (step_within unit classes in_use k s t false (Some (task ∷ rest)))
-  each_step_lands = each_lands (effect_of (sight_of s t) task) (effect_follows s.heap s.statics t.variables t.frames p stands rest task runs)
+module _ (unit : SourceUnit) (classes : Classes) (in_use : BuffersInUse) (k : ℕ) (s : Shared) (t : Thread) (task : Task) (rest : List Task) (p : Point) {own : Owners} (stands : Stands own s.statics t.variables t.frames p) (runs : Runs task (GoesOn rest) p) (whole : Goes own s.statics t t.tasks) where
+  each_lands : (e : Effect) → IsNoReturn e → Follows own (sight_of s t) s.statics t.variables t.frames p rest e → LandsBy e (length t.frames) own s.statics (after_effect classes in_use k s t rest e)
+  each_lands (Calls line target f args) away (operands, is, ready, r) = each_call_lands classes in_use k s t line rest p stands whole f target operands args is r
+  each_lands (SetsNull target) away h = plain_by (SetsNull target) tt (length t.frames) own s.statics (after_effect classes in_use k s t rest (SetsNull target)) (null_lands classes in_use k s t rest p stands target h)
+  each_lands (Becomes tasks) away h = plain_by (Becomes tasks) tt (length t.frames) own s.statics (after_effect classes in_use k s t rest (Becomes tasks)) (plain_lands classes in_use k s t rest p stands (sight_of s t) (Becomes tasks) tt whole h)
+  each_lands (Sets x v) away h = plain_by (Sets x v) tt (length t.frames) own s.statics (after_effect classes in_use k s t rest (Sets x v)) (plain_lands classes in_use k s t rest p stands (sight_of s t) (Sets x v) tt whole h)
+  each_lands (SetsElement x i z) away h = plain_by (SetsElement x i z) tt (length t.frames) own s.statics (after_effect classes in_use k s t rest (SetsElement x i z)) (plain_lands classes in_use k s t rest p stands (sight_of s t) (SetsElement x i z) tt whole h)
+  each_lands (MakesArray u x size) away h = plain_by (MakesArray u x size) tt (length t.frames) own s.statics (after_effect classes in_use k s t rest (MakesArray u x size)) (plain_lands classes in_use k s t rest p stands (sight_of s t) (MakesArray u x size) tt whole h)
+  each_lands (Prints z) away h = plain_by (Prints z) tt (length t.frames) own s.statics (after_effect classes in_use k s t rest (Prints z)) (plain_lands classes in_use k s t rest p stands (sight_of s t) (Prints z) tt whole h)
+  each_lands (Returns given) away h = absurd away
+  each_lands (TrapsAt trap line) away h = plain_by (TrapsAt trap line) tt (length t.frames) own s.statics (after_effect classes in_use k s t rest (TrapsAt trap line)) (plain_lands classes in_use k s t rest p stands (sight_of s t) (TrapsAt trap line) tt whole h)
+  each_lands NoEffect away h = absurd h
+
+  -- each step within a call but a return, unmarked, leads to a point again, and is possible
+  pub each_step_lands : IsNoReturn (effect_of (sight_of s t) task) → LandsBy (effect_of (sight_of s t) task) (length t.frames) own s.statics (step_within unit classes in_use k s t false (Some (task ∷ rest)))
+  each_step_lands away = each_lands (effect_of (sight_of s t) task) away (effect_follows s.heap s.statics t.variables t.frames p stands rest task runs)

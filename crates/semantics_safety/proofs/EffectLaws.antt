@@ -11,6 +11,7 @@ use Rattle.type_rules.specs.Sorts.{Sort, sort_in}
 use Rattle.type_rules.specs.Sorts as sort
 use Rattle.type_rules.specs.SortGroups.{IsIndexSort, IsNumberSort}
 use Rattle.semantics.specs.Arguments.{actuals}
+use Rattle.semantics.specs.CallEffects.{ScalarResult}
 use Rattle.semantics.specs.Effect.{Effect, Becomes, Sets, SetsElement, Prints, Calls, Returns, at_line, goes_on, with_value, print_effect, branch_effect, loop_effect, element_effect, is_given, is_ready, reduce_number, reduce_first, call_effect_of, returned_name, return_effect, effect_of}
 use Rattle.semantics.specs.Heap.{Heap}
 use Rattle.region_rules.specs.RegionStates.{get_of, after_call, with_changed, made_free}
@@ -22,7 +23,7 @@ use Rattle.semantics.specs.Term as term
 use Rattle.semantics.specs.Term.{Term, Done, Read, IsNull, Prefix, And, Or, Binary, Reduction, done, index_of, reduce}
 use Rattle.semantics.specs.Thread.{Frame}
 use Rattle.semantics.specs.Value.{Value, Int, Truth, Outcome, Gives, Traps, Stuck, outcome_map}
-use Rattle.semantics.specs.Variable.{Variable, LocalRef, Variables, Statics}
+use Rattle.semantics.specs.Variable.{StaticReference, Variable, LocalRef, Variables, Statics}
 use Rattle.semantics_safety.specs.Owners.{Owners}
 use Rattle.semantics_safety.specs.Points.{Point, value_sort, ElementsFit, HasSort, OperandFits, OperandsFit}
 use Rattle.semantics_safety.specs.Stands.{Stands}
@@ -155,20 +156,20 @@ module _ (heap : Heap) (ss : Statics) (vs : Variables) (frames : List Frame) (p 
   number_returns (Or a b) h = h
   number_returns (Binary op a b) h = h
 
-  value_returns : (line : ℕ) (t : Term) → HasSort p t sort.Jint → MayReturnFrom p → Goes (with_value sight line (λ v. Returns) (task.ReturnValue line) t)
-  value_returns line t h m = valued line (λ v. Returns) (task.ReturnValue line) sort.Jint t h (λ v e f. m) (λ u e f. (p, stands, (number_returns u f, m)))
+  value_returns : (line : ℕ) (t : Term) → HasSort p t sort.Jint → MayReturnFrom p → Goes (with_value sight line (λ v. Returns (ScalarResult v)) (task.ReturnValue line) t)
+  value_returns line t h m = valued line (λ v. Returns (ScalarResult v)) (task.ReturnValue line) sort.Jint t h (λ v e f. m) (λ u e f. (p, stands, (number_returns u f, m)))
 
-  ref_returns : (line : ℕ) (o : Option Variable) → (level : ℕ) × (r : _) × (o ≡ Some (LocalRef level r)) → MayReturnFrom p → Goes (returned_name line (scalar o))
-  ref_returns line o (level, r, e) m = subst (λ (v : Option Variable). Goes (returned_name line (scalar v))) (sym e) m
+  ref_returns : (line : ℕ) (o : Option Variable) → (level : ℕ) × (r : _) × (o ≡ Some (LocalRef level r)) → (r : StaticReference) → MayReturnFrom p → Goes (returned_name line (scalar o) r)
+  ref_returns line o (level, r, e) q m = subst (λ (v : Option Variable). Goes (returned_name line (scalar v) q)) (sym e) m
 
-  name_gives : (line : ℕ) (o : Outcome Value) → ValueFits sort.Jint o → MayReturnFrom p → Goes (returned_name line o)
-  name_gives line (Gives v) h m = (p, stands, (h, m))
-  name_gives line (Traps trap) h m = m
-  name_gives line Stuck h m = m
+  name_gives : (line : ℕ) (o : Outcome Value) (r : StaticReference) → ValueFits sort.Jint o → MayReturnFrom p → Goes (returned_name line o r)
+  name_gives line (Gives v) r h m = (p, stands, (h, m))
+  name_gives line (Traps trap) r h m = m
+  name_gives line Stuck r h m = m
 
-  name_returns : (line : ℕ) (x : Identifier) (o : Option Sort) → sort_in p.names x ≡ o → ReturnedFits p x o → MayReturnFrom p → Goes (returned_name line (sight.number x))
-  name_returns line x (Some sort.Ref) e h m = ref_returns line (lookup x vs) (stands.sorts x sort.Ref e) m
-  name_returns line x (Some sort.Jint) e h m = name_gives line (sight.number x) ((sees ss vs frames p heap stands).number x sort.Jint e tt) m
+  name_returns : (line : ℕ) (x : Identifier) (o : Option Sort) → sort_in p.names x ≡ o → ReturnedFits p x o → MayReturnFrom p → Goes (returned_name line (sight.number x) (sight.reference x))
+  name_returns line x (Some sort.Ref) e h m = ref_returns line (lookup x vs) (stands.sorts x sort.Ref e) (sight.reference x) m
+  name_returns line x (Some sort.Jint) e h m = name_gives line (sight.number x) (sight.reference x) ((sees ss vs frames p heap stands).number x sort.Jint e tt) m
   name_returns line x o e h m = absurd h
 
   returns : (line : ℕ) (t : Term) → ReturnFits p t → MayReturnFrom p → Goes (return_effect sight line t)

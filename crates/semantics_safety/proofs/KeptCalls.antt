@@ -1,5 +1,5 @@
--- A step within a call leaves the calls to come as they were, or drops them all; it leaves the callers as they were.
-use Rattle.std.proofs.Common.{◌≡◌, ◌⊎◌, inl, inr, ℕ, ◌+◌, Bool, true, false, List, [], ◌∷◌, ◌++◌, length, Option, Some, None, refl, sym, subst, ◌∙◌}
+-- A step within a call but a return leaves the calls to come as they were, and the callers.
+use Rattle.std.proofs.Common.{◌≡◌, ℕ, ◌+◌, Bool, true, false, List, [], ◌∷◌, ◌++◌, length, Option, Some, None, refl, ◌∙◌}
 use Rattle.std.specs.Prelude.{ℤ, pos, negsuc, nat_lt, nat_le, ◌==◌}
 use Rattle.std.proofs.lemmas.Bool.{cond_both}
 use Rattle.base.specs.Bytes.{Identifier, lookup}
@@ -10,7 +10,6 @@ use Rattle.jni.specs.Access.{ElementsCopy, ArrayView, CharsCopy, CharsView}
 use Rattle.jni.specs.JniFunction as jni
 use Rattle.jni.specs.JniFunction.{JniFunction, prototype}
 use Rattle.jni.specs.Prototype.{ResultKind, NewLocal}
-use Rattle.semantics.specs.Return.{ending_after, calls_after, return_by}
 use Rattle.semantics.specs.Arguments.{Actual, ReleaseMode, CopyBackAndFree, CopyBack, FreeUncopied, number_given, object_given, reference_given, text_given, variable_given, mode_given}
 use Rattle.semantics.specs.CallEffects.{CallResult, NoResult, NullResult, ScalarResult, ReferenceResult, FieldResult, BufferResult, CallEffect, Throws, Halts, Leaves, out_of_memory, with_capacity, ensure_effect, push_effect, delete_local_effect, delete_global_effect, found_class_effect, found_field_effect, new_array_effect, at_index, at_region, local_array, get_region_effect, set_region_effect, store_effect, release_effect, enter_effect, exit_effect}
 use Rattle.semantics.specs.CallStep.{put, put_assigned, received, failure, resumed, trap_of_call, checked, completed, after_call, after_refusal, call_step}
@@ -19,11 +18,12 @@ use Rattle.semantics.specs.Effect.{Effect, Becomes, Sets, SetsNull, SetsElement,
 use Rattle.semantics.specs.Heap.{next_name}
 use Rattle.semantics.specs.Object.{Object, ObjectValue, Reference}
 use Rattle.semantics.specs.Task.{Task, Target, Declared, Assigned, Tested, Dropped}
-use Rattle.semantics.specs.Thread.{Thread, Caller, Shared, BuffersInUse, Monitor, Ending, Unfinished, Ended, Uncaught, Advance, Advances, NoAdvance, capacities, monitor_of, sight_of}
+use Rattle.semantics.specs.Thread.{Thread, Caller, Shared, BuffersInUse, Monitor, Advance, Advances, NoAdvance, capacities, monitor_of, sight_of}
 use Rattle.semantics.specs.ThreadStep.{set_element, with_tasks, after_effect, after_refused_effect, step_within}
 use Rattle.semantics.specs.Value.{Trap}
 use Rattle.semantics.specs.Variable.{Variable, Scalar, LocalRef, FieldHandle, Elements, LocalArray, NoBuffer, Copy, View}
 use Rattle.semantics.specs.World.{Invocation, fresh_object}
+use Rattle.semantics_safety.proofs.CallLaws.{IsNoReturn}
 
 -- calls to come, and callers
 abbrev pub Held : Type 0
@@ -33,9 +33,9 @@ Held = List Invocation × List Caller
 abbrev pub held : Thread → Held
 held t = (t.calls, t.callers)
 
--- what a step leaves has these, or none
+-- what a step leaves has these
 abbrev pub KeepsCalls : Held → Advance → Type 0
-KeepsCalls calls (Advances s t event) = (held t ≡ calls) ⊎ (held t ≡ ([], []))
+KeepsCalls calls (Advances s t event) = held t ≡ calls
 KeepsCalls calls NoAdvance = Unit {0}
 
 -- the same of a call's effect
@@ -47,16 +47,16 @@ EffectKeeps calls (Halts trap) = Unit {0}
 -- ---- results
 
 assigned_keeps : (x : Identifier) (given : CallResult) (s : Shared) (t : Thread) (calls : Held) (o : Option Variable) → held t ≡ calls → KeepsCalls calls (put_assigned x given s t o)
-assigned_keeps x given s t calls None e = inl e
-assigned_keeps x given s t calls (Some v) e = inl e
+assigned_keeps x given s t calls None e = e
+assigned_keeps x given s t calls (Some v) e = e
 
-put_keeps : (target : Target) (given : CallResult) (s : Shared) (t : Thread) (calls : Held) → held t ≡ calls → KeepsCalls calls (put target given s t)
-put_keeps (Declared kind x) given s t calls e = inl e
+pub put_keeps : (target : Target) (given : CallResult) (s : Shared) (t : Thread) (calls : Held) → held t ≡ calls → KeepsCalls calls (put target given s t)
+put_keeps (Declared kind x) given s t calls e = e
 put_keeps (Assigned x) given s t calls e = assigned_keeps x given s t calls (lookup x t.variables) e
-put_keeps (Tested a b) given s t calls e = inl e
-put_keeps Dropped given s t calls e = inl e
+put_keeps (Tested a b) given s t calls e = e
+put_keeps Dropped given s t calls e = e
 
-received_calls : (kind : ResultKind) (given : CallResult) (t : Thread) → held (received kind given t) ≡ held t
+pub received_calls : (kind : ResultKind) (given : CallResult) (t : Thread) → held (received kind given t) ≡ held t
 received_calls NewLocal NoResult t = refl
 received_calls NewLocal NullResult t = refl
 received_calls NewLocal (ScalarResult v) t = refl
@@ -168,7 +168,7 @@ module _ (classes : Classes) (in_use : BuffersInUse) (k : ℕ) (s : Shared) (t :
 
     after_keeps : (e : CallEffect) → EffectKeeps (held t) e → KeepsCalls (held t) (after_call classes in_use k s t line target f args rest e)
     after_keeps (Throws c) h = completed_keeps (fresh_object classes c ∷ []) s (record t { pending = Some (next_name s.heap) }) (failure (prototype f).result) refl
-    after_keeps (Halts trap) h = inl refl
+    after_keeps (Halts trap) h = refl
     after_keeps (Leaves made s' t' given) h = completed_keeps made s' t' given h
 
     refusal_keeps : (makes : Bool) → KeepsCalls (held t) (after_refusal classes in_use k s t line target f args rest makes)
@@ -182,44 +182,32 @@ module _ (classes : Classes) (in_use : BuffersInUse) (k : ℕ) (s : Shared) (t :
   -- ---- steps
 
   element_keeps : (x : Identifier) (i : ℕ) (z : ℤ) (rest : List Task) (o : Option Variable) → KeepsCalls (held t) (set_element s (with_tasks t rest) x i z o)
-  element_keeps x i z rest (Some (LocalArray u zs)) = inl refl
-  element_keeps x i z rest (Some (Elements u (Copy n zs))) = inl refl
-  element_keeps x i z rest (Some (Elements u (View n))) = inl refl
+  element_keeps x i z rest (Some (LocalArray u zs)) = refl
+  element_keeps x i z rest (Some (Elements u (Copy n zs))) = refl
+  element_keeps x i z rest (Some (Elements u (View n))) = refl
   element_keeps x i z rest (Some (Elements u NoBuffer)) = tt
   element_keeps x i z rest (Some (Scalar v)) = tt
   element_keeps x i z rest (Some (LocalRef level r)) = tt
   element_keeps x i z rest (Some (FieldHandle f)) = tt
   element_keeps x i z rest None = tt
 
-  abbrev returned_held : Ending → List Caller → Held
-  returned_held e callers = (calls_after e t.calls, callers)
-
-  ending_keeps : (e : Ending) → (returned_held e [] ≡ (t.calls, [])) ⊎ (returned_held e [] ≡ ([], []))
-  ending_keeps Unfinished = inl refl
-  ending_keeps Ended = inr refl
-  ending_keeps (Uncaught c) = inr refl
-
-  return_keeps : t.callers ≡ [] → KeepsCalls (held t) (return_by k s t NoResult t.callers)
-  return_keeps alone =
-      subst (λ (l : List Caller). KeepsCalls (t.calls, l) (return_by k s t NoResult l)) (sym alone) (ending_keeps (ending_after s.heap t.pending t.calls))
-
-  effects_keep : t.callers ≡ [] → (rest : List Task) (e : Effect) → KeepsCalls (held t) (after_effect classes in_use k s t rest e)
-  effects_keep alone rest (Becomes tasks) = inl refl
-  effects_keep alone rest (Sets x v) = inl refl
-  effects_keep alone rest (SetsNull target) = put_keeps target NullResult s (with_tasks t rest) (held t) refl
-  effects_keep alone rest (SetsElement x i z) = element_keeps x i z rest (lookup x t.variables)
-  effects_keep alone rest (MakesArray u x n) = inl refl
-  effects_keep alone rest (Prints z) = inl refl
-  effects_keep alone rest (Calls line target f args) = call_keeps line target f args rest false
-  effects_keep alone rest Returns = return_keeps alone
-  effects_keep alone rest (TrapsAt trap line) = inl refl
-  effects_keep alone rest NoEffect = tt
+  effects_keep : (rest : List Task) (e : Effect) → IsNoReturn e → KeepsCalls (held t) (after_effect classes in_use k s t rest e)
+  effects_keep rest (Becomes tasks) away = refl
+  effects_keep rest (Sets x v) away = refl
+  effects_keep rest (SetsNull target) away = put_keeps target NullResult s (with_tasks t rest) (held t) refl
+  effects_keep rest (SetsElement x i z) away = element_keeps x i z rest (lookup x t.variables)
+  effects_keep rest (MakesArray u x n) away = refl
+  effects_keep rest (Prints z) away = refl
+  effects_keep rest (Calls line target f args) away = call_keeps line target f args rest false
+  effects_keep rest (Returns given) away = absurd away
+  effects_keep rest (TrapsAt trap line) away = refl
+  effects_keep rest NoEffect away = tt
 
   refused_keep : (rest : List Task) (e : Effect) → KeepsCalls (held t) (after_refused_effect classes in_use k s t rest e)
   refused_keep rest (Calls line target f args) = call_keeps line target f args rest true
   refused_keep rest e = tt
 
   -- each step within a call
-  pub calls_kept : t.callers ≡ [] → (unit : SourceUnit) (refused : Bool) (task : Task) (rest : List Task) → KeepsCalls (held t) (step_within unit classes in_use k s t refused (Some (task ∷ rest)))
-  calls_kept alone unit false task rest = effects_keep alone rest (effect_of (sight_of s t) task)
-  calls_kept alone unit true task rest = refused_keep rest (effect_of (sight_of s t) task)
+  pub calls_kept : (unit : SourceUnit) (refused : Bool) (task : Task) (rest : List Task) → IsNoReturn (effect_of (sight_of s t) task) → KeepsCalls (held t) (step_within unit classes in_use k s t refused (Some (task ∷ rest)))
+  calls_kept unit false task rest away = effects_keep rest (effect_of (sight_of s t) task) away
+  calls_kept unit true task rest away = refused_keep rest (effect_of (sight_of s t) task)

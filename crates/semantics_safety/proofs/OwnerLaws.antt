@@ -62,7 +62,7 @@ module _ (line : ℕ) (f : JniFunction) (args : List Actual) (frames : ℕ) (own
   pub quiet_by : (target : Target) → IsLeft target → (ss : Statics) (s : Shared) (t : Thread) → Lands new ss (Advances s t Quiet) → LandsBy (Calls line target f args) frames own ss (Advances s t Quiet)
   quiet_by target left ss s t h = (goes_after target left s.statics t t.tasks h.0, h.1)
 
-  assigned_by : (x : Identifier) → IsLeft (Assigned x) → (given : CallResult) (ss : Statics) (s : Shared) (t : Thread) (o : Option Variable) → Lands new ss (put_assigned x given s t o) → LandsBy (Calls line (Assigned x) f args) frames own ss (put_assigned x given s t o)
+  pub assigned_by : (x : Identifier) → IsLeft (Assigned x) → (given : CallResult) (ss : Statics) (s : Shared) (t : Thread) (o : Option Variable) → Lands new ss (put_assigned x given s t o) → LandsBy (Calls line (Assigned x) f args) frames own ss (put_assigned x given s t o)
   assigned_by x left given ss s t (Some v) h = quiet_by (Assigned x) left ss s (record t { variables = assign x (filled v given) t.variables }) h
   assigned_by x left given ss s t None h = quiet_by (Assigned x) left ss (record s { statics = assign x (static_result given) s.statics }) t h
 
@@ -89,7 +89,7 @@ own_stays (SetsNull target) away Quiet frames own vs = refl
 own_stays (SetsElement x i z) away Quiet frames own vs = refl
 own_stays (MakesArray u x size) away Quiet frames own vs = refl
 own_stays (Prints z) away Quiet frames own vs = refl
-own_stays Returns away Quiet frames own vs = refl
+own_stays (Returns given) away Quiet frames own vs = refl
 own_stays (TrapsAt trap l) away Quiet frames own vs = refl
 own_stays NoEffect away Quiet frames own vs = refl
 own_stays (Becomes tasks) away (PrintedNumber n) frames own vs = refl
@@ -98,7 +98,7 @@ own_stays (SetsNull target) away (PrintedNumber n) frames own vs = refl
 own_stays (SetsElement x i z) away (PrintedNumber n) frames own vs = refl
 own_stays (MakesArray u x size) away (PrintedNumber n) frames own vs = refl
 own_stays (Prints z) away (PrintedNumber n) frames own vs = refl
-own_stays Returns away (PrintedNumber n) frames own vs = refl
+own_stays (Returns given) away (PrintedNumber n) frames own vs = refl
 own_stays (TrapsAt trap l) away (PrintedNumber n) frames own vs = refl
 own_stays NoEffect away (PrintedNumber n) frames own vs = refl
 

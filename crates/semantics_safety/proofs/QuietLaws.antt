@@ -65,7 +65,7 @@ IsQuiet s t kind (Halts trap) = Unit {0}
 IsQuiet s t kind (Leaves made s' t' given) = (t'.variables ≡ t.variables) × (references_of t'.frames ≡ references_of t.frames) × (s'.statics ≡ s.statics) × Gives kind given
 
 module _ (t : Thread) (line : ℕ) (rest : List Task) where
-  received_is : (kind : ResultKind) (given : CallResult) → Simple kind given → received kind given t ≡ t
+  pub received_is : (kind : ResultKind) (given : CallResult) → Simple kind given → received kind given t ≡ t
   received_is kind given (AnInt z) = refl
   received_is kind given (AFlag b) = refl
   received_is kind given (AField f) = refl

@@ -2,7 +2,7 @@
 use Rattle.std.proofs.Common.{◌≡◌, ◌⊎◌, inl, inr, ℕ, zero, suc, Bool, true, false, ◌&&◌, List, [], ◌∷◌, map, Option, Some, None, refl, sym, ◌∙◌, subst, if◌then◌else◌, ap, ◌+◌, ◌<◌, ◌==◌, length, arith}
 use Rattle.std.proofs.lemmas.Bool.Decides.{nat_tests}
 use Rattle.std.specs.Prelude.{IsTrue, find, is_none, not, is_some, slice_get, slice_set}
-use Rattle.std.specs.List.{list_all, AllByRecursion}
+use Rattle.std.specs.List.{list_all, AllByRecursion, AllZip}
 use Rattle.std.specs.Option.{option_map, option_and_then}
 use Rattle.std.specs.Str.{bytes_eq}
 use Rattle.base.specs.Bytes.{Identifier, lookup}
@@ -21,22 +21,26 @@ use Rattle.semantics.specs.Run.{replay_from}
 use Rattle.semantics.specs.Start.{waiting_thread, null_statics, start}
 use Rattle.semantics.specs.State.{State, thread_at, set_thread, in_use, with_event, advanced}
 use Rattle.semantics.specs.Step.{is_unfinished, is_waiting, is_live, can_step, step_of, world_step}
-use Rattle.semantics.specs.Task.{Task, tasks_of}
-use Rattle.semantics.specs.Thread.{Thread, Shared, Frame, BuffersInUse, Event, Quiet, PrintedNumber, Trapped, Advance, Advances, NoAdvance, sight_of}
-use Rattle.semantics.specs.ThreadStep.{step_within, thread_step}
+use Rattle.semantics.specs.Task.{Task, Target, tasks_of}
+use Rattle.semantics.specs.Thread.{Thread, Caller, Ending, Unfinished, Ended, Uncaught, Shared, Frame, BuffersInUse, Event, Quiet, PrintedNumber, Trapped, Advance, Advances, NoAdvance, sight_of}
+use Rattle.semantics.specs.ThreadStep.{after_effect, after_refused_effect, step_within, thread_step}
 use Rattle.semantics.specs.Variable.{Variable, StaticReference, Variables, Statics}
 use Rattle.semantics.specs.World.{Invocation, World}
 use Rattle.semantics.proofs.StepLaws.{step-thread}
-use Rattle.semantics.specs.Effect.{Effect, effect_of}
-use Rattle.semantics_safety.specs.Owners.{Owners, AllOwners, no_owner, after_tasks, after_advance, after_turn, after_entry, with_owners, owners_from, owners_after}
+use Rattle.semantics.specs.Effect.{Effect, Becomes, Sets, SetsNull, SetsElement, MakesArray, Prints, Calls, Returns, TrapsAt, NoEffect, effect_of}
+use Rattle.semantics.specs.CallEffects.{CallResult}
+use Rattle.semantics.specs.CallStep.{received}
+use Rattle.semantics.specs.Return.{ending_after, calls_after, given_back, resumed_in, return_by, return_into}
+use Rattle.semantics_safety.specs.Owners.{Owners, ThreadOwners, AllOwners, no_owners, with_result, after_event, after_return, after_step, after_tasks, after_advance, after_turn, after_entry, with_owners, owners_from, owners_after}
 use Rattle.semantics_safety.specs.Points.{Point}
-use Rattle.semantics_safety.specs.Stands.{VariableFits, Stands, Goes, IsSound}
+use Rattle.semantics_safety.specs.Stands.{VariableFits, Stands, CallerStands, Goes, IsSound}
 use Rattle.semantics_safety.specs.StepSafe.{has_calls, HasCalls, IsSafe}
-use Rattle.semantics_safety.specs.Wanted.{GoesOn}
-use Rattle.semantics_safety.proofs.CallLaws.{each_step_lands}
+use Rattle.semantics_safety.specs.Wanted.{GoesOn, Runs}
+use Rattle.semantics_safety.proofs.CallLaws.{IsNoReturn, each_step_lands}
 use Rattle.semantics_safety.proofs.EntryPoints.{entry_point, SeesStatics, HasNamesOnce, stands_at_entry}
 use Rattle.semantics_safety.proofs.FrameLaws.{both_true}
-use Rattle.semantics_safety.proofs.KeptCalls.{Held, held, KeepsCalls, calls_kept}
+use Rattle.semantics_safety.proofs.KeptCalls.{Held, held, KeepsCalls, calls_kept, put_keeps, received_calls}
+use Rattle.semantics_safety.proofs.ReturnLaws.{LandsBack, back_gives, callers_viewless, calls_there, return_lands}
 use Rattle.semantics_safety.proofs.OwnerLaws.{LandsBy, LandsByIfPossible}
 use Rattle.semantics_safety.proofs.RefusedLaws.{marked_step_lands}
 use Rattle.semantics_safety.proofs.StepClauses.{view, return, references, owned, release, declared, free, possible}
@@ -87,6 +91,23 @@ module _ (ss us : Statics) (stay : NamesStay ss us) where
     owned = stands.owned;
   }
 
+  -- callers go on from where they did
+  callers_later : (owners : List Owners) (callers : List Caller) → AllZip (CallerStands ss) owners callers → AllZip (CallerStands us) owners callers
+  callers_later [] [] h = tt
+  callers_later [] (c ∷ callers) h = absurd h
+  callers_later (own ∷ owners) [] h = absurd h
+  callers_later (own ∷ owners) (c ∷ callers) h = (
+    record {
+      point = (h.0).point;
+      stands = stands_later c.variables c.frames (h.0).point (h.0).stands;
+      method = (h.0).method;
+      goes = (h.0).goes;
+      room = (h.0).room;
+      viewless = (h.0).viewless;
+    },
+    callers_later owners callers h.1,
+  )
+
   goes_later : (own : Owners) (t : Thread) (o : Option (List Task)) → Goes own ss t o → Goes own us t o
   goes_later own t None g = g
   goes_later own t (Some tasks) (p, stands, goes) = (p, stands_later t.variables t.frames p stands, goes)
@@ -94,8 +115,8 @@ module _ (ss us : Statics) (stay : NamesStay ss us) where
 -- ---- one thread
 
 module _ (unit : SourceUnit) (classes : Classes) (first : Statics) (enters : AllByRecursion (Enters first) (functions_of unit)) where
-  sound_later : (own : Owners) (ss us : Statics) (t : Thread) → NamesStay ss us → IsSound unit classes own ss t → IsSound unit classes own us t
-  sound_later own ss us t stay h = record { goes = goes_later ss us stay own t t.tasks h.goes; alone = h.alone; loads = h.loads }
+  sound_later : (own : ThreadOwners) (ss us : Statics) (t : Thread) → NamesStay ss us → IsSound unit classes own ss t → IsSound unit classes own us t
+  sound_later own ss us t stay h = record { goes = goes_later ss us stay own.current t t.tasks h.goes; callers = callers_later ss us stay own.callers t.callers h.callers; loads = h.loads }
 
   -- ---- lists of threads
 
@@ -112,57 +133,114 @@ module _ (unit : SourceUnit) (classes : Classes) (first : Statics) (enters : All
   all_get owners ss k (u ∷ ts) (suc i) j t is h e = all_get owners ss (k + 1) ts i j t (omega (arith, is)) h.1 e
 
   -- the owners of one thread are no other's
-  other_number : (owners : AllOwners) (n k : ℕ) (own : Owners) → (k == n) ≡ false → owners k ≡ with_owners owners n own k
+  other_number : (owners : AllOwners) (n k : ℕ) (own : ThreadOwners) → (k == n) ≡ false → owners k ≡ with_owners owners n own k
   other_number owners n k own e = ap (λ (b : Bool). if b then own else owners k) (sym e)
 
-  all_others : (owners : AllOwners) (ss : Statics) (n : ℕ) (own : Owners) (k : ℕ) (ts : List Thread) → n < k → AllSound unit classes owners ss k ts → AllSound unit classes (with_owners owners n own) ss k ts
+  all_others : (owners : AllOwners) (ss : Statics) (n : ℕ) (own : ThreadOwners) (k : ℕ) (ts : List Thread) → n < k → AllSound unit classes owners ss k ts → AllSound unit classes (with_owners owners n own) ss k ts
   all_others owners ss n own k [] less h = tt
   all_others owners ss n own k (t ∷ ts) less h =
       let other : (k == n) ≡ false = grind (arith, nat_tests, less) in
-      (subst (λ (o : Owners). IsSound unit classes o ss t) (other_number owners n k own other) h.0, all_others owners ss n own (k + 1) ts (omega (arith, less)) h.1)
+      (subst (λ (o : ThreadOwners). IsSound unit classes o ss t) (other_number owners n k own other) h.0, all_others owners ss n own (k + 1) ts (omega (arith, less)) h.1)
 
-  all_set : (owners : AllOwners) (ss : Statics) (n : ℕ) (own : Owners) (k : ℕ) (ts : List Thread) (i : ℕ) (t : Thread) → n ≡ k + i → AllSound unit classes owners ss k ts → IsSound unit classes own ss t → AllSound unit classes (with_owners owners n own) ss k (slice_set ts i t)
+  all_set : (owners : AllOwners) (ss : Statics) (n : ℕ) (own : ThreadOwners) (k : ℕ) (ts : List Thread) (i : ℕ) (t : Thread) → n ≡ k + i → AllSound unit classes owners ss k ts → IsSound unit classes own ss t → AllSound unit classes (with_owners owners n own) ss k (slice_set ts i t)
   all_set owners ss n own k [] i t is h new = tt
   all_set owners ss n own k (u ∷ ts) zero t is h new =
       let here : (k == n) ≡ true = grind (arith, nat_tests, is) in
-      (subst (λ (o : Owners). IsSound unit classes o ss t) (ap (λ (b : Bool). if b then own else owners k) (sym here)) new, all_others owners ss n own (k + 1) ts (omega (arith, is)) h.1)
+      (subst (λ (o : ThreadOwners). IsSound unit classes o ss t) (ap (λ (b : Bool). if b then own else owners k) (sym here)) new, all_others owners ss n own (k + 1) ts (omega (arith, is)) h.1)
   all_set owners ss n own k (u ∷ ts) (suc i) t is h new =
       let other : (k == n) ≡ false = grind (arith, nat_tests, is) in
-      (subst (λ (o : Owners). IsSound unit classes o ss u) (other_number owners n k own other) h.0, all_set owners ss n own (k + 1) ts i t (omega (arith, is)) h.1 new)
+      (subst (λ (o : ThreadOwners). IsSound unit classes o ss u) (other_number owners n k own other) h.0, all_set owners ss n own (k + 1) ts i t (omega (arith, is)) h.1 new)
 
-  all_put : (owners : AllOwners) (ss : Statics) (own : Owners) (ts : List Thread) (k : ℕ) (t : Thread) → AllSound unit classes owners ss 1 ts → IsSound unit classes own ss t → AllSound unit classes (with_owners owners k own) ss 1 (set_thread ts k t)
+  all_put : (owners : AllOwners) (ss : Statics) (own : ThreadOwners) (ts : List Thread) (k : ℕ) (t : Thread) → AllSound unit classes owners ss 1 ts → IsSound unit classes own ss t → AllSound unit classes (with_owners owners k own) ss 1 (set_thread ts k t)
   all_put owners ss own ts zero t h new = all_others owners ss 0 own 1 ts (omega arith) h
   all_put owners ss own ts (suc i) t h new = all_set owners ss (suc i) own 1 ts i t (omega arith) h new
 
   -- ---- a step
 
   -- what a step leaves is sound, with these owners, and only a marked one may be impossible
-  abbrev StepsOn : Bool → (Event → Variables → Owners) → Statics → Advance → Type 0
+  abbrev StepsOn : Bool → (Event → Variables → ThreadOwners) → Statics → Advance → Type 0
   StepsOn refused give ss (Advances s t event) = IsSound unit classes (give event t.variables) s.statics t × NamesStay ss s.statics
   StepsOn refused give ss NoAdvance = refused ≡ true
 
-  -- calls to come that load, and no callers
-  abbrev AllLoad : Held → Type 0
-  AllLoad now = IsTrue (list_all (call_loads unit classes) now.0) × (now.1 ≡ [])
+  -- an effect returns or doesn't
+  returns_or_not : (e : Effect) → ((given : CallResult) × (e ≡ Returns given)) ⊎ IsNoReturn e
+  returns_or_not (Returns given) = inl (given, refl)
+  returns_or_not (Becomes tasks) = inr tt
+  returns_or_not (Sets x v) = inr tt
+  returns_or_not (SetsNull target) = inr tt
+  returns_or_not (SetsElement x i z) = inr tt
+  returns_or_not (MakesArray u x n) = inr tt
+  returns_or_not (Prints z) = inr tt
+  returns_or_not (Calls line target f args) = inr tt
+  returns_or_not (TrapsAt trap line) = inr tt
+  returns_or_not NoEffect = inr tt
 
-  loads_kept : (calls now : Held) → (now ≡ calls) ⊎ (now ≡ ([], [])) → AllLoad calls → AllLoad now
-  loads_kept calls now (inl e) h = subst AllLoad (sym e) h
-  loads_kept calls now (inr e) h = subst AllLoad (sym e) (refl, refl)
+  -- calls to come that load
+  abbrev AllLoad : List Invocation → Type 0
+  AllLoad calls = IsTrue (list_all (call_loads unit classes) calls)
 
-  module _ (s : Shared) (t : Thread) (task : Task) (rest : List Task) (own : Owners) where
+  module _ (s : Shared) (t : Thread) (task : Task) (rest : List Task) (own : ThreadOwners) where
     -- the step's effect
     abbrev effect : Effect
     effect = effect_of (sight_of s t) task
 
-    lands_on : (refused : Bool) (ss : Statics) (calls : Held) (e : Advance) → LandsBy effect (length t.frames) own ss e → KeepsCalls calls e → AllLoad calls → StepsOn refused (after_tasks s t (Some (task ∷ rest)) own) ss e
-    lands_on refused ss calls (Advances s' t' event) h kept loads =
-        let all = loads_kept calls (held t') kept loads in
-        (record { goes = h.0; alone = all.1; loads = all.0 }, h.1)
-    lands_on refused ss calls NoAdvance h kept loads = absurd h
+    -- one that doesn't return leaves the callers' owners
+    kept_owners : (e : Effect) → IsNoReturn e → (event : Event) (vs : Variables) → after_step t own event e vs ≡ record own { current = after_event event e (length t.frames) own.current vs }
+    kept_owners (Returns given) away event vs = absurd away
+    kept_owners (Becomes tasks) away event vs = refl
+    kept_owners (Sets x v) away event vs = refl
+    kept_owners (SetsNull target) away event vs = refl
+    kept_owners (SetsElement x i z) away event vs = refl
+    kept_owners (MakesArray u x n) away event vs = refl
+    kept_owners (Prints z) away event vs = refl
+    kept_owners (Calls line target f args) away event vs = refl
+    kept_owners (TrapsAt trap line) away event vs = refl
+    kept_owners NoEffect away event vs = refl
 
-    lands_if_possible : (ss : Statics) (calls : Held) (e : Advance) → LandsByIfPossible effect (length t.frames) own ss e → KeepsCalls calls e → AllLoad calls → StepsOn true (after_tasks s t (Some (task ∷ rest)) own) ss e
-    lands_if_possible ss calls (Advances s' t' event) h kept loads = lands_on true ss calls (Advances s' t' event) h kept loads
-    lands_if_possible ss calls NoAdvance h kept loads = refl
+    module _ (away : IsNoReturn effect) (ss : Statics) (callers : AllZip (CallerStands ss) own.callers t.callers) (loads : AllLoad t.calls) where
+      lands_on : (refused : Bool) (e : Advance) → LandsBy effect (length t.frames) own.current ss e → KeepsCalls (held t) e → StepsOn refused (after_tasks s t (Some (task ∷ rest)) own) ss e
+      lands_on refused (Advances s' t' event) h kept =
+          let same_callers : t.callers ≡ t'.callers = ap (λ (x : Held). x.1) (sym kept) in
+          let same_calls : t.calls ≡ t'.calls = ap (λ (x : Held). x.0) (sym kept) in (
+            subst (λ (o : ThreadOwners). IsSound unit classes o s'.statics t') (sym (kept_owners effect away event t'.variables)) (record {
+              goes = h.0;
+              callers = subst (AllZip (CallerStands s'.statics) own.callers) same_callers (callers_later ss s'.statics h.1 own.callers t.callers callers);
+              loads = subst AllLoad same_calls loads;
+            }),
+            h.1,
+          )
+      lands_on refused NoAdvance h kept = absurd h
+
+      lands_if_possible : (e : Advance) → LandsByIfPossible effect (length t.frames) own.current ss e → KeepsCalls (held t) e → StepsOn true (after_tasks s t (Some (task ∷ rest)) own) ss e
+      lands_if_possible (Advances s' t' event) h kept = lands_on true (Advances s' t' event) h kept
+      lands_if_possible NoAdvance h kept = refl
+
+  -- ---- returns
+
+  module _ (room : BuffersInUse) (k : ℕ) (s : Shared) (t : Thread) (own : ThreadOwners) (loads : AllLoad t.calls) where
+    loads_after : (e : Ending) (calls : List Invocation) → AllLoad calls → AllLoad (calls_after e calls)
+    loads_after Unfinished calls h = h
+    loads_after Ended calls h = refl
+    loads_after (Uncaught c) calls h = refl
+
+    back_on : (target : Target) (o : Owners) (owners : List Owners) (callers : List Caller) → AllZip (CallerStands s.statics) owners callers → (e : Advance) → LandsBack target o s.statics e → KeepsCalls (t.calls, callers) e
+        → StepsOn false (λ event vs. record { current = with_result target o vs; callers = owners }) s.statics e
+    back_on target o owners callers stand (Advances s' t' event) h kept =
+        let same_callers : callers ≡ t'.callers = ap (λ (x : Held). x.1) (sym kept) in
+        let same_calls : t.calls ≡ t'.calls = ap (λ (x : Held). x.0) (sym kept) in
+        (record { goes = h.0; callers = subst (AllZip (CallerStands s'.statics) owners) same_callers (callers_later s.statics s'.statics h.1 owners callers stand); loads = subst AllLoad same_calls loads }, h.1)
+    back_on target o owners callers stand NoAdvance h kept = absurd h
+
+    returned : (given : CallResult) (owners : List Owners) (callers : List Caller) → own.callers ≡ owners → AllZip (CallerStands s.statics) owners callers → StepsOn false (λ event vs. after_return callers owners own vs) s.statics (return_by k s t given callers)
+    returned given [] [] is stand =
+        (record { goes = (refl, calls_there s.heap t.pending t.calls); callers = subst (λ (l : List Owners). AllZip (CallerStands s.statics) l []) (sym is) tt; loads = loads_after (ending_after s.heap t.pending t.calls) t.calls loads }, λ x r e. (r, e))
+    returned given (o ∷ owners) [] is stand = absurd stand
+    returned given [] (c ∷ callers) is stand = absurd stand
+    returned given (o ∷ owners) (c ∷ callers) is stand =
+        let back = given_back t.pending c.result given in
+        back_on c.target o owners callers stand.1 (return_into s t back c callers)
+        (return_lands classes room k s t c callers stand.0 back (back_gives t.pending c.result (stand.0).method given))
+        (put_keeps c.target back s (received c.result back (resumed_in t c callers)) (t.calls, callers) (received_calls c.result back (resumed_in t c callers)))
 
   -- ---- entries
 
@@ -174,11 +252,11 @@ module _ (unit : SourceUnit) (classes : Classes) (first : Statics) (enters : All
       by_test true e later = let same : g ≡ f = cc in subst (Enters first) same h.0
       by_test false e later = later e
 
-  module _ (s : Shared) (t : Thread) (own : Owners) (stay : NamesStay first s.statics) (call : Invocation) (calls : List Invocation) (loads : IsTrue (list_all (call_loads unit classes) calls)) (alone : t.callers ≡ []) where
+  module _ (s : Shared) (t : Thread) (own : ThreadOwners) (stay : NamesStay first s.statics) (call : Invocation) (calls : List Invocation) (loads : IsTrue (list_all (call_loads unit classes) calls)) (callers : AllZip (CallerStands s.statics) own.callers t.callers) where
     enters_class : (f : Function) (o : Option ℕ) → Enters first f → is_some o ≡ true → fit_parameters f.parameters call.arguments ≡ true → StepsOn false (after_tasks s t None own) s.statics (entry_advance s (option_map (λ c. entered t calls f c call.arguments) o))
     enters_class f None h there fits = absurd (cc)
     enters_class f (Some c) (scope, sees, once, goes) there fits =
-        (record { alone = alone; goes = (entry_point f scope, stands_at_entry s.statics scope f c call.arguments (sees_later first s.statics stay scope sees) fits once, goes); loads = loads }, λ x r e. (r, e))
+        (record { callers = callers; goes = (entry_point f scope, stands_at_entry s.statics scope f c call.arguments (sees_later first s.statics stay scope sees) fits once, goes); loads = loads }, λ x r e. (r, e))
 
     enters_function : (o : Option Function) → function_at unit call.function ≡ o → some_passes (is_callable classes call.arguments) o ≡ true → StepsOn false (after_tasks s t None own) s.statics (entry_advance s (entered_function classes t call calls o))
     enters_function None e h = absurd (cc)
@@ -186,25 +264,39 @@ module _ (unit : SourceUnit) (classes : Classes) (first : Statics) (enters : All
         let both = both_true (is_some (class_of_function classes f)) (fit_parameters f.parameters call.arguments) h in
         enters_class f (class_of_function classes f) (found_enters (functions_of unit) call.function f enters e) both.0 both.1
 
-  entry_steps : (s : Shared) (t : Thread) (own : Owners) → NamesStay first s.statics → t.callers ≡ [] → (calls : List Invocation) → IsTrue (has_calls calls) → IsTrue (list_all (call_loads unit classes) calls) → StepsOn false (after_tasks s t None own) s.statics (entry_advance s (enter unit classes t calls))
-  entry_steps s t own stay alone [] has loads = absurd (cc)
-  entry_steps s t own stay alone (call ∷ calls) has loads =
+  entry_steps : (s : Shared) (t : Thread) (own : ThreadOwners) → NamesStay first s.statics → AllZip (CallerStands s.statics) own.callers t.callers → (calls : List Invocation) → IsTrue (has_calls calls) → IsTrue (list_all (call_loads unit classes) calls) → StepsOn false (after_tasks s t None own) s.statics (entry_advance s (enter unit classes t calls))
+  entry_steps s t own stay callers [] has loads = absurd (cc)
+  entry_steps s t own stay callers (call ∷ calls) has loads =
       let both = both_true (call_loads unit classes call) (list_all (call_loads unit classes) calls) loads in
-      enters_function s t own stay call calls both.1 alone (function_at unit call.function) refl both.0
+      enters_function s t own stay call calls both.1 callers (function_at unit call.function) refl both.0
 
   -- ---- a thread's step
 
-  module _ (room : BuffersInUse) (k : ℕ) (s : Shared) (t : Thread) (own : Owners) (stay : NamesStay first s.statics) (live : is_unfinished t.ending ≡ true) (sound : IsSound unit classes own s.statics t) where
-    steps_at : (refused : Bool) (o : Option (List Task)) → Goes own s.statics t o → StepsOn refused (after_tasks s t o own) s.statics (step_within unit classes room k s t refused o)
+  module _ (room : BuffersInUse) (k : ℕ) (s : Shared) (t : Thread) (own : ThreadOwners) (stay : NamesStay first s.statics) (live : is_unfinished t.ending ≡ true) (sound : IsSound unit classes own s.statics t) where
+    -- a step within the call, by its effect
+    module _ (task : Task) (rest : List Task) (p : Point) (stands : Stands own.current s.statics t.variables t.frames p) (runs : Runs task (GoesOn rest) p) where
+      unmarked : ((given : CallResult) × (effect_of (sight_of s t) task ≡ Returns given)) ⊎ IsNoReturn (effect_of (sight_of s t) task)
+          → StepsOn false (after_tasks s t (Some (task ∷ rest)) own) s.statics (step_within unit classes room k s t false (Some (task ∷ rest)))
+      unmarked (inl (given, is)) =
+          subst (λ (e : Effect). StepsOn false (λ event vs. after_step t own event e vs) s.statics (after_effect classes room k s t rest e)) (sym is)
+          (returned room k s t own sound.loads given own.callers t.callers refl sound.callers)
+      unmarked (inr away) =
+          lands_on s t task rest own away s.statics sound.callers sound.loads false (step_within unit classes room k s t false (Some (task ∷ rest)))
+          (each_step_lands unit classes room k s t task rest p stands runs sound.goes away) (calls_kept classes room k s t unit false task rest away)
+
+      marked : ((given : CallResult) × (effect_of (sight_of s t) task ≡ Returns given)) ⊎ IsNoReturn (effect_of (sight_of s t) task)
+          → StepsOn true (after_tasks s t (Some (task ∷ rest)) own) s.statics (step_within unit classes room k s t true (Some (task ∷ rest)))
+      marked (inl (given, is)) = subst (λ (e : Effect). StepsOn true (λ event vs. after_step t own event e vs) s.statics (after_refused_effect classes room k s t rest e)) (sym is) refl
+      marked (inr away) =
+          lands_if_possible s t task rest own away s.statics sound.callers sound.loads (step_within unit classes room k s t true (Some (task ∷ rest)))
+          (marked_step_lands unit classes room k s t task rest p stands runs sound.goes) (calls_kept classes room k s t unit true task rest away)
+
+    steps_at : (refused : Bool) (o : Option (List Task)) → Goes own.current s.statics t o → StepsOn refused (after_tasks s t o own) s.statics (step_within unit classes room k s t refused o)
     steps_at true None g = refl
-    steps_at false None g = entry_steps s t own stay sound.alone t.calls (g.1 live) sound.loads
+    steps_at false None g = entry_steps s t own stay sound.callers t.calls (g.1 live) sound.loads
     steps_at refused (Some []) g = absurd (g.2)
-    steps_at false (Some (task ∷ rest)) (p, stands, runs) =
-        lands_on s t task rest own false s.statics (held t) (step_within unit classes room k s t false (Some (task ∷ rest)))
-        (each_step_lands unit classes room k s t task rest p stands sound.alone runs sound.goes) (calls_kept classes room k s t sound.alone unit false task rest) (sound.loads, sound.alone)
-    steps_at true (Some (task ∷ rest)) (p, stands, runs) =
-        lands_if_possible s t task rest own s.statics (held t) (step_within unit classes room k s t true (Some (task ∷ rest)))
-        (marked_step_lands unit classes room k s t task rest p stands runs sound.goes) (calls_kept classes room k s t sound.alone unit true task rest) (sound.loads, sound.alone)
+    steps_at false (Some (task ∷ rest)) (p, stands, runs) = unmarked task rest p stands runs (returns_or_not (effect_of (sight_of s t) task))
+    steps_at true (Some (task ∷ rest)) (p, stands, runs) = marked task rest p stands runs (returns_or_not (effect_of (sight_of s t) task))
 
     thread_steps : (refused : Bool) → StepsOn refused (after_tasks s t t.tasks own) s.statics (thread_step unit classes room k s t refused)
     thread_steps refused = steps_at refused t.tasks sound.goes
@@ -256,7 +348,7 @@ module _ (unit : SourceUnit) (classes : Classes) (first : Statics) (enters : All
   unfolding world_step
   step_running owners s h (Step k refused) next g = can_running owners s h k refused next (can_step classes s k) refl g
 
-  advance_there : (give : Event → Variables → Owners) (s : State) (k : ℕ) (e : Advance) → StepsOn false give s.shared.statics e → (next : State) × (advanced s k e ≡ Some next)
+  advance_there : (give : Event → Variables → ThreadOwners) (s : State) (k : ℕ) (e : Advance) → StepsOn false give s.shared.statics e → (next : State) × (advanced s k e ≡ Some next)
   advance_there give s k (Advances shared t event) g = (with_event (record s { shared = shared; threads = set_thread s.threads k t }) k event, refl)
   advance_there give s k NoAdvance g = absurd (cc)
 
@@ -284,35 +376,34 @@ module _ (unit : SourceUnit) (w : World) (enters : AllByRecursion (Enters (null_
       by_step None is later g = absurd (cc)
       by_step (Some next) is later g = later next (step_running unit w.classes (null_statics unit) enters owners s h entry next is) g
 
-  all_waiting : (owners : AllOwners) (k : ℕ) (threads : List (List Invocation)) → list_all (list_all (call_loads unit w.classes)) threads ≡ true → list_all has_calls threads ≡ true → AllSound unit w.classes owners (null_statics unit) k (map waiting_thread threads)
-  all_waiting owners k [] loads has = tt
-  all_waiting owners k (calls ∷ threads) loads has =
+  all_waiting : (k : ℕ) (threads : List (List Invocation)) → list_all (list_all (call_loads unit w.classes)) threads ≡ true → list_all has_calls threads ≡ true → AllSound unit w.classes (λ j. no_owners) (null_statics unit) k (map waiting_thread threads)
+  all_waiting k [] loads has = tt
+  all_waiting k (calls ∷ threads) loads has =
       let l = both_true (list_all (call_loads unit w.classes) calls) (list_all (list_all (call_loads unit w.classes)) threads) loads in
       let c = both_true (has_calls calls) (list_all has_calls threads) has in
-      (record { goes = (refl, λ e. c.0); alone = refl; loads = l.0 }, all_waiting owners (k + 1) threads l.1 c.1)
+      (record { goes = (refl, λ e. c.0); callers = tt; loads = l.0 }, all_waiting (k + 1) threads l.1 c.1)
 
-  start_running : Loads unit w → HasCalls w → Running (λ k. no_owner) (start unit w)
-  start_running loads has = record { sound = all_waiting (λ k. no_owner) 1 w.threads loads has; stay = λ x r e. (r, e) }
+  start_running : Loads unit w → HasCalls w → Running (λ k. no_owners) (start unit w)
+  start_running loads has = record { sound = all_waiting 1 w.threads loads has; stay = λ x r e. (r, e) }
 
   -- where each function's tasks break no rule, each thread is at a point, or before an entry, after each journal
   pub threads_are_sound : Loads unit w → HasCalls w → (journal : Journal) (s : State) (k : ℕ) (t : Thread) → replay_from unit w (start unit w) journal ≡ Some s → thread_at s k ≡ Some t → IsSound unit w.classes (owners_after unit w journal k) s.shared.statics t
   threads_are_sound loads has journal s k t replayed there =
-      thread_sound unit w.classes (null_statics unit) enters (owners_after unit w journal) s k t (replay_running journal (λ k. no_owner) (start unit w) s (start_running loads has) replayed) there
+      thread_sound unit w.classes (null_statics unit) enters (owners_after unit w journal) s k t (replay_running journal (λ k. no_owners) (start unit w) s (start_running loads has) replayed) there
 
   -- and no step of any replay breaks one
   pub runs_are_safe : Loads unit w → HasCalls w → IsSafe unit w
   runs_are_safe loads has journal s k t replayed there =
-      let running : Running (owners_after unit w journal) s = replay_running journal (λ k. no_owner) (start unit w) s (start_running loads has) replayed in
+      let running : Running (owners_after unit w journal) s = replay_running journal (λ k. no_owners) (start unit w) s (start_running loads has) replayed in
       let sound = thread_sound unit w.classes (null_statics unit) enters (owners_after unit w journal) s k t running there in
       record {
-        alone = sound.alone;
-        view = view (owners_after unit w journal k) s.shared t sound.goes sound.alone;
-        return = return (owners_after unit w journal k) s.shared t sound.goes;
-        references = references (owners_after unit w journal k) s.shared t sound.goes;
-        owned = owned (owners_after unit w journal k) s.shared t sound.goes;
-        release = release (owners_after unit w journal k) s.shared t sound.goes;
-        declared = declared (owners_after unit w journal k) s.shared t sound.goes;
-        free = free (owners_after unit w journal k) s.shared t sound.goes;
-        possible = possible (owners_after unit w journal k) s.shared t sound.goes;
+        view = view (owners_after unit w journal k).current s.shared t sound.goes (callers_viewless s.shared.statics (owners_after unit w journal k).callers t.callers sound.callers);
+        return = return (owners_after unit w journal k).current s.shared t sound.goes;
+        references = references (owners_after unit w journal k).current s.shared t sound.goes;
+        owned = owned (owners_after unit w journal k).current s.shared t sound.goes;
+        release = release (owners_after unit w journal k).current s.shared t sound.goes;
+        declared = declared (owners_after unit w journal k).current s.shared t sound.goes;
+        free = free (owners_after unit w journal k).current s.shared t sound.goes;
+        possible = possible (owners_after unit w journal k).current s.shared t sound.goes;
         progress = step_there unit w.classes (null_statics unit) enters (owners_after unit w journal) s k t running there;
       }

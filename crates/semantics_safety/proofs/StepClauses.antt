@@ -6,6 +6,7 @@ use Rattle.jni.specs.Access.{Access}
 use Rattle.jni.specs.JniFunction.{JniFunction, ReleaseBuffer, prototype}
 use Rattle.jni.specs.Prototype.{NewLocal}
 use Rattle.semantics.specs.Arguments.{Actual, object_given, variable_given}
+use Rattle.semantics.specs.CallEffects.{CallResult}
 use Rattle.semantics.specs.Checks.{frames_after}
 use Rattle.semantics.specs.Effect.{Calls, Returns, NoEffect, effect_of}
 use Rattle.semantics.specs.Object.{Reference}
@@ -28,14 +29,14 @@ use Rattle.semantics_safety.proofs.WholeLaws.{whole_clause}
 no_call : (line : ℕ) (target : Target) (f : JniFunction) (args : List Actual) → NoEffect ≡ Calls line target f args → ⊥
 no_call line target f args e = cc
 
-no_return : NoEffect ≡ Returns → ⊥
-no_return e = cc
+no_return : (given : CallResult) → NoEffect ≡ Returns given → ⊥
+no_return given e = cc
 
 module _ (own : Owners) (s : Shared) (t : Thread) where
-  at_return : (o : Option (List Task)) → Goes own s.statics t o → next_effect s t o ≡ Returns → MayReturn t
-  at_return None g e = absurd (no_return e)
-  at_return (Some []) g e = absurd (g.2)
-  at_return (Some (task ∷ rest)) (p, stands, runs) e =
+  at_return : (given : CallResult) (o : Option (List Task)) → Goes own s.statics t o → next_effect s t o ≡ Returns given → MayReturn t
+  at_return given None g e = absurd (no_return given e)
+  at_return given (Some []) g e = absurd (g.2)
+  at_return given (Some (task ∷ rest)) (p, stands, runs) e =
       return_clause s.statics t.variables t.frames p stands
       (subst (Follows own (sight_of s t) s.statics t.variables t.frames p rest) e (effect_follows s.heap s.statics t.variables t.frames p stands rest task runs))
 
@@ -72,14 +73,14 @@ module _ (own : Owners) (s : Shared) (t : Thread) where
       absurd (subst (Follows own (sight_of s t) s.statics t.variables t.frames p rest) e (effect_follows s.heap s.statics t.variables t.frames p stands rest task runs))
 
   module _ (goes : Goes own s.statics t t.tasks) where
-    pub view : t.callers ≡ [] → (task : Task) (rest : List Task) → t.tasks ≡ Some (task ∷ rest) → viewed_by t ≢ [] → MayMeetView task
-    view alone task rest e held =
+    pub view : flat_map (λ (c : Caller). objects_viewed c.variables) t.callers ≡ [] → (task : Task) (rest : List Task) → t.tasks ≡ Some (task ∷ rest) → viewed_by t ≢ [] → MayMeetView task
+    view none_below task rest e held =
         let g : Goes own s.statics t (Some (task ∷ rest)) = subst (Goes own s.statics t) e goes in
-        let views : objects_viewed t.variables ≡ viewed_by t = ap (λ (l : List Caller). flat_map (λ (c : Caller). objects_viewed c.variables) l ++ objects_viewed t.variables) (sym alone) in
-        view_clause s.statics t.variables t.frames g.0 g.1 task (GoesOn rest) g.2 (λ none. held (sym views ∙ none))
+        let views : viewed_by t ≡ objects_viewed t.variables = ap (λ (l : List ℕ). l ++ objects_viewed t.variables) none_below in
+        view_clause s.statics t.variables t.frames g.0 g.1 task (GoesOn rest) g.2 (λ none. held (views ∙ none))
 
-    pub return : next_effect s t t.tasks ≡ Returns → MayReturn t
-    return e = at_return t.tasks goes e
+    pub return : (given : CallResult) → next_effect s t t.tasks ≡ Returns given → MayReturn t
+    return given e = at_return given t.tasks goes e
 
     pub references : (task : Task) (rest : List Task) → t.tasks ≡ Some (task ∷ rest) → AllByRecursion (λ x. IsAlive t.frames (lookup x t.variables)) (task_names task)
     references task rest e = let g : Goes own s.statics t (Some (task ∷ rest)) = subst (Goes own s.statics t) e goes in reference_clause s.statics t.variables t.frames g.0 g.1 task (GoesOn rest) g.2

@@ -1,5 +1,5 @@
 -- A thread that is at a point is at one after each effect that follows, and the step is possible.
-use Rattle.std.proofs.Common.{◌≡◌, ◌≢◌, ℕ, arith, Bool, true, false, inl, inr, List, [], ◌∷◌, replicate, Option, Some, None, refl, sym, ap, ◌∙◌, subst, if◌then◌else◌}
+use Rattle.std.proofs.Common.{◌≡◌, ◌≢◌, ℕ, arith, Bool, true, false, inl, inr, List, ◌∷◌, replicate, Option, Some, None, refl, sym, ap, ◌∙◌, subst, if◌then◌else◌}
 use Rattle.std.specs.Prelude.{ℤ, pos, slice_set}
 use Rattle.base.specs.Bytes.{Identifier, lookup}
 use Rattle.base.specs.Element.{ElementType}
@@ -8,7 +8,6 @@ use Rattle.type_rules.specs.Sorts.{Sort, sort_in}
 use Rattle.type_rules.specs.Sorts as sort
 use Rattle.type_rules.specs.SortGroups.{IsNumberSort}
 use Rattle.semantics.specs.Effect.{Effect, Becomes, Sets, SetsNull, SetsElement, MakesArray, Prints, Calls, Returns, TrapsAt, NoEffect}
-use Rattle.semantics.specs.Heap.{Heap}
 use Rattle.semantics.specs.Task.{Task}
 use Rattle.semantics.specs.Thread.{Thread, Shared, BuffersInUse, Frame, Advance, Advances, NoAdvance}
 use Rattle.semantics.specs.ThreadStep.{set_element, with_tasks, after_effect}
@@ -22,15 +21,8 @@ use Rattle.jni.specs.Access.{is_critical}
 use Rattle.semantics_safety.specs.Wanted.{Holds, IsNew, SetsNumber, GoesOn, at, named}
 use Rattle.semantics_safety.specs.Follows.{Follows}
 use Rattle.semantics_safety.proofs.NameLaws.{one_or_other, lookup_same, lookup_other, front_same, front_other}
-use Rattle.semantics.specs.Object.{Reference}
-use Rattle.semantics.specs.World.{Invocation}
-use Rattle.semantics.specs.CallEffects.{NoResult}
-use Rattle.semantics.specs.Thread.{Caller}
-use Rattle.semantics.specs.Return.{ending_after, calls_after, return_by}
 use Rattle.semantics.specs.Sight.{Sight}
-use Rattle.semantics.specs.Step.{is_unfinished}
-use Rattle.semantics_safety.specs.StepSafe.{has_calls}
-use Rattle.std.specs.Prelude.{IsTrue, length, filter, ◌&&◌}
+use Rattle.std.specs.Prelude.{length, filter, ◌&&◌}
 use Rattle.semantics_safety.proofs.SetLaws.{stands_new, stands_kept, none_some, stands_at, owners_same, owners_elsewhere, sorts_named}
 
 -- the thread is at a point from which its tasks go on
@@ -251,30 +243,23 @@ module _ (classes : Classes) (in_use : BuffersInUse) (k : ℕ) (s : Shared) (t :
     owned_here = λ level l n e h. absurd (let c : LocalRef (length t.frames) None ≡ LocalRef l (Some n) = h in cc);
   })
 
-  -- ---- a return
-
-  calls_there : (heap : Heap) (pending : Reference) (calls : List Invocation) → is_unfinished (ending_after heap pending calls) ≡ true → IsTrue (has_calls (calls_after (ending_after heap pending calls) calls))
-  calls_there heap (Some n) calls e = absurd (cc)
-  calls_there heap None [] e = absurd (cc)
-  calls_there heap None (call ∷ calls) e = refl
-
   -- ---- effects without a call
 
   -- an effect that calls nothing, puts NULL nowhere and returns from nothing
   abbrev pub IsPlain : Effect → Type 0
   IsPlain (Calls line target f args) = ⊥
   IsPlain (SetsNull target) = ⊥
+  IsPlain (Returns given) = ⊥
   IsPlain e = Unit {0}
 
-  pub plain_lands : t.callers ≡ [] → (sight : Sight) (e : Effect) → IsPlain e → Goes own s.statics t t.tasks → Follows own sight s.statics t.variables t.frames p rest e → Lands own s.statics (after_effect classes in_use k s t rest e)
-  plain_lands alone sight (Becomes tasks) plain whole (q, there, g) = ((q, there, g), same_statics s.statics)
-  plain_lands alone sight (Sets x v) plain whole h = (sets_lands x v h.0 h.1, same_statics s.statics)
-  plain_lands alone sight (SetsNull target) plain whole h = absurd plain
-  plain_lands alone sight (SetsElement x i z) plain whole h = element_lands x i z (lookup x t.variables) refl (stores x (sort_in p.names x) refl h.0) h.0 h.1
-  plain_lands alone sight (MakesArray u x size) plain whole h = (makes_lands u x size h.0 h.1, same_statics s.statics)
-  plain_lands alone sight (Prints z) plain whole h = ((p, stands, h.1), same_statics s.statics)
-  plain_lands alone sight (Calls line target f args) plain whole h = absurd plain
-  plain_lands alone sight Returns plain whole h =
-      subst (λ (l : List Caller). Lands own s.statics (return_by k s t NoResult l)) (sym alone) ((refl, calls_there s.heap t.pending t.calls), same_statics s.statics)
-  plain_lands alone sight (TrapsAt trap line) plain whole h = (whole, same_statics s.statics)
-  plain_lands alone sight NoEffect plain whole h = absurd h
+  pub plain_lands : (sight : Sight) (e : Effect) → IsPlain e → Goes own s.statics t t.tasks → Follows own sight s.statics t.variables t.frames p rest e → Lands own s.statics (after_effect classes in_use k s t rest e)
+  plain_lands sight (Becomes tasks) plain whole (q, there, g) = ((q, there, g), same_statics s.statics)
+  plain_lands sight (Sets x v) plain whole h = (sets_lands x v h.0 h.1, same_statics s.statics)
+  plain_lands sight (SetsNull target) plain whole h = absurd plain
+  plain_lands sight (SetsElement x i z) plain whole h = element_lands x i z (lookup x t.variables) refl (stores x (sort_in p.names x) refl h.0) h.0 h.1
+  plain_lands sight (MakesArray u x size) plain whole h = (makes_lands u x size h.0 h.1, same_statics s.statics)
+  plain_lands sight (Prints z) plain whole h = ((p, stands, h.1), same_statics s.statics)
+  plain_lands sight (Calls line target f args) plain whole h = absurd plain
+  plain_lands sight (Returns given) plain whole h = absurd plain
+  plain_lands sight (TrapsAt trap line) plain whole h = (whole, same_statics s.statics)
+  plain_lands sight NoEffect plain whole h = absurd h

@@ -23,6 +23,6 @@ Follows own sight ss vs frames p rest (MakesArray t x size) = IsNew p x × GoesO
 Follows own sight ss vs frames p rest (Prints z) = HasNoView p × GoesOn rest p
 Follows own sight ss vs frames p rest (Calls line target f args) =
     (operands : List Operand) × (args ≡ actuals sight f operands) × IsTrue (is_ready operands) × Runs (Invoke line target f operands) (GoesOn rest) p
-Follows own sight ss vs frames p rest Returns = MayReturnFrom p
+Follows own sight ss vs frames p rest (Returns given) = MayReturnFrom p
 Follows own sight ss vs frames p rest (TrapsAt trap line) = Unit {0}
 Follows own sight ss vs frames p rest NoEffect = ⊥

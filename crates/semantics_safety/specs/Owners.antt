@@ -9,20 +9,25 @@ use Rattle.jni.specs.JniFunction.{JniFunction, DeleteLocalRef, PopLocalFrame}
 use Rattle.semantics.specs.declared.journal.Entry.{Entry}
 use Rattle.semantics.specs.declared.journal.Entry.TheVariants.{Step}
 use Rattle.semantics.specs.Arguments.{Actual, variable_given}
-use Rattle.semantics.specs.Effect.{Effect, Calls}
+use Rattle.semantics.specs.Effect.{Effect, Calls, Returns}
 use Rattle.semantics.specs.Journal.{Journal}
 use Rattle.semantics.specs.Start.{start}
 use Rattle.semantics.specs.State.{State, thread_at, in_use}
 use Rattle.semantics.specs.Step.{world_step}
 use Rattle.semantics.specs.Task.{Task, Target, Declared, Assigned}
-use Rattle.semantics.specs.Thread.{Thread, Shared, Event, Trapped, Advance, Advances, NoAdvance}
+use Rattle.semantics.specs.Thread.{Thread, Caller, Shared, Event, Trapped, Advance, Advances, NoAdvance}
 use Rattle.semantics.specs.ThreadStep.{next_effect, thread_step}
 use Rattle.semantics.specs.Variable.{Variable, LocalRef, Variables}
 use Rattle.semantics.specs.World.{World}
 
--- for each variable the level of its own reference, if it has one
+-- for each variable of a call the level of its own reference, if it has one
 abbrev pub Owners : Type 0
 Owners = Identifier → Option ℕ
+
+-- of a thread: those of the call in progress, and of its callers, the last one first
+pub record ThreadOwners : Type 0 where
+  pub current : Owners
+  pub callers : List Owners
 
 -- no variable has one
 abbrev pub no_owner : Owners
@@ -32,6 +37,10 @@ no_owner x = None
 abbrev pub level_held : Option Variable → Option ℕ
 level_held (Some (LocalRef level (Some n))) = Some level
 level_held v = None
+
+-- before its first call
+abbrev pub no_owners : ThreadOwners
+no_owners = record { current = no_owner; callers = [] }
 
 -- each variable that refers to an object has one
 abbrev pub holders : Variables → Owners
@@ -72,13 +81,27 @@ abbrev pub after_event : Event → Effect → (frames : ℕ) → Owners → Vari
 after_event (Trapped trap line) e frames own vs = own
 after_event event e frames own vs = after_effect e frames own vs
 
+-- those of a caller once a result is where it goes, with these variables then
+abbrev pub with_result : Target → Owners → Variables → Owners
+with_result target own vs x = if is_target target x then level_held (lookup x vs) else own x
+
+-- after a return into the first of these callers, which has these variables then; without one it is a call's end
+abbrev pub after_return : List Caller → List Owners → ThreadOwners → Variables → ThreadOwners
+after_return (c ∷ callers) (own ∷ owners) now vs = record { current = with_result c.target own vs; callers = owners }
+after_return callers owners now vs = now
+
+-- after the effect of a step within a call
+abbrev pub after_step : Thread → ThreadOwners → Event → Effect → Variables → ThreadOwners
+after_step t own event (Returns given) vs = after_return t.callers own.callers own vs
+after_step t own event e vs = record own { current = after_event event e (length t.frames) own.current vs }
+
 -- after a step of a thread with these tasks that leaves these variables; a call begins with those that it is given
-abbrev pub after_tasks : Shared → Thread → Option (List Task) → Owners → Event → Variables → Owners
-after_tasks s t None own event vs = holders vs
-after_tasks s t (Some tasks) own event vs = after_event event (next_effect s t (Some tasks)) (length t.frames) own vs
+abbrev pub after_tasks : Shared → Thread → Option (List Task) → ThreadOwners → Event → Variables → ThreadOwners
+after_tasks s t None own event vs = record own { current = holders vs }
+after_tasks s t (Some tasks) own event vs = after_step t own event (next_effect s t (Some tasks)) vs
 
 -- after a step of a thread, where it is possible
-abbrev pub after_advance : Shared → Thread → Owners → Advance → Owners
+abbrev pub after_advance : Shared → Thread → ThreadOwners → Advance → ThreadOwners
 after_advance s t own NoAdvance = own
 after_advance s t own (Advances s' t' event) = after_tasks s t t.tasks own event t'.variables
 
@@ -86,10 +109,10 @@ after_advance s t own (Advances s' t' event) = after_tasks s t t.tasks own event
 
 -- of each thread, by its number
 abbrev pub AllOwners : Type 0
-AllOwners = ℕ → Owners
+AllOwners = ℕ → ThreadOwners
 
 -- with those of one thread
-abbrev pub with_owners : AllOwners → ℕ → Owners → AllOwners
+abbrev pub with_owners : AllOwners → ℕ → ThreadOwners → AllOwners
 with_owners owners k own j = if j == k then own else owners j
 
 -- after a step of thread k, if it is there
@@ -110,7 +133,7 @@ owners_from unit w (Some s) owners (e ∷ rest) = owners_from unit w (world_step
 
 -- after a journal
 abbrev pub owners_after : SourceUnit → World → Journal → AllOwners
-owners_after unit w journal = owners_from unit w (Some (start unit w)) (λ k. no_owner) journal
+owners_after unit w journal = owners_from unit w (Some (start unit w)) (λ k. no_owners) journal
 
 -- ---- a use
 

@@ -1,6 +1,6 @@
 -- What it is for a thread to be at a point: its variables are of their sorts, and hold what is known of them.
-use Rattle.std.specs.Prelude.{◌≡◌, ℕ, ◌≤◌, ◌==◌, Bool, true, false, ◌⊎◌, ℤ, List, [], length, Option, Some, None, IsTrue, filter}
-use Rattle.std.specs.List.{list_all}
+use Rattle.std.specs.Prelude.{◌≡◌, ℕ, ◌≤◌, ◌==◌, Bool, true, false, ◌⊎◌, ℤ, List, [], length, Option, Some, None, IsTrue, filter, slice_get}
+use Rattle.std.specs.List.{list_all, AllZip}
 use Rattle.base.specs.Bytes.{Identifier, lookup}
 use Rattle.base.specs.Element.{ElementType}
 use Rattle.syntax.specs.Tree.{SourceUnit}
@@ -9,18 +9,20 @@ use Rattle.class_rules.specs.Fields.{FieldId}
 use Rattle.jni.specs.Access.{Access, is_critical}
 use Rattle.type_rules.specs.Sorts.{Sort, Truth, Ref, Global, Buffer, Array, sort_in}
 use Rattle.type_rules.specs.Sorts as sort
+use Rattle.jni.specs.Prototype.{ResultKind, NewLocal, GivesInt, GivesNothing}
+use Rattle.semantics.specs.Checks.{is_full}
 use Rattle.semantics.specs.Object.{Reference}
 use Rattle.semantics.specs.Load.{call_loads}
 use Rattle.region_rules.specs.RegionStates.{VariableState, BufferState, Free, Untested, Usable, ReferenceAt, BufferIn, state_of}
 use Rattle.semantics.specs.Step.{is_unfinished}
 use Rattle.semantics.specs.Task.{Task}
-use Rattle.semantics.specs.Thread.{Thread, Frame}
+use Rattle.semantics.specs.Thread.{Thread, Caller, Frame}
 use Rattle.semantics.specs.Value.{Value}
 use Rattle.semantics.specs.Variable.{Variable, Scalar, LocalRef, FieldHandle, Elements, LocalArray, Buffer as Buffer_, NoBuffer, Copy, View, StaticReference, Variables, Statics}
-use Rattle.semantics_safety.specs.Owners.{Owners}
+use Rattle.semantics_safety.specs.Owners.{Owners, ThreadOwners}
 use Rattle.semantics_safety.specs.Points.{Point, AreOnce, value_sort, owners}
 use Rattle.semantics_safety.specs.StepSafe.{references_at, has_calls}
-use Rattle.semantics_safety.specs.Wanted.{Holds, GoesOn}
+use Rattle.semantics_safety.specs.Wanted.{Holds, HasNoView, ResultGoes, GoesOn}
 
 -- ---- sorts
 
@@ -89,9 +91,24 @@ abbrev pub Goes : Owners → Statics → Thread → Option (List Task) → Type 
 Goes own statics t None = (t.variables ≡ []) × (is_unfinished t.ending ≡ true → IsTrue (has_calls t.calls))
 Goes own statics t (Some tasks) = (p : Point) × Stands own statics t.variables t.frames p × GoesOn tasks p
 
+-- what a function of a unit gives
+abbrev pub IsMethodResult : ResultKind → Type 0
+IsMethodResult NewLocal = Unit {0}
+IsMethodResult GivesInt = Unit {0}
+IsMethodResult GivesNothing = Unit {0}
+IsMethodResult kind = ⊥
+
+-- a caller goes on from a point once the result is where it goes; a reference has room in its current frame
+pub record CallerStands (statics : Statics) (own : Owners) (c : Caller) : Type 0 where
+  pub point : Point
+  pub stands : Stands own statics c.variables c.frames point
+  pub method : IsMethodResult c.result
+  pub goes : ResultGoes c.target c.result None (GoesOn c.tasks) point
+  pub room : c.result ≡ NewLocal → is_full (slice_get c.frames 0) ≡ false
+  pub viewless : HasNoView point
+
 -- what holds of a thread before each step
-pub record IsSound (unit : SourceUnit) (classes : Classes) (own : Owners) (statics : Statics) (t : Thread) : Type 0 where
-  pub goes : Goes own statics t t.tasks
-  -- no call has made another yet
-  pub alone : t.callers ≡ []
+pub record IsSound (unit : SourceUnit) (classes : Classes) (own : ThreadOwners) (statics : Statics) (t : Thread) : Type 0 where
+  pub goes : Goes own.current statics t t.tasks
+  pub callers : AllZip (CallerStands statics) own.callers t.callers
   pub loads : IsTrue (list_all (call_loads unit classes) t.calls)

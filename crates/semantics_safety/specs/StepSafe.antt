@@ -11,6 +11,7 @@ use Rattle.semantics.specs.declared.journal.Entry.TheVariants.{Step}
 use Rattle.semantics.specs.Journal.{Journal}
 use Rattle.semantics.specs.World.{Invocation, World}
 use Rattle.semantics.specs.Arguments.{Actual, object_given, variable_given, address_given}
+use Rattle.semantics.specs.CallEffects.{CallResult}
 use Rattle.semantics.specs.Checks.{frames_after}
 use Rattle.semantics.specs.Effect.{Effect, Sets, SetsNull, MakesArray, Calls, Returns, NoEffect}
 use Rattle.semantics.specs.Load.{Loads}
@@ -95,12 +96,10 @@ SetsWhole x e = ⊥
 -- thread k, which is t, and of which these variables have references of their own, does none of what JNI leaves undefined, and
 -- can go on
 pub record StepSafe (unit : SourceUnit) (w : World) (s : State) (own : Owners) (k : ℕ) (t : Thread) : Type 0 where
-  -- no call has made another yet
-  pub alone : t.callers ≡ []
   -- with a view it begins no call but the critical ones, and prints nothing
   pub view : (task : Task) (rest : List Task) → t.tasks ≡ Some (task ∷ rest) → viewed_by t ≢ [] → MayMeetView task
   -- a return finds no copied list, no view and one frame
-  pub return : next_effect s.shared t t.tasks ≡ Returns → MayReturn t
+  pub return : (given : CallResult) → next_effect s.shared t t.tasks ≡ Returns given → MayReturn t
   -- a step uses no dead reference
   pub references : (task : Task) (rest : List Task) → t.tasks ≡ Some (task ∷ rest)
       → AllByRecursion (λ x. IsAlive t.frames (lookup x t.variables)) (task_names task)
@@ -133,7 +132,7 @@ HasCalls w = IsTrue (list_all has_calls w.threads)
 -- after each journal that can be replayed, each thread's next step is safe
 abbrev pub IsSafe : SourceUnit → World → Type 0
 IsSafe unit w = (journal : Journal) (s : State) (k : ℕ) (t : Thread) → replay unit w journal ≡ Some s
-    → thread_at s k ≡ Some t → StepSafe unit w s (owners_after unit w journal k) k t
+    → thread_at s k ≡ Some t → StepSafe unit w s (owners_after unit w journal k).current k t
 
 -- an accepted unit is safe in each world that goes with it
 abbrev pub AcceptedIsSafe : Type 0
