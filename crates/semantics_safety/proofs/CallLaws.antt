@@ -1,9 +1,10 @@
 -- The step of each call of the JNI keeps what holds of its thread, and so does each step within a call.
-use Rattle.std.proofs.Common.{◌≡◌, ℕ, false, List, ◌∷◌, Some, sym, subst, length}
+use Rattle.std.proofs.Common.{◌≡◌, ◌⊎◌, inl, inr, refl, ℕ, false, List, ◌∷◌, Some, sym, subst, length}
 use Rattle.class_rules.specs.Class.{Classes}
 use Rattle.syntax.specs.Tree.{SourceUnit}
 use Rattle.jni.specs.JniFunction.{JniFunction, DeleteLocalRef, DeleteGlobalRef, PushLocalFrame, PopLocalFrame, GetArrayRegion, GetStringRegion, GetBuffer, ReleaseBuffer}
 use Rattle.semantics.specs.Arguments.{Actual, actuals}
+use Rattle.semantics.specs.CallEffects.{CallResult}
 use Rattle.semantics.specs.CallStep.{call_step}
 use Rattle.semantics.specs.Effect.{Effect, Becomes, Sets, SetsNull, SetsElement, MakesArray, Prints, Calls, Returns, TrapsAt, NoEffect, effect_of}
 use Rattle.semantics.specs.Task.{Task, Target, Operand, Invoke}
@@ -44,6 +45,19 @@ module _ (classes : Classes) (in_use : BuffersInUse) (k : ℕ) (s : Shared) (t :
 abbrev pub IsNoReturn : Effect → Type 0
 IsNoReturn (Returns given) = ⊥
 IsNoReturn e = Unit {0}
+
+-- an effect returns or doesn't
+pub returns_or_not : (e : Effect) → ((given : CallResult) × (e ≡ Returns given)) ⊎ IsNoReturn e
+returns_or_not (Returns given) = inl (given, refl)
+returns_or_not (Becomes tasks) = inr tt
+returns_or_not (Sets x v) = inr tt
+returns_or_not (SetsNull target) = inr tt
+returns_or_not (SetsElement x i z) = inr tt
+returns_or_not (MakesArray u x n) = inr tt
+returns_or_not (Prints z) = inr tt
+returns_or_not (Calls line target f args) = inr tt
+returns_or_not (TrapsAt trap line) = inr tt
+returns_or_not NoEffect = inr tt
 
 module _ (unit : SourceUnit) (classes : Classes) (in_use : BuffersInUse) (k : ℕ) (s : Shared) (t : Thread) (task : Task) (rest : List Task) (p : Point) {own : Owners} (stands : Stands own s.statics t.variables t.frames p) (runs : Runs task (GoesOn rest) p) (whole : Goes own s.statics t t.tasks) where
   each_lands : (e : Effect) → IsNoReturn e → Follows own (sight_of s t) s.statics t.variables t.frames p rest e → LandsBy e (length t.frames) own s.statics (after_effect classes in_use k s t rest e)

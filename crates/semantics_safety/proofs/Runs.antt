@@ -36,7 +36,7 @@ use Rattle.semantics_safety.specs.Points.{Point}
 use Rattle.semantics_safety.specs.Stands.{VariableFits, Stands, CallerStands, Goes, IsSound}
 use Rattle.semantics_safety.specs.StepSafe.{has_calls, HasCalls, IsSafe}
 use Rattle.semantics_safety.specs.Wanted.{GoesOn, Runs}
-use Rattle.semantics_safety.proofs.CallLaws.{IsNoReturn, each_step_lands}
+use Rattle.semantics_safety.proofs.CallLaws.{IsNoReturn, each_step_lands, returns_or_not}
 use Rattle.semantics_safety.proofs.EntryPoints.{entry_point, SeesStatics, HasNamesOnce, stands_at_entry}
 use Rattle.semantics_safety.proofs.FrameLaws.{both_true}
 use Rattle.semantics_safety.proofs.KeptCalls.{Held, held, KeepsCalls, calls_kept, put_keeps, received_calls}
@@ -161,19 +161,6 @@ module _ (unit : SourceUnit) (classes : Classes) (first : Statics) (enters : All
   abbrev StepsOn : Bool → (Event → Variables → ThreadOwners) → Statics → Advance → Type 0
   StepsOn refused give ss (Advances s t event) = IsSound unit classes (give event t.variables) s.statics t × NamesStay ss s.statics
   StepsOn refused give ss NoAdvance = refused ≡ true
-
-  -- an effect returns or doesn't
-  returns_or_not : (e : Effect) → ((given : CallResult) × (e ≡ Returns given)) ⊎ IsNoReturn e
-  returns_or_not (Returns given) = inl (given, refl)
-  returns_or_not (Becomes tasks) = inr tt
-  returns_or_not (Sets x v) = inr tt
-  returns_or_not (SetsNull target) = inr tt
-  returns_or_not (SetsElement x i z) = inr tt
-  returns_or_not (MakesArray u x n) = inr tt
-  returns_or_not (Prints z) = inr tt
-  returns_or_not (Calls line target f args) = inr tt
-  returns_or_not (TrapsAt trap line) = inr tt
-  returns_or_not NoEffect = inr tt
 
   -- calls to come that load
   abbrev AllLoad : List Invocation → Type 0

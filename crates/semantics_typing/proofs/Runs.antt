@@ -16,30 +16,38 @@ use Rattle.semantics.specs.Run.{replay, replay_from}
 use Rattle.semantics.specs.Start.{waiting_thread, start}
 use Rattle.semantics.specs.State.{State, thread_at, set_thread, in_use, with_event, advanced}
 use Rattle.semantics.specs.Step.{can_step, step_of, world_step}
-use Rattle.semantics.specs.Thread.{Thread, Event, Quiet, PrintedNumber, Trapped, Advance, Advances, NoAdvance}
+use Rattle.semantics.specs.Thread.{Caller, Thread, Event, Quiet, PrintedNumber, Trapped, Advance, Advances, NoAdvance}
 use Rattle.semantics.specs.ThreadStep.{thread_step}
 use Rattle.semantics.specs.World.{Invocation, World}
+use Rattle.semantics.specs.Variable.{Variables}
+use Rattle.semantics_safety.proofs.CallersKept.{LeavesCallers, callers_left}
 use Rattle.semantics.proofs.RunLaws.{replay_more}
 use Rattle.semantics_safety.specs.Owners.{owners_after}
 use Rattle.semantics_safety.specs.StepSafe.{has_calls, HasCalls}
 use Rattle.semantics_safety.proofs.FunctionGives.{unit_is_sound}
 use Rattle.world_values.specs.SoundWorlds.{has_call, IsSound}
 use Rattle.semantics_typing.specs.Law.{RunsTyped, AcceptedIsTyped}
-use Rattle.semantics_typing.specs.Objects.{AreTypedVariables, IsTyped, ShapesStay}
+use Rattle.semantics_typing.specs.Objects.{AreTypedVariables, IsTyped, IsTypedThread, ShapesStay}
 use Rattle.semantics_typing.specs.Texts.{HasTexts}
 use Rattle.semantics_typing.proofs.Heaps.{variables_later}
 use Rattle.semantics_typing.proofs.Lists.{all_get, all_set, all_later}
 use Rattle.semantics_typing.proofs.Loads.{loaded_typed}
 use Rattle.semantics_typing.proofs.Results.{AdvanceFits}
-use Rattle.semantics_typing.proofs.Steps.{step_fits}
-use Rattle.semantics_typing.proofs.TaskTexts.{TasksHaveTexts}
+use Rattle.semantics_typing.proofs.Steps.{CallerFits, step_fits}
+use Rattle.semantics_typing.proofs.TaskTexts.{HaveTexts, TasksHaveTexts}
 
 -- ---- a state
+
+-- two that hold of each element hold together
+all_both : {A : Type 0} (P Q : A → Type 0) (xs : List A) → AllByRecursion P xs → AllByRecursion Q xs → AllByRecursion (λ x. P x × Q x) xs
+all_both P Q [] h g = tt
+all_both P Q (x ∷ xs) h g = ((h.0, g.0), all_both P Q xs h.1 g.1)
 
 -- what holds of a state
 record IsRunning (classes : Classes) (s : State) : Type 0 where
   typed : IsTyped classes s
   texts : AllByRecursion (λ (t : Thread). TasksHaveTexts t.tasks) s.threads
+  below : AllByRecursion (λ (t : Thread). AllByRecursion (λ (c : Caller). HaveTexts c.tasks) t.callers) s.threads
 
 thread_in : (P : Thread → Type 0) (s : State) (k : ℕ) (t : Thread) → AllByRecursion P s.threads → thread_at s k ≡ Some t → P t
 thread_in P s zero t h e = absurd (cc)
@@ -51,8 +59,8 @@ thread_set P ts (suc i) t h new = all_set P ts i t h new
 
 event_running : (classes : Classes) (s : State) (k : ℕ) (event : Event) → IsRunning classes s → IsRunning classes (with_event s k event)
 event_running classes s k Quiet h = h
-event_running classes s k (PrintedNumber z) h = record { typed = record { heap = h.typed.heap; variables = h.typed.variables }; texts = h.texts }
-event_running classes s k (Trapped trap line) h = record { typed = record { heap = h.typed.heap; variables = h.typed.variables }; texts = h.texts }
+event_running classes s k (PrintedNumber z) h = record { typed = record { heap = h.typed.heap; variables = h.typed.variables }; texts = h.texts; below = h.below }
+event_running classes s k (Trapped trap line) h = record { typed = record { heap = h.typed.heap; variables = h.typed.variables }; texts = h.texts; below = h.below }
 
 event_heap : (s : State) (k : ℕ) (event : Event) → (with_event s k event).shared.heap ≡ s.shared.heap
 event_heap s k Quiet = refl
@@ -64,17 +72,24 @@ record IsNext (classes : Classes) (s next : State) : Type 0 where
   running : IsRunning classes next
   shapes : ShapesStay s.shared.heap next.shared.heap
 
-advance_next : (classes : Classes) (s : State) (k : ℕ) (e : Advance) (next : State) → IsRunning classes s → AdvanceFits classes s.shared.heap e → advanced s k e ≡ Some next → IsNext classes s next
-advance_next classes s k NoAdvance next h g e = absurd (cc)
-advance_next classes s k (Advances shared t event) next h g e =
+advance_next : (classes : Classes) (s : State) (k : ℕ) (e : Advance) (next : State) → IsRunning classes s → AdvanceFits classes s.shared.heap e → LeavesCallers (CallerFits classes s.shared.heap) e → advanced s k e ≡ Some next → IsNext classes s next
+advance_next classes s k NoAdvance next h g below e = absurd (cc)
+advance_next classes s k (Advances shared t event) next h g below e =
     let there : State = record s { shared = shared; threads = set_thread s.threads k t } in
     let same : with_event (record s { shared = shared; threads = set_thread s.threads k t }) k event ≡ next = cc in
-    let typed : AllByRecursion (λ (t : Thread). AreTypedVariables classes shared.heap t.variables) s.threads =
-    all_later (λ (t : Thread). AreTypedVariables classes s.shared.heap t.variables) (λ (t : Thread). AreTypedVariables classes shared.heap t.variables) s.threads (λ u v. variables_later classes s.shared.heap shared.heap g.0.stay u.variables v) h.typed.variables in
+    let later : (vs : Variables) → AreTypedVariables classes s.shared.heap vs → AreTypedVariables classes shared.heap vs = λ vs v. variables_later classes s.shared.heap shared.heap g.0.stay vs v in
+    let callers_later : (callers : List Caller) → AllByRecursion (λ (c : Caller). AreTypedVariables classes s.shared.heap c.variables) callers → AllByRecursion (λ (c : Caller). AreTypedVariables classes shared.heap c.variables) callers =
+    λ callers all. all_later (λ (c : Caller). AreTypedVariables classes s.shared.heap c.variables) (λ (c : Caller). AreTypedVariables classes shared.heap c.variables) callers (λ c v. later c.variables v) all in
+    let typed : AllByRecursion (IsTypedThread classes shared.heap) s.threads =
+    all_later (IsTypedThread classes s.shared.heap) (IsTypedThread classes shared.heap) s.threads (λ u v. (later u.variables v.0, callers_later u.callers v.1)) h.typed.variables in
+    let own_callers : AllByRecursion (λ (c : Caller). AreTypedVariables classes shared.heap c.variables) t.callers =
+    all_later (CallerFits classes s.shared.heap) (λ (c : Caller). AreTypedVariables classes shared.heap c.variables) t.callers (λ c v. later c.variables v.0) below in
+    let own_texts : AllByRecursion (λ (c : Caller). HaveTexts c.tasks) t.callers = all_later (CallerFits classes s.shared.heap) (λ (c : Caller). HaveTexts c.tasks) t.callers (λ c v. v.1) below in
     subst (IsNext classes s) same (record {
       running = event_running classes (record s { shared = shared; threads = set_thread s.threads k t }) k event (record {
-        typed = record { heap = g.0.typed; variables = thread_set (λ (t : Thread). AreTypedVariables classes shared.heap t.variables) s.threads k t typed g.1 };
+        typed = record { heap = g.0.typed; variables = thread_set (IsTypedThread classes shared.heap) s.threads k t typed (g.1, own_callers) };
         texts = thread_set (λ (t : Thread). TasksHaveTexts t.tasks) s.threads k t h.texts g.2;
+        below = thread_set (λ (t : Thread). AllByRecursion (λ (c : Caller). HaveTexts c.tasks) t.callers) s.threads k t h.below own_texts;
       });
       shapes = subst (ShapesStay s.shared.heap) (sym (event_heap (record s { shared = shared; threads = set_thread s.threads k t }) k event)) g.0.stay;
     })
@@ -94,16 +109,20 @@ module _ (unit : SourceUnit) (w : World) (sorted : IsSorted unit) (regions : Has
   has : HasCalls w
   has = calls_there w.threads sound.calls
 
-  waiting_variables : (threads : List (List Invocation)) (heap : Heap) → AllByRecursion (λ (t : Thread). AreTypedVariables w.classes heap t.variables) (map waiting_thread threads)
+  waiting_variables : (threads : List (List Invocation)) (heap : Heap) → AllByRecursion (IsTypedThread w.classes heap) (map waiting_thread threads)
   waiting_variables [] heap = tt
-  waiting_variables (calls ∷ threads) heap = (tt, waiting_variables threads heap)
+  waiting_variables (calls ∷ threads) heap = ((tt, tt), waiting_variables threads heap)
 
   waiting_texts : (threads : List (List Invocation)) → AllByRecursion (λ (t : Thread). TasksHaveTexts t.tasks) (map waiting_thread threads)
   waiting_texts [] = tt
   waiting_texts (calls ∷ threads) = (tt, waiting_texts threads)
 
+  waiting_below : (threads : List (List Invocation)) → AllByRecursion (λ (t : Thread). AllByRecursion (λ (c : Caller). HaveTexts c.tasks) t.callers) (map waiting_thread threads)
+  waiting_below [] = tt
+  waiting_below (calls ∷ threads) = (tt, waiting_below threads)
+
   start_running : IsRunning w.classes (start unit w)
-  start_running = record { typed = record { heap = loaded_typed w sound; variables = waiting_variables w.threads (start unit w).shared.heap }; texts = waiting_texts w.threads }
+  start_running = record { typed = record { heap = loaded_typed w sound; variables = waiting_variables w.threads (start unit w).shared.heap }; texts = waiting_texts w.threads; below = waiting_below w.threads }
 
   -- ---- a step
 
@@ -112,11 +131,15 @@ module _ (unit : SourceUnit) (w : World) (sorted : IsSorted unit) (regions : Has
     thread_next None there e = absurd (cc)
     thread_next (Some t) there e =
         let stands = unit_is_sound unit w sorted regions loads has journal s k t replayed there in
+        let typed = thread_in (IsTypedThread w.classes s.shared.heap) s k t h.typed.variables there in
+        let texts = thread_in (λ (t : Thread). AllByRecursion (λ (c : Caller). HaveTexts c.tasks) t.callers) s k t h.below there in
+        let below = all_both (λ (c : Caller). AreTypedVariables w.classes s.shared.heap c.variables) (λ (c : Caller). HaveTexts c.tasks) t.callers typed.1 texts in
         advance_next w.classes s k (thread_step unit w.classes (in_use s) k s.shared t refused) next h
         (step_fits unit w.classes sound.declares sound.grown (in_use s) k s.shared t h.typed.heap
-        (thread_in (λ (t : Thread). AreTypedVariables w.classes s.shared.heap t.variables) s k t h.typed.variables there)
-        (thread_in (λ (t : Thread). TasksHaveTexts t.tasks) s k t h.texts there) all (owners_after unit w journal k)
-        stands.alone stands.goes refused) e
+        typed.0
+        (thread_in (λ (t : Thread). TasksHaveTexts t.tasks) s k t h.texts there) below all (owners_after unit w journal k).current
+        stands.goes refused)
+        (callers_left (CallerFits w.classes s.shared.heap) unit w.classes (in_use s) k s.shared t below refused) e
 
     can_next : (b : Bool) → (if b then step_of unit w.classes s k refused (thread_at s k) else None) ≡ Some next → IsNext w.classes s next
     can_next true e = thread_next (thread_at s k) refl e

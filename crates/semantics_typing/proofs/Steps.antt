@@ -14,23 +14,23 @@ use Rattle.class_rules.specs.Class.{Classes}
 use Rattle.class_rules.specs.Grown.{IsGrown}
 use Rattle.jni.specs.Access.{Access, ElementsCopy, ArrayView, CharsCopy, CharsView}
 use Rattle.jni.specs.JniFunction.{JniFunction, GetBuffer, ReleaseBuffer, PushLocalFrame, prototype}
-use Rattle.jni.specs.Prototype.{GivesBuffer}
+use Rattle.jni.specs.Prototype.{ResultKind, NewLocal, NewGlobal, GivesFlag, GivesInt, GivesField, GivesNothing, GivesBuffer}
 use Rattle.type_rules.specs.Sorts.{Sort, Buffer, is_buffer_for, sort_in}
 use Rattle.type_rules.specs.Sorts as sort
 use Rattle.semantics.specs.Activation.{function_at, class_of_function, parameter_variables, entered, entered_function, enter, entry_advance}
 use Rattle.semantics.specs.Arguments.{Actual, ReferenceActual, actuals, object_given, variable_given, reference_in_actual, name_or_zero}
-use Rattle.semantics.specs.CallEffects.{NullResult}
-use Rattle.semantics.specs.CallStep.{put, element_type, target_element, trap_of_call, checked, makes_objects, effect_of_call, call_step}
+use Rattle.semantics.specs.CallEffects.{CallResult, NoResult, NullResult, ScalarResult, ReferenceResult, FieldResult, BufferResult}
+use Rattle.semantics.specs.CallStep.{blank, put, received, element_type, target_element, trap_of_call, checked, makes_objects, effect_of_call, call_step}
 use Rattle.semantics.specs.CallTable.{call_effect}
 use Rattle.semantics.specs.Effect.{Effect, Becomes, Sets, SetsNull, SetsElement, MakesArray, Prints, Calls, Returns, TrapsAt, NoEffect, effect_of}
 use Rattle.semantics.specs.Heap.{Heap, with_value_at}
-use Rattle.semantics.specs.Object.{ObjectValue, Number, Refers}
+use Rattle.semantics.specs.Object.{ObjectValue, Number, Refers, Reference}
 use Rattle.semantics.specs.Sight.{Sight, seen, held_reference}
 use Rattle.semantics.specs.Task.{Task, Invoke, Target, Declared, Assigned, Tested, Dropped, VariableKind, ScalarKind, ReferenceKind, FieldKind, BufferKind, Operand, Given}
-use Rattle.semantics.specs.CallEffects.{NoResult}
-use Rattle.semantics.specs.Return.{return_by}
+use Rattle.semantics.specs.Return.{fitted, given_back, nothing_of, resumed_in, return_by}
 use Rattle.semantics.specs.Thread.{Thread, Caller, Shared, BuffersInUse, Frame, Advance, sight_of}
 use Rattle.semantics.specs.ThreadStep.{set_element, with_tasks, after_effect, after_refused_effect, step_within, thread_step}
+use Rattle.semantics.specs.Value as value
 use Rattle.semantics.specs.Value.{Trap, convert}
 use Rattle.semantics.specs.Variable.{Variable, Scalar, LocalRef, FieldHandle, Elements, LocalArray, NoBuffer, Copy, View, Variables, Statics}
 use Rattle.semantics.specs.World.{Invocation}
@@ -45,11 +45,11 @@ use Rattle.semantics_typing.specs.Objects.{PlaceFits, type_at, AreTypedObjects, 
 use Rattle.world_values.specs.DeclaredFields.{DeclaresWell}
 use Rattle.semantics_typing.specs.Texts.{BlockHasTexts, HasTexts}
 use Rattle.semantics_typing.proofs.Arguments.{HasActualText, ArePassed, passed, all_known, variable_typed}
-use Rattle.semantics_typing.proofs.Calls.{EffectFits, IsReady, effect_fits}
+use Rattle.semantics_typing.proofs.Calls.{EffectFits, IsReady, ResultFits, effect_fits}
 use Rattle.semantics_typing.proofs.Heaps.{Keeps, keeps_same, variables_later}
 use Rattle.semantics_typing.proofs.Lists.{all_append, all_set}
 use Rattle.semantics_typing.proofs.Ranges.{convert_in_range, zero_in_range}
-use Rattle.semantics_typing.proofs.Results.{AdvanceFits, TargetFits, assign_typed, put_fits, after_fits, refusal_fits}
+use Rattle.semantics_typing.proofs.Results.{AdvanceFits, ElementFits, TargetFits, assign_typed, put_fits, after_fits, refusal_fits}
 use Rattle.semantics_typing.proofs.TaskTexts.{TaskHasTexts, TargetHasTexts, HaveTexts, TasksHaveTexts, EffectHasTexts, effect_texts, block_texts}
 use Rattle.semantics_typing.proofs.Writes.{keeps_place}
 
@@ -101,7 +101,86 @@ module _ (heap : Heap) (ss : Statics) (vs : Variables) (frames : List Frame) (p 
   ready line target (ReleaseBuffer CharsView) operands r fits = tt
   ready line target f operands r fits = tt
 
-module _ (unit : SourceUnit) (classes : Classes) (well : DeclaresWell classes) (g : IsGrown classes) (in_use : BuffersInUse) (k : ℕ) (s : Shared) (t : Thread) (typed : AreTypedObjects classes s.heap) (vars : AreTypedVariables classes s.heap t.variables) (own_texts : TasksHaveTexts t.tasks) where
+-- a caller's variables are typed, and the texts of what it has still to do are of bytes
+abbrev pub CallerFits : Classes → Heap → Caller → Type 0
+CallerFits classes heap c = AreTypedVariables classes heap c.variables × HaveTexts c.tasks
+
+-- a result that is neither field nor buffer
+abbrev IsPlainResult : CallResult → Type 0
+IsPlainResult (FieldResult f) = ⊥
+IsPlainResult (BufferResult b) = ⊥
+IsPlainResult given = Unit {0}
+
+-- what goes back to a caller is one
+nothing_plain : (kind : ResultKind) → IsPlainResult (nothing_of kind)
+nothing_plain NewLocal = tt
+nothing_plain NewGlobal = tt
+nothing_plain GivesFlag = tt
+nothing_plain GivesInt = tt
+nothing_plain GivesField = tt
+nothing_plain GivesNothing = tt
+nothing_plain (GivesBuffer access) = tt
+
+fitted_plain : (kind : ResultKind) (given : CallResult) → IsPlainResult (fitted kind given)
+fitted_plain NewLocal (ReferenceResult r) = tt
+fitted_plain NewLocal NoResult = tt
+fitted_plain NewLocal NullResult = tt
+fitted_plain NewLocal (ScalarResult v) = tt
+fitted_plain NewLocal (FieldResult f) = tt
+fitted_plain NewLocal (BufferResult b) = tt
+fitted_plain GivesInt (ScalarResult (value.Int z)) = tt
+fitted_plain GivesInt (ScalarResult (value.Word n)) = tt
+fitted_plain GivesInt (ScalarResult (value.Flag b)) = tt
+fitted_plain GivesInt (ScalarResult (value.Truth b)) = tt
+fitted_plain GivesInt NoResult = tt
+fitted_plain GivesInt NullResult = tt
+fitted_plain GivesInt (ReferenceResult r) = tt
+fitted_plain GivesInt (FieldResult f) = tt
+fitted_plain GivesInt (BufferResult b) = tt
+fitted_plain NewGlobal given = tt
+fitted_plain GivesFlag given = tt
+fitted_plain GivesField given = tt
+fitted_plain GivesNothing given = tt
+fitted_plain (GivesBuffer access) given = tt
+
+back_plain : (pending : Reference) (kind : ResultKind) (given : CallResult) → IsPlainResult (given_back pending kind given)
+back_plain None kind given = fitted_plain kind given
+back_plain (Some n) kind given = nothing_plain kind
+
+plain_fits : (classes : Classes) (heap : Heap) (before vs : Variables) (given : CallResult) → IsPlainResult given → ResultFits classes JInt before heap vs given
+plain_fits classes heap before vs NoResult h = tt
+plain_fits classes heap before vs NullResult h = tt
+plain_fits classes heap before vs (ScalarResult v) h = tt
+plain_fits classes heap before vs (ReferenceResult r) h = tt
+plain_fits classes heap before vs (FieldResult f) h = absurd h
+plain_fits classes heap before vs (BufferResult b) h = absurd h
+
+plain_element : (v : Variable) (given : CallResult) → IsPlainResult given → ElementFits JInt v given
+plain_element v NoResult h = tt
+plain_element v NullResult h = tt
+plain_element v (ScalarResult w) h = tt
+plain_element v (ReferenceResult r) h = tt
+plain_element v (FieldResult f) h = absurd h
+plain_element v (BufferResult b) h = absurd h
+
+plain_target : (target : Target) (vs : Variables) (given : CallResult) → IsPlainResult given → TargetFits JInt target vs given
+plain_target (Declared kind x) vs given h = λ n. plain_element (blank kind n) given h
+plain_target (Assigned x) vs given h = λ v e. plain_element v given h
+plain_target (Tested a b) vs given h = tt
+plain_target Dropped vs given h = tt
+
+-- a local reference more changes no variable and no task
+received_variables : (kind : ResultKind) (given : CallResult) (u : Thread) → ((received kind given u).variables ≡ u.variables) × ((received kind given u).tasks ≡ u.tasks)
+received_variables NewLocal (ReferenceResult None) u = (refl, refl)
+received_variables NewLocal (ReferenceResult (Some n)) u = (refl, refl)
+received_variables NewLocal NoResult u = (refl, refl)
+received_variables NewLocal NullResult u = (refl, refl)
+received_variables NewLocal (ScalarResult v) u = (refl, refl)
+received_variables NewLocal (FieldResult f) u = (refl, refl)
+received_variables NewLocal (BufferResult b) u = (refl, refl)
+received_variables kind given u = (refl, refl)
+
+module _ (unit : SourceUnit) (classes : Classes) (well : DeclaresWell classes) (g : IsGrown classes) (in_use : BuffersInUse) (k : ℕ) (s : Shared) (t : Thread) (typed : AreTypedObjects classes s.heap) (vars : AreTypedVariables classes s.heap t.variables) (own_texts : TasksHaveTexts t.tasks) (below : AllByRecursion (CallerFits classes s.heap) t.callers) where
   abbrev Fits : Advance → Type 0
   Fits e = AdvanceFits classes s.heap e
 
@@ -167,19 +246,34 @@ module _ (unit : SourceUnit) (classes : Classes) (well : DeclaresWell classes) (
         null_fits (Tested a b) = tt
         null_fits Dropped = tt
 
+    -- ---- returns
+
+    returned : (given : CallResult) (callers : List Caller) → AllByRecursion (CallerFits classes s.heap) callers → Fits (return_by k s t given callers)
+    returned given [] h = (same, tt, tt)
+    returned given (c ∷ callers) h =
+        let back = given_back t.pending c.result given in
+        let u = received c.result back (resumed_in t c callers) in
+        let kept = received_variables c.result back (resumed_in t c callers) in
+        let plain = back_plain t.pending c.result given in
+        put_fits classes JInt u.variables s.heap u.variables c.target back s u same
+        (subst (AreTypedVariables classes s.heap) (sym kept.0) (h.0).0)
+        (subst TasksHaveTexts (sym kept.1) (h.0).1)
+        (plain_fits classes s.heap u.variables u.variables back plain)
+        (plain_target c.target u.variables back plain)
+
     -- ---- effects
 
-    effect_step : (alone : t.callers ≡ []) (p : Point) {own : Owners} (stands : Stands own s.statics t.variables t.frames p) (e : Effect) → EffectHasTexts e → Follows own (sight_of s t) s.statics t.variables t.frames p rest e → Fits (after_effect classes in_use k s t rest e)
-    effect_step alone p stands (Becomes tasks) h f = (same, vars, all_append TaskHasTexts tasks rest h texts)
-    effect_step alone p stands (Sets x v) h f = (same, assign_typed classes s.heap x (Scalar v) t.variables vars tt, texts)
-    effect_step alone p stands (SetsNull target) h f = null_target target
-    effect_step alone p stands (SetsElement x i z) h f = element_set x i z (lookup x t.variables) refl
-    effect_step alone p stands (MakesArray e x n) h f = (same, assign_typed classes s.heap x (LocalArray e (replicate n (pos 0))) t.variables vars (zeros_in_range e n), texts)
-    effect_step alone p stands (Prints z) h f = (same, vars, texts)
-    effect_step alone p stands (Calls line target fn args) h f = call_fitting line target fn args h.0 h.1 p stands f.0 f.1 f.3
-    effect_step alone p stands Returns h f = subst (λ (l : List Caller). Fits (return_by k s t NoResult l)) (sym alone) (same, tt, tt)
-    effect_step alone p stands (TrapsAt trap line) h f = (same, vars, own_texts)
-    effect_step alone p stands NoEffect h f = tt
+    effect_step : (p : Point) {own : Owners} (stands : Stands own s.statics t.variables t.frames p) (e : Effect) → EffectHasTexts e → Follows own (sight_of s t) s.statics t.variables t.frames p rest e → Fits (after_effect classes in_use k s t rest e)
+    effect_step p stands (Becomes tasks) h f = (same, vars, all_append TaskHasTexts tasks rest h texts)
+    effect_step p stands (Sets x v) h f = (same, assign_typed classes s.heap x (Scalar v) t.variables vars tt, texts)
+    effect_step p stands (SetsNull target) h f = null_target target
+    effect_step p stands (SetsElement x i z) h f = element_set x i z (lookup x t.variables) refl
+    effect_step p stands (MakesArray e x n) h f = (same, assign_typed classes s.heap x (LocalArray e (replicate n (pos 0))) t.variables vars (zeros_in_range e n), texts)
+    effect_step p stands (Prints z) h f = (same, vars, texts)
+    effect_step p stands (Calls line target fn args) h f = call_fitting line target fn args h.0 h.1 p stands f.0 f.1 f.3
+    effect_step p stands (Returns given) h f = returned given t.callers below
+    effect_step p stands (TrapsAt trap line) h f = (same, vars, own_texts)
+    effect_step p stands NoEffect h f = tt
 
     refused_step : (e : Effect) → EffectHasTexts e → Fits (after_refused_effect classes in_use k s t rest e)
     refused_step (Calls line target fn args) h = refusal_fits classes in_use k s t typed vars line target fn args rest texts h.1 (makes_objects (effect_of_call classes in_use k s t line target fn args rest))
@@ -214,13 +308,13 @@ module _ (unit : SourceUnit) (classes : Classes) (well : DeclaresWell classes) (
 
   -- ---- a thread's step
 
-  within_fits : HasTexts unit → (own : Owners) (refused : Bool) (o : Option (List Task)) → t.callers ≡ [] → TasksHaveTexts o → Goes own s.statics t o → Fits (step_within unit classes in_use k s t refused o)
-  within_fits all own true None alone texts goes = tt
-  within_fits all own false None alone texts goes = entry_fits all t.calls
-  within_fits all own refused (Some []) alone texts goes = absurd (goes.2)
-  within_fits all own false (Some (task ∷ rest)) alone texts (p, stands, runs) =
-      effect_step rest texts.1 alone p stands (effect_of (sight_of s t) task) (effect_texts (sight_of s t) task texts.0) (effect_follows s.heap s.statics t.variables t.frames p stands rest task runs)
-  within_fits all own true (Some (task ∷ rest)) alone texts (p, stands, runs) = refused_step rest texts.1 (effect_of (sight_of s t) task) (effect_texts (sight_of s t) task texts.0)
+  within_fits : HasTexts unit → (own : Owners) (refused : Bool) (o : Option (List Task)) → TasksHaveTexts o → Goes own s.statics t o → Fits (step_within unit classes in_use k s t refused o)
+  within_fits all own true None texts goes = tt
+  within_fits all own false None texts goes = entry_fits all t.calls
+  within_fits all own refused (Some []) texts goes = absurd (goes.2)
+  within_fits all own false (Some (task ∷ rest)) texts (p, stands, runs) =
+      effect_step rest texts.1 p stands (effect_of (sight_of s t) task) (effect_texts (sight_of s t) task texts.0) (effect_follows s.heap s.statics t.variables t.frames p stands rest task runs)
+  within_fits all own true (Some (task ∷ rest)) texts (p, stands, runs) = refused_step rest texts.1 (effect_of (sight_of s t) task) (effect_texts (sight_of s t) task texts.0)
 
-  pub step_fits : HasTexts unit → (own : Owners) → t.callers ≡ [] → Goes own s.statics t t.tasks → (refused : Bool) → Fits (thread_step unit classes in_use k s t refused)
-  step_fits all own alone goes refused = within_fits all own refused t.tasks alone own_texts goes
+  pub step_fits : HasTexts unit → (own : Owners) → Goes own s.statics t t.tasks → (refused : Bool) → Fits (thread_step unit classes in_use k s t refused)
+  step_fits all own goes refused = within_fits all own refused t.tasks own_texts goes

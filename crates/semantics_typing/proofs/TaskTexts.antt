@@ -9,6 +9,8 @@ use Rattle.syntax.specs.Tree.{Argument, Call, RightSide, FromExpr, FromCall, Exp
 use Rattle.jni.specs.JniFunction.{JniFunction, prototype, function_named}
 use Rattle.jni.specs.Prototype.{ParameterKind, FieldID, IntNumber, ArrayVariable, BufferVariable, Mode, IsCopy}
 use Rattle.semantics.specs.Arguments.{look_up, look_up_expression, reference_argument, field_argument, actuals}
+use Rattle.semantics.specs.CallEffects.{ScalarResult}
+use Rattle.semantics.specs.Variable.{StaticReference}
 use Rattle.semantics.specs.Effect.{Effect, Becomes, Sets, SetsElement, Calls, Returns, at_line, goes_on, with_value, print_effect, branch_effect, loop_effect, element_effect, is_ready, reduce_number, reduce_first, call_effect_of, tasks_after, returned_name, return_effect, effect_of}
 use Rattle.semantics.specs.Sight.{Sight}
 use Rattle.semantics.specs.Task as task
@@ -137,15 +139,15 @@ module _ (sight : Sight) where
   element_texts line x i (Int z) = place_texts line x z (index_of i)
   element_texts line x i v = tt
 
-  name_texts : (line : ℕ) (o : Outcome Value) → EffectHasTexts (returned_name line o)
-  name_texts line (Gives v) = (tt, tt)
-  name_texts line (Traps trap) = tt
-  name_texts line Stuck = tt
+  name_texts : (line : ℕ) (o : Outcome Value) (r : StaticReference) → EffectHasTexts (returned_name line o r)
+  name_texts line (Gives v) r = (tt, tt)
+  name_texts line (Traps trap) r = tt
+  name_texts line Stuck r = tt
 
   return_texts : (line : ℕ) (t : Term) → EffectHasTexts (return_effect sight line t)
   return_texts line (term.Named tree.Null) = tt
-  return_texts line (Read x) = name_texts line (sight.number x)
-  return_texts line t = valued line (λ v. Returns) (task.ReturnValue line) t (λ v. tt) (λ u. tt)
+  return_texts line (Read x) = name_texts line (sight.number x) (sight.reference x)
+  return_texts line t = valued line (λ v. Returns (ScalarResult v)) (task.ReturnValue line) t (λ v. tt) (λ u. tt)
 
   -- ---- calls
 

@@ -10,7 +10,7 @@ use Rattle.class_rules.specs.Fields.{FieldId, layout, own_statics}
 use Rattle.semantics.specs.Heap.{Heap, object_at, values_of}
 use Rattle.semantics.specs.Object.{ObjectValue, Number, Refers, Reference, Object}
 use Rattle.semantics.specs.State.{State}
-use Rattle.semantics.specs.Thread.{Thread}
+use Rattle.semantics.specs.Thread.{Caller, Thread}
 use Rattle.semantics.specs.Variable.{Variable, FieldHandle, Elements, LocalArray, Copy, View, Variables}
 use Rattle.world_values.specs.DeclaredFields.{IsDeclared}
 use Rattle.world_values.specs.WorldRules.{is_in_range}
@@ -94,12 +94,19 @@ IsTypedVariable classes heap v = Unit {0}
 abbrev pub AreTypedVariables : Classes → Heap → Variables → Type 0
 AreTypedVariables classes heap vs = AllByRecursion (λ (v : Identifier × Variable). IsTypedVariable classes heap v.1) vs
 
+-- ---- a thread
+
+-- of its call in progress, and of its callers
+abbrev pub IsTypedThread : Classes → Heap → Thread → Type 0
+IsTypedThread classes heap t =
+    AreTypedVariables classes heap t.variables × AllByRecursion (λ (c : Caller). AreTypedVariables classes heap c.variables) t.callers
+
 -- ---- a state
 
 -- objects are typed, and so are the variables of all threads
 pub record IsTyped (classes : Classes) (s : State) : Type 0 where
   pub heap : AreTypedObjects classes s.shared.heap
-  pub variables : AllByRecursion (λ (t : Thread). AreTypedVariables classes s.shared.heap t.variables) s.threads
+  pub variables : AllByRecursion (IsTypedThread classes s.shared.heap) s.threads
 
 -- each object is there yet, with its class and its number of values
 abbrev pub ShapesStay : Heap → Heap → Type 0
