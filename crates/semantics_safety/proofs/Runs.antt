@@ -40,6 +40,7 @@ use Rattle.semantics_safety.proofs.CallLaws.{IsNoReturn, each_step_lands, return
 use Rattle.semantics_safety.proofs.EntryPoints.{entry_point, SeesStatics, HasNamesOnce, stands_at_entry}
 use Rattle.semantics_safety.proofs.FrameLaws.{both_true}
 use Rattle.semantics_safety.proofs.KeptCalls.{Held, held, KeepsCalls, calls_kept, put_keeps, received_calls}
+use Rattle.semantics_safety.proofs.Alone.{threads_alone}
 use Rattle.semantics_safety.proofs.ReturnLaws.{LandsBack, back_gives, callers_viewless, calls_there, return_lands}
 use Rattle.semantics_safety.proofs.OwnerLaws.{LandsBy, LandsByIfPossible}
 use Rattle.semantics_safety.proofs.RefusedLaws.{marked_step_lands}
@@ -384,6 +385,7 @@ module _ (unit : SourceUnit) (w : World) (enters : AllByRecursion (Enters (null_
       let running : Running (owners_after unit w journal) s = replay_running journal (λ k. no_owners) (start unit w) s (start_running loads has) replayed in
       let sound = thread_sound unit w.classes (null_statics unit) enters (owners_after unit w journal) s k t running there in
       record {
+        alone = threads_alone unit w journal s k t replayed there;
         view = view (owners_after unit w journal k).current s.shared t sound.goes (callers_viewless s.shared.statics (owners_after unit w journal k).callers t.callers sound.callers);
         return = return (owners_after unit w journal k).current s.shared t sound.goes;
         references = references (owners_after unit w journal k).current s.shared t sound.goes;

@@ -96,6 +96,8 @@ SetsWhole x e = ⊥
 -- thread k, which is t, and of which these variables have references of their own, does none of what JNI leaves undefined, and
 -- can go on
 pub record StepSafe (unit : SourceUnit) (w : World) (s : State) (own : Owners) (k : ℕ) (t : Thread) : Type 0 where
+  -- no call makes another yet
+  pub alone : t.callers ≡ []
   -- with a view it begins no call but the critical ones, and prints nothing
   pub view : (task : Task) (rest : List Task) → t.tasks ≡ Some (task ∷ rest) → viewed_by t ≢ [] → MayMeetView task
   -- a return finds no copied list, no view and one frame
