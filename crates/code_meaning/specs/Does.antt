@@ -344,6 +344,6 @@ module _ (code : Listing) (known : Known) (place : ℕ) (stack : List ℕ) (slot
   DoesEffect rest (MakesArray t x size) = Writes (IsMade visible t x size) rest
   DoesEffect rest (Prints z) = PrintsTop z rest
   DoesEffect rest (Calls line target f args) = CallsFunction line target f args rest
-  DoesEffect rest Returns = LeavesCall
+  DoesEffect rest (Returns given) = LeavesCall
   DoesEffect rest (TrapsAt reason line) = Stops reason line
   DoesEffect rest NoEffect = Unit {0}

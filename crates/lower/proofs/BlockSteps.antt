@@ -19,6 +19,7 @@ use Rattle.code.specs.declared.instr.Plain.TheVariants as plain
 use Rattle.code.specs.declared.instr.PlainTrap.TheVariants as trap
 use Rattle.code.specs.Depth.{Listing}
 use Rattle.code.specs.Effect.{element_word}
+use Rattle.semantics.specs.CallEffects.{ScalarResult}
 use Rattle.semantics.specs.Effect.{Returns, with_value, return_effect, element_effect, effect_of}
 use Rattle.semantics.specs.Sight.{in_range}
 use Rattle.semantics.specs.Task.{Task, SetScalar, SetElement, SetNull, MakeArray, Invoke, Print, Branch, EndIf, Loop, EndTurn, Return, ReturnValue, Impossible, tasks_of}
@@ -267,14 +268,14 @@ module _ (code : Listing) (known : Known) (place : ℕ) (stack : List ℕ) (slot
 
   -- ---- returns
 
-  return_step : (line : ℕ) (t : Term) (rest : List Task) → NumberStands code known place stack line Jint t (instr.ReturnJint ∷ []) → IsTrue (list_any task_returns (ReturnValue line t ∷ rest)) → DoesEffect code known place stack slots visible rest (with_value visible.sight line (λ v. Returns) (ReturnValue line) t)
+  return_step : (line : ℕ) (t : Term) (rest : List Task) → NumberStands code known place stack line Jint t (instr.ReturnJint ∷ []) → IsTrue (list_any task_returns (ReturnValue line t ∷ rest)) → DoesEffect code known place stack slots visible rest (with_value visible.sight line (λ v. Returns (ScalarResult v)) (ReturnValue line) t)
   return_step line (Done v) rest h returns = record { here = instr.ReturnJint; at = h.1.0; returns = tt }
   return_step line t rest h returns =
       step_inside code known place stack slots visible shows sees line t Jint [] (instr.ReturnJint ∷ []) (ReturnValue line) rest tt h.0.sort h.0.begun (h.0.operands ∙ sym (append-nil (held t))) h.1 (λ u. refl)
       (λ p u sorted begun at size. inl (record { sort = sorted; begun = begun; operands = append-nil (held u) }, at))
 
   -- a `jint` is worked out before it is returned
-  returned_number : (line : ℕ) (t : Term) → TermHasSort known t Jint → return_effect visible.sight line t ≡ with_value visible.sight line (λ v. Returns) (ReturnValue line) t
+  returned_number : (line : ℕ) (t : Term) → TermHasSort known t Jint → return_effect visible.sight line t ≡ with_value visible.sight line (λ v. Returns (ScalarResult v)) (ReturnValue line) t
   returned_number line (term.Named tree.Null) h = absurd h
   returned_number line (Read x) h = let shown = shows_number known line slots visible x (record { sort = Jint; index = h.0 }) Jint tt (shows.each x (record { sort = Jint; index = h.0 }) h.1) in rw shown.is refl
   returned_number line t h = refl

@@ -7,7 +7,7 @@ use Rattle.std.proofs.lemmas.List.Sums.{sum_by-cons}
 use Rattle.base.specs.Bytes.{Identifier, lookup}
 use Rattle.base.specs.Element.{ElementType}
 use Rattle.semantics.specs.CallEffects.{begun_with, freed, with_freed}
-use Rattle.semantics.specs.Thread.{Thread, viewed_by}
+use Rattle.semantics.specs.Thread.{Thread, objects_viewed}
 use Rattle.semantics.specs.Variable as source
 use Rattle.semantics.specs.Variable.{Variable, Variables, Elements, LocalArray, NoBuffer, Copy, View, change, copied_length, viewed}
 use Rattle.machine_scenes.specs.Buffers.{Acquired, SameAcquired, acquired_by, acquired_of, beside, nothing_acquired}
@@ -144,14 +144,14 @@ beside_freed others s x t b at = record {
   copied = let copied = sum_changed copied_length x freed s.variables (Elements t b) at in omega (arith, copied, copied_of t b);
   many =
       let many = views_changed length refl length-append x freed s.variables (Elements t b) at in
-      omega (arith, many, ap length (viewed_of t b), length-append others.viewed (viewed_by s), length-append others.viewed (viewed_by (with_freed s x) ++ []), length-append (viewed_by (with_freed s x)) []);
+      omega (arith, many, ap length (viewed_of t b), length-append others.viewed (objects_viewed s.variables), length-append others.viewed (objects_viewed (with_freed s x).variables ++ []), length-append (objects_viewed (with_freed s x).variables) []);
   viewed = λ n.
       let often = views_changed (times n) refl (times_append n) x freed s.variables (Elements t b) at in
-      omega (arith, often, ap (times n) (viewed_of t b), times_append n others.viewed (viewed_by s), times_append n others.viewed (viewed_by (with_freed s x) ++ []), times_append n (viewed_by (with_freed s x)) []);
+      omega (arith, often, ap (times n) (viewed_of t b), times_append n others.viewed (objects_viewed s.variables), times_append n others.viewed (objects_viewed (with_freed s x).variables ++ []), times_append n (objects_viewed (with_freed s x).variables) []);
 }
 
 -- a view of a variable is among the thread's
-pub views_there : (s : Thread) (x : Identifier) (t : ElementType) (n : ℕ) → lookup x s.variables ≡ Some (Elements t (View n)) → viewed_by s ≢ []
+pub views_there : (s : Thread) (x : Identifier) (t : ElementType) (n : ℕ) → lookup x s.variables ≡ Some (Elements t (View n)) → objects_viewed s.variables ≢ []
 views_there s x t n at none =
     let often = views_changed (times n) refl (times_append n) x freed s.variables (Elements t (View n)) at in
     absurd (omega (arith, often, once n, ap (times n) none))

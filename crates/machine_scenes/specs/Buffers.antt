@@ -8,7 +8,7 @@ use Rattle.jni.specs.declared.mode.ReleaseMode.{ReleaseMode}
 use Rattle.jni.specs.declared.mode.ReleaseMode.TheVariants as mode
 use Rattle.heap.specs.Heap.{Space, name_at, pins_at}
 use Rattle.semantics.specs.Heap.{Heap, values_of}
-use Rattle.semantics.specs.Thread.{BuffersInUse, Thread, copied_by, viewed_by}
+use Rattle.semantics.specs.Thread.{BuffersInUse, Thread, lengths_copied, objects_viewed}
 use Rattle.semantics.specs.Variable as source
 use Rattle.semantics.specs.Variable.{Variable, Elements, NoBuffer, Copy, View}
 use Rattle.tables.specs.Elements.{OwnedNumbers, lengths, owned}
@@ -34,9 +34,9 @@ acquired_of NoBuffer = nothing_acquired
 acquired_of (Copy n zs) = record { copied = length zs; viewed = [] }
 acquired_of (View n) = record { copied = 0; viewed = n ∷ [] }
 
--- what those of a thread take
+-- what those of a thread's call in progress take
 abbrev pub acquired_by : Thread → Acquired
-acquired_by t = record { copied = copied_by t; viewed = viewed_by t }
+acquired_by t = record { copied = lengths_copied t.variables; viewed = objects_viewed t.variables }
 
 -- what some take beside others
 abbrev pub beside : Acquired → Acquired → Acquired
@@ -92,9 +92,9 @@ viewed_in space (held.Null ∷ slots) = viewed_in space slots
 viewed_in space (held.Copy key ∷ slots) = viewed_in space slots
 viewed_in space (held.View a ∷ slots) = option_to_list (name_at space a) ++ viewed_in space slots
 
--- each view in slots is one that a variable of a thread holds
+-- each view in slots is one that a variable of a thread's call in progress holds
 abbrev pub AreViewed : Space → List Buffer → Thread → Type 0
-AreViewed space slots t = (n : ℕ) → times n (viewed_in space slots) ≤ times n (viewed_by t)
+AreViewed space slots t = (n : ℕ) → times n (viewed_in space slots) ≤ times n (objects_viewed t.variables)
 
 -- a variable is a buffer, and this slot stands for it
 pub record HoldsBuffer (space : Space) (buffers : HeldBuffers) (slot : ℕ) (v : Option Variable) : Type 0 where
