@@ -11,7 +11,7 @@ use Rattle.semantics.specs.Arguments.{Actual, object_given, variable_given}
 use Rattle.semantics.specs.CallStep.{target_element, waits_with}
 use Rattle.semantics.specs.Effect.{Calls}
 use Rattle.semantics.specs.Task.{Target}
-use Rattle.semantics.specs.Thread.{BuffersInUse, Shared, Thread, viewed_by}
+use Rattle.semantics.specs.Thread.{BuffersInUse, Shared, Thread, objects_viewed}
 use Rattle.semantics.specs.World.{World}
 use Rattle.semantics_safety.specs.StepSafe.{came_from}
 use Rattle.semantics_typing.specs.Objects.{AreTypedObjects, AreTypedVariables}
@@ -82,7 +82,7 @@ pub record IsAsked (p : Lowered) (w : World) (store : Store) (pending : Option �
   pub wanted : element_wanted call.target ≡ target_element s.variables target
   pub typed : AreTypedObjects w.classes shared.heap
   pub typed_variables : AreTypedVariables w.classes shared.heap s.variables
-  pub critical : viewed_by s ≢ [] → is_critical_call f ≡ true
+  pub critical : objects_viewed s.variables ≢ [] → is_critical_call f ≡ true
   pub release : (access : Access) → f ≡ ReleaseBuffer access → came_from (lookup (variable_given args 1) s.variables) ≡ Some (object_given args 0)
   pub ready : waits_with w.classes k shared s (Calls call.line target f args) ≡ false
   pub words : activation.stack ≡ words_given args

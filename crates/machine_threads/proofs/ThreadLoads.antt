@@ -39,7 +39,7 @@ module _ (p : Lowered) (classes : Classes) (space : Space) (copies : List (Optio
   pub one_more : (ts : List (Vec Invocation)) (i : ℕ) (x : Vec Invocation) (t : Thread) (threads : List Thread) → slice_get ts i ≡ Some x → ((k : ℕ) (own : Owners) → ThreadAgrees p classes space copies made k own shared t (waiting_thread x.items)) → AgreeSoFar ts i threads → AgreeSoFar ts (i + 1) (threads ++ t ∷ [])
   one_more ts i x t threads at a so_far rest h =
       subst (λ (l : List Thread). AllAgree p classes space copies made shared l (map waiting_thread (called ts))) (sym (append_assoc threads (t ∷ []) rest))
-      (so_far (t ∷ rest) (subst (λ (us : List (Vec Invocation)). AllAgree p classes space copies made shared (t ∷ rest) (map waiting_thread (called us))) (sym (drop_next ts i x at)) (λ owners k. (a k (owners k), h owners (suc k)))))
+      (so_far (t ∷ rest) (subst (λ (us : List (Vec Invocation)). AllAgree p classes space copies made shared (t ∷ rest) (map waiting_thread (called us))) (sym (drop_next ts i x at)) (λ owners k. (a k (owners k).current, h owners (suc k)))))
 
   pub all_agree : (ts : List (Vec Invocation)) (i : ℕ) (threads : List Thread) → length ts ≤ i → AgreeSoFar ts i threads → AllAgree p classes space copies made shared threads (map waiting_thread (called ts))
   all_agree ts i threads past so_far =

@@ -78,4 +78,4 @@ ThreadsAgree p classes space copies made owners k shared [] [] = Unit {0}
 ThreadsAgree p classes space copies made owners k shared [] (s ∷ ss) = ⊥
 ThreadsAgree p classes space copies made owners k shared (t ∷ ts) [] = ⊥
 ThreadsAgree p classes space copies made owners k shared (t ∷ ts) (s ∷ ss) = ThreadAgrees p classes space copies made k
-    (owners k) shared t s × ThreadsAgree p classes space copies made owners (suc k) shared ts ss
+    (owners k).current shared t s × ThreadsAgree p classes space copies made owners (suc k) shared ts ss
