@@ -17,6 +17,7 @@ use Rattle.code.specs.Depth.{Listing, depth_after, depth_at, IsValid, LeadsInsid
 use Rattle.code.specs.Running.{RunsAt}
 use Rattle.code.proofs.Runs.{runs_at}
 use Rattle.semantics.specs.Arguments.{Actual}
+use Rattle.semantics.specs.CallEffects.{CallResult}
 use Rattle.semantics.specs.Effect.{Effect, Becomes, Sets, SetsNull, SetsElement, MakesArray, Prints, Calls, Returns, TrapsAt, NoEffect, effect_of}
 use Rattle.semantics.specs.Task.{Task, Target}
 use Rattle.semantics.specs.Value.{Value, Trap}
@@ -63,7 +64,7 @@ module _ (code : Listing) (known : Known) (place : ℕ) (stack : List ℕ) (slot
       → ((t : ElementType) (x : Identifier) (size : ℕ) → Writes code known place stack slots visible (IsMade visible t x size) rest → P (MakesArray t x size))
       → ((z : ℤ) → PrintsTop code known place stack slots visible z rest → P (Prints z))
       → ((line : ℕ) (target : Target) (f : JniFunction) (args : List Actual) → CallsFunction code known place stack slots visible line target f args rest → P (Calls line target f args))
-      → (LeavesCall code known place stack slots visible → P Returns)
+      → (LeavesCall code known place stack slots visible → (given : CallResult) → P (Returns given))
       → ((trap : Trap) (line : ℕ) → Stops code known place stack slots visible trap line → P (TrapsAt trap line))
       → P NoEffect
       → (e : Effect) → DoesEffect code known place stack slots visible rest e → P e
@@ -74,7 +75,7 @@ module _ (code : Listing) (known : Known) (place : ℕ) (stack : List ℕ) (slot
   does_cases becomes sets nulls element buffer array prints calls returns traps nothing (MakesArray t x size) h = array t x size h
   does_cases becomes sets nulls element buffer array prints calls returns traps nothing (Prints z) h = prints z h
   does_cases becomes sets nulls element buffer array prints calls returns traps nothing (Calls line target f args) h = calls line target f args h
-  does_cases becomes sets nulls element buffer array prints calls returns traps nothing Returns h = returns h
+  does_cases becomes sets nulls element buffer array prints calls returns traps nothing (Returns given) h = returns h given
   does_cases becomes sets nulls element buffer array prints calls returns traps nothing (TrapsAt trap line) h = traps trap line h
   does_cases becomes sets nulls element buffer array prints calls returns traps nothing NoEffect h = nothing
 
@@ -191,7 +192,7 @@ module _ (p : Lowered) (classes : Classes) (space : Space) (copies : List (Optio
   here possible =
       does_cases code r.known call.place call.stack (slots_of call r.meant) visible rest (λ e. e ≢ NoEffect → (i : Instr) × (slice_get code.instrs call.place ≡ Some i))
       (λ tasks g some. (g.here, g.at)) (λ x v g some. (g.here, g.at)) (λ target g some. (instr.StoreNull g.variable, g.at)) (λ x i z t a g some. (g.here, g.at)) (λ x i z g some. (_, g.at)) (λ t x n g some. (g.here, g.at))
-      (λ z g some. (instr.PutJint, g.at)) (λ line target f args g some. (instr.Call g.call, g.at)) (λ g some. (g.here, g.at)) (λ trap line g some. (g.here, g.at)) (λ some. absurd (some refl))
+      (λ z g some. (instr.PutJint, g.at)) (λ line target f args g some. (instr.Call g.call, g.at)) (λ g given some. (g.here, g.at)) (λ trap line g some. (g.here, g.at)) (λ some. absurd (some refl))
       (effect_of visible.sight task) r.does possible
 
   -- the call stands for tasks at another place, where the heap and the copied lists may be others

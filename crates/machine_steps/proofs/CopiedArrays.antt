@@ -27,7 +27,7 @@ use Rattle.semantics.specs.Arguments.{Actual, VariableActual}
 use Rattle.semantics.specs.CallEffects.{CallEffect, begun_with, enter_effect, exit_effect, frames_effect, overwritten, refuses_frames, with_capacity}
 use Rattle.semantics.specs.Sight.{in_range}
 use Rattle.semantics.specs.Thread as source
-use Rattle.semantics.specs.Thread.{Shared, viewed_by}
+use Rattle.semantics.specs.Thread.{Shared, objects_viewed}
 use Rattle.semantics.specs.Variable as source_variable
 use Rattle.semantics.specs.Variable.{Variable, LocalArray, NoBuffer, Variables, assign, change}
 use Rattle.semantics_safety.specs.Owners.{Owners}

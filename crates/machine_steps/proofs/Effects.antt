@@ -20,6 +20,7 @@ use Rattle.code.specs.declared.instr.Plain.TheVariants as plain
 use Rattle.code.specs.Effect.{truth_word, plain_of, IsPlain}
 use Rattle.code.specs.Depth.{Listing, depth_after, depth_at, LeadsInside, Leaves, within_slots}
 use Rattle.semantics.specs.Arguments.{Actual}
+use Rattle.semantics.specs.CallEffects.{CallResult}
 use Rattle.semantics.specs.Effect as effects
 use Rattle.semantics.specs.Effect.{Effect, Becomes, Sets, SetsNull, SetsElement, MakesArray, Prints, Calls, TrapsAt, NoEffect, effect_of}
 use Rattle.semantics.specs.Task.{Task, Target}
@@ -160,7 +161,7 @@ module _ (p : Lowered) (classes : Classes) (space : Space) (copies : List (Optio
       → ((x : Identifier) (j : ℕ) (z : ℤ) (h : WritesBuffer code r.known call.place call.stack slots visible x j z rest) → i ≡ instr.StoreBuffer (element_of h.type) h.slot h.line → P (SetsElement x j z))
       → ((z : ℤ) → PrintsTop code r.known call.place call.stack slots visible z rest → i ≡ instr.PutJint → P (Prints z))
       → ((line : ℕ) (target : Target) (f : JniFunction) (args : List Actual) (h : CallsFunction code r.known call.place call.stack slots visible line target f args rest) → i ≡ instr.Call h.call → P (Calls line target f args))
-      → (IsReturn i → P effects.Returns)
+      → (IsReturn i → (given : CallResult) → P (effects.Returns given))
       → (LooksAtSlots i → (reason : Trap) (line : ℕ) (h : Stops code r.known call.place call.stack slots visible reason line) → Works visible slots i call.stack (plain.Trap h.trap line) call.stack → P (TrapsAt reason line))
       → P (effect_of visible.sight task)
   other_cases P not_plain becomes nulls stores prints calls returns traps =
@@ -173,7 +174,7 @@ module _ (p : Lowered) (classes : Classes) (space : Space) (copies : List (Optio
       (λ t x n h some. absurd (writes (IsMade visible t x n) h))
       (λ z h some. prints z h (cc (at, h.at)))
       (λ line target f args h some. calls line target f args h (cc (at, h.at)))
-      (λ h some. let same : h.here ≡ i = cc (at, h.at) in returns (subst IsReturn same h.returns))
+      (λ h given some. let same : h.here ≡ i = cc (at, h.at) in returns (subst IsReturn same h.returns) given)
       (λ trap line h some. let works = works_here h.here (plain.Trap h.trap line) call.stack h.at h.works in traps (looks i not_plain (plain.Trap h.trap line) call.stack works) trap line h works)
       (λ some. absurd (some refl))
       (effect_of visible.sight task) r.does possible
@@ -497,5 +498,5 @@ module _ (p : Lowered) (w : World) (store : Store) (others : Acquired) (k : ℕ)
       (λ x n z h same. absurd (subst IsReturn same is))
       (λ z h same. absurd (subst IsReturn same is))
       (λ line target f args h same. absurd (subst IsReturn same is))
-      (λ returns. (refl, shares, refl, pends))
+      (λ returns given. ((given, refl), shares, refl, pends))
       (λ test reason line h works. absurd (no_return_test i is test))

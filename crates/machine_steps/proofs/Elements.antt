@@ -4,11 +4,13 @@ use Rattle.base.specs.Bytes.{Identifier}
 use Rattle.syntax.specs.Tree.{Expr, Block, Null}
 use Rattle.jni.specs.JniFunction.{JniFunction}
 use Rattle.semantics.specs.Arguments.{actuals}
+use Rattle.semantics.specs.CallEffects.{ScalarResult}
 use Rattle.semantics.specs.Effect as effect
 use Rattle.semantics.specs.Effect.{Effect, SetsElement, Calls, at_line, goes_on, with_value, print_effect, branch_effect, loop_effect, element_effect, reduce_first, is_ready, returned_name, return_effect, effect_of}
 use Rattle.semantics.specs.Sight.{Sight}
 use Rattle.semantics.specs.Task.{Task, SetScalar, SetElement, SetNull, MakeArray, Invoke, Print, Branch, EndIf, Loop, EndTurn, Return, ReturnValue, Impossible, Target, Operand}
 use Rattle.semantics.specs.Term.{Term, Done, Named, Read, index_of, reduce}
+use Rattle.semantics.specs.Variable.{StaticReference}
 use Rattle.semantics.specs.Value.{Value, Word, Int, Flag, Truth, Outcome, Gives, Traps, Stuck}
 
 -- an element that an effect sets can be seen
@@ -66,15 +68,15 @@ module _ (sight : Sight) (line : ℕ) where
   of_call target f operands true = tt
   of_call target f operands false = going_on (Invoke line target f) (reduce_first sight operands)
 
-  of_name : (o : Outcome Value) → SetsWhatIsThere sight (returned_name line o)
-  of_name (Gives v) = tt
-  of_name (Traps trap) = tt
-  of_name Stuck = tt
+  of_name : (o : Outcome Value) (r : StaticReference) → SetsWhatIsThere sight (returned_name line o r)
+  of_name (Gives v) r = tt
+  of_name (Traps trap) r = tt
+  of_name Stuck r = tt
 
   of_return : (t : Term) → SetsWhatIsThere sight (return_effect sight line t)
   of_return (Named Null) = tt
-  of_return (Read x) = of_name (sight.number x)
-  of_return t = of_value (λ v. effect.Returns) (ReturnValue line) t (λ v. tt)
+  of_return (Read x) = of_name (sight.number x) (sight.reference x)
+  of_return t = of_value (λ v. effect.Returns (ScalarResult v)) (ReturnValue line) t (λ v. tt)
 
 -- a task sets no other element
 pub sets_what_is_there : (sight : Sight) (task : Task) → SetsWhatIsThere sight (effect_of sight task)

@@ -28,7 +28,7 @@ use Rattle.semantics.specs.Thread.{Shared}
 use Rattle.semantics.specs.Value.{Int}
 use Rattle.semantics.specs.Variable.{Buffer, NoBuffer, StaticReference, Variable, Scalar, LocalRef, Variables}
 use Rattle.semantics.specs.ThreadStep.{step_within}
-use Rattle.semantics_safety.specs.Owners.{Owners, after_tasks, holders, level_held}
+use Rattle.semantics_safety.specs.Owners.{Owners, ThreadOwners, after_tasks, holders, level_held}
 use Rattle.code_meaning.specs.Layout.{Slot, Known, with_static, entry_layout}
 use Rattle.code_meaning.specs.Slots.{visible_to, AreOfLowest, EntrySlots, HasRoom, AreShared, argument_word, argument_reference, static_index}
 use Rattle.code_meaning.specs.Stands.{StandsFor}
@@ -306,7 +306,7 @@ begun p classes space copies k loaded made shared s rest n c call lowered table 
       depth = ap (depth_at b.code.instrs) begins.place ∙ ap (λ (st : List ℕ). Some (length st)) (sym begins.stack);
     }
 
-pub enters : (p : Lowered) (w : World) (store : Store) (others : Acquired) (k : ℕ) (own : Owners) (shared : Shared) (t after : Thread) (s : source.Thread) (n : PendingCall) (call : Activation) → IsLowered p → StoreAgrees p w store shared (beside others (acquired_by s)) → ThreadAgrees p w.classes store.heap store.elements (length (loaded_objects w)) k own shared t s
+pub enters : (p : Lowered) (w : World) (store : Store) (others : Acquired) (k : ℕ) (own : ThreadOwners) (shared : Shared) (t after : Thread) (s : source.Thread) (n : PendingCall) (call : Activation) → IsLowered p → StoreAgrees p w store shared (beside others (acquired_by s)) → ThreadAgrees p w.classes store.heap store.elements (length (loaded_objects w)) k own.current shared t s
     → t.call ≡ None → t.calls.items ≡ n ∷ after.calls.items → after.call ≡ Some call → Begins p store.loaded.items n call → after.pending ≡ t.pending → after.ending ≡ t.ending → Advances p w store store others k own shared s after false event.Quiet
 enters p w store others k own shared t after s n call lowered shares h none calls is begins pending ending =
     let classes : Classes = w.classes in
@@ -320,7 +320,7 @@ enters p w store others k own shared t after s n call lowered shares h none call
     ap (enter (unit_tree p.unit) classes s) c.is
     ∙ ap (entered_function classes s c.call c.rest) f.named
     ∙ ap (option_map (λ d. entered s c.rest f.function d c.call.arguments)) f.of_class in
-    let rests : s.tasks ≡ None = resting p classes space store.elements k (visible_to own shared s) s.frames t.call s.tasks h.work none in
+    let rests : s.tasks ≡ None = resting p classes space store.elements k (visible_to own.current shared s) s.frames t.call s.tasks h.work none in
     record {
       next_shared = shared;
       next = next;
@@ -328,7 +328,7 @@ enters p w store others k own shared t after s n call lowered shares h none call
       store_agrees = store_same p w store shared others s.variables next.variables (entered_nothing f.function.class_name 1 n.class.number (zip f.function.parameters c.call.arguments) ∙ sym (ap taken_by (h.idle rests))) shares;
       keeps = keeps_same space shared;
       keeps_copies = λ key c there other. there;
-      agrees = subst (λ (o : Owners). ThreadAgrees p classes space store.elements made k o shared after next) (sym (ap (λ (o : Option (List Task)). after_tasks shared s o own source.Quiet next.variables) rests)) (record {
+      agrees = subst (λ (o : Owners). ThreadAgrees p classes space store.elements made k o shared after next) (sym (ap (λ (o : Option (List Task)). (after_tasks shared s o own source.Quiet next.variables).current) rests)) (record {
         calls = c.agrees;
         work = subst (λ a. WorkAgrees p classes space store.elements k (visible_to now shared next) a next.frames (Some (tasks_of f.function.body))) (sym is) (begun p classes space store.elements k store.loaded.items made shared s c.rest n c.call call lowered shares.table shares.named f begins);
         pending = subst (λ (a : Option ℕ). ReferenceAgrees space a s.pending) (sym pending) h.pending;

@@ -15,7 +15,7 @@ use Rattle.type_rules.specs.Sorts.{Ref}
 use Rattle.semantics_safety.specs.Owners.{Owners, IsOwn}
 use Rattle.semantics_safety.specs.Used.{operand_names, task_names}
 use Rattle.semantics.specs.Arguments.{Actual, ReferenceActual, actuals, field_argument, look_up, look_up_expression, reference_argument, reference_given, reference_in_actual, variable_given}
-use Rattle.semantics.specs.CallEffects.{level_of}
+use Rattle.semantics.specs.CallEffects.{ScalarResult, level_of}
 use Rattle.semantics.specs.Effect.{Effect, Becomes, Sets, SetsElement, Returns, Calls, effect_of, at_line, with_value, call_effect_of, element_effect, is_ready, print_effect, branch_effect, loop_effect, return_effect, returned_name, reduce_first}
 use Rattle.semantics.specs.Object.{Reference}
 use Rattle.semantics.specs.Sight.{Sight, held_reference}
@@ -63,13 +63,13 @@ module _ (line : ℕ) where
 
   quiet_return : (sight : Sight) (t : Term) → is_call (return_effect sight line t) ≡ false
   quiet_return sight (term.Named tree.Null) = refl
-  quiet_return sight (Read x) = by_number (sight.number x)
+  quiet_return sight (Read x) = by_number (sight.number x) (sight.reference x)
     where
-      by_number : (o : Outcome Value) → is_call (returned_name line o) ≡ false
-      by_number (Gives v) = refl
-      by_number (Traps trap) = refl
-      by_number Stuck = refl
-  quiet_return sight t = quiet_value sight (λ v. Returns) (ReturnValue line) t (λ v. refl)
+      by_number : (o : Outcome Value) (r : StaticReference) → is_call (returned_name line o r) ≡ false
+      by_number (Gives v) r = refl
+      by_number (Traps trap) r = refl
+      by_number Stuck r = refl
+  quiet_return sight t = quiet_value sight (λ v. Returns (ScalarResult v)) (ReturnValue line) t (λ v. refl)
 
 -- what a call's task is
 pub record IsInvoke (sight : Sight) (task : Task) (line : ℕ) (target : Target) (f : JniFunction) (args : List Actual) : Type 0 where

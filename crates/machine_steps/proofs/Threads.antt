@@ -8,8 +8,9 @@ use Rattle.heap.specs.Heap.{Block, Space, class_at}
 use Rattle.semantics.specs.Object.{Object, Reference}
 use Rattle.semantics.specs.World.{Invocation, World, loaded_objects}
 use Rattle.semantics.specs.Heap.{Heap, class_of}
-use Rattle.semantics.specs.Activation.{return_step, monitors_after}
-use Rattle.semantics.specs.Activation as activation
+use Rattle.semantics.specs.CallEffects.{CallResult}
+use Rattle.semantics.specs.Return.{return_by, return_step, monitors_after}
+use Rattle.semantics.specs.Return as activation
 use Rattle.semantics.specs.Effect.{Effect, Calls, Returns, effect_of}
 use Rattle.semantics.specs.Task.{Task}
 use Rattle.semantics.specs.Thread as source
@@ -32,7 +33,7 @@ use Rattle.semantics.specs.declared.event.Event.TheVariants as event
 use Rattle.machine_threads.specs.declared.thread.Thread.{Thread}
 use Rattle.machine_threads.specs.declared.thread.PendingCall.{PendingCall}
 use Rattle.machine_scenes.specs.declared.activation.Activation.{Activation}
-use Rattle.semantics_safety.specs.Owners.{Owners, after_event, after_tasks}
+use Rattle.semantics_safety.specs.Owners.{Owners, ThreadOwners, after_return, after_step, after_tasks}
 use Rattle.machine_scenes.specs.declared.store.Store.{Store}
 use Rattle.machine_scenes.specs.StoreAgrees.{StoreAgrees, Keeps}
 use Rattle.machine_threads.specs.ThreadAgrees.{CallsAgree, ThreadAgrees, buffers_of}
@@ -68,31 +69,32 @@ resting p classes space copies k visible frames (Some x) tasks w e = absurd (cc)
 
 -- ---- an instruction
 
--- the owners after an effect
-left_owners : (effect : Effect) (event : source.Event) (frames : ℕ) (own : Owners) (vs : Variables) → after_event event effect frames own vs ≡ owners_left effect event frames own vs
-left_owners (Calls line target f args) source.Quiet frames own vs = refl
-left_owners (Calls line target f args) (source.PrintedNumber z) frames own vs = refl
-left_owners (Calls line target f args) (source.Trapped trap at) frames own vs = refl
-left_owners other source.Quiet frames own vs = refl
-left_owners other (source.PrintedNumber z) frames own vs = refl
-left_owners other (source.Trapped trap at) frames own vs = refl
+-- the owners after an effect, where the thread has no callers
+left_owners : (s : source.Thread) (own : ThreadOwners) → s.callers ≡ [] → (effect : Effect) (event : source.Event) (vs : Variables) → (after_step s own event effect vs).current ≡ owners_left effect event (length s.frames) own.current vs
+left_owners s own alone (Calls line target f args) source.Quiet vs = refl
+left_owners s own alone (Calls line target f args) (source.PrintedNumber z) vs = refl
+left_owners s own alone (Calls line target f args) (source.Trapped trap at) vs = refl
+left_owners s own alone (Returns given) event vs = ap (λ (callers : List source.Caller). (after_return callers own.callers own vs).current) alone
+left_owners s own alone other source.Quiet vs = refl
+left_owners s own alone other (source.PrintedNumber z) vs = refl
+left_owners s own alone other (source.Trapped trap at) vs = refl
 
 -- those after a step within a call
-advanced_owners : (shared : Shared) (s : source.Thread) (own : Owners) (task : Task) (rest : List Task) → s.tasks ≡ Some (task ∷ rest) → (event : source.Event) (vs : Variables)
-    → after_tasks shared s s.tasks own event vs ≡ owners_left (effect_of (sight_of shared s) task) event (length s.frames) own vs
-advanced_owners shared s own task rest is event vs = ap (λ (o : Option (List Task)). after_tasks shared s o own event vs) is ∙ left_owners (effect_of (sight_of shared s) task) event (length s.frames) own vs
+advanced_owners : (shared : Shared) (s : source.Thread) (own : ThreadOwners) → s.callers ≡ [] → (task : Task) (rest : List Task) → s.tasks ≡ Some (task ∷ rest) → (event : source.Event) (vs : Variables)
+    → (after_tasks shared s s.tasks own event vs).current ≡ owners_left (effect_of (sight_of shared s) task) event (length s.frames) own.current vs
+advanced_owners shared s own alone task rest is event vs = ap (λ (o : Option (List Task)). (after_tasks shared s o own event vs).current) is ∙ left_owners s own alone (effect_of (sight_of shared s) task) event vs
 
 -- One step of a thread.
-module _ (p : Lowered) (w : World) (old : Store) (others : Acquired) (k : ℕ) (own : Owners) (shared : Shared) (t : Thread) (s : source.Thread) (h : ThreadAgrees p w.classes old.heap old.elements (length (loaded_objects w)) k own shared t s) where
+module _ (p : Lowered) (w : World) (old : Store) (others : Acquired) (k : ℕ) (own : ThreadOwners) (shared : Shared) (t : Thread) (s : source.Thread) (h : ThreadAgrees p w.classes old.heap old.elements (length (loaded_objects w)) k own.current shared t s) where
   -- a step of the source's thread within its call
   steps_by : (refused : Bool) (task : Task) (rest : List Task) → s.tasks ≡ Some (task ∷ rest) → thread_step (unit_tree p.unit) w.classes (in_use_with others s) k shared s refused ≡ after_any w.classes (in_use_with others s) k shared s rest refused (effect_of (sight_of shared s) task)
   steps_by false task rest tasks = ap (step_within (unit_tree p.unit) w.classes (in_use_with others s) k shared s false) tasks
   steps_by true task rest tasks = ap (step_within (unit_tree p.unit) w.classes (in_use_with others s) k shared s true) tasks
 
   -- an instruction but a return
-  pub did : (store : Store) (refused : Bool) (e : Event) (task : Task) (rest : List Task) → s.tasks ≡ Some (task ∷ rest) → (after : Activation) (pending : Option ℕ) → GoesOn p w old store others k own shared s rest after pending (effect_of (sight_of shared s) task) refused e
+  pub did : (store : Store) (refused : Bool) (e : Event) (task : Task) (rest : List Task) → s.callers ≡ [] → s.tasks ≡ Some (task ∷ rest) → (after : Activation) (pending : Option ℕ) → GoesOn p w old store others k own.current shared s rest after pending (effect_of (sight_of shared s) task) refused e
       → Advances p w old store others k own shared s (record t { call = Some after; pending = pending }) refused e
-  did store refused e task rest is after pending g = record {
+  did store refused e task rest alone is after pending g = record {
     next_shared = g.next_shared;
     next = g.next;
     steps = steps_by refused task rest is ∙ g.steps;
@@ -100,9 +102,9 @@ module _ (p : Lowered) (w : World) (old : Store) (others : Acquired) (k : ℕ) (
     keeps = g.keeps;
     keeps_copies = g.keeps_copies;
     agrees =
-        let owned = owners_left (effect_of (sight_of shared s) task) (event_view e) (length s.frames) own g.next.variables in
+        let owned = owners_left (effect_of (sight_of shared s) task) (event_view e) (length s.frames) own.current g.next.variables in
         subst (λ (now : Owners). ThreadAgrees p w.classes store.heap store.elements (length (loaded_objects w)) k now g.next_shared (record t { call = Some after; pending = pending }) g.next)
-        (sym (advanced_owners shared s own task rest is (event_view e) g.next.variables)) (record {
+        (sym (advanced_owners shared s own alone task rest is (event_view e) g.next.variables)) (record {
           calls = subst (CallsAgree p w.classes (length (loaded_objects w)) t.calls.items) (sym g.calls) h.calls;
           work = g.work;
           pending = g.pending_agrees;
@@ -125,7 +127,7 @@ ending_of None (c ∷ calls) = source.Unfinished
 
 -- a thread after its call
 abbrev pub idle : Option ℕ → List Invocation → source.Thread
-idle class calls = record { calls = activation.calls_after (ending_of class calls) calls; tasks = None; variables = []; frames = []; pending = None; ending = ending_of class calls }
+idle class calls = record { calls = activation.calls_after (ending_of class calls) calls; callers = []; tasks = None; variables = []; frames = []; pending = None; ending = ending_of class calls }
 
 source_ending : (heap : Heap) (r : Reference) (calls : List Invocation) → activation.ending_after heap r calls ≡ ending_of (option_map (class_of heap) r) calls
 unfolding ending_of
@@ -133,11 +135,12 @@ source_ending heap (Some n) calls = refl
 source_ending heap None [] = refl
 source_ending heap None (c ∷ calls) = refl
 
-returns_by : (k : ℕ) (shared : Shared) (s : source.Thread) (class : Option ℕ) → option_map (class_of shared.heap) s.pending ≡ class → return_step k shared s ≡ source.Advances (record shared { monitors = monitors_after (ending_of class s.calls) k shared.monitors }) (idle class s.calls) source.Quiet
-returns_by k shared s class pending =
+returns_by : (k : ℕ) (shared : Shared) (s : source.Thread) (class : Option ℕ) (given : CallResult) → s.callers ≡ [] → option_map (class_of shared.heap) s.pending ≡ class → return_step k shared s given ≡ source.Advances (record shared { monitors = monitors_after (ending_of class s.calls) k shared.monitors }) (idle class s.calls) source.Quiet
+returns_by k shared s class given alone pending =
     let ends : activation.ending_after shared.heap s.pending s.calls ≡ ending_of class s.calls = source_ending shared.heap s.pending s.calls ∙ ap (λ (o : Option ℕ). ending_of o s.calls) pending in
-    ap (λ (ending : source.Ending). source.Advances (record shared { monitors = monitors_after ending k shared.monitors })
-    (record { calls = activation.calls_after ending s.calls; tasks = None; variables = []; frames = []; pending = None; ending = ending }) source.Quiet) ends
+    ap (return_by k shared s given) alone
+    ∙ ap (λ (ending : source.Ending). source.Advances (record shared { monitors = monitors_after ending k shared.monitors })
+    (record { calls = activation.calls_after ending s.calls; callers = []; tasks = None; variables = []; frames = []; pending = None; ending = ending }) source.Quiet) ends
 
 calls_left : (p : Lowered) (classes : Classes) (made : ℕ) (class : Option ℕ) (nexts : List PendingCall) (calls : List Invocation) → CallsAgree p classes made nexts calls → CallsAgree p classes made (calls_after class nexts) (activation.calls_after (ending_of class calls) calls)
 unfolding ending_of
@@ -207,13 +210,13 @@ rest_left : (ended : Bool) (k : ℕ) (old store : Store) → LeavesMonitors ende
 rest_left true k old store g = (ap (λ (x : Store). x.heap) g.is, ap (λ (x : Store). x.elements) g.is)
 rest_left false k old store same = (ap (λ (x : Store). x.heap) same, ap (λ (x : Store). x.elements) same)
 
-module _ (p : Lowered) (w : World) (old : Store) (others : Acquired) (k : ℕ) (own : Owners) (shared : Shared) (t : Thread) (s : source.Thread) (h : ThreadAgrees p w.classes old.heap old.elements (length (loaded_objects w)) k own shared t s) where
-  pub returned : (store left : Store) (pending : Option ℕ) (after : Thread) (task : Task) (rest : List Task) → s.tasks ≡ Some (task ∷ rest) → StoreAgrees p w store shared (beside others (acquired_by s)) → store ≡ old → MayReturn s → ReferenceAgrees store.heap pending s.pending → t.ending ≡ Unfinished
-      → effect_of (sight_of shared s) task ≡ Returns → after.call ≡ None → after.pending ≡ None → after.calls.items ≡ calls_after (option_and_then (class_at store.heap) pending) t.calls.items
+module _ (p : Lowered) (w : World) (old : Store) (others : Acquired) (k : ℕ) (own : ThreadOwners) (shared : Shared) (t : Thread) (s : source.Thread) (h : ThreadAgrees p w.classes old.heap old.elements (length (loaded_objects w)) k own.current shared t s) where
+  pub returned : (store left : Store) (pending : Option ℕ) (after : Thread) (task : Task) (rest : List Task) → s.callers ≡ [] → s.tasks ≡ Some (task ∷ rest) → StoreAgrees p w store shared (beside others (acquired_by s)) → store ≡ old → MayReturn s → ReferenceAgrees store.heap pending s.pending → t.ending ≡ Unfinished
+      → ((given : CallResult) × (effect_of (sight_of shared s) task ≡ Returns given)) → after.call ≡ None → after.pending ≡ None → after.calls.items ≡ calls_after (option_and_then (class_at store.heap) pending) t.calls.items
       → after.ending ≡ ending_after (option_and_then (class_at store.heap) pending) t.calls.items t.ending
       → LeavesMonitors (ends_with (option_and_then (class_at store.heap) pending) t.calls.items) k store left
       → Advances p w old left others k own shared s after false event.Quiet
-  returned store left pending after task rest tasks shares same may pends o is no_call no_pending calls ending monitors =
+  returned store left pending after task rest alone tasks shares same may pends o is no_call no_pending calls ending monitors =
       let class : Option ℕ = option_and_then (class_at store.heap) pending in
       let made : ℕ = length (loaded_objects w) in
       let of : option_map (class_of shared.heap) s.pending ≡ class = class_pending store.heap shared.heap pending s.pending shares.heap.blocks pends in
@@ -222,13 +225,13 @@ module _ (p : Lowered) (w : World) (old : Store) (others : Acquired) (k : ℕ) (
       record {
         next_shared = next;
         next = idle class s.calls;
-        steps = steps_by p w old others k own shared t s h false task rest tasks ∙ ap (after_effect w.classes (in_use_with others s) k shared s rest) is ∙ returns_by k shared s class of;
+        steps = steps_by p w old others k own shared t s h false task rest tasks ∙ ap (after_effect w.classes (in_use_with others s) k shared s rest) is.1 ∙ returns_by k shared s class is.0 alone of;
         store_agrees = store_same p w left next others s.variables [] (sym (nothing_lent s.variables may.0)) (monitors_left p w k shared s store left (beside others (acquired_by s)) shares w.classes made class t.calls.items s.calls h.calls monitors);
         keeps = subst (λ (space : Space). Keeps old.heap shared space next) (sym (parts.0 ∙ ap (λ (x : Store). x.heap) same)) (keeps_monitors old.heap shared next.monitors);
         keeps_copies = λ key c there other. subst (λ (copies : List (Option OwnedNumbers)). value_at copies key ≡ Some c) (sym (parts.1 ∙ ap (λ (x : Store). x.elements) same)) there;
         agrees = record {
           calls = subst (λ (ns : List PendingCall). CallsAgree p w.classes made ns (activation.calls_after (ending_of class s.calls) s.calls)) (sym calls) (calls_left p w.classes made class t.calls.items s.calls h.calls);
-          work = subst (λ (c : Option Activation). WorkAgrees p w.classes left.heap left.elements k (visible_to (after_tasks shared s s.tasks own source.Quiet []) next (idle class s.calls)) c [] None) (sym no_call) refl;
+          work = subst (λ (c : Option Activation). WorkAgrees p w.classes left.heap left.elements k (visible_to (after_tasks shared s s.tasks own source.Quiet []).current next (idle class s.calls)) c [] None) (sym no_call) refl;
           pending = subst (λ (a : Option ℕ). ReferenceAgrees left.heap a None) (sym no_pending) tt;
           ending = ending_agrees p w.classes made class t.calls.items s.calls t.ending h.calls o ∙ ap ending_view (sym ending);
           busy = λ a b c. something_to_do p w.classes made class t.calls.items s.calls t.ending h.calls (sym ending ∙ a) c;

@@ -7,7 +7,7 @@ use Rattle.base.specs.Bytes.{Identifier, lookup}
 use Rattle.base.specs.Element.{ElementType}
 use Rattle.heap.specs.Heap.{Space, name_at}
 use Rattle.semantics.specs.CallEffects.{freed, with_freed}
-use Rattle.semantics.specs.Thread.{Thread, viewed_by}
+use Rattle.semantics.specs.Thread.{Thread, objects_viewed}
 use Rattle.semantics.specs.Variable as source
 use Rattle.semantics.specs.Variable.{Variable, Variables, Scalar, LocalRef, FieldHandle, Elements, LocalArray, NoBuffer, Copy, View, assign, change, viewed}
 use Rattle.semantics_safety.specs.StepSafe.{HoldsNoBuffer}
@@ -94,7 +94,7 @@ none_viewed space (suc n) = none_viewed space n
 
 -- where neither slots nor what its variables view have changed
 pub views_stay : (space space' : Space) (copies : List (Option OwnedNumbers)) (k : ℕ) (slots : List Buffer) (buffers : List source.Buffer) (s next : Thread) → ((a n : ℕ) → name_at space a ≡ Some n → name_at space' a ≡ Some n)
-    → AllZip (BufferAgrees space copies k) slots buffers → viewed_by next ≡ viewed_by s → AreViewed space slots s → AreViewed space' slots next
+    → AllZip (BufferAgrees space copies k) slots buffers → objects_viewed next.variables ≡ objects_viewed s.variables → AreViewed space slots s → AreViewed space' slots next
 views_stay space space' copies k slots buffers s next names agree same h = λ n. omega (arith, ap (times n) (viewed_stays space space' copies k slots buffers names agree), h n, ap (times n) same)
 
 -- where the slots are the same, and the variables take the same
@@ -107,8 +107,8 @@ pub views_taken : (space : Space) (copies : List (Option OwnedNumbers)) (k : ℕ
 views_taken space copies k slots i h x t c s next new none is views = λ n.
     let slot = slot_taken space copies k slots i h c n new in
     let more = (assigned_buffer nothing_acquired x t c s.variables none).viewed n in
-    let next_views : times n (viewed_by next) ≡ times n (taken_by (assign x (Elements t c) s.variables)).viewed = ap (λ (vs : Variables). times n (taken_by vs).viewed) is in
-    omega (arith, slot, more, times_append n (viewed_by s) (acquired_of c).viewed, next_views, views n)
+    let next_views : times n (objects_viewed next.variables) ≡ times n (taken_by (assign x (Elements t c) s.variables)).viewed = ap (λ (vs : Variables). times n (taken_by vs).viewed) is in
+    omega (arith, slot, more, times_append n (objects_viewed s.variables) (acquired_of c).viewed, next_views, views n)
 
 -- a variable counts as what it holds
 counts_held : (n : ℕ) (o : Option Variable) → counted (λ (v : Variable). times n (viewed v)) o ≡ times n (acquired_of (held_buffer o)).viewed
@@ -130,7 +130,7 @@ views_put space copies k slots buffers i h x t c s next agree at new is views = 
     let variables = views_assigned (times n) refl (times_append n) x (Elements t c) s.variables in
     let was = counts_held n (lookup x s.variables) in
     let now = counts_held n (Some (Elements t c)) in
-    let next_views : times n (viewed_by next) ≡ times n (taken_by (assign x (Elements t c) s.variables)).viewed = ap (λ (vs : Variables). times n (taken_by vs).viewed) is in
+    let next_views : times n (objects_viewed next.variables) ≡ times n (taken_by (assign x (Elements t c) s.variables)).viewed = ap (λ (vs : Variables). times n (taken_by vs).viewed) is in
     omega (arith, slot, variables, was, now, next_views, views n)
 
 -- where a buffer is given up
@@ -140,8 +140,8 @@ pub views_freed : (space : Space) (copies : List (Option OwnedNumbers)) (k : ℕ
 views_freed space copies k slots buffers i x t b s next agree at there is views = λ n.
     let slot = slot_put space copies k slots buffers i b held.Null NoBuffer n agree at tt in
     let variables = (beside_freed nothing_acquired s x t b there).viewed n in
-    let next_views : times n (viewed_by next) ≡ times n (viewed_by (with_freed s x)) = ap (λ (vs : Variables). times n (taken_by vs).viewed) is in
-    omega (arith, slot, variables, next_views, times_append n (viewed_by (with_freed s x)) [], views n)
+    let next_views : times n (objects_viewed next.variables) ≡ times n (objects_viewed (with_freed s x).variables) = ap (λ (vs : Variables). times n (taken_by vs).viewed) is in
+    omega (arith, slot, variables, next_views, times_append n (objects_viewed (with_freed s x).variables) [], views n)
 
 -- ---- NULL in a slot
 

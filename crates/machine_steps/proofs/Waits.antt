@@ -75,6 +75,7 @@ unowned_agrees p w store shared all h = agrees_monitors p w store shared all h [
 
 pub unowned_steady : (classes : Classes) (own : Owners) (shared : Shared) (s : source.Thread) → IsSteady classes own shared s → IsSteady classes own (unowned shared) s
 unowned_steady classes own shared s h = record {
+  alone = h.alone;
   view = h.view;
   return = h.return;
   release = h.release;
@@ -116,7 +117,7 @@ module _ (p : Lowered) (classes : Classes) (space : Space) (copies : List (Optio
       does_cases code r.known call.place call.stack (slots_of call r.meant) (visible_to own shared s) rest (λ (e : Effect). waits_with classes k shared s e ≡ false)
       (λ tasks g. refl) (λ x v g. refl) (λ target g. refl) (λ x i z t a g. refl) (λ x i z g. refl) (λ t x n g. refl) (λ z g. refl)
       (λ line target f args g. other line target f args (λ enters. none g.call (let same : Some i ≡ Some (instr.Call g.call) = sym at ∙ g.at in cc) (g.same_function ∙ enters)))
-      (λ g. refl) (λ trap line g. refl) refl (effect_of (sight_of shared s) task) r.does
+      (λ g given. refl) (λ trap line g. refl) refl (effect_of (sight_of shared s) task) r.does
     where
       other : (line : ℕ) (target : Target) (f : JniFunction) (args : List Actual) → (f ≡ MonitorEnter → ⊥) → waits_with classes k shared s (Calls line target f args) ≡ false
       other line target MonitorEnter args another = absurd (another refl)

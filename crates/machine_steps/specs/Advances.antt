@@ -4,7 +4,7 @@ use Rattle.class_rules.specs.ClassIds.{class_id}
 use Rattle.heap.specs.Heap.{left_of}
 use Rattle.syntax.specs.Views.{unit_tree}
 use Rattle.semantics.specs.World.{World, loaded_objects}
-use Rattle.semantics_safety.specs.Owners.{Owners, after_advance}
+use Rattle.semantics_safety.specs.Owners.{ThreadOwners, after_advance}
 use Rattle.semantics.specs.Thread as source
 use Rattle.semantics.specs.Thread.{Shared}
 use Rattle.semantics.specs.ThreadStep.{thread_step, waits}
@@ -30,15 +30,15 @@ use Rattle.machine_threads.specs.ThreadAgrees.{ThreadAgrees}
 -- ---- steps
 
 -- thread k, in a store, stands for one of the source that no step breaks; the buffers of the other threads take this
-abbrev pub Stands : Lowered → World → Store → (others : Acquired) → (k : ℕ) → Owners → Shared → source.Thread → Thread → Type 0
+abbrev pub Stands : Lowered → World → Store → (others : Acquired) → (k : ℕ) → ThreadOwners → Shared → source.Thread → Thread → Type 0
 Stands p w store others k own shared s t =
     StoreAgrees p w store shared (beside others (acquired_by s))
-    × ThreadAgrees p w.classes store.heap store.elements (length (loaded_objects w)) k own shared t s
-    × IsSteady w.classes own shared s
+    × ThreadAgrees p w.classes store.heap store.elements (length (loaded_objects w)) k own.current shared t s
+    × IsSteady w.classes own.current shared s
 
 -- Thread k took the step that the source's thread takes, or the same with its allocation refused, where too few cells were left. The
 -- buffers of the other threads, which take this, are as they were.
-pub record Advances (p : Lowered) (w : World) (old store : Store) (others : Acquired) (k : ℕ) (own : Owners)
+pub record Advances (p : Lowered) (w : World) (old store : Store) (others : Acquired) (k : ℕ) (own : ThreadOwners)
     (shared : Shared) (s : source.Thread) (t : Thread) (refused : Bool) (event : Event) : Type 0 where
   pub next_shared : Shared
   pub next : source.Thread
@@ -48,12 +48,12 @@ pub record Advances (p : Lowered) (w : World) (old store : Store) (others : Acqu
   pub keeps : Keeps old.heap shared store.heap next_shared
   pub keeps_copies : KeepsCopies k old.elements store.elements
   pub agrees : ThreadAgrees p w.classes store.heap store.elements (length (loaded_objects w)) k
-      (after_advance shared s own (source.Advances next_shared next (event_view event))) next_shared t next
+      (after_advance shared s own (source.Advances next_shared next (event_view event))).current next_shared t next
   pub short : refused ≡ true → IsShortOf (cells_made shared (thread_step (unit_tree p.unit) w.classes
       (in_use_with others s) k shared s false)) old.heap store.heap
 
 -- the same by what is told of it
-abbrev pub AdvancesBy : Lowered → World → (old store : Store) → (others : Acquired) → (k : ℕ) → Owners → Shared
+abbrev pub AdvancesBy : Lowered → World → (old store : Store) → (others : Acquired) → (k : ℕ) → ThreadOwners → Shared
     → source.Thread → Thread → Advanced → Type 0
 AdvancesBy p w old store others k own shared s t (advanced.Did event) = Advances p w old store others k own shared s t false event
 AdvancesBy p w old store others k own shared s t advanced.Refused = Advances p w old store others k own shared s t true Quiet
@@ -61,19 +61,19 @@ AdvancesBy p w old store others k own shared s t advanced.Refused = Advances p w
 -- it stands for some thread of the source that no step breaks; it has not ended, and doesn't wait for a monitor
 abbrev pub StandsReady : Lowered → World → (k : ℕ) → Store → Thread → Type 0
 StandsReady p w k store t =
-    (others : Acquired) × (own : Owners) × (shared : Shared) × (s : source.Thread)
+    (others : Acquired) × (own : ThreadOwners) × (shared : Shared) × (s : source.Thread)
     × StoreAgrees p w store shared (beside others (acquired_by s))
-    × ThreadAgrees p w.classes store.heap store.elements (length (loaded_objects w)) k own shared t s
-    × (t.ending ≡ Unfinished) × IsSteady w.classes own shared s × (waits w.classes k shared s ≡ false)
+    × ThreadAgrees p w.classes store.heap store.elements (length (loaded_objects w)) k own.current shared t s
+    × (t.ending ≡ Unfinished) × IsSteady w.classes own.current shared s × (waits w.classes k shared s ≡ false)
 
 -- what holds of thread k with whatever state it stands for in which it doesn't wait
 abbrev pub HoldsAlways : Lowered → World → (k : ℕ) → Store → Thread
-    → (Acquired → Owners → Shared → source.Thread → Type 0) → Type 0
+    → (Acquired → ThreadOwners → Shared → source.Thread → Type 0) → Type 0
 HoldsAlways p w k store t Holds =
-    (others : Acquired) (own : Owners) (shared : Shared) (s : source.Thread)
+    (others : Acquired) (own : ThreadOwners) (shared : Shared) (s : source.Thread)
     → StoreAgrees p w store shared (beside others (acquired_by s))
-    → ThreadAgrees p w.classes store.heap store.elements (length (loaded_objects w)) k own shared t s
-    → IsSteady w.classes own shared s → waits w.classes k shared s ≡ false → Holds others own shared s
+    → ThreadAgrees p w.classes store.heap store.elements (length (loaded_objects w)) k own.current shared t s
+    → IsSteady w.classes own.current shared s → waits w.classes k shared s ≡ false → Holds others own shared s
 
 -- it took the step that the source's thread takes
 abbrev pub AdvancesAlways : Lowered → World → (k : ℕ) → (store after : Store) → Thread → Thread → Advanced → Type 0

@@ -6,6 +6,7 @@ use Rattle.class_rules.specs.Class.{Classes}
 use Rattle.heap.specs.Heap.{left_of}
 use Rattle.semantics.specs.Object.{Reference, sizes}
 use Rattle.semantics.specs.World.{World}
+use Rattle.semantics.specs.CallEffects.{CallResult}
 use Rattle.semantics.specs.CallStep.{waits_with}
 use Rattle.semantics.specs.Effect.{Effect, Calls, Returns, NoEffect, effect_of}
 use Rattle.semantics.specs.Task.{Task, Target, Assigned}
@@ -19,7 +20,7 @@ use Rattle.jni.specs.Access.{Access}
 use Rattle.jni.specs.JniFunction.{JniFunction, ReleaseBuffer, prototype}
 use Rattle.jni.specs.Prototype.{NewLocal}
 use Rattle.semantics.specs.Thread as source
-use Rattle.semantics.specs.Thread.{BuffersInUse, Shared, Advance, Advances, NoAdvance, sight_of, viewed_by}
+use Rattle.semantics.specs.Thread.{BuffersInUse, Shared, Advance, Advances, NoAdvance, sight_of, objects_viewed}
 use Rattle.semantics.specs.Variable.{LocalRef, Variables}
 use Rattle.semantics.specs.ThreadStep.{next_effect, after_effect, after_refused_effect}
 use Rattle.code_meaning.specs.Slots.{visible_to}
@@ -41,8 +42,9 @@ use Rattle.machine_scenes.specs.StoreAgrees.{StoreAgrees, Keeps}
 
 -- What no step of an accepted unit breaks, as `StepSafe` has it of the thread alone, and what its objects and variables are made of.
 pub record IsSteady (classes : Classes) (own : Owners) (shared : Shared) (s : source.Thread) : Type 0 where
-  pub view : (task : Task) (rest : List Task) → s.tasks ≡ Some (task ∷ rest) → viewed_by s ≢ [] → MayMeetView task
-  pub return : next_effect shared s s.tasks ≡ Returns → MayReturn s
+  pub alone : s.callers ≡ []
+  pub view : (task : Task) (rest : List Task) → s.tasks ≡ Some (task ∷ rest) → objects_viewed s.variables ≢ [] → MayMeetView task
+  pub return : (given : CallResult) → next_effect shared s s.tasks ≡ Returns given → MayReturn s
   pub release : (line : ℕ) (target : Target) (access : Access) (args : List Actual)
       → next_effect shared s s.tasks ≡ Calls line target (ReleaseBuffer access) args
       → came_from (lookup (variable_given args 1) s.variables) ≡ Some (object_given args 0)
@@ -125,7 +127,7 @@ Executes p w old store others k own shared s rest activation pending effect (Did
 Executes p w old store others k own shared s rest activation pending effect Refused =
     GoesOn p w old store others k own shared s rest activation pending effect true Quiet
 Executes p w old store others k own shared s rest activation pending effect Returned =
-    (effect ≡ Returns) × StoreAgrees p w store shared (beside others (acquired_by s)) × (store ≡ old)
+    ((given : CallResult) × (effect ≡ Returns given)) × StoreAgrees p w store shared (beside others (acquired_by s)) × (store ≡ old)
     × ReferenceAgrees store.heap pending s.pending
 
 -- ---- an instruction for any thread of the source

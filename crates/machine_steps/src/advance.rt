@@ -7,7 +7,7 @@ ghost use Rattle.heap.specs.Heap.{IsAddress, class_at};
 ghost use Rattle.semantics.specs.Thread.{Shared, Thread as SourceThread};
 ghost use Rattle.semantics.specs.ThreadStep.{waits};
 ghost use Rattle.semantics.specs.World.{World as SourceWorld};
-ghost use Rattle.semantics_safety.specs.Owners.{Owners};
+ghost use Rattle.semantics_safety.specs.Owners.{ThreadOwners};
 ghost use Rattle.code_meaning.specs.Lowered.{IsLowered};
 ghost use Rattle.machine_scenes.specs.Buffers.{Acquired};
 ghost use Rattle.machine_steps.specs.Advances.{Advances, AdvancesAlways, IsHinderedAlways, LeavesMonitors, Stands, StandsReady, calls_after, ending_after, ends_with};
@@ -93,9 +93,9 @@ pub fn advance(
 #[inline(always)]
 pub fn advance_plainly(program: &Program<'_>, store: &Store, thread: &mut Thread) -> Option<Event>
     requires lowered { IsLowered program.now }
-    requires stands { (w : SourceWorld) × (others : Acquired) × (k : ℕ) × (own : Owners) × (shared : Shared)
+    requires stands { (w : SourceWorld) × (others : Acquired) × (k : ℕ) × (own : ThreadOwners) × (shared : Shared)
         × (s : SourceThread) × Stands program.now w store.now others k own shared s thread.old }
-    ensures advances { IfSome result (λ event. (w : SourceWorld) (others : Acquired) (k : ℕ) (own : Owners)
+    ensures advances { IfSome result (λ event. (w : SourceWorld) (others : Acquired) (k : ℕ) (own : ThreadOwners)
         (shared : Shared) (s : SourceThread) → Stands program.now w store.now others k own shared s thread.old
         → (waits w.classes k shared s ≡ false)
         × Advances program.now w store.now store.now others k own shared s thread.new false event) }

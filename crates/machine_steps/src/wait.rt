@@ -10,7 +10,7 @@ ghost use Rattle.semantics.specs.Task.{Task};
 ghost use Rattle.semantics.specs.Thread.{Shared, Thread as SourceThread, sight_of};
 ghost use Rattle.semantics.specs.ThreadStep.{waits};
 ghost use Rattle.semantics.specs.World.{loaded_objects};
-ghost use Rattle.semantics_safety.specs.Owners.{Owners};
+ghost use Rattle.semantics_safety.specs.Owners.{Owners, ThreadOwners};
 ghost use Rattle.code_meaning.specs.Lowered.{IsLowered, Lowered};
 ghost use Rattle.machine_scenes.specs.Buffers.{Acquired, acquired_by, beside};
 ghost use Rattle.machine_scenes.specs.StoreAgrees.{StoreAgrees};
@@ -45,13 +45,13 @@ pub fn waits(
     number: u8,
 ) -> bool
     requires lowered { IsLowered program.now }
-    requires agrees { (others : Acquired) × (own : Owners) × (shared : Shared) × (s : SourceThread)
+    requires agrees { (others : Acquired) × (own : ThreadOwners) × (shared : Shared) × (s : SourceThread)
         × Stands program.now world.now store.now others number own shared s thread.now }
-    ensures { (others : Acquired) (own : Owners) (shared : Shared) (s : SourceThread)
+    ensures { (others : Acquired) (own : ThreadOwners) (shared : Shared) (s : SourceThread)
         → StoreAgrees program.now world.now store.now shared (beside others (acquired_by s))
         → ThreadAgrees program.now world.now.classes store.now.heap store.now.elements
-        (length (loaded_objects world.now)) number own shared thread.now s
-        → IsSteady world.now.classes own shared s → result ≡ waits world.now.classes number shared s }
+        (length (loaded_objects world.now)) number own.current shared thread.now s
+        → IsSteady world.now.classes own.current shared s → result ≡ waits world.now.classes number shared s }
 {
     if store.monitors.len() == 0 {
         return false;

@@ -22,8 +22,8 @@ use Rattle.machine_steps.proofs.advance.advance.Goals as goal
 pub execute-requires-clause-stands : goal.execute-requires-clause-stands
 execute-requires-clause-stands c =
     let a = c.requires.agrees in
-    let it = work c.args.program.now c.args.world.now c.args.store.now a.0 c.args.number a.1 a.2 c.args.thread.now a.3 c.in-Some.activation a.4 a.5 c.in-Some.is a.7 in
-    (a.0, a.1, a.2, a.3, it.task, it.rest, executes c.args.program.now c.args.world.now c.args.store.now a.0 c.args.number a.1 a.2 c.args.thread.now a.3 c.in-Some.activation a.4 a.5 c.in-Some.is a.7 a.8)
+    let it = work c.args.program.now c.args.world.now c.args.store.now a.0 c.args.number a.1.current a.2 c.args.thread.now a.3 c.in-Some.activation a.4 a.5 c.in-Some.is a.7 in
+    (a.0, a.1.current, a.2, a.3, it.task, it.rest, executes c.args.program.now c.args.world.now c.args.store.now a.0 c.args.number a.1.current a.2 c.args.thread.now a.3 c.in-Some.activation a.4 a.5 c.in-Some.is a.7 a.8)
 
 pub enter-requires-clause-ready : goal.enter-requires-clause-ready
 enter-requires-clause-ready c next rest is =
@@ -45,20 +45,20 @@ returns-in-Ok-Did-clause-advances c others own shared s shares h steady free =
     let p = c.args.program.now in
     let w = c.args.world.now in
     let old = c.args.store.now in
-    let b = work p w old others c.args.number own shared c.args.thread.now s c.in-Some.activation shares h c.in-Some.is steady in
-    let executed = c.in-Ok-Did.ensures.done others own shared s b.task b.rest (executes p w old others c.args.number own shared c.args.thread.now s c.in-Some.activation shares h c.in-Some.is steady free) in
-    let goes = subst (λ (x : Executed). Executes p w old c.execute.new.store others c.args.number own shared s b.rest c.execute.new.activation c.execute.new.pending (effect_of (sight_of shared s) b.task) x) c.in-Ok-Did.field-0-is executed in
-    did p w old others c.args.number own shared c.args.thread.now s h c.execute.new.store false c.in-Ok-Did.event b.task b.rest b.is c.execute.new.activation c.execute.new.pending goes
+    let b = work p w old others c.args.number own.current shared c.args.thread.now s c.in-Some.activation shares h c.in-Some.is steady in
+    let executed = c.in-Ok-Did.ensures.done others own.current shared s b.task b.rest (executes p w old others c.args.number own.current shared c.args.thread.now s c.in-Some.activation shares h c.in-Some.is steady free) in
+    let goes = subst (λ (x : Executed). Executes p w old c.execute.new.store others c.args.number own.current shared s b.rest c.execute.new.activation c.execute.new.pending (effect_of (sight_of shared s) b.task) x) c.in-Ok-Did.field-0-is executed in
+    did p w old others c.args.number own shared c.args.thread.now s h c.execute.new.store false c.in-Ok-Did.event b.task b.rest steady.alone b.is c.execute.new.activation c.execute.new.pending goes
 
 pub returns-in-Ok-Refused-clause-advances : goal.returns-in-Ok-Refused-clause-advances
 returns-in-Ok-Refused-clause-advances c others own shared s shares h steady free =
     let p = c.args.program.now in
     let w = c.args.world.now in
     let old = c.args.store.now in
-    let b = work p w old others c.args.number own shared c.args.thread.now s c.in-Some.activation shares h c.in-Some.is steady in
-    let executed = c.in-Ok-Refused.ensures.done others own shared s b.task b.rest (executes p w old others c.args.number own shared c.args.thread.now s c.in-Some.activation shares h c.in-Some.is steady free) in
-    let goes = subst (λ (x : Executed). Executes p w old c.execute.new.store others c.args.number own shared s b.rest c.execute.new.activation c.execute.new.pending (effect_of (sight_of shared s) b.task) x) c.in-Ok-Refused.field-0-is executed in
-    did p w old others c.args.number own shared c.args.thread.now s h c.execute.new.store true Quiet b.task b.rest b.is c.execute.new.activation c.execute.new.pending goes
+    let b = work p w old others c.args.number own.current shared c.args.thread.now s c.in-Some.activation shares h c.in-Some.is steady in
+    let executed = c.in-Ok-Refused.ensures.done others own.current shared s b.task b.rest (executes p w old others c.args.number own.current shared c.args.thread.now s c.in-Some.activation shares h c.in-Some.is steady free) in
+    let goes = subst (λ (x : Executed). Executes p w old c.execute.new.store others c.args.number own.current shared s b.rest c.execute.new.activation c.execute.new.pending (effect_of (sight_of shared s) b.task) x) c.in-Ok-Refused.field-0-is executed in
+    did p w old others c.args.number own shared c.args.thread.now s h c.execute.new.store true Quiet b.task b.rest steady.alone b.is c.execute.new.activation c.execute.new.pending goes
 
 -- an address with a name is that of a block
 there_is : (o : Option Block) (n : ℕ) → option_map (λ (b : Block). b.birth) o ≡ Some n → IsSome o
@@ -77,9 +77,9 @@ leave-requires c a is =
     let old = c.args.store.now in
     let r = c.requires.agrees in
     let k = c.args.number in
-    let b = work p w old r.0 k r.1 r.2 c.args.thread.now r.3 c.in-Some.activation r.4 r.5 c.in-Some.is r.7 in
-    let executed = c.in-Ok-Returned.ensures.done r.0 r.1 r.2 r.3 b.task b.rest (executes p w old r.0 k r.1 r.2 c.args.thread.now r.3 c.in-Some.activation r.4 r.5 c.in-Some.is r.7 r.8) in
-    let left = subst (λ (x : Executed). Executes p w old c.execute.new.store r.0 k r.1 r.2 r.3 b.rest c.execute.new.activation c.execute.new.pending (effect_of (sight_of r.2 r.3) b.task) x) c.in-Ok-Returned.field-0-is executed in
+    let b = work p w old r.0 k r.1.current r.2 c.args.thread.now r.3 c.in-Some.activation r.4 r.5 c.in-Some.is r.7 in
+    let executed = c.in-Ok-Returned.ensures.done r.0 r.1.current r.2 r.3 b.task b.rest (executes p w old r.0 k r.1.current r.2 c.args.thread.now r.3 c.in-Some.activation r.4 r.5 c.in-Some.is r.7 r.8) in
+    let left = subst (λ (x : Executed). Executes p w old c.execute.new.store r.0 k r.1.current r.2 r.3 b.rest c.execute.new.activation c.execute.new.pending (effect_of (sight_of r.2 r.3) b.task) x) c.in-Ok-Returned.field-0-is executed in
     named c.execute.new.store.heap c.execute.new.pending r.3.pending a left.3 is
 
 pub returns-in-Ok-Returned-clause-advances : goal.returns-in-Ok-Returned-clause-advances
@@ -87,16 +87,16 @@ returns-in-Ok-Returned-clause-advances c others own shared s shares h steady fre
     let p = c.args.program.now in
     let w = c.args.world.now in
     let old = c.args.store.now in
-    let b = work p w old others c.args.number own shared c.args.thread.now s c.in-Some.activation shares h c.in-Some.is steady in
-    let executed = c.in-Ok-Returned.ensures.done others own shared s b.task b.rest (executes p w old others c.args.number own shared c.args.thread.now s c.in-Some.activation shares h c.in-Some.is steady free) in
-    let left = subst (λ (x : Executed). Executes p w old c.execute.new.store others c.args.number own shared s b.rest c.execute.new.activation c.execute.new.pending (effect_of (sight_of shared s) b.task) x) c.in-Ok-Returned.field-0-is executed in
-    returned p w old others c.args.number own shared c.args.thread.now s h c.execute.new.store c.leave.new.store c.execute.new.pending c.leave.new.thread b.task b.rest b.is left.1 left.2 (steady.return (ap (next_effect shared s) b.is ∙ left.0)) left.3 c.requires.agrees.6 left.0 c.leave.ensures.call c.leave.ensures.pending c.leave.ensures.calls c.leave.ensures.ending c.leave.ensures.monitors
+    let b = work p w old others c.args.number own.current shared c.args.thread.now s c.in-Some.activation shares h c.in-Some.is steady in
+    let executed = c.in-Ok-Returned.ensures.done others own.current shared s b.task b.rest (executes p w old others c.args.number own.current shared c.args.thread.now s c.in-Some.activation shares h c.in-Some.is steady free) in
+    let left = subst (λ (x : Executed). Executes p w old c.execute.new.store others c.args.number own.current shared s b.rest c.execute.new.activation c.execute.new.pending (effect_of (sight_of shared s) b.task) x) c.in-Ok-Returned.field-0-is executed in
+    returned p w old others c.args.number own shared c.args.thread.now s h c.execute.new.store c.leave.new.store c.execute.new.pending c.leave.new.thread b.task b.rest steady.alone b.is left.1 left.2 (steady.return left.0.0 (ap (next_effect shared s) b.is ∙ left.0.1)) left.3 c.requires.agrees.6 left.0 c.leave.ensures.call c.leave.ensures.pending c.leave.ensures.calls c.leave.ensures.ending c.leave.ensures.monitors
 
 pub returns-in-Err-clause-hindered : goal.returns-in-Err-clause-hindered
 returns-in-Err-clause-hindered c others own shared s shares h steady free =
     let p = c.args.program.now in
     let w = c.args.world.now in
     let old = c.args.store.now in
-    let b = work p w old others c.args.number own shared c.args.thread.now s c.in-Some.activation shares h c.in-Some.is steady in
-    let told = c.in-Err.ensures.hindered others own shared s b.task b.rest (executes p w old others c.args.number own shared c.args.thread.now s c.in-Some.activation shares h c.in-Some.is steady free) in
+    let b = work p w old others c.args.number own.current shared c.args.thread.now s c.in-Some.activation shares h c.in-Some.is steady in
+    let told = c.in-Err.ensures.hindered others own.current shared s b.task b.rest (executes p w old others c.args.number own.current shared c.args.thread.now s c.in-Some.activation shares h c.in-Some.is steady free) in
     subst (λ (a : source.Advance). IsHindered (left_of old.heap) (cells_made shared a) c.args.may_refuse c.in-Err.fault) (sym (ap (step_within (unit_tree p.unit) w.classes (in_use_with others s) c.args.number shared s false) b.is)) told
