@@ -10,7 +10,7 @@ use Rattle.semantics.specs.ThreadStep.{waits}
 use Rattle.semantics.specs.Thread as source
 use Rattle.semantics.specs.Thread.{Shared}
 use Rattle.semantics.specs.World.{World, loaded_objects}
-use Rattle.semantics_safety.specs.Owners.{Owners, owners_after}
+use Rattle.semantics_safety.specs.Owners.{ThreadOwners, owners_after}
 use Rattle.machine_scenes.specs.declared.store.Store.{Store}
 use Rattle.machine_scenes.specs.Buffers.{Acquired, acquired_by, beside}
 use Rattle.machine_scenes.specs.StoreAgrees.{StoreAgrees}
@@ -82,16 +82,16 @@ module _ (p : Lowered) (w : World) (store : Store) (ts : List Thread) (index : �
   from_there mid new r after later same thread h =
       subst (λ (l : List Thread). IfOk r (AdvancesFrom p w store l index after later)) (put_there new thread) (subst (λ (y : Store). IfOk r (AdvancesFrom p w y (set ts index new) index after later)) same h)
 
-  abbrev pub own : Owners
+  abbrev pub own : ThreadOwners
   own = owners_after (unit_tree p.unit) w s.journal (suc index)
 
   abbrev pub shared : Shared
   shared = s.stands.state.shared
 
-  pub found : Found p w.classes store.heap store.elements (length (loaded_objects w)) shared (suc index) own (slice_index_or ts index d) s.stands.state.threads index
+  pub found : Found p w.classes store.heap store.elements (length (loaded_objects w)) shared (suc index) own.current (slice_index_or ts index d) s.stands.state.threads index
   found = the_thread p w store ts s.printed s.stop s.journal s.stands (suc index) index (slice_index_or ts index d) refl there
 
-  pub is_steady : IsSteady w.classes own shared found.source
+  pub is_steady : IsSteady w.classes own.current shared found.source
   unfolding found
   is_steady = steady p w store ts s.printed s.stop s.journal s.stands (suc index) index (slice_index_or ts index d) refl there
 
@@ -113,7 +113,7 @@ module _ (p : Lowered) (w : World) (store : Store) (ts : List Thread) (index : �
     -- what a thread of the collection's threads agrees with
     pub record AgreesStill (e : Thread) : Type 0 where
       pub shares : StoreAgrees p w after shared (beside rest (acquired_by found.source))
-      pub agrees : ThreadAgrees p w.classes after.heap after.elements (length (loaded_objects w)) (suc index) own shared (slice_index_or later index e) found.source
+      pub agrees : ThreadAgrees p w.classes after.heap after.elements (length (loaded_objects w)) (suc index) own.current shared (slice_index_or later index e) found.source
       pub lives : (slice_index_or later index e).ending ≡ Unfinished
       pub at : slice_get later index ≡ Some (slice_index_or later index e)
 
@@ -127,10 +127,10 @@ module _ (p : Lowered) (w : World) (store : Store) (ts : List Thread) (index : �
         let f = the_thread p w after later s.printed s.stop s.journal c (suc index) index (slice_index_or later index e) refl at in
         let same : f.source ≡ found.source = let both : Some f.source ≡ Some found.source = sym f.is ∙ ap (λ (x : State). slice_get x.threads index) state ∙ found.is in cc in
         record {
-          shares = store_taken p w after shared (acquired s.stands.state) (beside rest (acquired_by found.source)) (parted s.stands.state.threads index found.source found.is)
+          shares = store_taken p w after shared (acquired s.stands.state) (beside rest (acquired_by found.source)) (parted s.stands.state.threads index found.source is_steady.alone found.is)
               (subst (λ (x : State). StoreAgrees p w after x.shared (acquired x)) state c.store_agrees);
-          agrees = subst (λ (x : State). ThreadAgrees p w.classes after.heap after.elements (length (loaded_objects w)) (suc index) own x.shared (slice_index_or later index e) found.source) state
-              (subst (λ (x : source.Thread). ThreadAgrees p w.classes after.heap after.elements (length (loaded_objects w)) (suc index) own c.state.shared (slice_index_or later index e) x) same f.agrees);
+          agrees = subst (λ (x : State). ThreadAgrees p w.classes after.heap after.elements (length (loaded_objects w)) (suc index) own.current x.shared (slice_index_or later index e) found.source) state
+              (subst (λ (x : source.Thread). ThreadAgrees p w.classes after.heap after.elements (length (loaded_objects w)) (suc index) own.current c.state.shared (slice_index_or later index e) x) same f.agrees);
           lives = ap (λ (t : Thread). t.ending) read ∙ s.lives;
           at = at;
         }

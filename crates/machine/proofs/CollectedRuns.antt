@@ -9,7 +9,7 @@ use Rattle.std.proofs.lemmas.List.Concat.{flat_map-cons}
 use Rattle.heap.specs.Heap.{Space, IsLaidOut, name_at, pins_at}
 use Rattle.semantics.specs.Task.{Task}
 use Rattle.semantics.specs.Thread as source
-use Rattle.semantics.specs.Thread.{Shared, viewed_by}
+use Rattle.semantics.specs.Thread.{Shared, objects_viewed, viewed_by}
 use Rattle.semantics.specs.World.{World, loaded_objects}
 use Rattle.semantics.specs.declared.journal.Entry.{Entry}
 use Rattle.semantics.specs.declared.printed.Printed.{Printed}
@@ -181,7 +181,7 @@ module _ (Kept : ℕ → Type 0) (to : ℕ → ℕ) (p : Lowered) (w : World) (s
 
   -- what a thread views is pinned, where all of these names are
   thread_pinned : (k : ℕ) (o : Option Activation) (s : source.Thread) → AgreeInSlots store.heap store.elements k o → AreViewed store.heap (buffers_of o) s
-      → ((a n : ℕ) → name_at store.heap a ≡ Some n → 0 < times n (viewed_by s) → Kept a × (0 < pins_at store.heap a)) → ArePinned (buffers_of o)
+      → ((a n : ℕ) → name_at store.heap a ≡ Some n → 0 < times n (objects_viewed s.variables) → Kept a × (0 < pins_at store.heap a)) → ArePinned (buffers_of o)
   thread_pinned k o s slots views pinned i a at =
       let r = view_at store.heap store.elements k (buffers_of o) slots.buffers i a slots.agree at in
       let often = in_times (viewed_in store.heap (buffers_of o)) r.0 r.2 in
@@ -194,19 +194,19 @@ module _ (Kept : ℕ → Type 0) (to : ℕ → ℕ) (p : Lowered) (w : World) (s
   threads_moved classes made owners k shared [] (s ∷ ss) kept pinned h = h
   threads_moved classes made owners k shared (x ∷ ts) [] kept pinned h = h
   threads_moved classes made owners k shared (x ∷ ts) (s ∷ ss) kept pinned h =
-      let slots = slots_agree p classes store.heap store.elements k (visible_to (owners k) shared s) x.call s.frames s.tasks (h.0).work in
+      let slots = slots_agree p classes store.heap store.elements k (visible_to (owners k).current shared s) x.call s.frames s.tasks (h.0).work in
       let parts : (n : ℕ) → times n (flat_map viewed_by (s ∷ ss)) ≡ times n (viewed_by s) + times n (flat_map viewed_by ss) = λ n. ap (times n) (flat_map-cons viewed_by s ss) ∙ times_append n (viewed_by s) (flat_map viewed_by ss) in
-      let own = thread_pinned k x.call s slots (h.0).views (λ a n named some. pinned a n named (omega (arith, some, parts n))) in (
+      let own = thread_pinned k x.call s slots (h.0).views (λ a n named some. pinned a n named (omega (arith, some, parts n, times_append n (flat_map (λ (c : source.Caller). objects_viewed c.variables) s.callers) (objects_viewed s.variables)))) in (
         record {
           calls = (h.0).calls;
-          work = work_moved classes k (visible_to (owners k) shared s) x.call s.frames s.tasks kept.0 own (h.0).work;
+          work = work_moved classes k (visible_to (owners k).current shared s) x.call s.frames s.tasks kept.0 own (h.0).work;
           pending = reference_moved Kept to store.heap t m x.pending s.pending kept.1 (h.0).pending;
           ending = (h.0).ending;
           busy = (h.0).busy;
           caught = (h.0).caught;
           idle = (h.0).idle;
           views = subst (λ (slots : List Buffer). AreViewed t slots s) (sym (still_slots x.call))
-              (subst (λ (l : List ℕ). (n : ℕ) → times n l ≤ times n (viewed_by s))
+              (subst (λ (l : List ℕ). (n : ℕ) → times n l ≤ times n (objects_viewed s.variables))
               (sym (viewed_same store.heap t store.elements store.elements k (buffers_of x.call) slots.buffers slots.agree (buffers_moved Kept to store.heap t m store.elements k (buffers_of x.call) slots.buffers own slots.agree))) (h.0).views);
         },
         threads_moved classes made owners (suc k) shared ts ss kept.2 (λ a n named some. pinned a n named (omega (arith, some, parts n))) h.1,

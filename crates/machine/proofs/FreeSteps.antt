@@ -13,7 +13,7 @@ use Rattle.semantics.specs.Schedule.{Schedule}
 use Rattle.semantics.specs.Thread as source
 use Rattle.semantics.specs.Thread.{Shared}
 use Rattle.semantics.specs.World.{World}
-use Rattle.semantics_safety.specs.Owners.{Owners}
+use Rattle.semantics_safety.specs.Owners.{ThreadOwners}
 use Rattle.code_meaning.specs.Lowered.{Lowered}
 use Rattle.code_meaning.proofs.BufferLaws.{set_same}
 use Rattle.machine_answers.proofs.SetPlaces.{get_set_same}
@@ -46,7 +46,7 @@ module _ (p : Lowered) (w : World) (store : Store) (ts : List Thread) (index : �
     thread_at = get_set_same ts index t (slice_get_within ts index first h.at)
 
     -- it stands for one of the source
-    pub stands_now : (others : Acquired) × (own : Owners) × (shared : Shared) × (s : source.Thread) × Stands p w store others k own shared s t
+    pub stands_now : (others : Acquired) × (own : ThreadOwners) × (shared : Shared) × (s : source.Thread) × Stands p w store others k own shared s t
     stands_now =
         let c = so_far.stands in (
           rest p w store (slice_set ts index t) printed None journal c k index t h.number thread_at,

@@ -6,7 +6,7 @@ use Rattle.class_rules.specs.Class.{Classes}
 use Rattle.heap.specs.Heap.{Space}
 use Rattle.semantics.specs.Task.{Task}
 use Rattle.semantics.specs.Thread as source
-use Rattle.semantics.specs.Thread.{Shared, viewed_by}
+use Rattle.semantics.specs.Thread.{Shared, objects_viewed}
 use Rattle.semantics.specs.Variable as variable
 use Rattle.semantics.specs.Variable.{NoBuffer, Copy, View}
 use Rattle.code_meaning.specs.Lowered.{Lowered}
@@ -15,7 +15,7 @@ use Rattle.tables.specs.Elements.{OwnedNumbers, owned}
 use Rattle.machine_scenes.specs.declared.activation.Activation.{Activation}
 use Rattle.machine_scenes.specs.declared.buffer.Buffer.{Buffer}
 use Rattle.machine_scenes.specs.declared.buffer.Buffer.TheVariants as held
-use Rattle.semantics_safety.specs.Owners.{Owners, AllOwners}
+use Rattle.semantics_safety.specs.Owners.{Owners, ThreadOwners, AllOwners}
 use Rattle.machine_threads.specs.declared.thread.Thread.{Thread}
 use Rattle.machine_scenes.specs.Buffers.{BufferAgrees, KeepsCopies}
 use Rattle.machine_scenes.specs.HeapAgrees.{times}
@@ -84,15 +84,15 @@ module _ (p : Lowered) (classes : Classes) (made k : ℕ) (space space' : Space)
         busy = h.busy;
         caught = h.caught;
         idle = h.idle;
-        views = subst (λ (l : List ℕ). (n : ℕ) → times n l ≤ times n (viewed_by s))
+        views = subst (λ (l : List ℕ). (n : ℕ) → times n l ≤ times n (objects_viewed s.variables))
             (sym (viewed_same space space' copies copies' j (buffers_of t.call) slots.buffers slots.agree (slots_stay j (buffers_of t.call) slots.buffers other slots.agree))) h.views;
       }
 
   -- ---- all threads
 
   module _ (owners owners' : AllOwners) (elsewhere : (j : ℕ) → j ≢ k → owners' j ≡ owners j) where
-    one_stays : (n : ℕ) (t : Thread) (s : source.Thread) → n ≢ k → ThreadAgrees p classes space copies made n (owners n) shared t s → ThreadAgrees p classes space' copies' made n (owners' n) shared' t s
-    one_stays n t s other h = subst (λ (o : Owners). ThreadAgrees p classes space' copies' made n o shared' t s) (sym (elsewhere n other)) (thread_stays n (owners n) t s other h)
+    one_stays : (n : ℕ) (t : Thread) (s : source.Thread) → n ≢ k → ThreadAgrees p classes space copies made n (owners n).current shared t s → ThreadAgrees p classes space' copies' made n (owners' n).current shared' t s
+    one_stays n t s other h = subst (λ (o : ThreadOwners). ThreadAgrees p classes space' copies' made n o.current shared' t s) (sym (elsewhere n other)) (thread_stays n (owners n).current t s other h)
 
     later_stay : (n : ℕ) (ts : List Thread) (ss : List source.Thread) → k < n → ThreadsAgree p classes space copies made owners n shared ts ss → ThreadsAgree p classes space' copies' made owners' n shared' ts ss
     later_stay n [] [] later h = h
@@ -101,12 +101,12 @@ module _ (p : Lowered) (classes : Classes) (made k : ℕ) (space space' : Space)
     later_stay n (t ∷ ts) (s ∷ ss) later h = (one_stays n t s (λ e. omega (arith, e, later)) h.0, later_stay (suc n) ts ss (omega (arith, later)) h.1)
 
     -- with the one that took the step
-    pub changed : (n : ℕ) (ts : List Thread) (ss : List source.Thread) (i : ℕ) (t : Thread) (s : source.Thread) → k ≡ n + i → ThreadsAgree p classes space copies made owners n shared ts ss → ThreadAgrees p classes space' copies' made k (owners' k) shared' t s
+    pub changed : (n : ℕ) (ts : List Thread) (ss : List source.Thread) (i : ℕ) (t : Thread) (s : source.Thread) → k ≡ n + i → ThreadsAgree p classes space copies made owners n shared ts ss → ThreadAgrees p classes space' copies' made k (owners' k).current shared' t s
         → ThreadsAgree p classes space' copies' made owners' n shared' (slice_set ts i t) (slice_set ss i s)
     changed n [] [] i t s place h a = tt
     changed n [] (y ∷ ss) i t s place h a = absurd h
     changed n (x ∷ ts) [] i t s place h a = absurd h
     changed n (x ∷ ts) (y ∷ ss) zero t s place h a =
         let here : k ≡ n = omega (arith, place) in
-        (subst (λ (m : ℕ). ThreadAgrees p classes space' copies' made m (owners' m) shared' t s) here a, later_stay (suc n) ts ss (omega (arith, place)) h.1)
+        (subst (λ (m : ℕ). ThreadAgrees p classes space' copies' made m (owners' m).current shared' t s) here a, later_stay (suc n) ts ss (omega (arith, place)) h.1)
     changed n (x ∷ ts) (y ∷ ss) (suc i) t s place h a = (one_stays n x y (λ e. omega (arith, e, place)) h.0, changed (suc n) ts ss i t s (omega (arith, place)) h.1 a)

@@ -7,7 +7,7 @@ use Rattle.syntax.specs.Tree.{SourceUnit}
 use Rattle.class_rules.specs.Class.{Classes}
 use Rattle.heap.specs.Heap.{Space}
 use Rattle.code_meaning.specs.Lowered.{Lowered}
-use Rattle.semantics_safety.specs.Owners.{AllOwners, Owners, after_advance, after_entry, after_turn, no_owner, owners_after, owners_from, with_owners}
+use Rattle.semantics_safety.specs.Owners.{AllOwners, Owners, ThreadOwners, after_advance, after_entry, after_turn, no_owners, owners_after, owners_from, with_owners}
 use Rattle.semantics.specs.declared.journal.Entry.{Entry}
 use Rattle.semantics.specs.declared.journal.Entry.TheVariants.{Step}
 use Rattle.semantics.specs.Journal.{Journal}
@@ -40,18 +40,18 @@ owners_more unit w s owners (x ∷ journal) e s' is = by_step (world_step unit w
 pub owners_stepped : (unit : SourceUnit) (w : World) (journal : Journal) (s : State) (k : ℕ) (refused : Bool) (t : source.Thread) (a : Advance) → replay unit w journal ≡ Some s → thread_at s k ≡ Some t → thread_step unit w.classes (in_use s) k s.shared t refused ≡ a
     → owners_after unit w (journal ++ Step k refused ∷ []) ≡ with_owners (owners_after unit w journal) k (after_advance s.shared t (owners_after unit w journal k) a)
 owners_stepped unit w journal s k refused t a is there steps =
-    owners_more unit w (start unit w) (λ k. no_owner) journal (Step k refused) s is
+    owners_more unit w (start unit w) (λ k. no_owners) journal (Step k refused) s is
     ∙ ap (after_turn unit w.classes s (owners_after unit w journal) k refused) there
     ∙ ap (λ (x : Advance). with_owners (owners_after unit w journal) k (after_advance s.shared t (owners_after unit w journal k) x)) steps
 
-pub owner_here : (owners : AllOwners) (k : ℕ) (own : Owners) → with_owners owners k own k ≡ own
+pub owner_here : (owners : AllOwners) (k : ℕ) (own : ThreadOwners) → with_owners owners k own k ≡ own
 owner_here owners k own = by_test (k == k) ((Decides-eqb k k).1 refl)
   where
     by_test : (b : Bool) → b ≡ true → (if b then own else owners k) ≡ own
     by_test true e = refl
     by_test false e = absurd (cc)
 
-pub owner_elsewhere : (owners : AllOwners) (k : ℕ) (own : Owners) (j : ℕ) → j ≢ k → with_owners owners k own j ≡ owners j
+pub owner_elsewhere : (owners : AllOwners) (k : ℕ) (own : ThreadOwners) (j : ℕ) → j ≢ k → with_owners owners k own j ≡ owners j
 owner_elsewhere owners k own j other = by_test (j == k) refl
   where
     by_test : (b : Bool) → (j == k) ≡ b → (if b then own else owners j) ≡ owners j
@@ -67,14 +67,14 @@ module _ (p : Lowered) (classes : Classes) (space : Space) (copies : List (Optio
     pub is : slice_get ss i ≡ Some source
     pub agrees : ThreadAgrees p classes space copies made k own shared t source
 
-  pub found : (owners : AllOwners) (n k : ℕ) (ts : List Thread) (ss : List source.Thread) (i : ℕ) (t : Thread) → k ≡ n + i → ThreadsAgree p classes space copies made owners n shared ts ss → slice_get ts i ≡ Some t → Found k (owners k) t ss i
+  pub found : (owners : AllOwners) (n k : ℕ) (ts : List Thread) (ss : List source.Thread) (i : ℕ) (t : Thread) → k ≡ n + i → ThreadsAgree p classes space copies made owners n shared ts ss → slice_get ts i ≡ Some t → Found k (owners k).current t ss i
   found owners n k [] [] i t place h e = absurd (cc)
   found owners n k [] (s ∷ ss) i t place h e = absurd h
   found owners n k (x ∷ ts) [] i t place h e = absurd h
   found owners n k (x ∷ ts) (s ∷ ss) zero t place h e =
       let same : x ≡ t = cc in
       let here : n ≡ k = omega (arith, place) in
-      record { source = s; is = refl; agrees = subst (λ (m : ℕ). ThreadAgrees p classes space copies made m (owners m) shared t s) here (subst (λ y. ThreadAgrees p classes space copies made n (owners n) shared y s) same h.0) }
+      record { source = s; is = refl; agrees = subst (λ (m : ℕ). ThreadAgrees p classes space copies made m (owners m).current shared t s) here (subst (λ y. ThreadAgrees p classes space copies made n (owners n).current shared y s) same h.0) }
   found owners n k (x ∷ ts) (s ∷ ss) (suc i) t place h e =
       let f = found owners (suc n) k ts ss i t (omega (arith, place)) h.1 e in
       record { source = f.source; is = f.is; agrees = f.agrees }

@@ -47,12 +47,12 @@ use Rattle.machine_steps.specs.declared.advance.Advanced.{Advanced}
 use Rattle.machine_steps.specs.declared.advance.Advanced.TheVariants as advanced
 use Rattle.machine.specs.Run.{Run, acquired, Corresponds, CouldStep, HadNoRoom, LeavesAll, TurnHolds, entry_of, event_of, is_refused, turn_after, turn_at_rest, HasEnded}
 use Rattle.machine.proofs.KeptThreads.{changed}
-use Rattle.machine.proofs.TakenBuffers.{in_use_same, joined, others, parted, taken}
+use Rattle.machine.proofs.TakenBuffers.{in_use_same, joined, others, own_viewed, parted, set_there, taken}
 use Rattle.machine_steps.proofs.Acquisitions.{store_taken}
-use Rattle.semantics_typing.specs.Objects.{AreTypedVariables}
+use Rattle.semantics_typing.specs.Objects.{IsTypedThread}
 use Rattle.semantics_typing.proofs.Lists.{all_get}
 use Rattle.machine.proofs.OwnerSteps.{Found, found, owner_elsewhere, owner_here, owners_stepped}
-use Rattle.semantics_safety.specs.Owners.{AllOwners, Owners, after_advance, owners_after, with_owners}
+use Rattle.semantics_safety.specs.Owners.{AllOwners, ThreadOwners, after_advance, owners_after, with_owners}
 
 -- ---- what a step changes
 
@@ -87,7 +87,7 @@ StepsAlways p w k store store' t after refused e = HoldsAlways p w k store t (λ
 -- the same of a step without a refusal that is known not to wait, and leaves the store as it was
 abbrev pub StepsFreely : Lowered → World → (k : ℕ) → Store → Thread → Thread → Event → Type 0
 StepsFreely p w k store t after e =
-    (others : Acquired) (own : Owners) (shared : Shared) (s : source.Thread) → Stands p w store others k own shared s t → (waits w.classes k shared s ≡ false) × Advances p w store store others k own shared s after false e
+    (others : Acquired) (own : ThreadOwners) (shared : Shared) (s : source.Thread) → Stands p w store others k own shared s t → (waits w.classes k shared s ≡ false) × Advances p w store store others k own shared s after false e
 
 -- what prints nothing
 pub none_printed : (printed : List Printed) (k : ℕ) (e : Event) → IsSilent e → printed_after printed k e ≡ printed
@@ -158,28 +158,33 @@ module _ (p : Lowered) (world : World) (store : Store) (ts : List Thread) (print
   placed : k ≡ 1 + i
   placed = omega (arith, counted)
 
-  pub the_thread : Found p classes store.heap store.elements count_made c.state.shared k (owners k) t c.state.threads i
+  pub the_thread : Found p classes store.heap store.elements count_made c.state.shared k (owners k).current t c.state.threads i
   the_thread = found p classes store.heap store.elements count_made c.state.shared owners 1 k ts c.state.threads i t placed c.threads_agree at
 
   there : thread_at c.state k ≡ Some the_thread.source
   there = ap (thread_at c.state) counted ∙ the_thread.is
 
   -- no step of it breaks what no accepted unit does
-  pub steady : IsSteady classes (owners k) c.state.shared the_thread.source
+  pub steady : IsSteady classes (owners k).current c.state.shared the_thread.source
   steady =
       let safe = c.safe journal c.state k the_thread.source c.replays there in
       let typed = c.typed.typed journal c.state c.replays in
       record {
-        view = safe.view;
+        alone = safe.alone;
+        view = λ task rest e held. safe.view task rest e (λ none. held (sym (own_viewed the_thread.source safe.alone) ∙ none));
         return = safe.return;
         release = safe.release;
         free = safe.free;
         possible = safe.possible;
         objects = typed.heap;
-        variables = all_get (λ (t : source.Thread). AreTypedVariables classes c.state.shared.heap t.variables) c.state.threads i the_thread.source typed.variables the_thread.is;
+        variables = (all_get (IsTypedThread classes c.state.shared.heap) c.state.threads i the_thread.source typed.variables the_thread.is).0;
         declared = safe.declared;
         owned = safe.owned;
       }
+
+  -- it has no callers
+  pub alone : the_thread.source.callers ≡ []
+  alone = (c.safe journal c.state k the_thread.source c.replays there).alone
 
   -- what the buffers of the other threads take
   abbrev pub rest : Acquired
@@ -187,7 +192,7 @@ module _ (p : Lowered) (world : World) (store : Store) (ts : List Thread) (print
 
   -- what those of all do, by theirs and its own
   all_taken : SameAcquired (acquired c.state) (beside rest (acquired_by the_thread.source))
-  all_taken = parted c.state.threads i the_thread.source the_thread.is
+  all_taken = parted c.state.threads i the_thread.source alone the_thread.is
 
   pub shared_agrees : StoreAgrees p world store c.state.shared (beside rest (acquired_by the_thread.source))
   shared_agrees = store_taken p world store c.state.shared (acquired c.state) (beside rest (acquired_by the_thread.source)) all_taken c.store_agrees
@@ -271,17 +276,21 @@ module _ (p : Lowered) (world : World) (store : Store) (ts : List Thread) (print
       step-thread (unit_tree p.unit) classes c.state k f.source refused (steps_here goes live free) ∙ ap (λ (u : BuffersInUse). advanced_to c.state k (thread_step (unit_tree p.unit) classes u k c.state.shared f.source refused)) used ∙ ap (advanced_to c.state k) a.steps in
       let shared_is : next.shared ≡ a.next_shared = shared_next c.state k a.next_shared a.next e in
       let threads_is : next.threads ≡ slice_set c.state.threads i a.next = threads_next c.state k a.next_shared a.next e ∙ ap (λ n. set_thread c.state.threads n a.next) counted in
+      let replayed = replay_more (unit_tree p.unit) world journal entry c.state next c.replays step in
+      let next_there : thread_at next k ≡ Some a.next =
+      ap (thread_at next) counted ∙ ap (λ (l : List source.Thread). slice_get l i) threads_is ∙ set_there c.state.threads i f.source a.next f.is in
+      let next_alone : a.next.callers ≡ [] = (c.safe (journal ++ entry ∷ []) next k a.next replayed next_there).alone in
       let shares : StoreAgrees p world store' next.shared (acquired next) =
       subst (λ (l : List source.Thread). StoreAgrees p world store' next.shared (taken l)) (sym threads_is)
       (subst (λ (x : Shared). StoreAgrees p world store' x (taken (slice_set c.state.threads i a.next))) (sym shared_is)
-      (store_taken p world store' a.next_shared (beside rest (acquired_by a.next)) (taken (slice_set c.state.threads i a.next)) (joined c.state.threads i f.source a.next f.is) a.store_agrees)) in
+      (store_taken p world store' a.next_shared (beside rest (acquired_by a.next)) (taken (slice_set c.state.threads i a.next)) (joined c.state.threads i f.source a.next next_alone f.is) a.store_agrees)) in
       let room : sizes (drop (length c.state.shared.heap) next.shared.heap) ≤ left_of store.heap = subst (λ (x : Shared). sizes (drop (length c.state.shared.heap) x.heap) ≤ left_of store.heap) (sym shared_is) a.keeps.room in
       record {
         lowered = c.lowered;
         safe = c.safe;
         typed = c.typed;
         state = next;
-        replays = replay_more (unit_tree p.unit) world journal entry c.state next c.replays step;
+        replays = replayed;
         store_agrees = shares;
         threads_agree =
             let own = after_advance c.state.shared f.source (owners k) (source.Advances a.next_shared a.next (event_view e)) in
@@ -292,7 +301,7 @@ module _ (p : Lowered) (world : World) (store : Store) (ts : List Thread) (print
             (subst (λ (x : Shared). ThreadsAgree p classes store'.heap store'.elements count_made now 1 x (slice_set ts i after) next.threads) (sym shared_is)
             (subst (ThreadsAgree p classes store'.heap store'.elements count_made now 1 a.next_shared (slice_set ts i after)) (sym threads_is)
             (changed p classes count_made k store.heap store'.heap store.elements store'.elements c.state.shared a.next_shared a.keeps a.keeps_copies owners now (owner_elsewhere owners k own) 1 ts c.state.threads i after a.next placed c.threads_agree
-            (subst (λ (o : Owners). ThreadAgrees p classes store'.heap store'.elements count_made k o a.next_shared after a.next) (sym (owner_here owners k own)) a.agrees))));
+            (subst (λ (o : ThreadOwners). ThreadAgrees p classes store'.heap store'.elements count_made k o.current a.next_shared after a.next) (sym (owner_here owners k own)) a.agrees))));
         same_printed = printed_next c.state k a.next_shared a.next e ∙ ap (λ l. printed_after l k e) c.same_printed;
         same_stop = stop_next c.state k a.next_shared a.next e stop c.same_stop;
         fits = each-more (unit_tree p.unit) world (FitsUnmarked (unit_tree p.unit) world) (Some (start (unit_tree p.unit) world)) journal entry c.fits

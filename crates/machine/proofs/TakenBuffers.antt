@@ -4,7 +4,7 @@ use Rattle.std.specs.Prelude.{flat_map, slice_get, slice_set, sum_by}
 use Rattle.std.proofs.lemmas.List.Concat.{flat_map-cons}
 use Rattle.std.proofs.lemmas.List.Sums.{sum_by-cons}
 use Rattle.semantics.specs.Start.{waiting_thread}
-use Rattle.semantics.specs.Thread.{BuffersInUse, Thread, copied_by, viewed_by}
+use Rattle.semantics.specs.Thread.{BuffersInUse, Caller, Thread, copied_by, lengths_copied, objects_viewed, viewed_by}
 use Rattle.semantics.specs.World.{Invocation}
 use Rattle.machine_scenes.specs.Buffers.{Acquired, SameAcquired, acquired_by, beside, in_use_of}
 use Rattle.machine_scenes.specs.HeapAgrees.{times}
@@ -49,15 +49,27 @@ viewed_parts count none both (x ∷ ss) (suc i) s at =
     let fewer = ap count (flat_map-cons viewed_by x (without ss i)) ∙ both (viewed_by x) (flat_map viewed_by (without ss i)) in
     omega (arith, parts, fewer, viewed_parts count none both ss i s at)
 
-pub parted : (ss : List Thread) (i : ℕ) (s : Thread) → slice_get ss i ≡ Some s → SameAcquired (taken ss) (beside (others ss i) (acquired_by s))
-parted ss i s at = record {
+-- the buffers of a thread that has no callers are those of its call in progress
+own_copied : (s : Thread) → s.callers ≡ [] → copied_by s ≡ (acquired_by s).copied
+own_copied s alone = omega (arith, ap (λ (l : List Caller). sum_by (λ (c : Caller). lengths_copied c.variables) l + lengths_copied s.variables) alone)
+
+pub own_viewed : (s : Thread) → s.callers ≡ [] → viewed_by s ≡ (acquired_by s).viewed
+own_viewed s alone = ap (λ (l : List Caller). flat_map (λ (c : Caller). objects_viewed c.variables) l ++ objects_viewed s.variables) alone
+
+own_parts : (ss : List Thread) (i : ℕ) (s : Thread) → slice_get ss i ≡ Some s → SameAcquired (taken ss) (beside (others ss i) (record { copied = copied_by s; viewed = viewed_by s }))
+own_parts ss i s at = record {
   copied = copied_parts ss i s at;
   many = viewed_parts length refl (λ xs ys. length-append xs ys) ss i s at ∙ sym (length-append (flat_map viewed_by (without ss i)) (viewed_by s));
   viewed = λ n. viewed_parts (times n) refl (times_append n) ss i s at ∙ sym (times_append n (flat_map viewed_by (without ss i)) (viewed_by s));
 }
 
+pub parted : (ss : List Thread) (i : ℕ) (s : Thread) → s.callers ≡ [] → slice_get ss i ≡ Some s → SameAcquired (taken ss) (beside (others ss i) (acquired_by s))
+parted ss i s alone at =
+    subst (λ (n : ℕ). SameAcquired (taken ss) (beside (others ss i) (record { copied = n; viewed = (acquired_by s).viewed }))) (own_copied s alone)
+    (subst (λ (l : List ℕ). SameAcquired (taken ss) (beside (others ss i) (record { copied = copied_by s; viewed = l }))) (own_viewed s alone) (own_parts ss i s at))
+
 -- once that one is another
-set_there : (ss : List Thread) (i : ℕ) (s t : Thread) → slice_get ss i ≡ Some s → slice_get (slice_set ss i t) i ≡ Some t
+pub set_there : (ss : List Thread) (i : ℕ) (s t : Thread) → slice_get ss i ≡ Some s → slice_get (slice_set ss i t) i ≡ Some t
 set_there [] i s t at = absurd (cc)
 set_there (x ∷ ss) zero s t at = refl
 set_there (x ∷ ss) (suc i) s t at = set_there ss i s t at
@@ -70,10 +82,10 @@ without_set (x ∷ ss) (suc i) t = ap (λ (l : List Thread). x ∷ l) (without_s
 pub same_back : (a b : Acquired) → SameAcquired a b → SameAcquired b a
 same_back a b h = record { copied = sym h.copied; many = sym h.many; viewed = λ n. sym (h.viewed n) }
 
-pub joined : (ss : List Thread) (i : ℕ) (s t : Thread) → slice_get ss i ≡ Some s → SameAcquired (beside (others ss i) (acquired_by t)) (taken (slice_set ss i t))
-joined ss i s t at =
+pub joined : (ss : List Thread) (i : ℕ) (s t : Thread) → t.callers ≡ [] → slice_get ss i ≡ Some s → SameAcquired (beside (others ss i) (acquired_by t)) (taken (slice_set ss i t))
+joined ss i s t alone at =
     same_back (taken (slice_set ss i t)) (beside (others ss i) (acquired_by t))
-    (subst (λ (l : List Thread). SameAcquired (taken (slice_set ss i t)) (beside (taken l) (acquired_by t))) (without_set ss i t) (parted (slice_set ss i t) i t (set_there ss i s t at)))
+    (subst (λ (l : List Thread). SameAcquired (taken (slice_set ss i t)) (beside (taken l) (acquired_by t))) (without_set ss i t) (parted (slice_set ss i t) i t alone (set_there ss i s t at)))
 
 pub in_use_same : (a b : Acquired) → SameAcquired a b → in_use_of a ≡ in_use_of b
 in_use_same a b h =

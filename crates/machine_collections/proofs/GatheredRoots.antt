@@ -6,7 +6,7 @@ use Rattle.std.specs.List.{AllZip}
 use Rattle.std.proofs.lemmas.Bool.{false≢true}
 use Rattle.heap.specs.Heap.{Space, name_at}
 use Rattle.semantics.specs.Object.{Reference}
-use Rattle.semantics.specs.Reachable.{from_one, thread_roots}
+use Rattle.semantics.specs.Reachable.{frame_roots, from_one, thread_roots}
 use Rattle.semantics.specs.Thread as source
 use Rattle.semantics.proofs.ReachableLemmas.{In, in_append_cases, in_append_left, in_append_right, in_cases, in_head, in_tail, contains_in, to_contains}
 use Rattle.tables.specs.Locals.{Frame, slots_by_frame}
@@ -133,6 +133,10 @@ in_take (suc n) (None ∷ slots) a h = in_take n slots a h
 in_take (suc n) (Some b ∷ slots) a h =
     ⊎_elim (λ (e : b ≡ a). subst (λ z. In (b ∷ references_in slots) z) e (in_head b (references_in slots))) (λ (l : In (references_in (take n slots)) a). in_tail b (references_in slots) a (in_take n slots a l)) (in_cases b (references_in (take n slots)) a h)
 
+-- what a thread that has no callers refers to
+own_roots : (s : source.Thread) → s.callers ≡ [] → thread_roots s ≡ flat_map (λ (g : source.Frame). g.references) s.frames ++ option_to_list s.pending
+own_roots s alone = ap (λ (l : List source.Caller). flat_map (λ (c : source.Caller). frame_roots c.frames) l ++ frame_roots s.frames ++ option_to_list s.pending) alone
+
 module _ (space : Space) where
   names_place : (places ns : List ℕ) (n : ℕ) → NamesAgree space places ns → In ns n → IsAmong space places n
   names_place [] [] n h k = absurd (false≢true k)
@@ -176,7 +180,7 @@ module _ (space : Space) where
       (λ (l : In (thread_roots s) n). ⊎_elim
       (λ (f : In (flat_map (λ (g : source.Frame). g.references) s.frames) n). let r = call_place t.call s.frames n (h.0).frames f in (r.0, r.1, in_append_left (thread_addresses t) (flat_map thread_addresses ts) r.0 (in_append_left (references_in (slots_of t.call)) (option_to_list t.pending) r.0 r.2)))
       (λ (q : In (option_to_list s.pending) n). let r = reference_place t.pending s.pending n (h.0).pending q in (r.0, r.1, in_append_left (thread_addresses t) (flat_map thread_addresses ts) r.0 (in_append_right (references_in (slots_of t.call)) (option_to_list t.pending) r.0 r.2)))
-      (in_append_cases (flat_map (λ (g : source.Frame). g.references) s.frames) (option_to_list s.pending) n l))
+      (in_append_cases (flat_map (λ (g : source.Frame). g.references) s.frames) (option_to_list s.pending) n (subst (λ (ns : List ℕ). In ns n) (own_roots s (h.0).alone) l)))
       (λ (l : In (flat_map thread_roots ss) n). let r = threads_place ts ss n h.1 l in (r.0, r.1, in_append_right (thread_addresses t) (flat_map thread_addresses ts) r.0 r.2))
       (in_append_cases (thread_roots s) (flat_map thread_roots ss) n k)
 
@@ -256,10 +260,11 @@ module _ (space : Space) where
   threads_name (t ∷ ts) [] a h stacked k = absurd h
   threads_name (t ∷ ts) (s ∷ ss) a h stacked k =
       let refs = flat_map (λ (g : source.Frame). g.references) s.frames in
+      let owned : (n : ℕ) → In (refs ++ option_to_list s.pending) n → In (thread_roots s) n = λ n k. subst (λ (ns : List ℕ). In ns n) (sym (own_roots s (h.0).alone)) k in
       ⊎_elim
       (λ (l : In (thread_addresses t) a). ⊎_elim
-      (λ (f : In (references_in (slots_of t.call)) a). let r = call_name t.call s.frames a (h.0).frames (stacked 0 t refl) f in (r.0, r.1, in_append_left (thread_roots s) (flat_map thread_roots ss) r.0 (in_append_left refs (option_to_list s.pending) r.0 r.2)))
-      (λ (q : In (option_to_list t.pending) a). let r = reference_name t.pending s.pending a (h.0).pending q in (r.0, r.1, in_append_left (thread_roots s) (flat_map thread_roots ss) r.0 (in_append_right refs (option_to_list s.pending) r.0 r.2)))
+      (λ (f : In (references_in (slots_of t.call)) a). let r = call_name t.call s.frames a (h.0).frames (stacked 0 t refl) f in (r.0, r.1, in_append_left (thread_roots s) (flat_map thread_roots ss) r.0 (owned r.0 (in_append_left refs (option_to_list s.pending) r.0 r.2))))
+      (λ (q : In (option_to_list t.pending) a). let r = reference_name t.pending s.pending a (h.0).pending q in (r.0, r.1, in_append_left (thread_roots s) (flat_map thread_roots ss) r.0 (owned r.0 (in_append_right refs (option_to_list s.pending) r.0 r.2))))
       (in_append_cases (references_in (slots_of t.call)) (option_to_list t.pending) a l))
       (λ (l : In (flat_map thread_addresses ts) a). let r = threads_name ts ss a h.1 (λ i u e. stacked (suc i) u e) l in (r.0, r.1, in_append_right (thread_roots s) (flat_map thread_roots ss) r.0 r.2))
       (in_append_cases (thread_addresses t) (flat_map thread_addresses ts) a k)

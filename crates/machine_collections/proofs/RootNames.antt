@@ -104,10 +104,11 @@ abbrev pub CallFrames : Space → Option Activation → List source.Frame → Ty
 CallFrames space None frames = frames ≡ []
 CallFrames space (Some call) frames = FramesAgree space call.locals frames
 
--- the frames and the pending exception of a thread stand for those of one of the source
+-- the frames and the pending exception of a thread stand for those of one of the source, which has no callers
 pub record HasRootsOf (space : Space) (t : Thread) (s : source.Thread) : Type 0 where
   pub frames : CallFrames space t.call s.frames
   pub pending : ReferenceAgrees space t.pending s.pending
+  pub alone : s.callers ≡ []
 
 -- ---- reference by reference
 

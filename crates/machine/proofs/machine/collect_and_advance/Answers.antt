@@ -33,7 +33,7 @@ advance-requires-clause-agrees c =
       f.source,
       k.shares,
       subst (λ (n : ℕ). ThreadAgrees c.args.program.now c.args.world.now.classes c.collect_blocks.new.store.heap c.collect_blocks.new.store.elements (length (loaded_objects c.args.world.now)) n
-          (own c.args.program.now c.args.world.now c.args.store.now c.args.threads.now c.args.index c.requires.stands c.requires.stands.thread) c.requires.stands.stands.state.shared (slice_index_or c.collect_blocks.new.threads c.args.index c.index-threads-index.result) f.source)
+          (own c.args.program.now c.args.world.now c.args.store.now c.args.threads.now c.args.index c.requires.stands c.requires.stands.thread).current c.requires.stands.stands.state.shared (slice_index_or c.collect_blocks.new.threads c.args.index c.index-threads-index.result) f.source)
           (numbered c.args.k c.args.index c.requires.number) k.agrees,
       k.lives,
       is_steady c.args.program.now c.args.world.now c.args.store.now c.args.threads.now c.args.index c.requires.stands c.requires.stands.thread,
@@ -53,9 +53,9 @@ unreachable-requires c =
     let number = numbered c.args.k c.args.index c.requires.number in
     let some = c.requires.makes (slice_index_or c.args.threads.now c.args.index c.requires.stands.thread) (there c.args.program.now c.args.world.now c.args.store.now c.args.threads.now c.args.index c.requires.stands c.requires.stands.thread)
     (rest c.args.program.now c.args.world.now c.args.store.now c.args.threads.now c.args.index c.requires.stands c.requires.stands.thread) mine shared f.source (shared_there c.args.program.now c.args.world.now c.args.store.now c.args.threads.now c.args.index c.requires.stands c.requires.stands.thread)
-    (subst (λ (n : ℕ). ThreadAgrees c.args.program.now c.args.world.now.classes c.args.store.now.heap c.args.store.now.elements (length (loaded_objects c.args.world.now)) n mine shared (slice_index_or c.args.threads.now c.args.index c.requires.stands.thread) f.source) number f.agrees) calm ready in
+    (subst (λ (n : ℕ). ThreadAgrees c.args.program.now c.args.world.now.classes c.args.store.now.heap c.args.store.now.elements (length (loaded_objects c.args.world.now)) n mine.current shared (slice_index_or c.args.threads.now c.args.index c.requires.stands.thread) f.source) number f.agrees) calm ready in
     let hindered = c.in-Err.ensures.hindered (rest c.args.program.now c.args.world.now c.args.store.now c.args.threads.now c.args.index c.requires.stands c.requires.stands.thread) mine shared f.source now.shares
-    (subst (λ (n : ℕ). ThreadAgrees c.args.program.now c.args.world.now.classes c.collect_blocks.new.store.heap c.collect_blocks.new.store.elements (length (loaded_objects c.args.world.now)) n mine shared (slice_index_or c.collect_blocks.new.threads c.args.index c.index-threads-index.result) f.source) number now.agrees) calm ready in
+    (subst (λ (n : ℕ). ThreadAgrees c.args.program.now c.args.world.now.classes c.collect_blocks.new.store.heap c.collect_blocks.new.store.elements (length (loaded_objects c.args.world.now)) n mine.current shared (slice_index_or c.collect_blocks.new.threads c.args.index c.index-threads-index.result) f.source) number now.agrees) calm ready in
     no_fault _ _ c.in-Err.field-0 some hindered
 
 pub returns-clause-advances : goal.returns-clause-advances

@@ -34,7 +34,7 @@ returns-clause-begins c =
     let owners : AllOwners = owners_after (unit_tree c.args.program.now.unit) w [] in
     let agree = c.in_ok-threads.ensures.agree c.in_ok-store.store.heap c.in_ok-store.store.elements owners 1 s.shared in
     let none = none_taken w.threads in
-    let count : length c.in_ok-threads.threads.items ≡ length c.args.world.now.threads = agree_length _ _ _ _ _ _ _ _ _ _ agree ∙ length-map c.args.world.now.threads waiting_thread in
+    let count : length c.in_ok-threads.threads.items ≡ length c.args.world.now.threads = agree_length _ _ _ _ _ owners _ _ _ _ agree ∙ length-map c.args.world.now.threads waiting_thread in
     record {
       lowered = c.items.ensures.lowered;
       safe = c.accepted_is_safe.ensures (unit_tree c.args.program.now.unit) w
