@@ -85,6 +85,7 @@ module _ (unit : SourceUnit) (classes : Classes) where
   stands_waiting : (t : ThreadInMemory) (calls : List Invocation) → IsWaiting t calls → refused_calls unit classes calls ≡ [] → ThreadStands unit classes t (waiting_thread calls)
   stands_waiting t calls h none = record {
     calls = sym h.same;
+    alone = refl;
     loads = subst (λ (cs : List Invocation). IsTrue (list_all (call_loads unit classes) cs)) (sym h.same) (all_pass (call_loads unit classes) calls none);
     tasks = ap tasks_in (sym h.idle);
     work = subst (λ (o : Option Activation). WorkStands o (waiting_thread calls)) (sym h.idle) (refl, refl);

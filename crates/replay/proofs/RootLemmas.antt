@@ -7,9 +7,9 @@ use Rattle.std.proofs.lemmas.List.Concat.{flat_map-cons}
 use Rattle.syntax.specs.Tree.{SourceUnit}
 use Rattle.class_rules.specs.Class.{Classes}
 use Rattle.semantics.specs.Object.{Reference}
-use Rattle.semantics.specs.Reachable.{from_one, loaded_count, roots, thread_roots}
+use Rattle.semantics.specs.Reachable.{frame_roots, from_one, loaded_count, roots, thread_roots}
 use Rattle.semantics.specs.State.{State, views}
-use Rattle.semantics.specs.Thread.{Frame, Monitor, Shared, Thread}
+use Rattle.semantics.specs.Thread.{Caller, Frame, Monitor, Shared, Thread}
 use Rattle.semantics.specs.World.{World}
 use Rattle.replay_steps.specs.declared.activation.Activation.{Activation}
 use Rattle.replay_threads.specs.declared.state.State.{State as StateInMemory}
@@ -29,7 +29,8 @@ frame_names (Some a) s h = ap (λ (fs : List Frame). flat_map (λ (f : Frame). f
 
 names_are : (unit : SourceUnit) (classes : Classes) (t : ThreadInMemory) (s : Thread) → ThreadStands unit classes t s → thread_roots s ≡ thread_names t
 names_are unit classes t s h =
-    ap (λ (l : List ℕ). l ++ option_to_list s.pending) (frame_names t.activation s h.work)
+    ap (λ (l : List Caller). flat_map (λ (c : Caller). frame_roots c.frames) l ++ frame_roots s.frames ++ option_to_list s.pending) h.alone
+    ∙ ap (λ (l : List ℕ). l ++ option_to_list s.pending) (frame_names t.activation s h.work)
     ∙ ap (λ (r : Reference). activation_names t.activation ++ option_to_list r) h.pending
 
 module _ (unit : SourceUnit) (classes : Classes) where

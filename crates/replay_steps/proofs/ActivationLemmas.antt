@@ -7,7 +7,8 @@ use Rattle.syntax.specs.declared.stmt.Stmt.{Stmt}
 use Rattle.syntax.specs.Tree.{SourceUnit}
 use Rattle.syntax.specs.Views.{expr_tree, block_tree}
 use Rattle.class_rules.specs.Class.{Classes}
-use Rattle.semantics.specs.Activation.{return_step}
+use Rattle.semantics.specs.CallEffects.{NoResult}
+use Rattle.semantics.specs.Return.{return_step}
 use Rattle.semantics.specs.Heap.{Heap}
 use Rattle.semantics.specs.Task.{Task, Loop, tasks_of}
 use Rattle.semantics.specs.Term.{term_of}
@@ -173,9 +174,9 @@ module _ (refused : Bool) (before between : Scene) (statics : Statics) (heap : H
     set took leaves same = leaves between.shared (with_tasks (within t) rest) (holds t rest) ∙ tasks_are Quiet rest same
 
     -- a step that leaves the call does not change the statics or the objects
-    returned : OnVariables outcome.Returned → (u : Thread) → return_step before.thread between.shared u ≡ return_step before.thread shared' u
+    returned : OnVariables outcome.Returned → (u : Thread) → return_step before.thread between.shared u NoResult ≡ return_step before.thread shared' u NoResult
     returned leaves u =
-        ap (λ (s' : Shared). return_step before.thread s' u) (ap (shared_of between.shared) (leaves between.shared (with_tasks (within t) rest) (holds t rest)))
+        ap (λ (s' : Shared). return_step before.thread s' u NoResult) (ap (shared_of between.shared) (leaves between.shared (with_tasks (within t) rest) (holds t rest)))
 
     left_with : (o : Option TaskInMemory) → new.task ≡ o → new.rest ≡ old.rest → new.outer.items ≡ old.outer.items → tasks_left new ≡ tasks_from o rest
     left_with o task' rest' outer' = left_is new o old.rest old.outer.items task' rest' outer'

@@ -16,6 +16,7 @@ use Rattle.semantics.specs.Task.{Task, SetScalar, SetElement, SetNull, MakeArray
 use Rattle.semantics.specs.Term.{Term, Done, Number, Named, Read, Element, IsNull, Prefix, And, Or, Binary, index_of, reduce}
 use Rattle.semantics.specs.Thread.{BuffersInUse, Frame, Thread, Shared, monitor_of}
 use Rattle.semantics.specs.ThreadStep.{next_effect, waits}
+use Rattle.semantics.specs.Variable.{StaticReference}
 use Rattle.semantics.specs.Value.{Value, Word, Int, Flag, Truth, Outcome, Gives, Traps, Stuck, Trap}
 use Rattle.replay_arguments.specs.Shares.{sight_in}
 use Rattle.replay_steps.specs.Activations.{tasks_from, tasks_around, tasks_after}
@@ -99,10 +100,10 @@ element-none sight line x i (Int z) =
 element-none sight line x i (Flag b) = tt
 element-none sight line x i (Truth b) = tt
 
-name-none : (line : ℕ) (o : Outcome Value) → CallsNone (returned_name line o)
-name-none line (Gives v) = tt
-name-none line (Traps trap) = tt
-name-none line Stuck = tt
+name-none : (line : ℕ) (o : Outcome Value) (r : StaticReference) → CallsNone (returned_name line o r)
+name-none line (Gives v) r = tt
+name-none line (Traps trap) r = tt
+name-none line Stuck r = tt
 
 return-none : (sight : Sight) (line : ℕ) (e : Term) → CallsNone (return_effect sight line e)
 return-none sight line (Done v) = tt
@@ -112,7 +113,7 @@ return-none sight line (Named False) = goes_on-none line (ReturnValue line) (red
 return-none sight line (Named Commit) = goes_on-none line (ReturnValue line) (reduce sight (Named Commit))
 return-none sight line (Named Abort) = goes_on-none line (ReturnValue line) (reduce sight (Named Abort))
 return-none sight line (Named Null) = tt
-return-none sight line (Read x) = name-none line (sight.number x)
+return-none sight line (Read x) = name-none line (sight.number x) (sight.reference x)
 return-none sight line (Element x e) = goes_on-none line (ReturnValue line) (reduce sight (Element x e))
 return-none sight line (IsNull b x) = goes_on-none line (ReturnValue line) (reduce sight (IsNull b x))
 return-none sight line (Prefix op e) = goes_on-none line (ReturnValue line) (reduce sight (Prefix op e))
@@ -165,7 +166,7 @@ module _ (classes : Classes) (k : ℕ) (s : Shared) (vs : Contents) (frames : Li
   free_effect (MakesArray T x n) h = refl
   free_effect (Prints z) h = refl
   free_effect (Calls line target f args) h = absurd h
-  free_effect Returns h = refl
+  free_effect (Returns given) h = refl
   free_effect (TrapsAt trap line) h = refl
   free_effect NoEffect h = refl
 

@@ -5,7 +5,8 @@ use Rattle.syntax.specs.declared.stmt.Block.{Block as BlockInMemory}
 use Rattle.syntax.specs.declared.stmt.Stmt.{Stmt as StmtInMemory}
 use Rattle.syntax.specs.Tree.{SourceUnit}
 use Rattle.syntax.specs.Views.{expr_tree, block_tree, stmt_tree}
-use Rattle.semantics.specs.Activation.{return_step}
+use Rattle.semantics.specs.CallEffects.{NoResult}
+use Rattle.semantics.specs.Return.{return_step}
 use Rattle.semantics.specs.Heap.{Heap}
 use Rattle.semantics.specs.Task.{Task, Loop, task_of}
 use Rattle.semantics.specs.Term.{term_of}
@@ -75,7 +76,7 @@ thread_in t tasks scene = with_tasks (in_scene t scene) tasks
 -- what a step leaves, where this is what thread k is then
 abbrev pub advance_by : (k : ℕ) → Shared → Thread → Outcome → Advance
 advance_by k s t (outcome.Printed z) = thread.Advances s t (PrintedNumber z)
-advance_by k s t outcome.Returned = return_step k s t
+advance_by k s t outcome.Returned = return_step k s t NoResult
 advance_by k s t (outcome.Trapped trap line) = thread.Advances s t (Trapped (trap_view trap) line)
 advance_by k s t outcome.Impossible = NoAdvance
 advance_by k s t took = thread.Advances s t Quiet

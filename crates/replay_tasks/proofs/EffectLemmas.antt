@@ -15,7 +15,7 @@ use Rattle.semantics.specs.Task.{Task, SetScalar, SetElement, Print, Branch, Loo
 use Rattle.semantics.specs.Term as tree
 use Rattle.semantics.specs.Term.{index_of, reduce}
 use Rattle.semantics.specs.Value.{Value, Outcome as Outcomes, Gives, Traps, Stuck, outcome_then, outcome_map}
-use Rattle.semantics.specs.Variable.{Variables, Statics}
+use Rattle.semantics.specs.Variable.{Variables, Statics, Empty}
 use Rattle.replay_terms.specs.declared.reduction.Reduction.{Reduction}
 use Rattle.replay_terms.specs.declared.reduction.Reduction.TheVariants as reduction
 use Rattle.replay_terms.specs.declared.term.Term.{Term}
@@ -92,7 +92,7 @@ else_entered line None end' = refl
 else_entered line (Some b) end' = block_entered b end'
 
 -- a constant is evaluated, or it is NULL
-pub constant_returned : (sight : Sight) (line : ℕ) (c : Constant) → return_effect sight line (tree.Named (constant_tree c)) ≡ returned_name line (tree.constant (constant_tree c))
+pub constant_returned : (sight : Sight) (line : ℕ) (c : Constant) → return_effect sight line (tree.Named (constant_tree c)) ≡ returned_name line (tree.constant (constant_tree c)) Empty
 constant_returned sight line constant.True = refl
 constant_returned sight line constant.False = refl
 constant_returned sight line constant.Commit = refl

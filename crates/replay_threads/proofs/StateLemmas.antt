@@ -30,7 +30,7 @@ use Rattle.semantics.specs.Step.{world_step, can_step, step_of, is_blocked, is_l
 use Rattle.jni.specs.JniFunction.{MonitorEnter}
 use Rattle.semantics.specs.CallStep.{trap_of_call, waits_with}
 use Rattle.semantics.specs.Effect.{Effect, Calls}
-use Rattle.semantics.specs.Thread.{BuffersInUse, copied_by, viewed_by, Ending, Monitor, Thread, Shared, Unfinished, Ended, Uncaught, Quiet, PrintedNumber, Trapped}
+use Rattle.semantics.specs.Thread.{BuffersInUse, copied_by, lengths_copied, viewed_by, objects_viewed, Caller, Ending, Monitor, Thread, Shared, Unfinished, Ended, Uncaught, Quiet, PrintedNumber, Trapped}
 use Rattle.semantics.specs.ThreadStep.{next_effect, thread_step, waits}
 use Rattle.semantics.proofs.StepLaws.{Steps, steps, step-thread}
 use Rattle.replay_threads.specs.declared.state.State.{State as StateInMemory}
@@ -106,13 +106,23 @@ module _ (unit : SourceUnit) (classes : Classes) where
   variables_same None s h = sym h.0
   variables_same (Some a) s h = sym h.0
 
+  -- a thread's buffers are those of its call in progress
+  own_copies : (t : ThreadInMemory) (s : Thread) → ThreadStands unit classes t s → copied_in t ≡ copied_by s
+  own_copies t s h =
+      omega (arith, ap lengths_copied (variables_same t.activation s h.work), ap (λ (l : List Caller). sum_by (λ (c : Caller). lengths_copied c.variables) l + lengths_copied s.variables) h.alone)
+
+  own_views : (t : ThreadInMemory) (s : Thread) → ThreadStands unit classes t s → viewed_in t ≡ viewed_by s
+  own_views t s h =
+      ap objects_viewed (variables_same t.activation s h.work)
+      ∙ ap (λ (l : List Caller). flat_map (λ (c : Caller). objects_viewed c.variables) l ++ objects_viewed s.variables) (sym h.alone)
+
   copied_same : (ts : List ThreadInMemory) (ss : List Thread) → ThreadsStand unit classes ts ss → sum_by copied_in ts ≡ sum_by copied_by ss
   copied_same [] [] h = refl
   copied_same [] (s ∷ ss) h = absurd h
   copied_same (t ∷ ts) [] h = absurd h
   copied_same (t ∷ ts) (s ∷ ss) h =
       sum_by-cons copied_in t ts
-      ∙ ap (λ (vs : Variables). sum_by (λ (v : Identifier × Variable). copied_length v.1) vs + sum_by copied_in ts) (variables_same t.activation s (h.0).work)
+      ∙ ap (λ n. n + sum_by copied_in ts) (own_copies t s h.0)
       ∙ ap (λ n. copied_by s + n) (copied_same ts ss h.1)
       ∙ sym (sum_by-cons copied_by s ss)
 
@@ -122,7 +132,7 @@ module _ (unit : SourceUnit) (classes : Classes) where
   viewed_same (t ∷ ts) [] h = absurd h
   viewed_same (t ∷ ts) (s ∷ ss) h =
       flat_map-cons viewed_in t ts
-      ∙ ap (λ (vs : Variables). flat_map (λ (v : Identifier × Variable). viewed v.1) vs ++ flat_map viewed_in ts) (variables_same t.activation s (h.0).work)
+      ∙ ap (λ (l : List ℕ). l ++ flat_map viewed_in ts) (own_views t s h.0)
       ∙ ap (λ (l : List ℕ). viewed_by s ++ l) (viewed_same ts ss h.1)
       ∙ sym (flat_map-cons viewed_by s ss)
 

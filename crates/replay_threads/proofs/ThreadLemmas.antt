@@ -14,7 +14,9 @@ use Rattle.semantics.specs.Thread.{Thread, Shared, BuffersInUse, Event, Quiet, P
 use Rattle.semantics.specs.Object.{Reference}
 use Rattle.semantics.specs.Views.{name_of}
 use Rattle.semantics.specs.declared.object_id.ObjectId.{ObjectId}
-use Rattle.semantics.specs.Activation.{ending_after, monitors_after, calls_after, return_step, enter, entered, entry_advance, entered_function}
+use Rattle.semantics.specs.Activation.{enter, entered, entry_advance, entered_function}
+use Rattle.semantics.specs.CallEffects.{NoResult}
+use Rattle.semantics.specs.Return.{ending_after, monitors_after, calls_after, return_by, return_step}
 use Rattle.semantics.specs.ThreadStep.{next_effect, thread_step, step_within}
 use Rattle.replay_steps.specs.declared.activation.Activation.{Activation}
 use Rattle.replay_threads.specs.declared.thread.Thread.{Thread as ThreadInMemory}
@@ -40,13 +42,14 @@ ended_range k shared last t new o took left is e known = subst (λ (u : ThreadIn
 module _ (unit : SourceUnit) (classes : Classes) (in_use : BuffersInUse) (k : ℕ) where
   -- a thread after its call with this ending, and with these calls to come before
   abbrev thread_after : Ending → List Invocation → Thread
-  thread_after e calls = record { calls = calls_after e calls; tasks = None; variables = []; frames = []; pending = None; ending = e }
+  thread_after e calls = record { calls = calls_after e calls; callers = []; tasks = None; variables = []; frames = []; pending = None; ending = e }
 
-  left_by : (m last : Shared) (s : Thread) (e : Ending) (calls : List Invocation) (pending : Reference) → s.calls ≡ calls → s.pending ≡ pending → e ≡ ending_after m.heap pending calls
-      → last ≡ record m { monitors = monitors_after e k m.monitors } → return_step k m s ≡ AdvancesTo last (thread_after e calls) Quiet
-  left_by m last s e calls pending is there stood given_up =
+  left_by : (m last : Shared) (s : Thread) (e : Ending) (calls : List Invocation) (pending : Reference) → s.callers ≡ [] → s.calls ≡ calls → s.pending ≡ pending → e ≡ ending_after m.heap pending calls
+      → last ≡ record m { monitors = monitors_after e k m.monitors } → return_step k m s NoResult ≡ AdvancesTo last (thread_after e calls) Quiet
+  left_by m last s e calls pending alone is there stood given_up =
       let same : ending_after m.heap s.pending s.calls ≡ e = ap (λ (r : Reference). ending_after m.heap r s.calls) there ∙ ap (ending_after m.heap pending) is ∙ sym stood in
-      ap (λ (f : Ending). let t : Thread = thread_after f s.calls in let r : Shared = record m { monitors = monitors_after f k m.monitors } in AdvancesTo r t Quiet) same
+      ap (return_by k m s NoResult) alone
+      ∙ ap (λ (f : Ending). let t : Thread = thread_after f s.calls in let r : Shared = record m { monitors = monitors_after f k m.monitors } in AdvancesTo r t Quiet) same
       ∙ ap (λ (r : Shared). let t : Thread = thread_after e s.calls in AdvancesTo r t Quiet) (sym given_up)
       ∙ ap (λ (cs : List Invocation). let t : Thread = thread_after e cs in AdvancesTo last t Quiet) is
 
@@ -77,7 +80,7 @@ module _ (unit : SourceUnit) (classes : Classes) (in_use : BuffersInUse) (k : �
     work = subst (λ (o : Option Activation). WorkStands o s) is h.work
 
     sees : Sees before s
-    sees = record { variables = work.0; frames = work.1; pending = h.pending }
+    sees = record { variables = work.0; frames = work.1; pending = h.pending; alone = h.alone }
 
     advances_so : (o : Outcome) → Advances refused before a.work o end' new.work → thread_step unit classes in_use k shared s refused ≡ advance_by k after next o
     advances_so o does = ap (step_within unit classes in_use k shared s refused) has_tasks ∙ does unit s sees has_tasks
@@ -88,7 +91,7 @@ module _ (unit : SourceUnit) (classes : Classes) (in_use : BuffersInUse) (k : �
     on event does = record {
       next = next;
       advances = does;
-      stands = record { calls = h.calls; loads = h.loads; tasks = refl; work = (refl, refl); pending = refl; ending = h.ending };
+      stands = record { calls = h.calls; alone = h.alone; loads = h.loads; tasks = refl; work = (refl, refl); pending = refl; ending = h.ending };
     }
 
     pub goes : (o : Outcome) → (o ≡ outcome.Returned → ⊥) → Advances refused before a.work o end' new.work
@@ -115,9 +118,10 @@ module _ (unit : SourceUnit) (classes : Classes) (in_use : BuffersInUse) (k : �
         let e : Ending = ending_view left.ending in
         record {
           next = thread_after e t.calls.now;
-          advances = advances_so outcome.Returned does ∙ left_by after last next e t.calls.now (name_of pending) h.calls refl over.ending over.shared;
+          advances = advances_so outcome.Returned does ∙ left_by after last next e t.calls.now (name_of pending) h.alone h.calls refl over.ending over.shared;
           stands = record {
             calls = sym over.calls;
+            alone = refl;
             loads = subst (λ (cs : List Invocation). IsTrue (list_all (call_loads unit classes) cs)) (sym over.calls) (loads_after e t.calls.now h.loads);
             tasks = ap tasks_in (sym over.activation);
             work = subst (λ (o : Option Activation). WorkStands o (thread_after e t.calls.now)) (sym over.activation) (refl, refl);
@@ -147,6 +151,7 @@ module _ (unit : SourceUnit) (classes : Classes) (in_use : BuffersInUse) (k : �
         ∙ ap (λ (p : Option ℕ). entry_advance shared (option_map (λ d. entered s rest e.function d call.arguments) p)) e.its_class;
     stands = record {
       calls = sym is;
+      alone = h.alone;
       loads = subst (λ (cs : List Invocation). IsTrue (list_all (call_loads unit classes) cs)) (sym is) parts.1;
       tasks = ap Some (sym e.tasks) ∙ ap tasks_in (sym e.is);
       work = subst (λ (p : Option Activation). WorkStands p (entered s rest e.function e.class call.arguments)) (sym e.is) (sym e.variables, sym e.frames);
@@ -191,4 +196,4 @@ module _ (classes : Classes) (k : ℕ) (shared : Shared) (t : ThreadInMemory) wh
       → ThreadWaits classes k shared t answer
   waits_as a answer is tells = λ unit s h range.
       let work : WorkStands (Some a) s = subst (λ (o : Option Activation). WorkStands o s) is h.work in
-      tells (record { copied = 0; views = 0 }) (subst WorkInRange is range) s (record { variables = work.0; frames = work.1; pending = h.pending }) (h.tasks ∙ ap tasks_in is)
+      tells (record { copied = 0; views = 0 }) (subst WorkInRange is range) s (record { variables = work.0; frames = work.1; pending = h.pending; alone = h.alone }) (h.tasks ∙ ap tasks_in is)

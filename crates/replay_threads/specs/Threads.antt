@@ -6,7 +6,8 @@ use Rattle.syntax.specs.Tree.{SourceUnit, Function as FunctionOfUnit}
 use Rattle.syntax.specs.Views.{function_tree}
 use Rattle.class_rules.specs.Class.{Classes}
 use Rattle.semantics.specs.Object.{ObjectValue, Number, Refers}
-use Rattle.semantics.specs.Activation.{parameter_variables, function_at, class_of_function, entered_function, named_object, entry_frame, ending_after, calls_after, monitors_after}
+use Rattle.semantics.specs.Activation.{parameter_variables, function_at, class_of_function, entered_function, named_object, entry_frame}
+use Rattle.semantics.specs.Return.{ending_after, calls_after, monitors_after}
 use Rattle.semantics.specs.Load.{call_loads}
 use Rattle.semantics.specs.World.{Invocation}
 use Rattle.semantics.specs.Task.{Task, tasks_of}
@@ -105,6 +106,7 @@ EndsStep k shared old o took after new = (took ≡ event_of o) × (new ≡ old) 
 -- a thread in memory stands for one of the language
 pub record ThreadStands (unit : SourceUnit) (classes : Classes) (t : ThreadInMemory) (s : Thread) : Type 0 where
   pub calls : s.calls ≡ t.calls.now
+  pub alone : s.callers ≡ []
   pub loads : IsTrue (list_all (call_loads unit classes) t.calls.now)
   pub tasks : s.tasks ≡ tasks_in t.activation
   pub work : WorkStands t.activation s
