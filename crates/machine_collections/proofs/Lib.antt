@@ -9,3 +9,5 @@ pub mod LiveBlocks
 pub mod KeptCells
 pub mod KeptNames
 pub mod Collections
+pub mod PackedLayouts
+pub mod OnePacking
