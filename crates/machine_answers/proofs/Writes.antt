@@ -7,6 +7,9 @@ use Rattle.std.proofs.lemmas.Bool.Decides.{eqb_tells}
 use Rattle.std.proofs.lemmas.Option.{slice_get_within}
 use Rattle.std.proofs.Math.ListN.{length-set}
 use Rattle.heap.specs.Heap.{Block, Space, block_at, block_end, name_at, AreNamesUnique, IsLaidOut, LieFrom, with_changed, with_value}
+use Rattle.heap.specs.Layout.{layout_of}
+use Rattle.heap.proofs.Extents.{layout_values}
+use Rattle.machine_scenes.proofs.ObjectExtents.{none_laid}
 use Rattle.heap.specs.declared.value.Value.{Value}
 use Rattle.heap.specs.declared.value.Value.TheVariants.{Number as Word, Null, Block as Address}
 use Rattle.heap.proofs.Changes.{LeavesPlace, changed, changed_elsewhere, changed_here}
@@ -218,6 +221,7 @@ module _ (p : Lowered) (w : World) (store : Store) (shared : Shared) (a : ℕ) (
     statics = inl refl;
     shapes = λ n o at. shapes_after store.heap shared.heap a vs name us h.laid_out h.heap.unique there keeps n o object_is.0 many object_is.1 at;
     room = none_made store.heap shared.heap heap_then (omega (arith, count));
+    laid = none_laid (layout_of store.heap) (layout_of store_then.heap) (length shared.heap + 1) shared.heap heap_then (omega (arith, count)) (layout_values store.heap a vs keeps);
     few = omega (arith, count);
   }
 

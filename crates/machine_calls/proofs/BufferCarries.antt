@@ -12,6 +12,8 @@ use Rattle.base.specs.Element.{ElementType}
 use Rattle.code_meaning.specs.Coding.{mode_code}
 use Rattle.code_meaning.specs.Lowered.{Lowered}
 use Rattle.heap.specs.Heap.{Block, Space, name_at, pins_at, values_at, with_pins}
+use Rattle.heap.specs.Layout.{layout_of}
+use Rattle.heap.proofs.Extents.{layout_pins}
 use Rattle.heap.specs.declared.value.Value.{Value}
 use Rattle.heap.specs.declared.value.Value.TheVariants as value
 use Rattle.jni.specs.Prototype.{ResultKind}
@@ -298,6 +300,7 @@ module _ (p : Lowered) (w : World) (store : Store) (pending : Option ℕ) (local
       record LeavesStore : Type 0 where
         pub stands : StoreAgrees p w (record store { heap = space; elements = elements; views = views }) shared' next
         pub names : (y m : ℕ) → name_at store_back.heap y ≡ Some m → name_at space y ≡ Some m
+        pub layout : layout_of space ≡ layout_of store_back.heap
 
       given_up : (y : Buffer) (c : variable.Buffer) → BufferAgrees store.heap store.elements k y c → lookup x s.variables ≡ Some (Elements type c) → GivesUp y store_back.heap store.elements store.views space elements views → LeavesStore
       given_up held.Null (Copy m zs) agree there gives = absurd agree
@@ -311,6 +314,7 @@ module _ (p : Lowered) (w : World) (store : Store) (pending : Option ℕ) (local
           record {
             stands = subst (λ (z : Store). StoreAgrees p w z shared' next) (sym same) (agrees_same p w store_back shared' all before next (lost (beside_freed others s x type NoBuffer there)));
             names = λ z m e. ap (λ (t : Space). name_at t z) heap ∙ e;
+            layout = ap layout_of heap;
           }
         where
           lost : IsMoreBy NoBuffer next all → SameAcquired all next
@@ -322,6 +326,7 @@ module _ (p : Lowered) (w : World) (store : Store) (pending : Option ℕ) (local
                 (agrees_copies p w store_back shared' all before next elements
                 (left_copy store_back.heap elements store.elements store.views (length shared'.heap) k m zs next all (beside_freed others s x type (Copy m zs) there) (fewer (owned k zs) agree) before.buffers));
             names = λ z i e. ap (λ (t : Space). name_at t z) heap ∙ e;
+            layout = ap layout_of heap;
           }
       given_up (held.View y) (View m) agree there (heap, lists', as_many) =
           let count = pins_at store_back.heap y - 1 in
@@ -333,6 +338,7 @@ module _ (p : Lowered) (w : World) (store : Store) (pending : Option ℕ) (local
                 (agrees_pinned p w store_back shared' all before next y count (store.views - 1)
                 (left_view store_back.heap store.elements store.views (length shared'.heap) y m next all (beside_freed others s x type (View m) there) before.heap.unique named_there within.1 before.buffers));
             names = λ z i e. ap (λ (t : Space). name_at t z) heap ∙ names_pinned store_back.heap y count z i e;
+            layout = ap layout_of heap ∙ layout_pins store_back.heap y count;
           }
 
     -- ---- both
@@ -350,7 +356,7 @@ module _ (p : Lowered) (w : World) (store : Store) (pending : Option ℕ) (local
           let first = backed t e in
           let second = given_up (shared_back t) first.stands first.keeps.names space elements views r.held b agrees at gives in
           effected (answer.Releases r) after given.Nothing (shared_back t) (with_freed s x) NoResult refl refl statics
-          (record { names = λ y m at'. second.names y m (first.keeps.names y m at'); statics = first.keeps.statics; shapes = first.keeps.shapes; room = first.keeps.room; few = first.keeps.few })
+          (record { names = λ y m at'. second.names y m (first.keeps.names y m at'); statics = first.keeps.statics; shapes = first.keeps.shapes; room = first.keeps.room; laid = second.layout ∙ first.keeps.laid; few = first.keeps.few })
           second.stands (no_result after)
 
       pub releases : MayGiveUp (gives_up r.mode) r.held store_back.heap store.elements store.views space elements views → Carries (answer.Releases r) effect after given.Nothing

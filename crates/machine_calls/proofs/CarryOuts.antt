@@ -4,6 +4,9 @@ use Rattle.std.specs.Global.{Vec}
 use Rattle.std.specs.Option.{option_to_list}
 use Rattle.base.specs.Bytes.{Identifier}
 use Rattle.heap.specs.Heap.{name_at}
+use Rattle.heap.specs.Layout.{Layout, layout_of}
+use Rattle.machine_scenes.specs.Layouts.{with_objects}
+use Rattle.machine_scenes.proofs.ObjectExtents.{more_laid, with_both}
 use Rattle.code_meaning.specs.Slots.{static_index}
 use Rattle.semantics.specs.CallEffects.{without_one}
 use Rattle.semantics.specs.Object.{Object, Reference, sizes}
@@ -519,6 +522,15 @@ module _ (p : Lowered) (w : World) (store : Store) (pending : Option ℕ) (local
       both_fit =
           omega (arith, making.left_after w.classes texts store between (Text place) message first, second.room, same_cells w.classes texts class message, both_sizes w.classes texts store.heap class place (Some (next_name shared.heap)))
 
+      -- both lie behind the others
+      both_laid : layout_of after.heap ≡ with_objects (layout_of store.heap) (length shared.heap + 1) (string ∷ exception ∷ [])
+      both_laid =
+          let count : length (shared.heap ++ string ∷ []) + 1 ≡ length shared.heap + 1 + 1 = ap (λ (n : ℕ). n + 1) (length-append shared.heap (string ∷ [])) in
+          making.made_laid p w texts between after told (Exception class message) exception a all agrees second described_so
+          ∙ ap (λ (n : ℕ). with_objects (layout_of between.heap) n (exception ∷ [])) count
+          ∙ ap (λ (l : Layout). with_objects l (length shared.heap + 1 + 1) (exception ∷ [])) (making.made_laid p w texts store between shared (Text place) string message all h.store_agrees first described)
+          ∙ with_both (layout_of store.heap) (length shared.heap + 1) (string ∷ []) (exception ∷ [])
+
       pub raises : Carries (answer.Raises class place) effect false after (Some a) (given.Number 0)
       raises =
           subst (λ (e : CallEffect). Carries (answer.Raises class place) e false after (Some a) (given.Number 0)) (sym does.3) (record {
@@ -529,6 +541,7 @@ module _ (p : Lowered) (w : World) (store : Store) (pending : Option ℕ) (local
               statics = inl refl;
               shapes = λ n x at. (x, object_kept shared.heap (string ∷ exception ∷ []) n x at, refl, refl);
               room = more_made store.heap shared.heap (string ∷ exception ∷ []) both_fit;
+              laid = more_laid (layout_of store.heap) (layout_of after.heap) (length shared.heap + 1) shared.heap (string ∷ exception ∷ []) both_laid;
               few = omega (arith, length-append shared.heap (string ∷ exception ∷ []));
             };
             pending_agrees =

@@ -4,6 +4,9 @@ use Rattle.std.proofs.Common.{inl, ◌≡◌, ℕ, ◌+◌, ◌≤◌, List, Opt
 use Rattle.std.proofs.lemmas.List.Sums.{sum_by-cons}
 use Rattle.class_rules.specs.Class.{Classes}
 use Rattle.heap.specs.Heap.{Block, Space, IsLaidOut, end_of, left_of, name_at, with_block}
+use Rattle.heap.specs.Layout.{layout_of}
+use Rattle.machine_scenes.specs.Layouts.{with_objects}
+use Rattle.machine_scenes.proofs.ObjectExtents.{laid_push, more_laid}
 use Rattle.heap.proofs.Layouts.{LieFrom-push, end_from-push}
 use Rattle.semantics.specs.Heap.{next_name}
 use Rattle.semantics.specs.Object.{Object, size}
@@ -72,12 +75,19 @@ module _ (p : Lowered) (w : World) (texts : List (List ℕ)) (store after : Stor
         monitored = subst (AreThere after.heap) (sym made.monitors) (there_stays store.heap after.heap names_stay store.monitors h.monitored);
       }
 
+  -- its block is the highest
+  pub made_laid : layout_of after.heap ≡ with_objects (layout_of store.heap) (length shared.heap + 1) (o ∷ [])
+  made_laid =
+      let long : length b.values ≡ length o.values = as_many w.classes texts store.heap new o d.object in
+      ap layout_of made.heap ∙ laid_push store.heap b (length shared.heap + 1) o next.birth refl (omega (arith, long))
+
   pub made_keeps : Keeps store.heap shared after.heap with_object
   made_keeps = record {
     names = names_stay;
     statics = inl refl;
     shapes = λ n x at. (x, object_kept shared.heap (o ∷ []) n x at, refl, refl);
     room = more_made store.heap shared.heap (o ∷ []) (omega (arith, room, sum_by-cons size o []));
+    laid = more_laid (layout_of store.heap) (layout_of after.heap) (length shared.heap + 1) shared.heap (o ∷ []) made_laid;
     few = omega (arith, length-append shared.heap (o ∷ []));
   }
 

@@ -1,8 +1,10 @@
 -- What is carried out of monitors is what the source's call leaves.
-use Rattle.std.proofs.Common.{◌≡◌, ℕ, pos, ◌∷◌, false, List, Option, Some, refl, sym, ◌∙◌, subst, arith, inl}
+use Rattle.std.proofs.Common.{◌≡◌, ℕ, pos, ◌∷◌, false, List, Option, Some, refl, sym, ◌∙◌, subst, arith, inl, length, ◌+◌}
 use Rattle.std.specs.Prelude.{map}
 use Rattle.code_meaning.specs.Lowered.{Lowered}
 use Rattle.heap.specs.Heap.{Space}
+use Rattle.heap.specs.Layout.{layout_of}
+use Rattle.machine_scenes.proofs.ObjectExtents.{none_laid}
 use Rattle.jni.specs.Prototype.{ResultKind, GivesInt}
 use Rattle.semantics.specs.CallEffects.{CallEffect, ScalarResult}
 use Rattle.semantics.specs.Thread as source
@@ -59,6 +61,7 @@ keeps_monitors space shared ss = record {
   statics = inl refl;
   shapes = λ n o at. (o, at, refl, refl);
   room = none_made space shared.heap shared.heap (omega arith);
+  laid = none_laid (layout_of space) (layout_of space) (length shared.heap + 1) shared.heap shared.heap (omega arith) refl;
   few = omega arith;
 }
 

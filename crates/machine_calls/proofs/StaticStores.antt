@@ -1,8 +1,10 @@
 -- The store once statics and global references have changed.
-use Rattle.std.proofs.Common.{◌≡◌, ℕ, List, ◌∷◌, length, Option, Some, None, refl, sym, ap, ◌∙◌, subst, arith}
+use Rattle.std.proofs.Common.{◌≡◌, ℕ, List, ◌∷◌, length, Option, Some, None, refl, sym, ap, ◌∙◌, subst, arith, ◌+◌}
 use Rattle.std.specs.Global.{Vec}
 use Rattle.std.specs.Prelude.{slice_get, slice_set, IsSome}
 use Rattle.heap.specs.Heap.{name_at}
+use Rattle.heap.specs.Layout.{layout_of}
+use Rattle.machine_scenes.proofs.ObjectExtents.{none_laid}
 use Rattle.tables.specs.Keys.{Gains}
 use Rattle.tables.specs.References.{address_at}
 use Rattle.machine_calls.specs.CarriedOut.{IsFresh}
@@ -137,5 +139,6 @@ module _ (p : Lowered) (w : World) (store : Store) (shared : Shared) (all : Acqu
     statics = may;
     shapes = λ n o at. (o, at, refl, refl);
     room = none_made store.heap shared.heap shared.heap (omega arith);
+    laid = none_laid (layout_of store.heap) (layout_of store.heap) (length shared.heap + 1) shared.heap shared.heap (omega arith) refl;
     few = omega arith;
   }

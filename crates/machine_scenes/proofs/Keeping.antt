@@ -1,9 +1,10 @@
 -- What a step leaves as it was, and what agrees with it still.
-use Rattle.std.proofs.Common.{◌≡◌, ◌≤◌, ℕ, List, [], ◌∷◌, ◌++◌, length, drop, inl, Option, Some, None, refl, ap, arith}
+use Rattle.std.proofs.Common.{◌≡◌, ◌≤◌, ℕ, List, [], ◌∷◌, ◌++◌, length, drop, inl, Option, Some, None, refl, ap, arith, ◌+◌}
 use Rattle.std.specs.List.{AllZip}
 use Rattle.std.proofs.Math.ListN.{drop_of_length-le}
 use Rattle.std.proofs.Math.Seq.{drop-append_seam}
 use Rattle.heap.specs.Heap.{Space, left_of, name_at}
+use Rattle.heap.specs.Layout.{layout_of}
 use Rattle.semantics.specs.Heap.{Heap}
 use Rattle.semantics.specs.Object.{Reference, sizes}
 use Rattle.semantics.specs.Thread as source
@@ -16,6 +17,7 @@ use Rattle.machine_scenes.specs.Locals.{FrameAgrees, FramesAgree, IsKeyOf, KeysA
 use Rattle.tables.specs.Locals.{LocalTable, FrameSlots, by_frame}
 use Rattle.machine_scenes.specs.HeapAgrees.{ReferenceAgrees, NamesAgree, SlotsAgree}
 use Rattle.machine_scenes.specs.StoreAgrees.{HeldAgrees, Keeps, StaticsAgree}
+use Rattle.machine_scenes.proofs.ObjectExtents.{none_laid}
 
 -- ---- what keeps all
 
@@ -34,6 +36,7 @@ keeps_same space shared = record {
   statics = inl refl;
   shapes = λ n o at. (o, at, refl, refl);
   room = none_made space shared.heap shared.heap (omega arith);
+  laid = none_laid (layout_of space) (layout_of space) (length shared.heap + 1) shared.heap shared.heap (omega arith) refl;
   few = omega arith;
 }
 

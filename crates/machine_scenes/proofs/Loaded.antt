@@ -3,13 +3,15 @@ use Rattle.std.proofs.Common.{◌≡◌, ℕ, suc, ◌+◌, ◌≤◌, Bool, tru
 use Rattle.std.specs.Option.{option_map_or}
 use Rattle.std.proofs.lemmas.Bool.Decides.{eqb_tells}
 use Rattle.std.proofs.lemmas.List.{map-append}
-use Rattle.std.proofs.lemmas.List.Sums.{sum_by-append, sum_by-cons}
 use Rattle.heap.specs.declared.value.Value.{Value}
 use Rattle.heap.specs.Heap.{Block, Space, block_end, end_from, end_of, left_of, LieFrom, IsLaidOut, values_at, with_block, with_changed}
-use Rattle.heap.proofs.Layouts.{from_below_end, end_from-push, LieFrom-push}
+use Rattle.heap.specs.Layout.{top_from}
+use Rattle.heap.proofs.Extents.{top_is}
+use Rattle.heap.proofs.Layouts.{from_below_end, LieFrom-push}
 use Rattle.semantics.specs.Object.{Object, ObjectValue, size, sizes}
 use Rattle.semantics.specs.Heap.{Heap}
 use Rattle.machine_scenes.specs.HeapAgrees.{ValuesAgree, IsTable, AreMade}
+use Rattle.machine_scenes.proofs.ObjectExtents.{laid_more, top_laid}
 use Rattle.machine_scenes.proofs.HeapLaws.{IsNext, block_new, agrees_with_block, table_push}
 use Rattle.machine_scenes.proofs.Taken.{unpinned_push}
 
@@ -19,7 +21,7 @@ none_made cells = record {
   agree = record { blocks = tt; unique = λ i j d below within. absurd (omega arith) };
   table = record { counted = refl; named = λ i a at. absurd (cc) };
   laid_out = let low : 0 ≤ cells = omega arith in low;
-  filled = refl;
+  laid = refl;
   unpinned = λ a. refl;
 }
 
@@ -30,21 +32,23 @@ agree_length s [] (v ∷ vs) h = absurd h
 agree_length s (w ∷ ws) [] h = absurd h
 agree_length s (w ∷ ws) (v ∷ vs) h = ap suc (agree_length s ws vs h.1)
 
+-- they end where the cells of all of them do
+pub made_end : (s : Space) (addresses : List ℕ) (objects : Heap) → AreMade s addresses objects → end_of s ≡ sizes objects
+made_end s addresses objects h = let top = top_laid 1 0 objects in sym (top_is 0 s.blocks) ∙ ap (top_from 0) h.laid ∙ omega (arith, top)
+
 -- one object more
 pub made_more : (s : Space) (addresses : List ℕ) (objects : Heap) (b : Block) (o : Object) → AreMade s addresses objects → IsNext s objects b o → size o ≤ left_of s → AreMade (with_block s b) (addresses ++ b.address ∷ []) (objects ++ o ∷ [])
 made_more s addresses objects b o h next room =
     let count = length-append objects (o ∷ []) in
     let long = agree_length s b.values o.values next.values in
     let after : b.address ≡ end_of s = next.after in
-    let filled : end_of s ≡ sizes objects = h.filled in
-    let both = sum_by-append size objects (o ∷ []) in
-    let one = sum_by-cons size o [] in
+    let filled : end_of s ≡ sizes objects = made_end s addresses objects h in
     let birth : b.birth ≡ length objects + 1 = next.birth in
     record {
       agree = agrees_with_block s objects b o h.agree next;
       table = subst (IsTable (with_block s b) (addresses ++ b.address ∷ [])) (sym count) (table_push s b addresses (length objects) h.table h.laid_out after birth);
       laid_out = LieFrom-push 0 s.blocks b s.cells h.laid_out (omega arith) (omega arith);
-      filled = end_from-push 0 s.blocks b ∙ omega arith;
+      laid = laid_more s b objects o h.laid birth after (omega (arith, long));
       unpinned = unpinned_push s b next.unpinned h.unpinned;
     }
 

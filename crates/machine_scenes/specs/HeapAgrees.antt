@@ -4,9 +4,11 @@ use Rattle.std.specs.Int.{w32, cast_unsigned}
 use Rattle.heap.specs.declared.value.Value.{Value}
 use Rattle.heap.specs.declared.value.Value.TheVariants.{Number as Word, Null, Block as Address}
 use Rattle.heap.specs.Heap.{Block, Space, IsLaidOut, end_of, name_at, pins_at, AreNamesUnique}
+use Rattle.heap.specs.Layout.{layout_of}
 use Rattle.semantics.specs.Object.{Object, ObjectValue, Number, Refers, Reference, sizes}
 use Rattle.semantics.specs.Heap.{Heap, object_at}
 use Rattle.tables.specs.References.{references_in}
+use Rattle.machine_scenes.specs.Layouts.{laid_from}
 
 -- ---- references and values
 
@@ -87,5 +89,5 @@ pub record AreMade (space : Space) (addresses : List ℕ) (objects : Heap) : Typ
   pub agree : HeapAgrees space objects
   pub table : IsTable space addresses (length objects)
   pub laid_out : IsLaidOut space
-  pub filled : end_of space ≡ sizes objects
+  pub laid : layout_of space ≡ laid_from 1 0 objects
   pub unpinned : (a : ℕ) → pins_at space a ≡ 0

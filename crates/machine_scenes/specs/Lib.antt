@@ -2,6 +2,7 @@ pub mod HeapAgrees
 pub mod Locals
 pub mod Statics
 pub mod Buffers
+pub mod Layouts
 pub mod StoreAgrees
 pub mod FieldIds
 pub mod Scenes

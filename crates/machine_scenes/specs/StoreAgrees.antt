@@ -5,7 +5,8 @@ use Rattle.syntax.specs.Parts.{statics_of}
 use Rattle.syntax.specs.Tree.{Static}
 use Rattle.syntax.specs.Views.{unit_tree}
 use Rattle.heap.specs.Heap.{Space, IsLaidOut, left_of, name_at}
-use Rattle.semantics.specs.Heap.{Heap, object_at}
+use Rattle.heap.specs.Layout.{layout_of}
+use Rattle.semantics.specs.Heap.{Heap, next_name, object_at}
 use Rattle.semantics.specs.Object.{Object, sizes}
 use Rattle.semantics.specs.World.{World, loaded_objects}
 use Rattle.semantics.specs.Thread.{Shared}
@@ -15,6 +16,7 @@ use Rattle.machine_scenes.specs.declared.store.Store.{Store}
 use Rattle.machine_monitors.specs.Fit.{AreThere, MonitorsAgree}
 use Rattle.machine_scenes.specs.Buffers.{Acquired, IsTaken}
 use Rattle.machine_scenes.specs.HeapAgrees.{HeapAgrees, IsTable, SlotsAgree}
+use Rattle.machine_scenes.specs.Layouts.{with_objects}
 use Rattle.machine_scenes.specs.Statics.{HaveKeys, all_held}
 use Rattle.machine_scenes.specs.declared.references.Held.{Held}
 use Rattle.machine_scenes.specs.declared.references.Held.TheVariants as held
@@ -75,6 +77,8 @@ pub record Keeps (space : Space) (shared : Shared) (space' : Space) (shared' : S
   pub statics : MayChange shared.statics shared'.statics
   -- none is taken out, and none takes more cells or fewer
   pub shapes : SameShapes shared.heap shared'.heap
-  -- what was made had room after the highest block, and no step makes more than two objects
+  -- what was made had room after the highest block, where it lies now; no other block went elsewhere, and none is gone
   pub room : sizes (drop (length shared.heap) shared'.heap) ≤ left_of space
+  pub laid : layout_of space' ≡ with_objects (layout_of space) (next_name shared.heap) (drop (length shared.heap) shared'.heap)
+  -- no step makes more than two objects
   pub few : length shared'.heap ≤ length shared.heap + 2

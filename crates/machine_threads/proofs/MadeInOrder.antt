@@ -8,6 +8,7 @@ use Rattle.heap.specs.Heap.{Space, end_of, left_of}
 use Rattle.semantics.specs.Heap.{Heap}
 use Rattle.semantics.specs.Object.{Object, size, sizes}
 use Rattle.semantics.specs.World.{World, loaded_objects}
+use Rattle.machine_scenes.proofs.Loaded.{made_end}
 use Rattle.world_values.proofs.LoadedWorlds.{few_objects, loaded_fit}
 use Rattle.world_values.specs.SoundWorlds.{IsSound}
 use Rattle.machine_scenes.specs.HeapAgrees.{AreMade}
@@ -26,7 +27,7 @@ module _ (w : World) (sound : IsSound w) (s : Space) (addresses : List ℕ) (i :
   -- there is room for it
   pub room : size o ≤ left_of s
   room =
-      let filled : end_of s ≡ sizes (take i (loaded_objects w)) = made.filled in
+      let filled : end_of s ≡ sizes (take i (loaded_objects w)) = made_end s addresses (take i (loaded_objects w)) made in
       let within = loaded_fit w sound.fits in
       omega (arith, size_within (loaded_objects w) i o at)
 
@@ -34,7 +35,7 @@ module _ (w : World) (sound : IsSound w) (s : Space) (addresses : List ℕ) (i :
   pub few : length addresses < 1048576
   few =
       let counted : length addresses ≡ length (take i (loaded_objects w)) = made.table.counted in
-      let filled : end_of s ≡ sizes (take i (loaded_objects w)) = made.filled in
+      let filled : end_of s ≡ sizes (take i (loaded_objects w)) = made_end s addresses (take i (loaded_objects w)) made in
       let limit : w.cells ≤ 1048576 = sound.cells in
       omega (arith, few_objects (take i (loaded_objects w)), room)
 
