@@ -22,7 +22,7 @@ use Rattle.machine_steps.specs.Executes.{IsHindered, IsSteady}
 use Rattle.machine_threads.specs.ThreadAgrees.{ThreadAgrees}
 use Rattle.machine_collections.specs.Moving.{AreCollected, moved_thread}
 use Rattle.machine_steps.specs.declared.advance.Advanced.{Advanced}
-use Rattle.machine.specs.Run.{AdvancesFrom, CanAdvance, MakesObjects, acquired}
+use Rattle.machine.specs.Run.{AdvancesFrom, CanAdvance, LacksRoom, acquired}
 use Rattle.machine.proofs.Collected.{corresponds_collected}
 use Rattle.machine.proofs.OwnerSteps.{Found}
 use Rattle.machine.proofs.Steps.{shared_agrees, steady, the_thread, waits_here}
@@ -40,10 +40,10 @@ set_there (x ∷ ts) (suc i) t at = ap (λ (l : List Thread). x ∷ l) (set_ther
 pub numbered : (k index : ℕ) → k ≡ index + 1 → suc index ≡ k
 numbered k index h = omega (arith, h)
 
--- what has no room makes something
-pub makes_something : (left cells : ℕ) (fault : StepFault) → fault ≡ NoRoom → IsHindered left cells false fault → 0 < cells
-makes_something left cells Memory is h = absurd (cc (is))
-makes_something left cells NoRoom is h = omega (arith, h.1)
+-- what has no room takes more cells than are left
+pub lacks_room : (left cells : ℕ) (fault : StepFault) → fault ≡ NoRoom → IsHindered left cells false fault → left < cells
+lacks_room left cells Memory is h = absurd (cc (is))
+lacks_room left cells NoRoom is h = h.1
 
 -- and may be refused
 pub no_fault : (left cells : ℕ) (fault : StepFault) → 0 < cells → IsHindered left cells true fault → ⊥
@@ -71,11 +71,11 @@ module _ (p : Lowered) (w : World) (store : Store) (ts : List Thread) (index : �
   can_there mid new same thread =
       subst (λ (y : Store). CanAdvance p w y (set ts index new) index) (sym same) (subst (λ (l : List Thread). CanAdvance p w store l index) (sym (put_there new thread)) s)
 
-  -- and makes what it did
-  pub makes_there : (k : ℕ) (mid : Store) (new t : Thread) → mid ≡ store → new ≡ slice_index_or ts index d → slice_get (set ts index new) index ≡ Some t → MakesObjects p w k store (slice_index_or ts index d) → MakesObjects p w k mid t
-  makes_there k mid new t same thread at h =
+  -- and has no more room
+  pub lacks_there : (k : ℕ) (mid : Store) (new t : Thread) → mid ≡ store → new ≡ slice_index_or ts index d → slice_get (set ts index new) index ≡ Some t → LacksRoom p w k store (slice_index_or ts index d) → LacksRoom p w k mid t
+  lacks_there k mid new t same thread at h =
       let is : slice_index_or ts index d ≡ t = let both : Some (slice_index_or ts index d) ≡ Some t = sym there ∙ ap (λ (l : List Thread). slice_get l index) (sym (put_there new thread)) ∙ at in cc in
-      subst (λ (y : Store). MakesObjects p w k y t) (sym same) (subst (λ (y : Thread). MakesObjects p w k store y) is h)
+      subst (λ (y : Store). LacksRoom p w k y t) (sym same) (subst (λ (y : Thread). LacksRoom p w k store y) is h)
 
   -- a step from there is one from here
   pub from_there : {E : Type 0} (mid : Store) (new : Thread) (r : Result Advanced E) (after : Store) (later : List Thread) → mid ≡ store → new ≡ slice_index_or ts index d → IfOk r (AdvancesFrom p w mid (set ts index new) index after later) → IfOk r (AdvancesFrom p w store ts index after later)

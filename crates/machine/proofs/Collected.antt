@@ -1,13 +1,17 @@
 -- What a collection leaves stands for the same state, and the cells that it leaves are those of what can't be reached.
-use Rattle.std.proofs.Common.{◌≡◌, ◌≢◌, ℕ, zero, suc, ◌-◌, ◌<◌, ◌≤◌, length, List, [], ◌∷◌, ◌++◌, Option, Some, None, Result, Ok, Err, OnOk, OnErr, refl, sym, ap, ◌∙◌, subst, arith, IsSome, ⊎_elim}
-use Rattle.std.specs.Prelude.{Contains, flat_map, slice_get}
+use Rattle.std.proofs.Common.{◌≡◌, ℕ, zero, suc, ◌+◌, ◌-◌, ◌<◌, ◌≤◌, ◌⊎◌, inl, inr, length, map, List, [], ◌∷◌, ◌++◌, Option, Some, None, Result, Ok, Err, OnOk, OnErr, refl, sym, ap, ◌∙◌, subst, arith, IsSome, ⊎_elim}
+use Rattle.std.specs.Prelude.{Contains, flat_map, slice_get, sum_by}
 use Rattle.std.specs.Option.{option_map, option_map_or, option_to_list}
 use Rattle.std.proofs.lemmas.Bool.{false≢true}
 use Rattle.std.proofs.lemmas.List.{length-map}
 use Rattle.std.proofs.lemmas.List.Concat.{flat_map-cons}
+use Rattle.std.proofs.lemmas.List.Sums.{sum_by-cons}
 use Rattle.heap.specs.declared.value.Value.{Value}
 use Rattle.heap.specs.declared.value.Value.TheVariants.{Number, Null, Block as Address}
-use Rattle.heap.specs.Heap.{Block, Space, IsAddress, IsLaidOut, block_at, block_end, end_from, end_of, left_of, name_at, pins_at, values_at}
+use Rattle.heap.specs.Layout.{Extent, extent_of, layout_of, top_of}
+use Rattle.heap.proofs.Extents.{top_is}
+use Rattle.heap.proofs.Names.{one_address}
+use Rattle.heap.specs.Heap.{Block, Space, IsAddress, IsLaidOut, block_at, block_end, block_size, end_from, end_of, left_of, name_at, pins_at, values_at}
 use Rattle.compact.specs.Same.{MovesBy, moved, moved_value, size_of}
 use Rattle.heap.proofs.Lookups.{block_at-place}
 use Rattle.heap.proofs.Places.{IsAddress-from_place}
@@ -21,30 +25,32 @@ use Rattle.tables.specs.References.{references_in}
 use Rattle.code_meaning.specs.Lowered.{Lowered}
 use Rattle.semantics.specs.declared.journal.Entry.{Entry}
 use Rattle.semantics.specs.declared.printed.Printed.{Printed}
-use Rattle.semantics.specs.Reachable.{live_size, roots, Reachable}
+use Rattle.semantics.specs.Reachable.{live_size, roots, Reachable, FromRoot}
 use Rattle.semantics.specs.State.{State, views}
 use Rattle.semantics.specs.World.{World}
-use Rattle.semantics.proofs.ReachableLemmas.{In, in_append_left, in_append_right, in_cases, in_head}
+use Rattle.semantics.proofs.ReachableLemmas.{In, contains_in, in_append_cases, in_append_left, in_append_right, in_cases, in_head, to_contains}
+use Rattle.semantics.proofs.ShownRows.{from_one-contains}
 use Rattle.machine_scenes.specs.declared.store.Store.{Store}
 use Rattle.machine_scenes.specs.HeapAgrees.{times}
-use Rattle.machine_scenes.proofs.BlocksOfNames.{is_address, named}
+use Rattle.machine_scenes.proofs.BlocksOfNames.{is_address, name_within, named}
 use Rattle.machine_steps.specs.declared.advance.Advanced.{Advanced}
 use Rattle.machine_steps.specs.declared.advance.Advanced.TheVariants as advanced
 use Rattle.machine_threads.specs.declared.thread.Thread.{Thread}
 use Rattle.semantics.specs.declared.event.Stop.{Stop}
 use Rattle.machine_collections.specs.Moving.{AreCollected, AreReferred, moved_thread}
 use Rattle.machine_collections.specs.Roots.{ThreadsAreStacked, root_places, slots_of}
-use Rattle.machine.specs.Run.{Run, Corresponds, IsBetween, IsCollected, LeavesAll, replay_of, seen}
+use Rattle.machine.specs.Run.{Run, Corresponds, IsAfterCollection, IsAsItWas, IsCollected, IsOrderly, cells_left, seen}
 use Rattle.machine.proofs.CollectedRuns.{corresponds_moved}
 use Rattle.machine_collections.proofs.Collections.{name_moved}
 use Rattle.machine_collections.proofs.GatheredRoots.{gathered, in_place, places_are, thread_addresses}
 use Rattle.machine_collections.proofs.OwnedMonitors.{monitor_addresses}
 use Rattle.machine_collections.proofs.KeptCells.{live_taken}
-use Rattle.machine_collections.proofs.KeptNames.{kept_reachable, referred_name}
+use Rattle.machine_collections.proofs.KeptNames.{kept_reachable, reachable_kept, referred_name}
 use Rattle.machine_collections.proofs.KeptReferences.{AreKept, CallIsKept, IsClosedUnder, ThreadsAreKept, ValueIsKept, ValuesAreKept}
 use Rattle.machine_collections.proofs.LiveBlocks.{births}
-use Rattle.machine_collections.proofs.ReachableNames.{times_in}
-use Rattle.machine.proofs.Reports.{gathered_name, reachable_there, view_root}
+use Rattle.machine_collections.proofs.PackedLayouts.{block_of, packed_layout, rising_layout}
+use Rattle.machine_collections.proofs.ReachableNames.{in_times, times_in}
+use Rattle.machine.proofs.Reports.{gathered_name, name_gathered, reachable_there, root_among, source_roots, view_root}
 
 -- ---- blocks
 
@@ -107,6 +113,17 @@ left_grows Kept f s t there laid h =
     let cells : t.cells ≡ s.cells = h.cells in
     omega (arith, top, cells)
 
+-- ---- what is seen of a heap
+
+-- the cells that a run has left
+pub left_seen : (p : Lowered) (world : World) (store : Store) (journal : List Entry) → store.heap.cells ≡ world.cells → cells_left (seen p world store journal) ≡ left_of store.heap
+left_seen p world store journal cells = let top : top_of (layout_of store.heap) ≡ end_of store.heap = top_is 0 store.heap.blocks in omega (arith, top, cells)
+
+-- the cells that its blocks take
+taken_seen : (bs : List Block) → sum_by (λ (e : Extent). e.size) (map extent_of bs) ≡ size_of bs
+taken_seen [] = refl
+taken_seen (b ∷ bs) = sum_by-cons (λ (e : Extent). e.size) (extent_of b) (map extent_of bs) ∙ ap (λ (n : ℕ). block_size b + n) (taken_seen bs) ∙ sym (sum_by-cons block_size b bs)
+
 -- ---- what is kept
 
 each_kept : (Kept : ℕ → Type 0) (xs : List ℕ) → ((a : ℕ) → In xs a → Kept a) → AreKept Kept xs
@@ -163,6 +180,16 @@ module _ (p : Lowered) (world : World) (store : Store) (ts : List Thread) (print
 
   roots_there : ThreadsAreStacked ts → compact.AreAddresses store.heap (root_places store ts)
   roots_there stacked a there = let r = gathered_name p world store ts printed stop journal c stacked a there in is_address store.heap a r.0 r.1
+
+  -- the objects of roots and views have blocks that are kept
+  root_kept : (n : ℕ) → Contains (roots world c.state) n → (a : ℕ) × (name_at store.heap a ≡ Some n) × IsKept store.heap (root_places store ts) a
+  root_kept n k = ⊎_elim
+      (λ (l : In (source_roots p world store ts printed stop journal c) n). let r = name_gathered p world store ts printed stop journal c n l in (r.0, r.1, root r.2))
+      (λ (l : In (views c.state) n).
+      let often = in_times (views c.state) n l in
+      let r = c.store_agrees.buffers.there n often in
+      (r.0, r.1, pinned (omega (arith, often, c.store_agrees.buffers.pins r.0 n r.1))))
+      (in_append_cases (source_roots p world store ts printed stop journal c) (views c.state) n (root_among p world store ts printed stop journal c n k))
 
   -- what blocks and roots refer to is there
   pub are_referred : AreReferred store ts
@@ -235,60 +262,91 @@ module _ (p : Lowered) (world : World) (store : Store) (ts : List Thread) (print
         let cells : after.heap.cells ≡ world.cells = corresponds_collected.store_agrees.cells in
         omega (arith, tight, cells, held_collected)
 
-    -- all of this of a run
-    pub leaves_collected : (old : Run) → ◌≡◌ {A = Run} (seen p world store journal) old → LeavesAll old (left_of after.heap) (size_of after.heap.blocks)
-    leaves_collected old view = subst (λ (r : Run). LeavesAll r (left_of after.heap) (size_of after.heap.blocks)) view (more_collected, (c.state, c.replays, (held_collected, left_collected)))
+    -- ---- where blocks lie
+
+    -- the objects of kept blocks are those that can be reached
+    kept_named : (a n : ℕ) → name_at store.heap a ≡ Some n → Kept a → Reachable world c.state n
+    kept_named a n name kept =
+        let r = kept_reachable world c.state store.heap c.store_agrees.heap (root_places store ts) (gathered_name p world store ts printed stop journal c h.stacked) viewed_name a kept in
+        let same : r.0 ≡ n = let both : Some r.0 ≡ Some n = sym r.1 ∙ name in cc in
+        subst (λ (m : ℕ). Reachable world c.state m) same r.2
+
+    named_kept : (a n : ℕ) → name_at store.heap a ≡ Some n → Reachable world c.state n → Kept a
+    named_kept a n name reached =
+        let r = reachable_kept world c.state store.heap c.store_agrees.heap (root_places store ts) root_kept n reached in
+        subst Kept (one_address store.heap r.0 a n c.store_agrees.heap.unique r.1 name) r.2
+
+    -- the run is as it was, but for where blocks lie
+    pub run_collected : IsCollected (seen p world store journal) (seen p world after journal)
+    run_collected =
+        let before = left_seen p world store journal c.store_agrees.cells in
+        let now = left_seen p world after journal corresponds_collected.store_agrees.cells in
+        record {
+          same = refl;
+          state = c.state;
+          replays = c.replays;
+          packed = packed_layout Kept h.to store.heap after.heap c.store_agrees.laid_out kept_closed.there h.blocks (Reachable world c.state) (Contains (views c.state)) kept_named named_kept
+              (λ a n name some. to_contains (views c.state) n (times_in (views c.state) n (omega (arith, some, c.store_agrees.buffers.pins a n name))))
+              (λ a n name viewed. let often = in_times (views c.state) n (contains_in (views c.state) n viewed) in omega (arith, often, c.store_agrees.buffers.pins a n name));
+          more = omega (arith, before, now, more_collected);
+          live = taken_seen after.heap.blocks ∙ held_collected;
+          tight = λ none. now ∙ left_collected none;
+        }
 
 -- ---- a collection by itself
 
-module _ (p : Lowered) (world : World) (store : Store) (ts : List Thread) (printed : List Printed) (stop : Option Stop) (journal : List Entry) (c : Corresponds p world store ts printed stop journal) {T E : Type 0} where
+module _ (p : Lowered) (world : World) (store : Store) (ts : List Thread) (printed : List Printed) (stop : Option Stop) (journal : List Entry) (c : Corresponds p world store ts printed stop journal) where
   -- the machine stands for the state that it stood for, whether memory was refused or not
-  pub stands_after : (r : Result T E) (after : Store) (later : List Thread) → OnOk r (AreCollected store ts after later) → OnErr r (after ≡ store) → OnErr r (later ≡ ts) → Corresponds p world after later printed stop journal
+  pub stands_after : {T E : Type 0} (r : Result T E) (after : Store) (later : List Thread) → OnOk r (AreCollected store ts after later) → OnErr r (after ≡ store) → OnErr r (later ≡ ts) → Corresponds p world after later printed stop journal
   stands_after (Ok x) after later h e f = corresponds_collected p world store ts printed stop journal c after later h
   stands_after (Err x) after later h e f = subst (λ (y : Store). Corresponds p world y later printed stop journal) (sym e) (subst (λ (l : List Thread). Corresponds p world store l printed stop journal) (sym f) c)
 
-  -- and the run is as it was, but for the cells that are left
-  pub run_after : (r : Result T E) (after : Store) (later : List Thread) (old : Run) → ◌≡◌ {A = Run} (record { unit = p.unit; world = world; journal = journal; left = left_of store.heap; held = size_of store.heap.blocks }) old → OnOk r (AreCollected store ts after later)
-      → OnOk r (IsCollected old (record { unit = p.unit; world = world; journal = journal; left = left_of after.heap; held = size_of after.heap.blocks }))
-  run_after (Ok x) after later old view h = record {
-    same = ap (λ (r : Run). let s : Run = record r { left = left_of after.heap; held = size_of after.heap.blocks } in s) view;
-    left = leaves_collected p world store ts printed stop journal c after later h old view;
-  }
+  -- and the run is as it was, but for where blocks lie
+  pub run_after : {T E : Type 0} (r : Result T E) (after : Store) (later : List Thread) (old : Run) → ◌≡◌ {A = Run} (seen p world store journal) old → OnOk r (AreCollected store ts after later) → OnOk r (IsCollected old (seen p world after journal))
+  run_after (Ok x) after later old view h = subst (λ (r : Run). IsCollected r (seen p world after journal)) view (run_collected p world store ts printed stop journal c after later h)
   run_after (Err x) after later old view h = tt
+
+  -- blocks lie apart, and what is viewed can be reached
+  pub orderly : IsOrderly (seen p world store journal)
+  orderly = record {
+    state = c.state;
+    replays = c.replays;
+    rising = rising_layout store.heap c.store_agrees.laid_out;
+    viewed = λ e there viewed.
+        let b = block_of store.heap c.store_agrees.laid_out e there in
+        let name : name_at store.heap (b.0).address ≡ Some e.name = ap (option_map (λ (x : Block). x.birth)) b.1 ∙ sym (ap (λ (x : Extent). Some x.name) b.2) in
+        let low = name_within store.heap c.state.shared.heap (b.0).address e.name c.store_agrees.heap name in
+        FromRoot e.name (from_one-contains (length c.state.shared.heap) e.name low.0 low.1) (view_root p world store ts printed stop journal c e.name (contains_in (views c.state) e.name viewed));
+  }
 
 -- ---- between two steps
 
--- a machine that stands for the same state as another, and has what a collection leaves, where it has to
-pub record StandsBetween (p : Lowered) (world : World) (state : State) (run : Run) (store : Store) (ts : List Thread) (printed : List Printed) (stop : Option Stop) (journal : List Entry) (refused : Type 0) : Type 0 where
-  pub stands : Corresponds p world store ts printed stop journal
-  pub same : stands.state ≡ state
-  pub left : refused → views stands.state ≡ [] → left_of store.heap ≡ world.cells - live_size world stands.state
-  pub leaves : refused → LeavesAll run (left_of store.heap) (size_of store.heap.blocks)
+module _ (p : Lowered) (world : World) (store : Store) (ts : List Thread) (index : ℕ) (printed : List Printed) (stop : Option Stop) (journal : List Entry) (c : Corresponds p world store ts printed stop journal) (between : Store) (among : List Thread) (x : Advanced) where
+  -- what a step begins with
+  abbrev pub Between : Type 0
+  Between = IsAsItWas store ts between among x ⊎ IsAfterCollection p world store ts index between among
 
-module _ (p : Lowered) (world : World) (store : Store) (ts : List Thread) (printed : List Printed) (stop : Option Stop) (journal : List Entry) (c : Corresponds p world store ts printed stop journal) where
-  pub stands_between : (between : Store) (among : List Thread) (x : Advanced) → IsBetween store ts between among x → StandsBetween p world c.state (seen p world store journal) between among printed stop journal (x ≡ advanced.Refused)
-  stands_between between among x is =
-      ⊎_elim
-      (λ (h : (between ≡ store) × (among ≡ ts) × (x ≢ advanced.Refused)).
-      let d : Corresponds p world between among printed stop journal = subst (λ (y : Store). Corresponds p world y among printed stop journal) (sym h.0) (subst (λ (l : List Thread). Corresponds p world store l printed stop journal) (sym h.1) c) in
-      record { stands = d; same = cc (sym d.replays, c.replays); left = λ refused. absurd (h.2 refused); leaves = λ refused. absurd (h.2 refused) })
-      (λ (h : AreCollected store ts between among).
-      let d = corresponds_collected p world store ts printed stop journal c between among h in
-      let same : d.state ≡ c.state = cc (sym d.replays, c.replays) in
-      record {
-        stands = d;
-        same = same;
-        left = λ refused none. left_collected p world store ts printed stop journal c between among h (ap views (sym same) ∙ none) ∙ ap (λ (s : State). world.cells - live_size world s) (sym same);
-        leaves = λ refused. leaves_collected p world store ts printed stop journal c between among h (seen p world store journal) refl;
-      })
-      is
+  -- it stands for the same journal
+  pub stands_between : Between → Corresponds p world between among printed stop journal
+  stands_between (inl h) = subst (λ (y : Store). Corresponds p world y among printed stop journal) (sym h.same_store) (subst (λ (l : List Thread). Corresponds p world store l printed stop journal) (sym h.same_threads) c)
+  stands_between (inr h) = corresponds_collected p world store ts printed stop journal c between among h.collected
 
--- threads go on where they have moved
-pub lives_between : (store : Store) (ts : List Thread) (between : Store) (among : List Thread) (x : Advanced) → IsBetween store ts between among x → (i : ℕ) (t u : Thread) → slice_get ts i ≡ Some t → slice_get among i ≡ Some u → u.ending ≡ t.ending
-lives_between store ts between among x is i t u at there =
-    ⊎_elim
-    (λ (h : (between ≡ store) × (among ≡ ts) × (x ≢ advanced.Refused)).
-    let same : u ≡ t = let both : Some u ≡ Some t = sym there ∙ ap (λ (l : List Thread). slice_get l i) h.1 ∙ at in cc in ap (λ (y : Thread). y.ending) same)
-    (λ (h : AreCollected store ts between among).
-    let same : u ≡ moved_thread h.to t = let both : Some u ≡ Some (moved_thread h.to t) = sym there ∙ ap (λ (l : List Thread). slice_get l i) h.follow ∙ get_map (moved_thread h.to) ts i t at in cc in ap (λ (y : Thread). y.ending) same)
-    is
+  -- where the allocation was refused there was a collection
+  pub refused_after : Between → x ≡ advanced.Refused → IsAfterCollection p world store ts index between among
+  refused_after (inl h) refused = absurd (h.did refused)
+  refused_after (inr h) refused = h
+
+  -- which left all cells but those of what can be reached, with nothing viewed
+  pub left_between : (is : Between) → x ≡ advanced.Refused → views (stands_between is).state ≡ [] → left_of between.heap ≡ world.cells - live_size world (stands_between is).state
+  left_between is refused none =
+      let d = stands_between is in
+      let same : c.state ≡ d.state = cc (sym c.replays, d.replays) in
+      left_collected p world store ts printed stop journal c between among (refused_after is refused).collected (ap views same ∙ none) ∙ ap (λ (s : State). world.cells - live_size world s) same
+
+  -- threads go on where they have moved
+  pub lives_between : Between → (i : ℕ) (t u : Thread) → slice_get ts i ≡ Some t → slice_get among i ≡ Some u → u.ending ≡ t.ending
+  lives_between (inl h) i t u at there = let same : u ≡ t = let both : Some u ≡ Some t = sym there ∙ ap (λ (l : List Thread). slice_get l i) h.same_threads ∙ at in cc in ap (λ (y : Thread). y.ending) same
+  lives_between (inr h) i t u at there =
+      let to = h.collected.to in
+      let same : u ≡ moved_thread to t = let both : Some u ≡ Some (moved_thread to t) = sym there ∙ ap (λ (l : List Thread). slice_get l i) h.collected.follow ∙ get_map (moved_thread to) ts i t at in cc in
+      ap (λ (y : Thread). y.ending) same

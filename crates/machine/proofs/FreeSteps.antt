@@ -1,5 +1,5 @@
 -- Steps of one thread that are known not to wait, one after another.
-use Rattle.std.proofs.Common.{◌≡◌, ℕ, zero, suc, false, ◌+◌, ◌<◌, List, [], ◌∷◌, ◌++◌, length, replicate, Some, None, refl, sym, ap, subst}
+use Rattle.std.proofs.Common.{◌≡◌, ℕ, zero, suc, false, inl, arith, ◌+◌, ◌<◌, ◌≤◌, List, [], ◌∷◌, ◌++◌, length, replicate, Some, None, refl, sym, ap, subst}
 use Rattle.std.specs.Prelude.{slice_get, slice_set}
 use Rattle.std.proofs.lemmas.Option.{slice_get_within}
 use Rattle.semantics.specs.declared.event.Ending.TheVariants.{Unfinished}
@@ -10,6 +10,11 @@ use Rattle.semantics.specs.declared.printed.Printed.{Printed}
 use Rattle.semantics.specs.declared.schedule.ScheduleWord.TheVariants.{Turn}
 use Rattle.semantics.specs.EventViews.{stop_after}
 use Rattle.semantics.specs.Schedule.{Schedule}
+use Rattle.semantics.specs.Object.{sizes}
+use Rattle.semantics.specs.Run.{made}
+use Rattle.syntax.specs.Views.{unit_tree}
+use Rattle.heap.specs.Heap.{left_of}
+use Rattle.heap.specs.Layout.{Layout}
 use Rattle.semantics.specs.Thread as source
 use Rattle.semantics.specs.Thread.{Shared}
 use Rattle.semantics.specs.World.{World}
@@ -23,9 +28,10 @@ use Rattle.machine_threads.specs.declared.thread.Thread.{Thread}
 use Rattle.machine_steps.specs.Advances.{Stands}
 use Rattle.machine_steps.specs.Moved.{IsSilent}
 use Rattle.machine.specs.declared.turn.Turn.TheVariants as turn
-use Rattle.machine.specs.Run.{Run, CanGoOn, Corresponds, RunsAlong, WentOn, seen}
+use Rattle.machine.specs.Run.{Run, CanGoOn, Corresponds, RunsAlong, WentOn, seen, stepped}
+use Rattle.machine.proofs.Collected.{left_seen}
 use Rattle.machine.proofs.Runs.{along_both, none_yet, replicate_more, turned}
-use Rattle.machine.proofs.Steps.{StepsFreely, can_turn_here, is_free, none_printed, owners, rest, stands, steps_freely, the_thread}
+use Rattle.machine.proofs.Steps.{StepsFreely, can_turn_here, is_free, make_freely, none_printed, owners, rest, stands, steps_freely, the_thread}
 
 -- an element that is written twice
 set_twice : {A : Type 0} (xs : List A) (i : ℕ) (a b : A) → slice_set (slice_set xs i a) i b ≡ slice_set xs i b
@@ -63,7 +69,11 @@ module _ (p : Lowered) (w : World) (store : Store) (ts : List Thread) (index : �
         let next = steps_freely p w store (slice_set ts index t) printed None journal c k index t h.number thread_at after e freely refl lives in
         let free = is_free p w store (slice_set ts index t) printed None journal c k index t h.number thread_at after e freely in
         let can = can_turn_here p w store (slice_set ts index t) printed None journal c k index t h.number thread_at refl lives free in
+        let make = make_freely p w store (slice_set ts index t) printed None journal c k index t h.number thread_at after e freely refl lives in
+        let left = left_seen p w store journal c.store_agrees.cells in
         let now : Run = seen p w store (journal ++ Step k false ∷ []) in
+        let is : now ≡ stepped (seen p w store journal) c.state k = ap (λ (l : Layout). let r : Run = record { unit = p.unit; world = w; journal = journal ++ Step k false ∷ []; layout = l } in r) make.1 in
+        let room : sizes (made (unit_tree p.unit) w c.state k) ≤ left_of store.heap = make.0 in
         record {
           stands =
               subst (λ (l : List Thread). Corresponds p w store l printed (stop_after None k e) (journal ++ Step k false ∷ [])) (set_twice ts index t after)
@@ -71,5 +81,5 @@ module _ (p : Lowered) (w : World) (store : Store) (ts : List Thread) (index : �
           along =
               subst (λ (words : Schedule). RunsAlong (seen p w store before) now words) (sym (replicate_more (Turn k) n))
               (along_both (seen p w store before) (seen p w store journal) now (replicate n (Turn k)) (Turn k ∷ []) so_far.along
-              (turned (seen p w store journal) now k turn.Stepped ((refl, (few, (c.state, c.replays, can)))) (rw next.replays refl) (λ full. absurd (cc))));
+              (turned (seen p w store journal) now k turn.Stepped ((few, (c.state, c.replays, can)), (seen p w store journal, inl (refl, (c.state, c.replays, omega (arith, room, left))), (c.state, c.replays, is))) (rw next.replays refl) (λ full. absurd (cc))));
         }

@@ -6,6 +6,7 @@ pub mod Reports
 pub mod CollectedRuns
 pub mod Collected
 pub mod Steps
+pub mod Turns
 pub mod Advancing
 pub mod SafeLoads
 pub mod TextBytes

@@ -26,8 +26,8 @@ use Rattle.semantics.specs.Task.{Task}
 use Rattle.semantics.proofs.ShownRows.{length-loaded}
 use Rattle.semantics.specs.Thread as source
 use Rattle.semantics.specs.Thread.{Shared}
-use Rattle.heap.specs.Heap.{Block, Space, block_at, left_of, name_at, pins_at}
-use Rattle.compact.specs.Same.{size_of}
+use Rattle.heap.specs.Heap.{Block, Space, block_at, name_at, pins_at}
+use Rattle.heap.specs.Layout.{layout_of}
 use Rattle.code_meaning.specs.Lowered.{Lowered}
 use Rattle.code_meaning.specs.Slots.{Visible, visible_to}
 use Rattle.report_objects.specs.Rows.{AreReported}
@@ -73,10 +73,10 @@ report_is p world store ts printed stop journal c shown_standings rows told show
 -- ---- the end
 
 pub is_finished : (p : Lowered) (world : World) (store : Store) (ts : List Thread) (printed : List Printed) (stop : Option Stop) (journal : List Entry) (c : Corresponds p world store ts printed stop journal) (now : Run)
-    → ◌≡◌ {A = Run} (record { unit = p.unit; world = world; journal = journal; left = left_of store.heap; held = size_of store.heap.blocks }) now
+    → ◌≡◌ {A = Run} (record { unit = p.unit; world = world; journal = journal; layout = layout_of store.heap }) now
     → (stopped : Bool) → stopped ≡ is_some stop → (rest : Bool) → AllRest now rest → IsFinished now (stopped || rest)
 is_finished p world store ts printed stop journal c now view stopped is rest h =
-    let here : AllRest (record { unit = p.unit; world = world; journal = journal; left = left_of store.heap; held = size_of store.heap.blocks }) rest = subst (λ (r : Run). AllRest r rest) (sym view) h in
+    let here : AllRest (record { unit = p.unit; world = world; journal = journal; layout = layout_of store.heap }) rest = subst (λ (r : Run). AllRest r rest) (sym view) h in
     let state_is : here.0 ≡ c.state = cc (here.1, c.replays) in
     let same : rest ≡ run.all_rest world.classes c.state = subst (λ (x : State). rest ≡ run.all_rest world.classes x) state_is here.2 in
     subst (λ (r : Run). IsFinished r (stopped || rest)) view (c.state, c.replays, (λ i. (is ∙ has_stopped stop ∙ ap (λ (o : Option state.Stop). is_some o) (sym c.same_stop)) i || same i))
@@ -113,7 +113,7 @@ module _ (p : Lowered) (world : World) (store : Store) (ts : List Thread) (print
   roots_in = roots_of p world.classes store.heap store.elements (length (loaded_objects world)) (owners_after (unit_tree p.unit) world journal) 1 c.state.shared ts c.state.threads (all_alone c.state.threads (λ i s there. (c.safe journal c.state (suc i) s c.replays there).alone)) c.threads_agree
 
   -- the objects made at load, the global references, what the threads refer to, and the objects that have owners
-  abbrev source_roots : List ℕ
+  abbrev pub source_roots : List ℕ
   source_roots = names_gathered (length store.loaded.items) c.state.shared.globals c.state.threads c.state.shared.monitors
 
   -- those and what is viewed are all the state's roots
@@ -129,7 +129,7 @@ module _ (p : Lowered) (world : World) (store : Store) (ts : List Thread) (print
       ∙ ap (λ (l : List ℕ). l ++ views c.state) (append_assoc made (globals ++ names) owned ∙ ap (λ (l : List ℕ). made ++ l) (append_assoc globals names owned))
 
   -- so each root is one of them, and each of them a root
-  root_among : (n : ℕ) → Contains (roots world c.state) n → In (source_roots ++ views c.state) n
+  pub root_among : (n : ℕ) → Contains (roots world c.state) n → In (source_roots ++ views c.state) n
   root_among n k = contains_in (source_roots ++ views c.state) n (subst (λ (l : List ℕ). Contains l n) roots_are k)
 
   among_roots : (n : ℕ) → In (source_roots ++ views c.state) n → Contains (roots world c.state) n
@@ -169,7 +169,7 @@ module _ (p : Lowered) (world : World) (store : Store) (ts : List Thread) (print
       (r.0, r.1, source_root r.0 r.2)
 
   -- and each root's name, but for views, that of a gathered address
-  name_gathered : (n : ℕ) → In source_roots n → (a : ℕ) × (name_at store.heap a ≡ Some n) × Contains (root_places store ts) (Some a)
+  pub name_gathered : (n : ℕ) → In source_roots n → (a : ℕ) × (name_at store.heap a ≡ Some n) × Contains (root_places store ts) (Some a)
   name_gathered n k =
       let agrees = c.store_agrees in
       let r = roots_gathered store.heap store (length (loaded_objects world)) ts c.state.threads c.state.shared.globals c.state.shared.monitors n agrees.table agrees.globals roots_in agrees.monitors agrees.monitored k in
@@ -239,7 +239,7 @@ module _ (p : Lowered) (world : World) (store : Store) (ts : List Thread) (print
       })
 
 module _ (p : Lowered) (world : World) (store : Store) (ts : List Thread) (printed : List Printed) (stop : Option Stop) (journal : List Entry) (c : Corresponds p world store ts printed stop journal) (now : Run)
-    (view : ◌≡◌ {A = Run} (record { unit = p.unit; world = world; journal = journal; left = left_of store.heap; held = size_of store.heap.blocks }) now) where
+    (view : ◌≡◌ {A = Run} (record { unit = p.unit; world = world; journal = journal; layout = layout_of store.heap }) now) where
   -- the names of the tables lead to what is shown
   pub are_shown : (objects : Heap) (names : List ℕ) → AreSeen store.heap c.state.shared.heap objects → names ≡ map (object_there store.heap) (references_in (root_places store ts)) ++ pinned_names store.heap.blocks → ThreadsAreStacked ts → AreShown now objects names
   are_shown objects names h n stacked =
@@ -260,9 +260,9 @@ module _ (p : Lowered) (world : World) (store : Store) (ts : List Thread) (print
       → sink.Writes old new result (report_text (report_with numbers told rows) ++ journal_line entries)
       → WritesRun now old new result
   writes_run old new result numbers told rows entries n s shows e h =
-      let there : ShowsObjects (record { unit = p.unit; world = world; journal = journal; left = left_of store.heap; held = size_of store.heap.blocks }) rows = subst (λ (r : Run). ShowsObjects r rows) (sym view) shows in
+      let there : ShowsObjects (record { unit = p.unit; world = world; journal = journal; layout = layout_of store.heap }) rows = subst (λ (r : Run). ShowsObjects r rows) (sym view) shows in
       let state_is : there.0 ≡ c.state = cc (there.1, c.replays) in
-      let stood : ShowsStandings (record { unit = p.unit; world = world; journal = journal; left = left_of store.heap; held = size_of store.heap.blocks }) (map standing_view told) = subst (λ (r : Run). ShowsStandings r (map standing_view told)) (sym view) s in
+      let stood : ShowsStandings (record { unit = p.unit; world = world; journal = journal; layout = layout_of store.heap }) (map standing_view told) = subst (λ (r : Run). ShowsStandings r (map standing_view told)) (sym view) s in
       let stood_is : stood.0 ≡ c.state = cc (stood.1, c.replays) in
       let standings_shown = subst (λ (x : State). map standing_view told ≡ standings_in world.classes x) stood_is stood.2 in
       let rows_shown = subst (λ (x : State). rows ≡ map (shown_row world.classes x.shared.heap) (shown world x)) state_is there.2 in

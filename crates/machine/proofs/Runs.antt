@@ -1,6 +1,6 @@
 -- Several words go along with a schedule.
 use Rattle.std.proofs.Common.{◌≡◌, ℕ, zero, suc, ◌+◌, ◌-◌, ◌<◌, ◌≤◌, Bool, true, false, List, [], ◌∷◌, ◌++◌, length, take, drop, get_or, replicate, Option, Some, None, refl, sym, ap, ◌∙◌, subst, arith, IsSome, append_assoc, append-nil, inl, inr}
-use Rattle.std.specs.Prelude.{slice_get, is_none, not, ◌&&◌, flat_map}
+use Rattle.std.specs.Prelude.{Contains, slice_get, is_none, not, ◌&&◌, flat_map}
 use Rattle.std.specs.Option.{option_and_then}
 use Rattle.std.proofs.lemmas.Bool.{and_left, and_right}
 use Rattle.std.proofs.lemmas.List.{replicate-append-replicate, take-append-drop, take_all}
@@ -19,9 +19,12 @@ use Rattle.semantics.specs.declared.schedule.ScheduleWord.TheVariants.{Turn, Col
 use Rattle.semantics.specs.World.{World}
 use Rattle.semantics.specs.Schedule.{Schedule}
 use Rattle.semantics.specs.Run.{replay, replay_from, Follows, Over, Collects, Waits, Steps}
-use Rattle.semantics.specs.Reachable.{live_size}
+use Rattle.semantics.specs.Reachable.{live_size, Reachable}
 use Rattle.semantics.specs.Start.{start}
-use Rattle.semantics.specs.State.{State, Stop, thread_at}
+use Rattle.semantics.specs.State.{State, Stop, thread_at, views}
+use Rattle.heap.specs.Layout.{Extent, Layout}
+use Rattle.machine_collections.specs.Packing.{IsPacked}
+use Rattle.machine_collections.proofs.PackedLayouts.{packed_still}
 use Rattle.semantics.specs.Step.{can_step, is_live, is_waiting, world_step}
 use Rattle.semantics.proofs.RunLaws.{replay_from-append, follows-replay, follows-append}
 use Rattle.machine.specs.declared.turn.Turn.{Turn as Answer}
@@ -30,7 +33,7 @@ use Rattle.machine_threads.proofs.Lists.{take_next}
 use Rattle.machine.specs.declared.fault.RunFault.{RunFault}
 use Rattle.machine.specs.declared.fault.RunFault.TheVariants as running
 use Rattle.machine.specs.Run.AreTaken.{NoWord, Taken}
-use Rattle.machine.specs.Run.{Run, replay_of, can_turn, AreTaken, IsTaken, EndsAt, HasEnded, IsCollected, TurnHolds, GivesNoStep, RunsAlong, RunsInto}
+use Rattle.machine.specs.Run.{Run, replay_of, can_turn, AreTaken, IsTaken, EndsAt, FindsRoom, HasEnded, IsCollected, IsOrderly, TurnHolds, GivesNoStep, RunsAlong, RunsInto}
 
 -- the walk from a state of a run along these words
 abbrev pub Walk : Run → State → List Entry → Schedule → State → Type 0
@@ -143,27 +146,31 @@ collected_once r new h d = by_state (replay_of r) refl d
         (record { taken = subst (λ (x : Run). AreTaken r (Collect ∷ []) x) h.same (once r new Collect h); same_unit = refl; same_world = refl; steps = []; journal = sym (append-nil r.journal); before = s; replays = e; after = s; follows = Collects s s [] [] (Over s) })
 
 -- one right after another leaves what it left
-collected_still : (r new : Run) → IsCollected r new → IsCollected new new
-collected_still r new h = record {
-  same = refl;
-  left = (omega arith, (
-    h.left.1.0,
-    ap replay_of h.same ∙ h.left.1.1,
-    (
-      h.left.1.2.0 ∙ ap (λ (x : Run). live_size x.world h.left.1.0) (sym h.same),
-      λ none. h.left.1.2.1 none ∙ ap (λ (x : Run). x.world.cells - live_size x.world h.left.1.0) (sym h.same),
-    ),
-  ));
-}
+collected_still : (r new : Run) → IsOrderly r → IsCollected r new → IsCollected new new
+collected_still r new can h =
+    let world : new.world ≡ r.world = ap (λ (x : Run). x.world) h.same in
+    let state : can.state ≡ h.state = cc (sym can.replays, h.replays) in
+    let viewed : (e : Extent) → Contains r.layout e → Contains (views h.state) e.name → Reachable r.world h.state e.name =
+    subst (λ (s : State). (e : Extent) → Contains r.layout e → Contains (views s) e.name → Reachable r.world s e.name) state can.viewed in
+    record {
+      same = refl;
+      state = h.state;
+      replays = ap replay_of h.same ∙ h.replays;
+      packed = subst (λ (w : World). IsPacked (Reachable w h.state) (Contains (views h.state)) new.layout new.layout) (sym world)
+          (packed_still (Reachable r.world h.state) (Contains (views h.state)) r.layout new.layout can.rising viewed h.packed);
+      more = omega arith;
+      live = h.live ∙ ap (λ (w : World). live_size w h.state) (sym world);
+      tight = λ none. h.tight none ∙ ap (λ (w : World). w.cells - live_size w h.state) (sym world);
+    }
 
 -- nor do more of them, if there is one
-pub collected_often : (r new : Run) (times : ℕ) → (times ≡ 0 → ⊥) → IsCollected r new → IsSome (replay_of r) → IsSome (replay_of new) → RunsAlong r new (replicate times Collect)
-collected_often r new zero some h d e = absurd (some refl)
-collected_often r new (suc n) some h d e = along_both r new new (Collect ∷ []) (replicate n Collect) (collected_once r new h d) (more n)
+pub collected_often : (r new : Run) (times : ℕ) → (times ≡ 0 → ⊥) → IsOrderly r → IsCollected r new → IsSome (replay_of r) → IsSome (replay_of new) → RunsAlong r new (replicate times Collect)
+collected_often r new zero some can h d e = absurd (some refl)
+collected_often r new (suc n) some can h d e = along_both r new new (Collect ∷ []) (replicate n Collect) (collected_once r new h d) (more n)
   where
     more : (n : ℕ) → RunsAlong new new (replicate n Collect)
     more zero = none_yet new e
-    more (suc n) = along_both new new new (Collect ∷ []) (replicate n Collect) (collected_once new new (collected_still r new h) e) (more n)
+    more (suc n) = along_both new new new (Collect ∷ []) (replicate n Collect) (collected_once new new (collected_still r new can h) e) (more n)
 
 -- a run ends at a collection that memory is refused to
 pub collection_refused : (r new : Run) (times : ℕ) → (times ≡ 0 → ⊥) → new ≡ r → IsSome (replay_of r) → RunsInto r new (replicate times Collect) running.Memory
@@ -192,18 +199,22 @@ stopped_waits classes s k h =
 blocked_waits : (classes : Classes) (s : State) (k : ℕ) → is_waiting classes k s.shared (thread_at s k) ≡ true → can_step classes s k ≡ false
 blocked_waits classes s k h = and_right (is_none s.stop && is_live (thread_at s k)) (not (is_waiting classes k s.shared (thread_at s k))) (ap not h)
 
+-- the run with one entry more, and with its blocks where they lie then
+abbrev pub with_entry : (old new : Run) → Entry → Run
+with_entry old new e = record old { journal = old.journal ++ e ∷ []; layout = new.layout }
+
 -- the step of a journal with one more entry
-step_of : (r new : Run) (e : Entry) (left held : ℕ) (s : State) → new ≡ record r { journal = r.journal ++ e ∷ []; left = left; held = held } → replay_of r ≡ Some s → IsSome (replay_of new) → (n : State) × (world_step (unit_tree r.unit) r.world.classes s e ≡ Some n)
-step_of r new e left held s is h defined = there (world_step (unit_tree r.unit) r.world.classes s e) (subst IsSome (ap replay_of is ∙ replay_with r (e ∷ []) s h) defined)
+step_of : (r new : Run) (e : Entry) (s : State) → new ≡ with_entry r new e → replay_of r ≡ Some s → IsSome (replay_of new) → (n : State) × (world_step (unit_tree r.unit) r.world.classes s e ≡ Some n)
+step_of r new e s is h defined = there (world_step (unit_tree r.unit) r.world.classes s e) (subst IsSome (ap replay_of is ∙ replay_with r (e ∷ []) s h) defined)
   where
     there : (o : Option State) → IsSome (option_and_then (λ t. replay_from (unit_tree r.unit) r.world t []) o) → (n : State) × (o ≡ Some n)
     there None d = absurd (let f : false ≡ true = d in cc)
     there (Some n) d = (n, refl)
 
 -- a step, whose allocation was refused or not
-stepped_once : (r new : Run) (k : ℕ) (refused : Bool) (left held : ℕ) (s : State) → new ≡ record r { journal = r.journal ++ Step k refused ∷ []; left = left; held = held } → replay_of r ≡ Some s → can_turn r s k ≡ true → IsSome (replay_of new) → AreTaken r (Turn k ∷ []) new → RunsAlong r new (Turn k ∷ [])
-stepped_once r new k refused left held s is h can defined each =
-    let n = step_of r new (Step k refused) left held s is h defined in
+stepped_once : (r new : Run) (k : ℕ) (refused : Bool) (s : State) → new ≡ with_entry r new (Step k refused) → replay_of r ≡ Some s → can_turn r s k ≡ true → IsSome (replay_of new) → AreTaken r (Turn k ∷ []) new → RunsAlong r new (Turn k ∷ [])
+stepped_once r new k refused s is h can defined each =
+    let n = step_of r new (Step k refused) s is h defined in
     subst (λ x. RunsAlong r x (Turn k ∷ [])) (sym is) (record {
       taken = subst (λ (x : Run). AreTaken r (Turn k ∷ []) x) is each;
       same_unit = refl;
@@ -215,6 +226,28 @@ stepped_once r new k refused left held s is h can defined each =
       after = n.0;
       follows = Steps s n.0 n.0 k refused [] [] can n.1 (Over n.0);
     })
+
+-- ---- what a step adds
+
+-- an entry after a run that differs in where blocks lie alone
+entry_after : (old mid new : Run) (e : Entry) (layout : Layout) → mid ≡ record old { layout = mid.layout } → new ≡ record mid { journal = mid.journal ++ e ∷ []; layout = layout } → new ≡ with_entry old new e
+entry_after old mid new e layout same is =
+    let there : new.layout ≡ layout = ap (λ (r : Run). r.layout) is in
+    is
+    ∙ ap (λ (l : Layout). let r : Run = record mid { journal = mid.journal ++ e ∷ []; layout = l } in r) (sym there)
+    ∙ ap (λ (r : Run). with_entry r new e) same
+
+-- a step that found room begins with such a run
+room_found : (old : Run) (k : ℕ) (mid : Run) → FindsRoom old k mid → mid ≡ record old { layout = mid.layout }
+room_found old k mid (inl h) = h.0 ∙ ap (λ (l : Layout). let r : Run = record old { layout = l } in r) (sym (ap (λ (r : Run). r.layout) h.0))
+room_found old k mid (inr h) = h.1.same
+
+-- so a step adds its entry, and nothing else
+pub did_add : (old new : Run) (k : ℕ) → TurnHolds old k new turn.Stepped → new ≡ with_entry old new (Step k false)
+did_add old new k h = let mid = h.1.0 in entry_after old mid new (Step k false) _ (room_found old k mid h.1.1) h.1.2.2
+
+pub refused_add : (old new : Run) (k : ℕ) → TurnHolds old k new turn.Short → new ≡ with_entry old new (Step k true)
+refused_add old new k h = let mid = h.1.0 in entry_after old mid new (Step k true) mid.layout h.1.1.collected.same h.1.2
 
 turn_other : {k : ℕ} → Turn k ≡ Collect → ⊥
 turn_other same = absurd (cc)
@@ -228,8 +261,8 @@ turned r new k turn.Ended h defined full =
 turned r new k (turn.Blocked all) h defined full =
     subst (λ x. RunsAlong r x (Turn k ∷ [])) (sym h.0) (no_step r (Turn k) turn_other (h.1.0, h.1.1, blocked_waits r.world.classes h.1.0 k h.1.2.waits))
 turned r new k turn.Full h defined full = absurd (full refl)
-turned r new k turn.Short h defined full = let could = h.1.1 in stepped_once r new k true new.left new.held could.0 h.0 could.1 could.2 defined (once r new (Turn k) (inr (inr h)))
-turned r new k turn.Stepped h defined full = let could = h.1.1 in stepped_once r new k false new.left new.held could.0 h.0 could.1 could.2 defined (once r new (Turn k) (inr (inl h)))
+turned r new k turn.Short h defined full = let could = h.0.1 in stepped_once r new k true could.0 (refused_add r new k h) could.1 could.2 defined (once r new (Turn k) (inr (inr h)))
+turned r new k turn.Stepped h defined full = let could = h.0.1 in stepped_once r new k false could.0 (did_add r new k h) could.1 could.2 defined (once r new (Turn k) (inr (inl h)))
 
 -- ---- threads that are not there
 

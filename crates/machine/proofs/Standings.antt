@@ -16,8 +16,7 @@ use Rattle.semantics.specs.Step.{is_blocked, is_unfinished}
 use Rattle.semantics.specs.Thread as source
 use Rattle.semantics.specs.World.{World, loaded_objects}
 use Rattle.semantics_safety.specs.Owners.{owners_after}
-use Rattle.heap.specs.Heap.{left_of}
-use Rattle.compact.specs.Same.{size_of}
+use Rattle.heap.specs.Layout.{layout_of}
 use Rattle.code_meaning.specs.Lowered.{Lowered}
 use Rattle.machine_scenes.specs.declared.store.Store.{Store}
 use Rattle.machine_threads.specs.declared.thread.Thread.{Thread}
@@ -65,9 +64,9 @@ one_fails p (y ∷ xs) (suc i) x h one = ap (λ b. p y && b) (one_fails p xs i x
 -- ---- one thread of several
 
 module _ (p : Lowered) (world : World) (store : Store) (ts : List Thread) (printed : List Printed) (stop : Option Stop) (journal : List Entry) (c : Corresponds p world store ts printed stop journal) (now : Run)
-    (view : ◌≡◌ {A = Run} (record { unit = p.unit; world = world; journal = journal; left = left_of store.heap; held = size_of store.heap.blocks }) now) where
+    (view : ◌≡◌ {A = Run} (record { unit = p.unit; world = world; journal = journal; layout = layout_of store.heap }) now) where
   abbrev seen : Run
-  seen = record { unit = p.unit; world = world; journal = journal; left = left_of store.heap; held = size_of store.heap.blocks }
+  seen = record { unit = p.unit; world = world; journal = journal; layout = layout_of store.heap }
 
   -- a fact of the state is one of the run, and the other way round
   pub told : (P : Run → State → Type 0) → P seen c.state → InState now (P now)

@@ -1,6 +1,6 @@
 -- A step of the machine is a step of the state that its journal leads to.
 use Rattle.std.proofs.Common.{◌≡◌, ℕ, suc, ◌<◌, ◌≤◌, ◌-◌, Bool, true, false, List, [], ◌∷◌, ◌++◌, ◌+◌, get_or, length, drop, arith, inl, inr, length-append, Option, Some, None, refl, sym, ap, ◌∙◌, subst}
-use Rattle.std.specs.Prelude.{slice_get, slice_set, is_some}
+use Rattle.std.specs.Prelude.{slice_get, slice_set, is_none, is_some, not, ◌&&◌}
 use Rattle.std.specs.Option.{option_map}
 use Rattle.std.proofs.Math.ListN.{length-set}
 use Rattle.std.proofs.lemmas.Option.{slice_get_read}
@@ -14,6 +14,9 @@ use Rattle.semantics.specs.World.{World, loaded_objects}
 use Rattle.semantics.specs.State.{State, thread_at, set_thread, in_use, views, with_event}
 use Rattle.semantics.specs.State.{advanced as advanced_to}
 use Rattle.semantics.specs.Step.{can_step, is_blocked, is_unfinished, is_waiting, world_step}
+use Rattle.semantics.specs.Step.{is_live as is_live_thread}
+use Rattle.semantics.specs.State as state
+use Rattle.std.proofs.lemmas.Bool.{false≢true}
 use Rattle.semantics.specs.ThreadStep.{thread_step, waits}
 use Rattle.semantics.specs.Thread as source
 use Rattle.semantics.specs.Thread.{BuffersInUse, Shared}
@@ -26,6 +29,9 @@ use Rattle.machine.proofs.Reports.{reachable_there}
 use Rattle.semantics.specs.Start.{start}
 use Rattle.semantics.proofs.StepLaws.{Steps, steps, step-thread}
 use Rattle.heap.specs.Heap.{left_of}
+use Rattle.heap.specs.Layout.{layout_of}
+use Rattle.semantics.specs.Heap.{next_name}
+use Rattle.machine_scenes.specs.Layouts.{with_objects}
 use Rattle.heap.proofs.Layouts.{ends_within}
 use Rattle.machine_collections.proofs.LiveBlocks.{live_below}
 use Rattle.code_meaning.specs.Lowered.{Lowered}
@@ -45,7 +51,7 @@ use Rattle.machine_steps.specs.Advances.{Advances, AdvancesAlways, HoldsAlways, 
 use Rattle.machine_steps.specs.Moved.{IsSilent}
 use Rattle.machine_steps.specs.declared.advance.Advanced.{Advanced}
 use Rattle.machine_steps.specs.declared.advance.Advanced.TheVariants as advanced
-use Rattle.machine.specs.Run.{Run, acquired, Corresponds, CouldStep, HadNoRoom, LeavesAll, TurnHolds, entry_of, event_of, is_refused, turn_after, turn_at_rest, HasEnded}
+use Rattle.machine.specs.Run.{Run, acquired, Corresponds, LacksRoom, entry_of, event_of, is_refused, turn_at_rest, HasEnded}
 use Rattle.machine.proofs.KeptThreads.{changed}
 use Rattle.machine.proofs.TakenBuffers.{in_use_same, joined, others, own_viewed, parted, set_there, taken}
 use Rattle.machine_steps.proofs.Acquisitions.{store_taken}
@@ -106,6 +112,21 @@ pub is_live : (e : Ending) → is_unfinished (ending_view e) ≡ true → e ≡ 
 is_live Unfinished h = refl
 is_live Ended h = absurd (cc)
 is_live (Uncaught class) h = absurd (cc)
+
+-- the machine has stopped where the state has
+stops_not : (o : Option Stop) (s : Option state.Stop) → s ≡ option_map stop_view o → is_some s ≡ false → is_some o ≡ false
+stops_not None s same h = refl
+stops_not (Some x) s same h = ap is_some (sym same) ∙ h
+
+-- a thread that can step goes on and waits for nothing, and nothing has stopped
+pub can_parts : (classes : Classes) (s : State) (k : ℕ) → can_step classes s k ≡ true → (is_some s.stop ≡ false) × (is_live_thread (thread_at s k) ≡ true) × (is_blocked classes s k ≡ false)
+can_parts classes s k h = parts s.stop (is_live_thread (thread_at s k)) (is_blocked classes s k) h
+  where
+    parts : (o : Option state.Stop) (a b : Bool) → (is_none o && a && not b) ≡ true → (is_some o ≡ false) × (a ≡ true) × (b ≡ false)
+    parts None true false h = (refl, refl, refl)
+    parts None true true h = absurd (false≢true h)
+    parts None false b h = absurd (false≢true h)
+    parts (Some x) a b h = absurd (false≢true h)
 
 pub none_held : (stopped unfinished : Bool) → turn_at_rest stopped unfinished ≡ None → (stopped ≡ false) × (unfinished ≡ true)
 none_held true unfinished h = absurd (cc)
@@ -223,6 +244,16 @@ module _ (p : Lowered) (world : World) (store : Store) (ts : List Thread) (print
   pub can_turn_here : stop ≡ None → t.ending ≡ Unfinished → Free → can_step classes c.state k ≡ true
   can_turn_here goes live free = (steps_here goes live free).can
 
+  -- and the other way round
+  pub can_go : can_step classes c.state k ≡ true → (stop ≡ None) × (t.ending ≡ Unfinished) × Free
+  can_go can =
+      let parts = can_parts classes c.state k can in
+      let live : is_unfinished (the_thread.source).ending ≡ true = ap is_live_thread (sym there) ∙ parts.1 in (
+        not_stopped stop (stops_not stop c.state.stop c.same_stop parts.0),
+        is_live t.ending (ap is_unfinished (sym the_thread.agrees.ending) ∙ live),
+        parts.2,
+      )
+
   is_over : (e : Ending) → (e ≡ Unfinished → ⊥) → is_unfinished (ending_view e) ≡ false
   is_over Unfinished h = absurd (h refl)
   is_over Ended h = refl
@@ -236,17 +267,39 @@ module _ (p : Lowered) (world : World) (store : Store) (ts : List Thread) (print
   fits_entry true next room step = tt
   fits_entry false next room step = has_room p world store c.state next k c.store_agrees (reachable_there p world store ts printed stop journal c) room step
 
+  -- the cells of what its next step makes, if nothing is refused
+  made_is : stop ≡ None → t.ending ≡ Unfinished → Free → sizes (made (unit_tree p.unit) world c.state k) ≡ cells_made c.state.shared (thread_step (unit_tree p.unit) classes (in_use_with rest the_thread.source) k c.state.shared the_thread.source false)
+  made_is goes live free =
+      let f = the_thread in
+      ap sizes (ap (made_between c.state) (step-thread (unit_tree p.unit) classes c.state k f.source false (steps_here goes live free)))
+      ∙ made_cells c.state k (thread_step (unit_tree p.unit) classes (in_use c.state) k c.state.shared f.source false)
+      ∙ ap (λ (u : BuffersInUse). cells_made c.state.shared (thread_step (unit_tree p.unit) classes u k c.state.shared f.source false)) used
+
+  -- which are too many where the thread lacks room
+  pub no_room_yet : stop ≡ None → t.ending ≡ Unfinished → Free → LacksRoom p world k store t → left_of store.heap < sizes (made (unit_tree p.unit) world c.state k)
+  no_room_yet goes live free lacks = let cells = made_is goes live free in let less = lacks rest (owners k) c.state.shared the_thread.source shared_agrees the_thread.agrees steady (ready free) in omega (arith, less, cells)
+
   -- a step that was refused had no room for what it would have made
   no_room : (store' : Store) (after : Thread) → stop ≡ None → t.ending ≡ Unfinished → Free → StepsAlways p world k store store' t after true event.Quiet → (left_of store.heap < sizes (made (unit_tree p.unit) world c.state k)) × (store'.heap ≡ store.heap)
   no_room store' after goes live free advances =
       let f = the_thread in
       let a = advances rest (owners k) c.state.shared f.source shared_agrees f.agrees steady (ready free) in
       let short = a.short refl in
-      let step = ap (made_between c.state) (step-thread (unit_tree p.unit) classes c.state k f.source false (steps_here goes live free)) in
-      let cells : sizes (made (unit_tree p.unit) world c.state k) ≡ cells_made c.state.shared (thread_step (unit_tree p.unit) classes (in_use_with rest f.source) k c.state.shared f.source false) =
-      ap sizes step ∙ made_cells c.state k (thread_step (unit_tree p.unit) classes (in_use c.state) k c.state.shared f.source false)
-      ∙ ap (λ (u : BuffersInUse). cells_made c.state.shared (thread_step (unit_tree p.unit) classes u k c.state.shared f.source false)) used in
+      let cells = made_is goes live free in
       (omega (arith, short.0, cells), short.1)
+
+  -- what a step makes that wasn't refused had room, and lies behind the other blocks
+  pub did_make : (store' : Store) (after : Thread) (e : Event) → stop ≡ None → t.ending ≡ Unfinished → Free → StepsAlways p world k store store' t after false e
+      → (sizes (made (unit_tree p.unit) world c.state k) ≤ left_of store.heap) × (layout_of store'.heap ≡ with_objects (layout_of store.heap) (next_name c.state.shared.heap) (made (unit_tree p.unit) world c.state k))
+  did_make store' after e goes live free advances =
+      let f = the_thread in
+      let a = advances rest (owners k) c.state.shared f.source shared_agrees f.agrees steady (ready free) in
+      let step : world_step (unit_tree p.unit) classes c.state (Step k false) ≡ Some (next_state c.state k a.next_shared a.next e) =
+      step-thread (unit_tree p.unit) classes c.state k f.source false (steps_here goes live free) ∙ ap (λ (u : BuffersInUse). advanced_to c.state k (thread_step (unit_tree p.unit) classes u k c.state.shared f.source false)) used ∙ ap (advanced_to c.state k) a.steps in
+      let objects : made (unit_tree p.unit) world c.state k ≡ drop (length c.state.shared.heap) a.next_shared.heap =
+      ap (made_between c.state) step ∙ ap (λ (x : Shared). drop (length c.state.shared.heap) x.heap) (shared_next c.state k a.next_shared a.next e) in
+      let room : sizes (drop (length c.state.shared.heap) a.next_shared.heap) ≤ left_of store.heap = a.keeps.room in
+      (omega (arith, ap sizes objects, room), a.keeps.laid ∙ ap (with_objects (layout_of store.heap) (next_name c.state.shared.heap)) (sym objects))
 
   -- where nothing is viewed, all cells are left but those of what can be reached
   abbrev AreLeft : Type 0
@@ -316,6 +369,11 @@ module _ (p : Lowered) (world : World) (store : Store) (ts : List Thread) (print
         few = subst (λ n. n ≤ 8) (sym (length-set ts i after)) c.few;
       }
 
+  -- what a step makes, by what is told of it
+  pub makes_by : (store' : Store) (after : Thread) (e : Event) → stop ≡ None → t.ending ≡ Unfinished → Free → AdvancesAlways p world k store store' t after (advanced.Did e)
+      → (sizes (made (unit_tree p.unit) world c.state k) ≤ left_of store.heap) × (layout_of store'.heap ≡ with_objects (layout_of store.heap) (next_name c.state.shared.heap) (made (unit_tree p.unit) world c.state k))
+  makes_by store' after e goes live free advances = did_make store' after e goes live free advances
+
   -- the same by what is told of the step
   pub steps_by : (store' : Store) (after : Thread) (x : Advanced) → stop ≡ None → t.ending ≡ Unfinished → Free → AdvancesAlways p world k store store' t after x → (x ≡ advanced.Refused → AreLeft)
       → Corresponds p world store' (slice_set ts i after) (printed_after printed k (event_of x)) (stop_after stop k (event_of x)) (journal ++ Step k (is_refused x) ∷ [])
@@ -327,8 +385,15 @@ module _ (p : Lowered) (world : World) (store : Store) (ts : List Thread) (print
     pub is_free : Free
     is_free = waits_here ∙ (freely rest (owners k) c.state.shared the_thread.source stands).0
 
+    advances_freely : StepsAlways p world k store store t after false e
+    advances_freely others own shared s shares h steady free = (freely others own shared s (shares, h, steady)).1
+
+    pub make_freely : stop ≡ None → t.ending ≡ Unfinished
+        → (sizes (made (unit_tree p.unit) world c.state k) ≤ left_of store.heap) × (layout_of store.heap ≡ with_objects (layout_of store.heap) (next_name c.state.shared.heap) (made (unit_tree p.unit) world c.state k))
+    make_freely goes live = did_make store after e goes live is_free advances_freely
+
     pub steps_freely : stop ≡ None → t.ending ≡ Unfinished → Corresponds p world store (slice_set ts i after) (printed_after printed k e) (stop_after stop k e) (journal ++ Step k false ∷ [])
-    steps_freely goes live = steps_on store after false e goes live is_free (λ others own shared s shares h steady free. (freely others own shared s (shares, h, steady)).1) (λ h. absurd (cc)) (λ h. absurd (cc))
+    steps_freely goes live = steps_on store after false e goes live is_free advances_freely (λ h. absurd (cc)) (λ h. absurd (cc))
 
   -- a step that was refused had no room, and left the heap as it was
   pub short_by : (store' : Store) (after : Thread) (x : Advanced) → stop ≡ None → t.ending ≡ Unfinished → Free → AdvancesAlways p world k store store' t after x
@@ -339,17 +404,3 @@ module _ (p : Lowered) (world : World) (store : Store) (ts : List Thread) (print
       let first : left_of store.heap < sizes (made (unit_tree p.unit) world c.state k) = short.0 in
       let same : left_of store'.heap ≡ left_of store.heap = ap left_of short.1 in
       (omega (arith, first, same), short.1)
-
--- the turn was the step that the run has more
-pub turn_holds : (old : Run) (unit : List Item) (world : World) (before after : List Entry) (had full left held : ℕ) (k : ℕ) (x : Advanced) → record { unit = unit; world = world; journal = before; left = had; held = full } ≡ old → after ≡ before ++ Step k (is_refused x) ∷ []
-    → CouldStep old k → (x ≡ advanced.Refused → HadNoRoom old k left × LeavesAll old left held) → TurnHolds old k (record { unit = unit; world = world; journal = after; left = left; held = held }) (turn_after x)
-turn_holds old unit world before after had full left held k (advanced.Did e) is more could short = (
-  ap (λ (j : List Entry). let r : Run = record { unit = unit; world = world; journal = j; left = left; held = held } in r) more ∙ ap (λ (r : Run). let s : Run = record r { journal = r.journal ++ Step k false ∷ []; left = left; held = held } in s) is,
-  could,
-)
-turn_holds old unit world before after had full left held k advanced.Refused is more could short = (
-  ap (λ (j : List Entry). let r : Run = record { unit = unit; world = world; journal = j; left = left; held = held } in r) more ∙ ap (λ (r : Run). let s : Run = record r { journal = r.journal ++ Step k true ∷ []; left = left; held = held } in s) is,
-  could,
-  (short refl).0,
-  (short refl).1,
-)

@@ -1,7 +1,7 @@
--- A run, as its program, its world, the steps taken and the room that is left.
+-- A run, as its program, its world, the steps taken and where the blocks of its objects lie.
 use Rattle.std.specs.Prelude.{◌≡◌, ◌≢◌, ℕ, ◌+◌, ◌-◌, ◌*◌, ◌<◌, ◌≤◌, ◌⊎◌, Bool, true, false, List, [], ◌∷◌, ◌++◌, length, map, slice_get, slice_set, replicate, Option, Some, None, Result, Ok, Err, IsSome, is_some, not, ◌||◌, suc}
 use Rattle.std.specs.Option.{option_map}
-use Rattle.std.specs.List.{list_all, enumerate_from}
+use Rattle.std.specs.List.{Contains, list_all, enumerate_from, sum_by}
 use Rattle.base.specs.Limits.{most_cells, most_entries}
 use Rattle.syntax.specs.declared.unit.Item.{Item}
 use Rattle.class_rules.specs.Class.{Classes}
@@ -18,12 +18,12 @@ use Rattle.semantics.specs.World.{World, loaded_objects}
 use Rattle.report.specs.RunText as run_text
 use Rattle.semantics.specs.Report.{ThreadStanding, ShownRow}
 use Rattle.semantics.specs.ReportOf.{shown, shown_row, standing_of}
-use Rattle.semantics.specs.Heap.{Heap}
+use Rattle.semantics.specs.Heap.{Heap, next_name}
 use Rattle.report_objects.specs.Rows.{AreReported}
 use Rattle.heap.specs.Heap.{left_of}
-use Rattle.compact.specs.Same.{size_of}
-use Rattle.semantics.specs.Object.{sizes}
-use Rattle.semantics.specs.Reachable.{live_size}
+use Rattle.heap.specs.Layout.{Extent, Layout, layout_of, top_of}
+use Rattle.semantics.specs.Object.{Object, sizes}
+use Rattle.semantics.specs.Reachable.{live_size, Reachable}
 use Rattle.semantics.specs.Run.{replay, made, Follows, MarkedAreFair, UnmarkedFit}
 use Rattle.semantics.specs.State.{State, copied, thread_at, views}
 use Rattle.semantics.specs.ThreadStep.{thread_step}
@@ -53,25 +53,35 @@ use Rattle.machine_steps.specs.Advances.{AdvancesAlways, HoldsAlways}
 use Rattle.machine_steps.specs.Executes.{cells_made, in_use_with}
 use Rattle.machine_threads.specs.ThreadAgrees.{ThreadsAgree}
 use Rattle.machine_collections.specs.Moving.{AreCollected}
+use Rattle.machine_collections.specs.Packing.{IsPacked, RiseFrom}
+use Rattle.machine_scenes.specs.Layouts.{laid_from, with_objects}
 use Rattle.semantics.specs.EventViews.{stop_view}
 
--- a program's items, the world, the steps taken, the cells after the heap's highest block, and those that its blocks take
+-- a program's items, the world, the steps taken, and the extents of the heap's blocks
 pub record Run : Type 0 where
   pub unit : List Item
   pub world : World
   pub journal : List Entry
-  pub left : ℕ
-  pub held : ℕ
+  pub layout : Layout
+
+-- the cells after the highest block
+abbrev pub cells_left : Run → ℕ
+cells_left r = r.world.cells - top_of r.layout
+
+-- the cells that all blocks take
+abbrev pub cells_taken : Run → ℕ
+cells_taken r = sum_by (λ (e : Extent). e.size) r.layout
 
 -- the state that the journal leads to
 abbrev pub replay_of : Run → Option State
 replay_of r = replay (unit_tree r.unit) r.world r.journal
 
--- a run of this program on this world before its first step
+-- a run of this program on this world before its first step: the objects that it begins with lie one after another from the lowest cell on
 pub record IsUnstarted (unit : List Item) (world : World) (r : Run) : Type 0 where
   pub of_unit : r.unit ≡ unit
   pub on_world : r.world ≡ world
   pub unstarted : r.journal ≡ []
+  pub laid : r.layout ≡ laid_from 1 0 (loaded_objects world)
 
 -- what the buffers of all threads take
 abbrev pub acquired : State → Acquired
@@ -105,9 +115,9 @@ abbrev pub event_of : Advanced → Event
 event_of (advanced.Did e) = e
 event_of advanced.Refused = event.Quiet
 
--- its step makes objects, if nothing is refused
-abbrev pub MakesObjects : Lowered → World → (k : ℕ) → Store → Thread → Type 0
-MakesObjects p w k store t = HoldsAlways p w k store t (λ others own shared s. 0 < cells_made shared
+-- its step makes objects for which too few cells are left
+abbrev pub LacksRoom : Lowered → World → (k : ℕ) → Store → Thread → Type 0
+LacksRoom p w k store t = HoldsAlways p w k store t (λ others own shared s. left_of store.heap < cells_made shared
     (thread_step (unit_tree p.unit) w.classes (in_use_with others s) k shared s false))
 
 -- The thread at a place hasn't ended and doesn't wait, in a store and threads that stand for the state that a journal leads to.
@@ -121,17 +131,24 @@ pub record CanAdvance (p : Lowered) (w : World) (store : Store) (threads : List 
   pub lives : thread.ending ≡ Unfinished
   pub ready : is_blocked w.classes stands.state (suc index) ≡ false
 
--- what a step began with: the store and the threads as they were, if nothing was refused, or what a collection left of them
-abbrev pub IsBetween : Store → List Thread → (between : Store) → List Thread → Advanced → Type 0
-IsBetween store threads between threads' x = ((between ≡ store) × (threads' ≡ threads) × (x ≢ advanced.Refused))
-    ⊎ AreCollected store threads between threads'
+-- a step began with the store and the threads as they were; its allocation wasn't refused then
+pub record IsAsItWas (store : Store) (threads : List Thread) (between : Store) (among : List Thread) (x : Advanced) : Type 0 where
+  pub same_store : between ≡ store
+  pub same_threads : among ≡ threads
+  pub did : x ≢ advanced.Refused
+
+-- or with what a collection left of them, which there was as its objects had no room
+pub record IsAfterCollection (p : Lowered) (w : World) (store : Store) (threads : List Thread) (index : ℕ) (between : Store)
+    (among : List Thread) : Type 0 where
+  pub lacks : (t : Thread) → slice_get threads index ≡ Some t → LacksRoom p w (suc index) store t
+  pub collected : AreCollected store threads between among
 
 -- the thread at a place took its step, with a collection before it or without one
 pub record AdvancesFrom (p : Lowered) (w : World) (store : Store) (threads : List Thread) (index : ℕ) (after : Store)
     (later : List Thread) (x : Advanced) : Type 0 where
   pub between : Store
   pub among : List Thread
-  pub is : IsBetween store threads between among x
+  pub is : IsAsItWas store threads between among x ⊎ IsAfterCollection p w store threads index between among
   pub old : Thread
   pub new : Thread
   pub at : slice_get among index ≡ Some old
@@ -186,13 +203,17 @@ entry_of k = Step k false
 abbrev pub refused_entry_of : ℕ → Entry
 refused_entry_of k = Step k true
 
--- the run with a step of thread k more, after which this many cells are left, and blocks take this many
-abbrev pub stepped : Run → ℕ → (left held : ℕ) → Run
-stepped r k left held = record r { journal = r.journal ++ entry_of k ∷ []; left = left; held = held }
+-- the objects that thread k's next step makes in a state, if nothing is refused
+abbrev pub makes : Run → State → ℕ → List Object
+makes r s k = made (unit_tree r.unit) r.world s k
 
--- the same with a step whose allocation was refused
-abbrev pub refused : Run → ℕ → (left held : ℕ) → Run
-refused r k left held = record r { journal = r.journal ++ refused_entry_of k ∷ []; left = left; held = held }
+-- the run with a step of thread k more, from a state: the blocks of what it makes lie behind the others
+abbrev pub stepped : Run → State → ℕ → Run
+stepped r s k = record r { journal = r.journal ++ entry_of k ∷ []; layout = with_objects r.layout (next_name s.shared.heap) (makes r s k) }
+
+-- the same with a step whose allocation was refused, which makes nothing
+abbrev pub refused : Run → ℕ → Run
+refused r k = record r { journal = r.journal ++ refused_entry_of k ∷ [] }
 
 -- thread k can step, and the journal has room for the step
 abbrev pub CouldStep : Run → ℕ → Type 0
@@ -203,28 +224,54 @@ abbrev pub turn_after : Advanced → Answer
 turn_after (advanced.Did e) = turn.Stepped
 turn_after advanced.Refused = turn.Short
 
--- so many cells are fewer than the objects take that a step of thread k would have made
-abbrev pub HadNoRoom : Run → ℕ → (left : ℕ) → Type 0
-HadNoRoom r k left = InState r (λ s. left < sizes (made (unit_tree r.unit) r.world s k))
+-- for what a step of thread k makes enough cells are left
+abbrev pub HasRoom : Run → ℕ → Type 0
+HasRoom r k = InState r (λ s. sizes (makes r s k) ≤ cells_left r)
 
--- A heap has blocks of what can be reached alone, and no fewer cells are left than were. Where nothing is viewed all cells are left but
--- those of these blocks.
-abbrev pub LeavesAll : Run → (left held : ℕ) → Type 0
-LeavesAll r left held = (r.left ≤ left) × InState r (λ s. (held ≡ live_size r.world s) × (views s ≡ [] → left ≡ r.world.cells - live_size r.world s))
+-- or too few
+abbrev pub HasNoRoom : Run → ℕ → Type 0
+HasNoRoom r k = InState r (λ s. cells_left r < sizes (makes r s k))
 
--- what a collection leaves: the run as it was, but for the cells that are left, and the blocks
+-- What a collection leaves: the run as it was, but for where blocks lie. The blocks are those of what can be reached; those that are viewed
+-- stay, and the others have the lowest cells. So no fewer cells are left, and where nothing is viewed all but those of these blocks.
 pub record IsCollected (old new : Run) : Type 0 where
-  pub same : new ≡ record old { left = new.left; held = new.held }
-  pub left : LeavesAll old new.left new.held
+  pub same : new ≡ record old { layout = new.layout }
+  pub state : State
+  pub replays : replay_of old ≡ Some state
+  pub packed : IsPacked (Reachable old.world state) (Contains (views state)) old.layout new.layout
+  pub more : cells_left old ≤ cells_left new
+  pub live : cells_taken new ≡ live_size old.world state
+  pub tight : views state ≡ [] → cells_left new ≡ old.world.cells - live_size old.world state
 
--- what a turn of thread k was; an allocation was refused only where it had no room after a collection
+-- as each run of a machine is: its blocks lie by rising addresses, none over another, and what is viewed can be reached
+pub record IsOrderly (r : Run) : Type 0 where
+  pub state : State
+  pub replays : replay_of r ≡ Some state
+  pub rising : RiseFrom 0 r.layout
+  pub viewed : (e : Extent) → Contains r.layout e → Contains (views state) e.name → Reachable r.world state e.name
+
+-- what a collection leaves is determined by what was there
+abbrev pub CollectionsHaveOneOutcome : Type 0
+CollectionsHaveOneOutcome = (old new other : Run) → IsOrderly old → IsCollected old new → IsCollected old other → new ≡ other
+
+-- a step of thread k finds room at once, or where it has none after a collection
+abbrev pub FindsRoom : Run → ℕ → (mid : Run) → Type 0
+FindsRoom old k mid = ((mid ≡ old) × HasRoom old k) ⊎ (HasNoRoom old k × IsCollected old mid × HasRoom mid k)
+
+-- or it has none after a collection either
+pub record FindsNoRoom (old : Run) (k : ℕ) (mid : Run) : Type 0 where
+  pub first : HasNoRoom old k
+  pub collected : IsCollected old mid
+  pub still : HasNoRoom mid k
+
+-- what a turn of thread k was
 abbrev pub TurnHolds : Run → ℕ → Run → Answer → Type 0
 TurnHolds old k new turn.Stopped = (new ≡ old) × InState old (λ s. IsSome s.stop)
 TurnHolds old k new turn.Ended = (new ≡ old) × InState old (λ s. HasEnded s k)
 TurnHolds old k new (turn.Blocked all) = (new ≡ old) × InState old (λ s. IsWaiting old.world.classes s k all)
 TurnHolds old k new turn.Full = (new ≡ old) × (most_entries ≤ length old.journal) × InState old (λ s. can_turn old s k ≡ true)
-TurnHolds old k new turn.Short = (new ≡ refused old k new.left new.held) × CouldStep old k × HadNoRoom old k new.left × LeavesAll old new.left new.held
-TurnHolds old k new turn.Stepped = (new ≡ stepped old k new.left new.held) × CouldStep old k
+TurnHolds old k new turn.Short = CouldStep old k × ((mid : Run) × FindsNoRoom old k mid × (new ≡ refused mid k))
+TurnHolds old k new turn.Stepped = CouldStep old k × ((mid : Run) × FindsRoom old k mid × InState mid (λ s. new ≡ stepped mid s k))
 
 -- the turn of a thread that has no step to take: the machine has stopped, or the thread has ended
 abbrev pub turn_at_rest : (stopped unfinished : Bool) → Option Answer
@@ -287,7 +334,7 @@ pub record RunsAlong (old new : Run) (schedule : Schedule) : Type 0 where
 
 -- The run of a machine with this journal.
 abbrev pub seen : Lowered → World → Store → List Entry → Run
-seen p w store journal = record { unit = p.unit; world = w; journal = journal; left = left_of store.heap; held = size_of store.heap.blocks }
+seen p w store journal = record { unit = p.unit; world = w; journal = journal; layout = layout_of store.heap }
 
 -- Thread k, the one at a place among those of a machine with this journal, has not ended, and no trap has stopped the machine.
 pub record CanGoOn (p : Lowered) (w : World) (store : Store) (threads : List Thread) (index : ℕ)

@@ -7,6 +7,6 @@ mod rows;
 mod turn;
 
 pub use fault::{ReportFault, RunFault};
-pub use machine::Machine;
+pub use machine::{Machine, collections_have_one_outcome};
 pub use machine_threads::fault::LoadFault;
 pub use turn::Turn;

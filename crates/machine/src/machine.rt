@@ -5,7 +5,7 @@ ghost use Rattle.base.specs.Limits.{most_entries};
 ghost use Rattle.syntax.specs.Views.{unit_tree};
 ghost use Rattle.sinks.specs.Sink.{CanFail};
 ghost use Rattle.report.specs.ThreadStatus.{standing_view};
-ghost use Rattle.heap.specs.Heap.{left_of};
+ghost use Rattle.heap.specs.Layout.{layout_of};
 ghost use Rattle.semantics.specs.EventViews.{ending_view, printed_after, stop_after};
 ghost use Rattle.semantics.specs.Load.{first_load_fault};
 ghost use Rattle.semantics.specs.Object.{sizes};
@@ -16,12 +16,13 @@ ghost use Rattle.semantics.specs.Thread.{Shared, Thread as SourceThread};
 ghost use Rattle.semantics.specs.World.{World as SourceWorld, loaded_objects};
 ghost use Rattle.semantics_safety.specs.Owners.{Owners};
 ghost use Rattle.code_meaning.specs.Lowered.{IsLowered};
+ghost use Rattle.machine_scenes.specs.Layouts.{laid_from};
 ghost use Rattle.machine_scenes.specs.StoreAgrees.{StoreAgrees};
 ghost use Rattle.machine_steps.specs.Executes.{IsSteady};
 ghost use Rattle.machine_threads.specs.Loading.{IsLoadFault};
 ghost use Rattle.machine_threads.specs.ThreadAgrees.{ThreadAgrees};
 ghost use Rattle.semantics.specs.declared.journal.Entry.TheVariants.{Step};
-ghost use Rattle.machine.specs.Run.{replay_of, AdvancesFrom, CanAdvance, CanGoOn, WentOn, Corresponds, EndsAt, IsCollected, IsUnstarted, CouldStep, TurnHolds, RunsAlong, RunsInto, PrintedBy, IsFinished, AllRest, Waits, ReportsRun, AreShown, ShowsObjects, ShowsStandings, GivesNoStep, MakesObjects, StoppedBy, event_of, is_refused, turn_after, turn_at_rest};
+ghost use Rattle.machine.specs.Run.{replay_of, AdvancesFrom, CanAdvance, CanGoOn, WentOn, CollectionsHaveOneOutcome, Corresponds, EndsAt, IsCollected, IsOrderly, IsUnstarted, CouldStep, TurnHolds, RunsAlong, RunsInto, PrintedBy, IsFinished, AllRest, Waits, ReportsRun, AreShown, ShowsObjects, ShowsStandings, GivesNoStep, LacksRoom, StoppedBy, cells_left, event_of, is_refused, turn_after, turn_at_rest};
 
 use crate::fault::{ReportFault, RunFault};
 use crate::rows::{NamedBlocks, named_blocks};
@@ -87,15 +88,14 @@ impl Drop for Machine<'_> {
 impl<'a> Model for Machine<'a> {
     ghost use Rattle.std.specs.Coded.{codes as all_codes};
     ghost use Rattle.syntax.specs.contracts.unit.Item as item;
-    ghost use Rattle.heap.specs.Heap.{left_of};
-    ghost use Rattle.compact.specs.Same.{size_of};
+    ghost use Rattle.heap.specs.Layout.{layout_of};
     ghost use Rattle.machine.specs.Run.{Run, Corresponds};
 
     ghost Value = { Run };
 
     ghost coded = { Prim.hlevel (all_codes, item.the_row.coded) };
 
-    ghost view = { λ m. record { unit = m.program.unit; world = m.world; journal = m.journal.items; left = left_of m.store.heap; held = size_of m.store.heap.blocks } };
+    ghost view = { λ m. record { unit = m.program.unit; world = m.world; journal = m.journal.items; layout = layout_of m.store.heap } };
 
     ghost invariant = { λ m. Corresponds m.program m.world m.store m.threads.items m.printed.items m.stop m.journal.items };
 }
@@ -109,7 +109,7 @@ impl<'a> Machine<'a> {
     pub fn load(alloc: Global, program: Program<'a>, world: World) -> Result<Machine<'a>, LoadFault>
         ensures ok { IfOk result (IsUnstarted program.entry.unit world) }
         ensures fits { OnOk result (first_load_fault (unit_tree program.entry.unit) world ≡ None) }
-        ensures left { IfOk result (λ m. m.left ≡ world.cells - sizes (loaded_objects world)) }
+        ensures left { IfOk result (λ m. cells_left m ≡ world.cells - sizes (loaded_objects world)) }
         ensures fault { IfErr result (IsLoadFault (unit_tree program.entry.unit) world) }
     {
         let (store, threads) = load_parts(alloc, &program, &world)?;
@@ -139,8 +139,11 @@ impl<'a> Machine<'a> {
 
     /// How many cells of the heap are left after its highest block.
     pub fn left(&self) -> usize
-        ensures { result ≡ self.now.left }
+        ensures left { result ≡ cells_left self.now }
+        ensures orderly { IsOrderly self.now }
     {
+        // Here the proof takes up the machine's invariant.
+        let _ = &self.world;
         self.store.heap.left()
     }
 
@@ -173,6 +176,28 @@ impl<'a> Machine<'a> {
         collect_blocks(self.alloc, &mut self.store, &mut self.threads)
     }
 
+    /// The turn of thread `k`, counted from 1, where it has no step to take: a trap has stopped the machine, the thread
+    /// has ended or waits for a monitor, or the journal is full.
+    #[inline(always)]
+    pub fn turn_without_step(&self, k: u8) -> Option<Turn>
+        requires counted { 0 < k }
+        requires is_thread { k ≤ length self.now.world.threads }
+        ensures some { IfSome result (TurnHolds self.now k self.now) }
+        ensures none { IfNone result (CouldStep self.now k) }
+    {
+        let index = usize::from(k) - 1;
+        if let Some(turn) = turn_at_rest(&self.stop, &self.threads[index]) {
+            return Some(turn);
+        }
+        if self.waits(k) {
+            return Some(Turn::Blocked(self.finished()));
+        }
+        if self.journal.len() >= MOST_ENTRIES {
+            return Some(Turn::Full);
+        }
+        None
+    }
+
     /// Lets thread `k`, counted from 1, take one step.
     /// Where the objects that it makes have no room, the machine collects first, and the allocation is refused where
     /// they have none then.
@@ -187,15 +212,8 @@ impl<'a> Machine<'a> {
         ensures err { OnErr result ((self.new ≡ self.old) × CouldStep self.old k) }
         ensures runs { IsSome (replay_of self.new) }
     {
-        let index = usize::from(k) - 1;
-        if let Some(turn) = turn_at_rest(&self.stop, &self.threads[index]) {
+        if let Some(turn) = self.turn_without_step(k) {
             return Ok(turn);
-        }
-        if self.waits(k) {
-            return Ok(Turn::Blocked(self.finished()));
-        }
-        if self.journal.len() >= MOST_ENTRIES {
-            return Ok(Turn::Full);
         }
         make_room(&mut self.printed, &mut self.journal)?;
         let advanced = advance_or_collect(
@@ -204,7 +222,7 @@ impl<'a> Machine<'a> {
             &self.world,
             &mut self.store,
             &mut self.threads,
-            index,
+            usize::from(k) - 1,
             k,
         )?;
         Ok(write_step(
@@ -438,6 +456,11 @@ impl<'a> Machine<'a> {
     }
 }
 
+/// What a collection leaves is determined by what was there: a law, which computes nothing.
+pub fn collections_have_one_outcome()
+    ensures { CollectionsHaveOneOutcome }
+{}
+
 /// The store and the threads before the first step.
 fn load_parts(
     alloc: Global,
@@ -446,7 +469,7 @@ fn load_parts(
 ) -> Result<(Store, Vec<Thread>), LoadFault>
     ensures begins { IfOk result (λ parts. Corresponds program.now world.now parts.0 parts.1.items [] None []) }
     ensures fits { OnOk result (first_load_fault (unit_tree program.now.unit) world.now ≡ None) }
-    ensures left { IfOk result (λ parts. left_of parts.0.heap ≡ world.now.cells - sizes (loaded_objects world.now)) }
+    ensures laid { IfOk result (λ parts. layout_of parts.0.heap ≡ laid_from 1 0 (loaded_objects world.now)) }
     ensures fault { IfErr result (IsLoadFault (unit_tree program.now.unit) world.now) }
 {
     // The proof reads off this call what is known of a world.
@@ -589,8 +612,8 @@ fn collect_and_advance(
     requires few { store.old.births + 2 < 2 ^ 32 }
     requires number { k ≡ index + 1 }
     requires stands { CanAdvance program.now world.now store.old threads.old index }
-    requires makes { (t : Thread) → slice_get threads.old index ≡ Some t
-        → MakesObjects program.now world.now k store.old t }
+    requires lacks { (t : Thread) → slice_get threads.old index ≡ Some t
+        → LacksRoom program.now world.now k store.old t }
     ensures advances { IfOk result (AdvancesFrom program.now world.now store.old threads.old index store.new threads.new) }
     ensures store { OnErr result (store.new ≡ store.old) }
     ensures threads { OnErr result (threads.new ≡ threads.old) }

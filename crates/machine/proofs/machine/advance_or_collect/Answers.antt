@@ -4,7 +4,7 @@ use Rattle.semantics.specs.ThreadStep.{waits}
 use Rattle.semantics.specs.World.{loaded_objects}
 use Rattle.machine_threads.specs.ThreadAgrees.{ThreadAgrees}
 use Rattle.machine_steps.specs.Advances.{AdvancesAlways}
-use Rattle.machine.proofs.Advancing.{can_there, found, is_ready, is_steady, lives_there, makes_something, makes_there, numbered, own, rest, shared_there, there}
+use Rattle.machine.proofs.Advancing.{can_there, found, is_ready, is_steady, lives_there, lacks_room, lacks_there, numbered, own, rest, shared_there, there}
 use Rattle.std.proofs.Common.{length}
 use Rattle.machine.proofs.machine.advance_or_collect.Goals as goal
 
@@ -31,16 +31,16 @@ pub collect_and_advance-requires-clause-stands : goal.collect_and_advance-requir
 collect_and_advance-requires-clause-stands c =
     can_there c.args.program.now c.args.world.now c.args.store.now c.args.threads.now c.args.index c.requires.stands c.index-threads-index.result c.advance.new.store c.advance.new.thread c.in-Err-NoRoom.ensures.store c.in-Err-NoRoom.ensures.thread
 
-pub collect_and_advance-requires-clause-makes : goal.collect_and_advance-requires-clause-makes
-collect_and_advance-requires-clause-makes c = λ t at.
-    makes_there c.args.program.now c.args.world.now c.args.store.now c.args.threads.now c.args.index c.requires.stands c.index-threads-index.result c.args.k c.advance.new.store c.advance.new.thread t c.in-Err-NoRoom.ensures.store c.in-Err-NoRoom.ensures.thread at
-    (λ others own shared s store agrees steady ready. makes_something _ _ c.in-Err-NoRoom.field-0 c.in-Err-NoRoom.field-0-is (c.in-Err-NoRoom.ensures.hindered others own shared s store agrees steady ready))
+pub collect_and_advance-requires-clause-lacks : goal.collect_and_advance-requires-clause-lacks
+collect_and_advance-requires-clause-lacks c = λ t at.
+    lacks_there c.args.program.now c.args.world.now c.args.store.now c.args.threads.now c.args.index c.requires.stands c.index-threads-index.result c.args.k c.advance.new.store c.advance.new.thread t c.in-Err-NoRoom.ensures.store c.in-Err-NoRoom.ensures.thread at
+    (λ others own shared s store agrees steady ready. lacks_room _ _ c.in-Err-NoRoom.field-0 c.in-Err-NoRoom.field-0-is (c.in-Err-NoRoom.ensures.hindered others own shared s store agrees steady ready))
 
 pub returns-in-Ok-clause-advances : goal.returns-in-Ok-clause-advances
 returns-in-Ok-clause-advances c = record {
   between = c.args.store.now;
   among = c.args.threads.now;
-  is = inl (refl, refl, λ e. let t : false ≡ true = c.in-Ok.ensures.refuses (ap Ok e) in cc);
+  is = inl (record { same_store = refl; same_threads = refl; did = λ e. let t : false ≡ true = c.in-Ok.ensures.refuses (ap Ok e) in cc });
   old = slice_index_or c.args.threads.now c.args.index c.index-threads-index.result;
   new = c.advance.new.thread;
   at = there c.args.program.now c.args.world.now c.args.store.now c.args.threads.now c.args.index c.requires.stands c.index-threads-index.result;

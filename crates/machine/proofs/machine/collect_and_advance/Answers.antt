@@ -7,6 +7,7 @@ use Rattle.semantics.specs.World.{loaded_objects}
 use Rattle.machine_threads.specs.ThreadAgrees.{ThreadAgrees}
 use Rattle.machine_collections.specs.Moving.{moved_thread}
 use Rattle.machine_steps.specs.Advances.{AdvancesAlways}
+use Rattle.machine.specs.Run.{LacksRoom}
 use Rattle.machine.proofs.Collected.{are_referred}
 use Rattle.machine.proofs.Advancing.{agrees_still, found, is_ready, is_steady, no_fault, numbered, own, rest, shared_there, there}
 use Rattle.machine.proofs.machine.collect_and_advance.Goals as goal
@@ -51,12 +52,12 @@ unreachable-requires c =
     (is_ready c.args.program.now c.args.world.now c.args.store.now c.args.threads.now c.args.index c.requires.stands c.requires.stands.thread) in
     let mine = own c.args.program.now c.args.world.now c.args.store.now c.args.threads.now c.args.index c.requires.stands c.requires.stands.thread in
     let number = numbered c.args.k c.args.index c.requires.number in
-    let some = c.requires.makes (slice_index_or c.args.threads.now c.args.index c.requires.stands.thread) (there c.args.program.now c.args.world.now c.args.store.now c.args.threads.now c.args.index c.requires.stands c.requires.stands.thread)
+    let lacks = c.requires.lacks (slice_index_or c.args.threads.now c.args.index c.requires.stands.thread) (there c.args.program.now c.args.world.now c.args.store.now c.args.threads.now c.args.index c.requires.stands c.requires.stands.thread)
     (rest c.args.program.now c.args.world.now c.args.store.now c.args.threads.now c.args.index c.requires.stands c.requires.stands.thread) mine shared f.source (shared_there c.args.program.now c.args.world.now c.args.store.now c.args.threads.now c.args.index c.requires.stands c.requires.stands.thread)
     (subst (λ (n : ℕ). ThreadAgrees c.args.program.now c.args.world.now.classes c.args.store.now.heap c.args.store.now.elements (length (loaded_objects c.args.world.now)) n mine.current shared (slice_index_or c.args.threads.now c.args.index c.requires.stands.thread) f.source) number f.agrees) calm ready in
     let hindered = c.in-Err.ensures.hindered (rest c.args.program.now c.args.world.now c.args.store.now c.args.threads.now c.args.index c.requires.stands c.requires.stands.thread) mine shared f.source now.shares
     (subst (λ (n : ℕ). ThreadAgrees c.args.program.now c.args.world.now.classes c.collect_blocks.new.store.heap c.collect_blocks.new.store.elements (length (loaded_objects c.args.world.now)) n mine.current shared (slice_index_or c.collect_blocks.new.threads c.args.index c.index-threads-index.result) f.source) number now.agrees) calm ready in
-    no_fault _ _ c.in-Err.field-0 some hindered
+    no_fault _ _ c.in-Err.field-0 (omega (arith, lacks)) hindered
 
 pub returns-clause-advances : goal.returns-clause-advances
 returns-clause-advances c =
@@ -64,7 +65,10 @@ returns-clause-advances c =
     record {
       between = c.collect_blocks.new.store;
       among = c.collect_blocks.new.threads;
-      is = inr c.in_ok-collect_blocks.ensures.ok;
+      is = inr (record {
+        lacks = λ t at. subst (λ (n : ℕ). LacksRoom c.args.program.now c.args.world.now n c.args.store.now t) (sym (numbered c.args.k c.args.index c.requires.number)) (c.requires.lacks t at);
+        collected = c.in_ok-collect_blocks.ensures.ok;
+      });
       old = slice_index_or c.collect_blocks.new.threads c.args.index c.index-threads-index.result;
       new = c.advance.new.thread;
       at = now.at;
