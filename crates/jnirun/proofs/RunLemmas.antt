@@ -130,10 +130,10 @@ module _ (program world schedule : List ℕ) (old : Written) where
       (along.after, subst (λ (j : Journal). Follows (unit_tree items) meant (start (unit_tree items) meant) j words along.after) steps on_world)
 
   -- the unit and the world of a run stay
-  same_parts : (items : List Item) (meant : World) (begun ended : Run) (words : Schedule) → IsUnstarted items meant begun → RunsAlong begun ended words → ended ≡ record { unit = items; world = meant; journal = ended.journal; left = ended.left; held = ended.held }
+  same_parts : (items : List Item) (meant : World) (begun ended : Run) (words : Schedule) → IsUnstarted items meant begun → RunsAlong begun ended words → ended ≡ record { unit = items; world = meant; journal = ended.journal; layout = ended.layout }
   same_parts items meant begun ended words un along =
-      ap (λ (u : List Item). let r : Run = record { unit = u; world = ended.world; journal = ended.journal; left = ended.left; held = ended.held } in r) (along.same_unit ∙ un.of_unit)
-      ∙ ap (λ (s : World). let r : Run = record { unit = items; world = s; journal = ended.journal; left = ended.left; held = ended.held } in r) (along.same_world ∙ un.on_world)
+      ap (λ (u : List Item). let r : Run = record { unit = u; world = ended.world; journal = ended.journal; layout = ended.layout } in r) (along.same_unit ∙ un.of_unit)
+      ∙ ap (λ (s : World). let r : Run = record { unit = items; world = s; journal = ended.journal; layout = ended.layout } in r) (along.same_world ∙ un.on_world)
 
   -- the texts' meaning, from what the layers answered
   abbrev pub meaning_of : (items : List Item) (meant : World) (words : Schedule) → IsProgram program (unit_tree items) → world_of_text world ≡ Ok meant → schedule_of schedule (length meant.threads) ≡ Ok words → first_load_fault (unit_tree items) meant ≡ None → Meaning program world schedule

@@ -1,6 +1,6 @@
 // The state that the lock protects.
 ghost use Rattle.std.specs.Prelude.{◌≡◌, ◌+◌, IfOk, OnOk, OnErr, IsSome, All};
-ghost use Rattle.machine.specs.Run.{IsCollected, TurnHolds, replay_of};
+ghost use Rattle.machine.specs.Run.{CouldStep, IsCollected, TurnHolds, replay_of};
 ghost use Rattle.shared_accounts.specs.Accounts.{account_of, kept_after, Agrees, taken, EndsSo};
 
 use crate::seat::Seat;
@@ -54,7 +54,7 @@ impl<'a, J: Naming> Desk<'a, J> {
         ensures thread { seat.new.thread ≡ seat.old.thread }
         ensures is { seat.new.account ≡ account_of self.new seat.old.thread }
         ensures turn { IfOk result (TurnHolds self.old seat.old.thread self.new) }
-        ensures err { OnErr result (self.new ≡ self.old) }
+        ensures err { OnErr result ((self.new ≡ self.old) × CouldStep self.old seat.old.thread) }
         ensures runs { IsSome (replay_of self.new) }
         ensures kept { seat.new.kept ≡ kept_after seat.old.kept result }
         ensures counted { seat.new.account.entries ≡ seat.old.account.entries + taken result }

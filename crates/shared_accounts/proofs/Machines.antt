@@ -24,42 +24,40 @@ use Rattle.semantics.proofs.AccountLaws.{others_stay, steps_print}
 use Rattle.machine.specs.declared.turn.Turn.{Turn}
 use Rattle.machine.specs.declared.turn.Turn.TheVariants.{Stopped, Ended, Blocked, Full, Short, Stepped}
 use Rattle.machine.specs.Run.{Run, TurnHolds, CouldStep, replay_of, PrintedBy}
+use Rattle.machine.proofs.Runs.{did_add, refused_add, with_entry}
+use Rattle.machine.proofs.Steps.{can_parts}
 use Rattle.shared_passes.specs.declared.view.Fate.{Fate}
 use Rattle.shared_passes.specs.Tokens.{nothing, none, IsWithin}
 use Rattle.shared_accounts.specs.Accounts.{account_of, account_view, ending_view, taken, is_over, EndsSo, fate_of, fate_at, all_wait, kept_after, numbers_of, more_of, number_at}
 
 -- ---- the entry of a step
 
--- the run with an entry of thread k
-abbrev with_entry : Run → ℕ → Bool → (left held : ℕ) → Run
-with_entry r k b left held = record r { journal = r.journal ++ Step k b ∷ []; left = left; held = held }
-
 -- An answer that is no step leaves the run as it was; a step is an entry of a thread that can step.
 pub data Change (old : Run) (k : ℕ) (new : Run) : Type 0 where
   Same : new ≡ old → Change old k new
-  More : (b : Bool) → new ≡ with_entry old k b new.left new.held → CouldStep old k → Change old k new
+  More : (b : Bool) → new ≡ with_entry old new (Step k b) → CouldStep old k → Change old k new
 
 changed : (old new : Run) (k : ℕ) (answer : Turn) → TurnHolds old k new answer → Change old k new
 changed old new k Stopped h = Same h.0
 changed old new k Ended h = Same h.0
 changed old new k (Blocked all) h = Same h.0
 changed old new k Full h = Same h.0
-changed old new k Short h = More true h.0 h.1
-changed old new k Stepped h = More false h.0 h.1
+changed old new k Short h = More true (refused_add old new k h) h.0
+changed old new k Stepped h = More false (did_add old new k h) h.0
 
-pub change : {E : Type 0} (old new : Run) (k : ℕ) (result : Result Turn E) → IfOk result (TurnHolds old k new) → OnErr result (new ≡ old) → Change old k new
+pub change : {E : Type 0} (old new : Run) (k : ℕ) (result : Result Turn E) → IfOk result (TurnHolds old k new) → OnErr result ((new ≡ old) × CouldStep old k) → Change old k new
 change old new k (Ok answer) h e = changed old new k answer h
-change old new k (Err x) h e = Same e
+change old new k (Err x) h e = Same e.0
 
 -- ---- the accounts
 
 -- an entry of a thread changes no other thread's account
-account_else : (r : Run) (k j : ℕ) (b : Bool) (left held : ℕ) → IsSome (replay_of (with_entry r k b left held)) → j ≢ k → account_of (with_entry r k b left held) j ≡ account_of r j
-account_else r k j b left held runs apart = ap (λ o. option_map_or account_view o nothing) (others_stay (unit_tree r.unit) r.world r.journal k b j runs apart)
+account_else : (r new : Run) (k j : ℕ) (b : Bool) → IsSome (replay_of (with_entry r new (Step k b))) → j ≢ k → account_of (with_entry r new (Step k b)) j ≡ account_of r j
+account_else r new k j b runs apart = ap (λ o. option_map_or account_view o nothing) (others_stay (unit_tree r.unit) r.world r.journal k b j runs apart)
 
 pub others : (old new : Run) (k : ℕ) → Change old k new → IsSome (replay_of new) → (j : ℕ) → j ≢ k → account_of new j ≡ account_of old j
 others old new k (Same e) runs j apart = ap (λ (r : Run). account_of r j) e
-others old new k (More b e could) runs j apart = ap (λ (r : Run). account_of r j) e ∙ account_else old k j b new.left new.held (subst (λ (r : Run). IsSome (replay_of r)) e runs) apart
+others old new k (More b e could) runs j apart = ap (λ (r : Run). account_of r j) e ∙ account_else old new k j b (subst (λ (r : Run). IsSome (replay_of r)) e runs) apart
 
 pub same_world : (old new : Run) (k : ℕ) → Change old k new → new.world ≡ old.world
 same_world old new k (Same e) = ap (λ (r : Run). r.world) e
@@ -82,16 +80,7 @@ one_not p (y ∷ xs) n (suc i) x at h =
     let there : n + suc i ≡ (n + 1) + i = omega arith in
     and_right (p (n, y)) _ (one_not p xs (n + 1) i x at (subst (λ m. p (m, x) ≡ false) there h))
 
--- a thread that can step doesn't wait
-can_parts : (classes : Classes) (s : State) (k : ℕ) → can_step classes s k ≡ true → (is_some s.stop ≡ false) × (is_live (thread_at s k) ≡ true) × (is_blocked classes s k ≡ false)
-can_parts classes s k h = parts s.stop (is_live (thread_at s k)) (is_blocked classes s k) h
-  where
-    parts : (o : Option Stop) (a b : Bool) → (is_none o && a && not b) ≡ true → (is_some o ≡ false) × (a ≡ true) × (b ≡ false)
-    parts None true false h = (refl, refl, refl)
-    parts None true true h = absurd (false≢true h)
-    parts None false b h = absurd (false≢true h)
-    parts (Some x) a b h = absurd (false≢true h)
-
+-- where a thread can step, not all wait
 not_all : (classes : Classes) (s : State) (k : ℕ) → can_step classes s k ≡ true → all_wait classes s ≡ false
 not_all classes s k h = go k (can_parts classes s k h)
   where
@@ -130,7 +119,7 @@ fate_in : (r : Run) (s : State) → replay_of r ≡ Some s → fate_of r ≡ fat
 fate_in r s h = ap (λ o. option_map_or (fate_at r) o none) h
 
 -- what a seat keeps of the answer holds
-pub kept_now : {E : Type 0} (old new : Run) (k : ℕ) (result : Result Turn E) → IfOk result (TurnHolds old k new) → OnErr result (new ≡ old) → (kept : Fate) → IsWithin kept (fate_of old) → IsWithin (kept_after kept result) (fate_of new)
+pub kept_now : {E : Type 0} (old new : Run) (k : ℕ) (result : Result Turn E) → IfOk result (TurnHolds old k new) → OnErr result ((new ≡ old) × CouldStep old k) → (kept : Fate) → IsWithin kept (fate_of old) → IsWithin (kept_after kept result) (fate_of new)
 kept_now old new k (Ok Stopped) h e kept w =
     let w' = subst (λ (r : Run). IsWithin kept (fate_of r)) (sym h.0) w in
     ((λ _. ap (λ (r : Run). (fate_of r).stopped) h.0 ∙ ap (λ (f : Fate). f.stopped) (fate_in old h.1.0 h.1.1) ∙ h.1.2), w'.1, w'.2)
@@ -144,15 +133,15 @@ kept_now old new k (Ok Full) h e kept w =
     (w'.0, w'.1, (λ _. ap (λ (r : Run). (fate_of r).full) h.0 ∙ ap (λ (f : Fate). f.full) (fate_in old h.2.0 h.2.1) ∙ le-leb 1000000 (length old.journal) h.1))
 kept_now old new k (Ok (Blocked false)) h e kept w = subst (λ (r : Run). IsWithin kept (fate_of r)) (sym h.0) w
 kept_now old new k (Ok Ended) h e kept w = subst (λ (r : Run). IsWithin kept (fate_of r)) (sym h.0) w
-kept_now old new k (Ok Short) h e kept w = kept_on old new k (More true h.0 h.1) kept w
-kept_now old new k (Ok Stepped) h e kept w = kept_on old new k (More false h.0 h.1) kept w
-kept_now old new k (Err x) h e kept w = subst (λ (r : Run). IsWithin kept (fate_of r)) (sym e) w
+kept_now old new k (Ok Short) h e kept w = kept_on old new k (changed old new k Short h) kept w
+kept_now old new k (Ok Stepped) h e kept w = kept_on old new k (changed old new k Stepped h) kept w
+kept_now old new k (Err x) h e kept w = subst (λ (r : Run). IsWithin kept (fate_of r)) (sym e.0) w
 
 -- ---- what is printed
 
 -- the state after a step, where both runs have one
-after_step : (r : Run) (k : ℕ) (b : Bool) (left held : ℕ) (s s' : State) → replay_of r ≡ Some s → replay_of (with_entry r k b left held) ≡ Some s' → world_step (unit_tree r.unit) r.world.classes s (Step k b) ≡ Some s'
-after_step r k b left held s s' h h' = one (world_step (unit_tree r.unit) r.world.classes s (Step k b)) (sym (replay_from-append (unit_tree r.unit) r.world (start (unit_tree r.unit) r.world) r.journal (Step k b ∷ []) ∙ ap (option_and_then (λ x. replay_from (unit_tree r.unit) r.world x (Step k b ∷ []))) h) ∙ h')
+after_step : (r new : Run) (k : ℕ) (b : Bool) (s s' : State) → replay_of r ≡ Some s → replay_of (with_entry r new (Step k b)) ≡ Some s' → world_step (unit_tree r.unit) r.world.classes s (Step k b) ≡ Some s'
+after_step r new k b s s' h h' = one (world_step (unit_tree r.unit) r.world.classes s (Step k b)) (sym (replay_from-append (unit_tree r.unit) r.world (start (unit_tree r.unit) r.world) r.journal (Step k b ∷ []) ∙ ap (option_and_then (λ x. replay_from (unit_tree r.unit) r.world x (Step k b ∷ []))) h) ∙ h')
   where
     one : (o : Option State) → option_and_then (λ x. replay_from (unit_tree r.unit) r.world x []) o ≡ Some s' → o ≡ Some s'
     one None e = absurd (cc)
@@ -180,7 +169,7 @@ printed_more old new k (More b e could) s s' h h' =
     (λ (one : (z : ℤ) × (s'.printed ≡ s.printed ++ record { thread = k; number = z } ∷ [])).
     ap (λ l. numbers_of l k) one.1 ∙ numbers_end s.printed k one.0
     ∙ ap (λ o. more_of (numbers_of s.printed k) (option_map (λ (p : Printed). p.number) o)) (sym (ap (λ l. slice_get l (length s.printed)) one.1 ∙ number_there s.printed (record { thread = k; number = one.0 }))))
-    (steps_print (unit_tree old.unit) old.world.classes s s' k b (after_step old k b new.left new.held s s' h (subst (λ (r : Run). replay_of r ≡ Some s') e h')))
+    (steps_print (unit_tree old.unit) old.world.classes s s' k b (after_step old new k b s s' h (subst (λ (r : Run). replay_of r ≡ Some s') e h')))
 
 -- what a thread has printed, by its account
 pub printed_in : (r : Run) (k : ℕ) (s : State) → replay_of r ≡ Some s → (account_of r k).printed ≡ numbers_of s.printed k
@@ -203,10 +192,6 @@ numbers_more xs k i x below is =
     one true = refl
     one false = refl
 
-pub change_of_step : {E : Type 0} (old new : Run) (k : ℕ) (result : Result Turn E) → IfOk result (TurnHolds old k new) → OnErr result ((new ≡ old) × CouldStep old k) → Change old k new
-change_of_step old new k (Ok answer) h e = changed old new k answer h
-change_of_step old new k (Err x) h e = Same e.0
-
 -- ---- how many entries, and the end
 
 entries_in : (r : Run) (k : ℕ) → IsSome (replay_of r) → (account_of r k).entries ≡ entries_of r.journal k
@@ -221,21 +206,21 @@ one_entry journal k b =
     let one : filter (is_step_of k) (Step k b ∷ []) ≡ Step k b ∷ [] = (let e : (k == k) ≡ true = eq-eqb k k refl in rw e refl) in
     ap length (filter-append (is_step_of k) journal (Step k b ∷ [])) ∙ length-append (filter (is_step_of k) journal) _ ∙ ap (λ l. entries_of journal k + length l) one
 
-more_entries : (old new : Run) (k : ℕ) (b : Bool) → new ≡ with_entry old k b new.left new.held → CouldStep old k → IsSome (replay_of new) → (account_of new k).entries ≡ (account_of old k).entries + 1
+more_entries : (old new : Run) (k : ℕ) (b : Bool) → new ≡ with_entry old new (Step k b) → CouldStep old k → IsSome (replay_of new) → (account_of new k).entries ≡ (account_of old k).entries + 1
 more_entries old new k b e could runs =
     entries_in new k runs ∙ ap (λ (r : Run). entries_of r.journal k) e ∙ one_entry old.journal k b ∙ ap (λ n. n + 1) (sym (entries_in old k (rw could.1.1 refl)))
 
 as_many : (n m : ℕ) → n ≡ m → n ≡ m + 0
 as_many n m h = omega arith
 
-pub entries_turn : {E : Type 0} (old new : Run) (k : ℕ) (result : Result Turn E) → IfOk result (TurnHolds old k new) → OnErr result (new ≡ old) → IsSome (replay_of new) → (account_of new k).entries ≡ (account_of old k).entries + taken result
+pub entries_turn : {E : Type 0} (old new : Run) (k : ℕ) (result : Result Turn E) → IfOk result (TurnHolds old k new) → OnErr result ((new ≡ old) × CouldStep old k) → IsSome (replay_of new) → (account_of new k).entries ≡ (account_of old k).entries + taken result
 entries_turn old new k (Ok Stopped) h e runs = as_many _ _ (ap (λ (r : Run). (account_of r k).entries) h.0)
 entries_turn old new k (Ok Ended) h e runs = as_many _ _ (ap (λ (r : Run). (account_of r k).entries) h.0)
 entries_turn old new k (Ok (Blocked all)) h e runs = as_many _ _ (ap (λ (r : Run). (account_of r k).entries) h.0)
 entries_turn old new k (Ok Full) h e runs = as_many _ _ (ap (λ (r : Run). (account_of r k).entries) h.0)
-entries_turn old new k (Ok Short) h e runs = more_entries old new k true h.0 h.1 runs
-entries_turn old new k (Ok Stepped) h e runs = more_entries old new k false h.0 h.1 runs
-entries_turn old new k (Err x) h e runs = as_many _ _ (ap (λ (r : Run). (account_of r k).entries) e)
+entries_turn old new k (Ok Short) h e runs = more_entries old new k true (refused_add old new k h) h.0 runs
+entries_turn old new k (Ok Stepped) h e runs = more_entries old new k false (did_add old new k h) h.0 runs
+entries_turn old new k (Err x) h e runs = as_many _ _ (ap (λ (r : Run). (account_of r k).entries) e.0)
 
 ending_in : (r : Run) (k : ℕ) (s : State) → replay_of r ≡ Some s → (account_of r k).ending ≡ ending_view (ending_of s k)
 ending_in r k s h = ap (λ o. (option_map_or account_view (option_map (account_at r.journal k) o) nothing).ending) h

@@ -16,7 +16,7 @@ use Rattle.semantics.specs.Run as source
 use Rattle.semantics.specs.Run.{account}
 use Rattle.machine.specs.declared.turn.Turn.{Turn}
 use Rattle.machine.specs.declared.turn.Turn.TheVariants.{Stopped, Ended, Blocked, Full, Short, Stepped}
-use Rattle.machine.specs.Run.{Run, TurnHolds, replay_of}
+use Rattle.machine.specs.Run.{CouldStep, Run, TurnHolds, replay_of}
 use Rattle.shared_passes.specs.declared.view.Account.{Account}
 use Rattle.shared_passes.specs.declared.view.Ending.{Ending}
 use Rattle.shared_passes.specs.declared.view.Ending.TheVariants as seen
@@ -161,7 +161,7 @@ pub record SeatTurn {E : Type 0} (unit : List Item) (world : World) (before afte
   pub was : before.account ≡ account_of old before.thread
   pub is : after.account ≡ account_of new before.thread
   pub turn : IfOk result (TurnHolds old before.thread new)
-  pub err : OnErr result (new ≡ old)
+  pub err : OnErr result ((new ≡ old) × CouldStep old before.thread)
   pub runs : IsSome (replay_of new)
   pub kept : after.kept ≡ kept_after before.kept result
   pub counted : after.account.entries ≡ before.account.entries + taken result

@@ -1,6 +1,6 @@
 // The numbers that a thread has printed.
 ghost use Rattle.std.specs.Prelude.{◌≡◌, ◌<◌, ◌≤◌, length, IfOk, OnErr, IsSome, vec_len, vec_capacity};
-ghost use Rattle.machine.specs.Run.{TurnHolds, replay_of};
+ghost use Rattle.machine.specs.Run.{CouldStep, TurnHolds, replay_of};
 ghost use Rattle.shared_accounts.specs.Accounts.{account_of, more_of, number_at, numbers_of};
 
 use machine::{Machine, Turn};
@@ -21,6 +21,9 @@ pub fn numbers_of(alloc: Global, printed: &[Printed], k: u8) -> Result<Vec<i32>,
 }
 
 /// Lets thread `k` take one step, and puts what it prints behind its lines.
+///
+/// An `Err` says that host memory was refused to a step, for which the line's place is taken before, or to its
+/// collection. Nothing has changed then.
 pub fn step_with_lines(
     machine: &mut Machine<'_>,
     lines: &mut Vec<i32>,
@@ -29,12 +32,17 @@ pub fn step_with_lines(
     requires counted { 0 < k }
     requires is_thread { k ≤ length machine.old.world.threads }
     ensures turn { IfOk result (TurnHolds machine.old k machine.new) }
-    ensures err { OnErr result (machine.new ≡ machine.old) }
+    ensures err { OnErr result ((machine.new ≡ machine.old) × CouldStep machine.old k) }
     ensures runs { IsSome (replay_of machine.new) }
     ensures lines { (account_of machine.old k).printed ≡ lines.old.items → (account_of machine.new k).printed ≡ lines.new.items }
 {
+    if lines.len() >= lines.capacity() {
+        if let Some(turn) = machine.turn_without_step(k) {
+            return Ok(turn);
+        }
+        lines.reserve(1)?;
+    }
     let before = machine.lines().len();
-    lines.reserve(1)?;
     let turn = machine.step(k)?;
     add_line(lines, machine.lines(), before);
     Ok(turn)
