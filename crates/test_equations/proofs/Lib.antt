@@ -1,7 +1,7 @@
 -- helpers
 pub mod Programs
 pub mod Computed
--- a law of all runs
+-- a law of the definitions
 mod Collections
 -- texts
 mod NativeNames

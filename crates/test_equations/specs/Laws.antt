@@ -1,4 +1,4 @@
--- What holds of all runs.
+-- What holds of the definitions.
 use Rattle.std.specs.Prelude.{◌↔◌, [], ◌∷◌}
 use Rattle.syntax.specs.Tree.{SourceUnit}
 use Rattle.semantics.specs.declared.schedule.ScheduleWord.TheVariants.{Turn, Collect}
@@ -15,7 +15,7 @@ without_collections (Collect ∷ words) = without_collections words
 without_collections (Turn k ∷ words) = Turn k ∷ without_collections words
 
 -- Collections allow no other journals: the same follow a schedule with them and without them, to the same states.
-abbrev pub CollectionsChangeNothing : Type 0
-CollectionsChangeNothing =
+abbrev pub CollectionsAllowTheSame : Type 0
+CollectionsAllowTheSame =
     (unit : SourceUnit) (w : World) (s end : State) (journal : Journal) (words : Schedule)
     → Follows unit w s journal words end ↔ Follows unit w s journal (without_collections words) end

@@ -2,10 +2,10 @@
 //! breaks an example is refused.
 #![tactic(auto)]
 
-ghost use Rattle.test_equations.specs.Laws.{CollectionsChangeNothing};
+ghost use Rattle.test_equations.specs.Laws.{CollectionsAllowTheSame};
 
-/// Nothing is run here: the examples are in proofs/. A law of all runs: the same journals follow a schedule with its
-/// collections and without them.
-pub fn collections_change_nothing()
-    ensures { CollectionsChangeNothing }
+/// Nothing is run here: the examples are in proofs/. A law of the definition of which journals follow a schedule: they
+/// are the same with its collections and without them. Which of them a run has can depend on its collections.
+pub fn collections_allow_the_same()
+    ensures { CollectionsAllowTheSame }
 {}

@@ -1,5 +1,5 @@
 use Rattle.test_equations.proofs.Collections.{without, with_them}
-use Rattle.test_equations.proofs.collections_change_nothing.Goals as goal
+use Rattle.test_equations.proofs.collections_allow_the_same.Goals as goal
 
 pub returns : goal.returns
 returns c = λ unit w s end journal words. (without unit w, with_them unit w words)
