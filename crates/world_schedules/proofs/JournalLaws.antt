@@ -23,12 +23,14 @@ use Rattle.world_schedules.proofs.WordLaws.{words_of-parts, all_parts, both_true
 
 -- ---- one word
 
-abbrev thread_of : Entry → ℕ
-thread_of (Step k refused) = k
-
+-- an entry is spelled by the bytes, and a world of eight threads has its thread
 pub record IsEntry (bytes : List ℕ) (e : Entry) : Type 0 where
   pub spelled : bytes ≡ entry_text e
-  pub low : 1 ≤ thread_of e
+  pub allowed : has_thread 8 e ≡ true
+
+-- what is known of such an entry is what may stand in a journal
+pub known_is : (threads : ℕ) (e : Entry) → has_thread 8 e ≡ true → is_up_to threads e ≡ has_thread threads e
+known_is threads (Step k refused) h = ap (λ b. b && nat_le k threads) (sym (both_true (nat_le 1 k) (nat_le k 8) h).0)
 
 -- the mark of a refused allocation
 abbrev mark : Bool → List ℕ
@@ -41,9 +43,11 @@ entry_read name refused e h =
     let low : 49 ≤ name = grind (arith, nat_tests, t.0) in
     let high : name ≤ 56 = grind (arith, nat_tests, t.1) in
     let digit : 48 + (name - 48) ≡ name = omega (arith, low) in
-    subst (IsEntry (name ∷ mark refused)) g.1 (record { spelled = ap (λ (ds : List ℕ). ds ++ mark refused) (sym (decimal_digit (name - 48) (omega (arith, high)) ∙ ap (λ n. n ∷ []) digit)); low = omega (arith, low) })
+    let one : nat_le 1 (name - 48) ≡ true = grind (arith, nat_tests, low) in
+    let eight : nat_le (name - 48) 8 ≡ true = grind (arith, nat_tests, high) in
+    subst (IsEntry (name ∷ mark refused)) g.1 (record { spelled = ap (λ (ds : List ℕ). ds ++ mark refused) (sym (decimal_digit (name - 48) (omega (arith, high)) ∙ ap (λ n. n ∷ []) digit)); allowed = and_from (nat_le 1 (name - 48)) (nat_le (name - 48) 8) one eight })
 
-word_read : (bytes : List ℕ) (e : Entry) → entry_of bytes ≡ Some e → IsEntry bytes e
+pub word_read : (bytes : List ℕ) (e : Entry) → entry_of bytes ≡ Some e → IsEntry bytes e
 word_read [] e h = absurd (cc)
 word_read (name ∷ []) e h = entry_read name false e h
 word_read (name ∷ sign ∷ []) e h =
@@ -58,9 +62,6 @@ pub record AreEntriesOf (parts : List (List ℕ)) (es : Journal) : Type 0 where
   pub spelled : filter is_some_byte parts ≡ map entry_text es
   pub known : (threads : ℕ) → list_all (is_up_to threads) es ≡ true → list_all (has_thread threads) es ≡ true
 
-there : (threads : ℕ) (e : Entry) → 1 ≤ thread_of e → is_up_to threads e ≡ true → has_thread threads e ≡ true
-there threads (Step k refused) low high = let one : nat_le 1 k ≡ true = grind (arith, nat_tests, low) in and_from (nat_le 1 k) (nat_le k threads) one high
-
 entries_read : (parts : List (List ℕ)) (es : Journal) → formed_words entry_of parts ≡ Some es → AreEntriesOf parts es
 entries_read [] es h = let none : [] ≡ es = cc in subst (AreEntriesOf []) none (record { spelled = refl; known = λ threads k. refl })
 entries_read ([] ∷ parts) es h = let a = entries_read parts es h in record { spelled = a.spelled; known = a.known }
@@ -72,7 +73,7 @@ entries_read ((c ∷ cs) ∷ parts) es h =
       spelled = ap (λ (b : List ℕ). b ∷ filter is_some_byte parts) first.spelled ∙ ap (λ (bs : List (List ℕ)). entry_text w.0 ∷ bs) a.spelled;
       known = λ threads k.
           let both = both_true (is_up_to threads w.0) (list_all (is_up_to threads) w.1) k in
-          and_from (has_thread threads w.0) (list_all (has_thread threads) w.1) (there threads w.0 first.low both.0) (a.known threads both.1);
+          and_from (has_thread threads w.0) (list_all (has_thread threads) w.1) (sym (known_is threads w.0 first.allowed) ∙ both.0) (a.known threads both.1);
     })
 
 -- what is read is meant

@@ -15,11 +15,11 @@ use Rattle.world_schedules.specs.ReadingJournals.{entry_named, entry_of, is_up_t
 use Rattle.semantics.specs.JournalText.{spelled_entries}
 use Rattle.world_schedules.proofs.WordLemmas.{are_allowed}
 
-mark : Bool → List ℕ
+pub mark : Bool → List ℕ
 mark refused = cond refused (33 ∷ []) []
 
 -- a word is a digit, and a mark where there is one
-word_is : (k : ℕ) (refused : Bool) → k ≤ 8 → entry_text (Step k refused) ≡ (48 + k) ∷ mark refused
+pub word_is : (k : ℕ) (refused : Bool) → k ≤ 8 → entry_text (Step k refused) ≡ (48 + k) ∷ mark refused
 unfolding mark
 word_is k refused h = ap (λ ds. ds ++ cond refused (33 ∷ []) []) (decimal_digit k (omega arith))
 
@@ -59,7 +59,7 @@ named n refused low high =
     let c : (48 + n) - 48 ≡ n = omega arith in
     rw (a, b, c) refl
 
-word_read : (n : ℕ) (refused : Bool) → 1 ≤ n → n ≤ 8 → entry_of ((48 + n) ∷ mark refused) ≡ Some (Step n refused)
+pub word_read : (n : ℕ) (refused : Bool) → 1 ≤ n → n ≤ 8 → entry_of ((48 + n) ∷ mark refused) ≡ Some (Step n refused)
 unfolding mark
 word_read n true low high = named n true low high
 word_read n false low high = named n false low high

@@ -3,7 +3,10 @@ pub mod WordLemmas
 pub mod LineLemmas
 pub mod JournalLemmas
 pub mod WordLaws
+pub mod FaultLaws
 pub mod ScheduleLaws
 pub mod JournalLaws
 pub mod MeantSchedules
 pub mod MeantJournals
+pub mod FirstSchedules
+pub mod FirstJournals

@@ -82,7 +82,7 @@ thread_low threads k h =
     let most : k ≤ threads = grind (arith, nat_tests, t.1) in
     (one, most)
 
-word_is_read : (threads : ℕ) (w : ScheduleWord × Option ℕ) → threads ≤ 8 → is_turn threads w.0 ≡ true → is_count w.1 ≡ true → IsRead w
+pub word_is_read : (threads : ℕ) (w : ScheduleWord × Option ℕ) → threads ≤ 8 → is_turn threads w.0 ≡ true → is_count w.1 ≡ true → IsRead w
 word_is_read threads (Turn k, None) most turn count =
     let t = thread_low threads k turn in
     let high : k ≤ 8 = omega (arith, t.1) in

@@ -69,15 +69,15 @@ decimal-natural_of (d ∷ e ∷ ds) n h small = let k = not_zero d e ds n h in d
 
 -- ---- one word
 
--- a word is spelled by one byte, and what is known of it is what may stand in a schedule
+-- a word is spelled by one byte, and a world of eight threads has its thread
 pub record IsWord (name : ℕ) (word : ScheduleWord) : Type 0 where
   pub text : turn_text word ≡ name ∷ []
-  pub known : (threads : ℕ) → is_known_turn threads word ≡ true → is_turn threads word ≡ true
+  pub allowed : is_turn 8 word ≡ true
 
-known_turn : (threads k : ℕ) → 1 ≤ k → is_known_turn threads (Turn k) ≡ true → is_turn threads (Turn k) ≡ true
-known_turn threads k low h =
-    let one : nat_le 1 k ≡ true = grind (arith, nat_tests, low) in
-    and_from (nat_le 1 k) (nat_le k threads) one h
+-- what is known of such a word is what may stand in a schedule
+pub known_is : (threads : ℕ) (word : ScheduleWord) → is_turn 8 word ≡ true → is_known_turn threads word ≡ is_turn threads word
+known_is threads (Turn k) h = ap (λ b. b && nat_le k threads) (sym (both_true (nat_le 1 k) (nat_le k 8) h).0)
+known_is threads Collect h = refl
 
 turn_read : (name : ℕ) (word : ScheduleWord) → named_turn name ≡ Some word → IsWord name word
 turn_read name word h =
@@ -86,7 +86,9 @@ turn_read name word h =
     let low : 49 ≤ name = grind (arith, nat_tests, t.0) in
     let high : name ≤ 56 = grind (arith, nat_tests, t.1) in
     let digit : 48 + (name - 48) ≡ name = omega (arith, low) in
-    subst (IsWord name) g.1 (record { text = decimal_digit (name - 48) (omega (arith, high)) ∙ ap (λ n. n ∷ []) digit; known = λ threads k. known_turn threads (name - 48) (omega (arith, low)) k })
+    let one : nat_le 1 (name - 48) ≡ true = grind (arith, nat_tests, low) in
+    let eight : nat_le (name - 48) 8 ≡ true = grind (arith, nat_tests, high) in
+    subst (IsWord name) g.1 (record { text = decimal_digit (name - 48) (omega (arith, high)) ∙ ap (λ n. n ∷ []) digit; allowed = and_from (nat_le 1 (name - 48)) (nat_le (name - 48) 8) one eight })
 
 word_read : (name : ℕ) (word : ScheduleWord) → named_word name ≡ Some word → IsWord name word
 word_read name word h = by_test (name == 99) refl h
@@ -95,13 +97,13 @@ word_read name word h = by_test (name == 99) refl h
     by_test true t h =
         let mark : 99 ≡ name = grind (arith, nat_tests, t) in
         let same : Collect ≡ word = cc (h) in
-        subst (IsWord name) same (record { text = ap (λ n. n ∷ []) mark; known = λ threads k. refl })
+        subst (IsWord name) same (record { text = ap (λ n. n ∷ []) mark; allowed = refl })
     by_test false t h = turn_read name word h
 
 -- a word with its repetition, and what it stands for
 pub record IsRepetition (bytes : List ℕ) (r : Repetition) : Type 0 where
   pub times : Option ℕ
-  pub known : (threads : ℕ) → is_known_turn threads r.word ≡ true → is_turn threads r.word ≡ true
+  pub allowed : is_turn 8 r.word ≡ true
   pub spelled : bytes ≡ schedule_word (r.word, times)
   pub meant : words_meant (r.word, times) ≡ repeated_words r
   pub counted : is_count times ≡ true
@@ -112,7 +114,7 @@ repetition_read (name ∷ []) r h =
     let w = some_then (repetition 1) (named_word name) r h in
     let t = word_read name w.0 w.1 in
     let once : ◌≡◌ {A = Repetition} (record { word = w.0; times = 1 }) r = cc (w.2) in
-    subst (IsRepetition (name ∷ [])) once (record { times = None; known = t.known; spelled = sym t.text; meant = refl; counted = refl })
+    subst (IsRepetition (name ∷ [])) once (record { times = None; allowed = t.allowed; spelled = sym t.text; meant = refl; counted = refl })
 repetition_read (name ∷ star ∷ digits) r h =
     let g = guarded_option (star == 42) (option_and_then (λ word. option_and_then (λ times. repetition times word) (natural_of digits)) (named_word name)) r h in
     let w = some_then (λ word. option_and_then (λ times. repetition times word) (natural_of digits)) (named_word name) r g.1 in
@@ -124,7 +126,7 @@ repetition_read (name ∷ star ∷ digits) r h =
     let mark : star ≡ 42 = grind (arith, nat_tests, g.0) in
     let text : name ∷ star ∷ digits ≡ turn_text w.0 ++ codes "*" ++ decimal n.0 =
     ap (λ s. name ∷ s ∷ digits) mark ∙ ap (λ (ds : List ℕ). name ∷ 42 ∷ ds) (sym (decimal-natural_of digits n.0 n.1 (omega (arith, high)))) ∙ ap (λ (ts : List ℕ). ts ++ codes "*" ++ decimal n.0) (sym t.text) in
-    subst (IsRepetition (name ∷ star ∷ digits)) k.1 (record { times = Some n.0; known = t.known; spelled = text; meant = refl; counted = k.0 })
+    subst (IsRepetition (name ∷ star ∷ digits)) k.1 (record { times = Some n.0; allowed = t.allowed; spelled = text; meant = refl; counted = k.0 })
 
 -- ---- all words
 
@@ -148,7 +150,7 @@ repetitions_read ((c ∷ cs) ∷ parts) rs h =
       counted = λ threads k.
           let both = both_true (is_known_turn threads w.0.word) (list_all (λ (r : Repetition). is_known_turn threads r.word) w.1) k in
           and_from (is_turn threads w.0.word && is_count first.times) (list_all (λ (v : ScheduleWord × Option ℕ). is_turn threads v.0 && is_count v.1) a.words)
-          (and_from (is_turn threads w.0.word) (is_count first.times) (first.known threads both.0) first.counted) (a.counted threads both.1);
+          (and_from (is_turn threads w.0.word) (is_count first.times) (sym (known_is threads w.0.word first.allowed) ∙ both.0) first.counted) (a.counted threads both.1);
     })
 
 -- how many words repetitions stand for

@@ -9,4 +9,5 @@ pub mod Numbers
 pub mod ReadingWords
 pub mod ReadingSchedules
 pub mod ReadingJournals
+pub mod FirstFaults
 pub mod ReadingLaws

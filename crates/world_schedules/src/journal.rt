@@ -2,7 +2,7 @@
 
 ghost use Rattle.std.specs.Prelude.{Some, None, IfOk};
 ghost use Rattle.world_schedules.specs.JournalMeaning.{IsJournalText};
-ghost use Rattle.world_schedules.specs.ReadingLaws.{JournalsAreRead};
+ghost use Rattle.world_schedules.specs.ReadingLaws.{JournalsAreRead, JournalsAreRefused, JournalsAreAccepted};
 ghost use Rattle.world_schedules.specs.Reading.{Gives};
 ghost use Rattle.world_schedules.specs.ReadingJournals.{journal_of, EntriesAreReadAgain};
 
@@ -64,4 +64,11 @@ pub fn entries_are_read_again()
 /// A journal is read of exactly the texts that mean it: a law, which computes nothing.
 pub fn journals_are_read()
     ensures { JournalsAreRead }
+{}
+
+/// A journal is refused with the first fault of its text, and read where no line breaks a rule: a law, which computes
+/// nothing.
+pub fn journals_are_refused()
+    ensures first { JournalsAreRefused }
+    ensures only { JournalsAreAccepted }
 {}

@@ -3,7 +3,7 @@
 ghost use Rattle.std.specs.Prelude.{◌≡◌, List, IfOk, option_and_then};
 ghost use Rattle.world_schedules.specs.Numbers.{natural_of};
 ghost use Rattle.world_schedules.specs.ScheduleText.{IsScheduleText};
-ghost use Rattle.world_schedules.specs.ReadingLaws.{SchedulesAreRead};
+ghost use Rattle.world_schedules.specs.ReadingLaws.{SchedulesAreRead, SchedulesAreRefused, SchedulesAreAccepted};
 ghost use Rattle.world_schedules.specs.Reading.{Gives};
 ghost use Rattle.world_schedules.specs.ReadingSchedules.{named_word, repetition, schedule_of};
 
@@ -125,4 +125,11 @@ pub fn read_schedule(alloc: Global, text: &[u8], threads: u8) -> Result<Schedule
 /// A schedule is read of exactly the texts that mean it: a law, which computes nothing.
 pub fn schedules_are_read()
     ensures { SchedulesAreRead }
+{}
+
+/// A schedule is refused with the first fault of its text, and read where no line breaks a rule: a law, which computes
+/// nothing.
+pub fn schedules_are_refused()
+    ensures first { SchedulesAreRefused }
+    ensures only { SchedulesAreAccepted }
 {}
