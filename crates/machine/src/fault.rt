@@ -1,6 +1,6 @@
 //! Why a schedule was not run to its end, or a report not written.
 
-ghost use Rattle.std.specs.Prelude.{◌≡◌};
+ghost use Rattle.std.specs.Prelude.{◌≡◌, Some, None};
 ghost use Rattle.machine.specs.declared.fault.ReportFault.TheVariants as reporting;
 ghost use Rattle.machine.specs.declared.fault.RunFault.TheVariants as running;
 
@@ -16,6 +16,19 @@ pub enum RunFault {
     /// Host memory was refused.
     #[error("out of memory")]
     Memory,
+}
+
+impl RunFault {
+    /// The number of the fault. Want of memory has none.
+    pub fn number(self) -> Option<u32>
+        ensures full { self ≡ running.Full → result ≡ Some 92 }
+        ensures memory { self ≡ running.Memory → result ≡ None }
+    {
+        match self {
+            RunFault::Full => Some(92),
+            RunFault::Memory => None,
+        }
+    }
 }
 
 impl From<AllocError> for RunFault {

@@ -1,21 +1,35 @@
 //! Why a world was not loaded.
 
-ghost use Rattle.std.specs.Prelude.{◌≡◌};
-ghost use Rattle.machine_threads.specs.declared.fault.LoadFault.TheVariants.{Memory};
+ghost use Rattle.std.specs.Prelude.{◌≡◌, ℕ, Some, None};
+ghost use Rattle.machine_threads.specs.declared.fault.LoadFault.TheVariants.{DoesNotFit, Memory};
 
 use std::alloc::{AllocError, AllocFailed};
 use thiserror::Error;
+use world_schedules::Rule;
 
 /// Why a world was not loaded.
 #[derive(Clone, Copy, Debug, Error)]
 pub enum LoadFault {
     /// Fault 82: the function of a call or its class is unknown, or the arguments don't fit.
     /// The line is the call's in the world, counted from 1.
-    #[error("fault 82 line {0}")]
+    #[error("fault {} line {}", Rule::Name.number(), .0)]
     DoesNotFit(usize),
     /// Host memory was refused.
     #[error("out of memory")]
     Memory,
+}
+
+impl LoadFault {
+    /// The number of the fault. Want of memory has none.
+    pub fn number(self) -> Option<u32>
+        ensures unfit { (line : ℕ) → self ≡ DoesNotFit line → result ≡ Some 82 }
+        ensures memory { self ≡ Memory → result ≡ None }
+    {
+        match self {
+            LoadFault::DoesNotFit(_) => Some(Rule::Name.number()),
+            LoadFault::Memory => None,
+        }
+    }
 }
 
 impl From<AllocError> for LoadFault {

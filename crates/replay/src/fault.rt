@@ -1,20 +1,26 @@
 //! Why a journal was not replayed.
 
-ghost use Rattle.std.specs.Prelude.{◌≡◌};
-ghost use Rattle.replay.specs.declared.fault.ReplayError.TheVariants.{Memory};
+ghost use Rattle.std.specs.Prelude.{◌≡◌, ℕ, Some, None};
+ghost use Rattle.replay.specs.declared.fault.ReplayError.TheVariants.{DoesNotFit, Impossible, Memory, Writer};
 
 use std::alloc::{AllocError, AllocFailed};
 use thiserror::Error;
+
+/// The number of the fault of a call that doesn't go with the program.
+const UNFIT: u32 = 82;
+
+/// The number of the fault of an entry of a journal that isn't possible.
+const IMPOSSIBLE: u32 = 91;
 
 /// Why `replay` did not write a run to its end.
 #[derive(Clone, Copy, Debug, Error)]
 pub enum ReplayError {
     /// Fault 82: the function of a call or its class is unknown, or the arguments don't fit. The line is the call's
     /// in the world, counted from 1.
-    #[error("fault 82 line {0}")]
+    #[error("fault {} line {}", UNFIT, .0)]
     DoesNotFit(usize),
     /// Fault 91: an entry isn't possible where the entries before it have led. Entries are counted from 1.
-    #[error("fault 91 entry {0}")]
+    #[error("fault {} entry {}", IMPOSSIBLE, .0)]
     Impossible(usize),
     /// Host memory was refused.
     #[error("out of memory")]
@@ -22,6 +28,22 @@ pub enum ReplayError {
     /// The writer failed.
     #[error("the writer failed")]
     Writer,
+}
+
+impl ReplayError {
+    /// The number of the fault. Want of memory and a writer that failed have none.
+    pub fn number(self) -> Option<u32>
+        ensures unfit { (line : ℕ) → self ≡ DoesNotFit line → result ≡ Some 82 }
+        ensures impossible { (entry : ℕ) → self ≡ Impossible entry → result ≡ Some 91 }
+        ensures memory { self ≡ Memory → result ≡ None }
+        ensures writer { self ≡ Writer → result ≡ None }
+    {
+        match self {
+            ReplayError::DoesNotFit(_) => Some(UNFIT),
+            ReplayError::Impossible(_) => Some(IMPOSSIBLE),
+            ReplayError::Memory | ReplayError::Writer => None,
+        }
+    }
 }
 
 impl From<AllocError> for ReplayError {
