@@ -1,4 +1,4 @@
--- The errors of lowering, of other texts, of loading, of a report and of a replay, as errors of a run.
+-- The errors of lowering, other texts, loading, a full journal, a report and a replay, as errors of a run.
 use Rattle.std.specs.Prelude.{ℕ}
 use Rattle.lower.specs.declared.fault.LowerError.{LowerError}
 use Rattle.lower.specs.declared.fault.LowerError.TheVariants as lowering
@@ -8,6 +8,8 @@ use Rattle.world_schedules.specs.declared.fault.ReadError.TheVariants as reading
 use Rattle.world_schedules.specs.Rule.{rule_number}
 use Rattle.machine_threads.specs.declared.fault.LoadFault.{LoadFault}
 use Rattle.machine_threads.specs.declared.fault.LoadFault.TheVariants as loading
+use Rattle.machine.specs.declared.fault.RunFault.{RunFault}
+use Rattle.machine.specs.declared.fault.RunFault.TheVariants as running
 use Rattle.machine.specs.declared.fault.ReportFault.{ReportFault}
 use Rattle.machine.specs.declared.fault.ReportFault.TheVariants as reporting
 use Rattle.replay.specs.declared.fault.ReplayError.{ReplayError}
@@ -34,6 +36,11 @@ does_not_fit line = Fault 82 (Line which.World line)
 abbrev pub of_load : LoadFault → RunError
 of_load loading.Memory = Memory
 of_load (loading.DoesNotFit line) = does_not_fit line
+
+-- that a journal is full has no line
+abbrev pub of_run : RunFault → RunError
+of_run running.Memory = Memory
+of_run running.Full = Fault 92 (Line which.Program 0)
 
 abbrev pub of_report : ReportFault → RunError
 of_report reporting.Memory = Memory

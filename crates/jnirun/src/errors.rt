@@ -1,17 +1,14 @@
-//! The errors of lowering, of other texts, of loading, of a report and of a replay, as errors of a run.
+//! The errors of lowering, other texts, loading, a full journal, a report and a replay, as errors of a run.
 
-ghost use Rattle.std.specs.Prelude.{◌≡◌};
-ghost use Rattle.jnirun.specs.Errors.{of_lower, of_reading, does_not_fit, of_load, of_report, of_replay};
+ghost use Rattle.std.specs.Prelude.{◌≡◌, IfSome, IfNone};
+ghost use Rattle.jnirun.specs.Errors.{of_lower, of_reading, of_load, of_run, of_report, of_replay};
 
 use lower::LowerError;
-use machine::{LoadFault, ReportFault};
+use machine::{LoadFault, ReportFault, RunFault};
 use places::{Place, Text};
 use program_check::{RunError, too_long};
 use replay::ReplayError;
-use world_schedules::{ReadError, Rule};
-
-/// The number of the fault of an entry of a journal that isn't possible.
-const IMPOSSIBLE: u32 = 91;
+use world_schedules::ReadError;
 
 /// The error of a program that can't be lowered.
 pub(crate) fn of_lower(error: LowerError) -> RunError
@@ -35,11 +32,15 @@ pub(crate) fn of_reading(text: Text, error: ReadError) -> RunError
     }
 }
 
-/// The error of a world with a call on this line that doesn't go with the program.
-fn does_not_fit(line: usize) -> RunError
-    ensures { result ≡ does_not_fit line }
+/// The error of a fault of this number, at this place. What has no number is want of memory.
+fn fault_at(number: Option<u32>, place: Place) -> RunError
+    ensures some { IfSome number (λ n. result ≡ RunError.Fault n place) }
+    ensures none { IfNone number (result ≡ RunError.Memory) }
 {
-    RunError::Fault(Rule::Name.number(), Place::Line(Text::World, line))
+    match number {
+        Some(number) => RunError::Fault(number, place),
+        None => RunError::Memory,
+    }
 }
 
 /// The error of a world that isn't loaded.
@@ -48,8 +49,15 @@ pub(crate) fn of_load(fault: LoadFault) -> RunError
 {
     match fault {
         LoadFault::Memory => RunError::Memory,
-        LoadFault::DoesNotFit(line) => does_not_fit(line),
+        LoadFault::DoesNotFit(line) => fault_at(fault.number(), Place::Line(Text::World, line)),
     }
+}
+
+/// The error of a run that has no memory, or no room in its journal, which has no line.
+pub(crate) fn of_run(fault: RunFault) -> RunError
+    ensures { result ≡ of_run fault }
+{
+    fault_at(fault.number(), Place::Line(Text::Program, 0))
 }
 
 /// The error of a report that isn't written.
@@ -67,8 +75,8 @@ pub(crate) fn of_replay(error: ReplayError) -> RunError
     ensures { result ≡ of_replay error }
 {
     match error {
-        ReplayError::DoesNotFit(line) => does_not_fit(line),
-        ReplayError::Impossible(entry) => RunError::Fault(IMPOSSIBLE, Place::Entry(entry)),
+        ReplayError::DoesNotFit(line) => fault_at(error.number(), Place::Line(Text::World, line)),
+        ReplayError::Impossible(entry) => fault_at(error.number(), Place::Entry(entry)),
         ReplayError::Memory => RunError::Memory,
         ReplayError::Writer => RunError::Writer,
     }

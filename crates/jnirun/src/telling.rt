@@ -1,9 +1,9 @@
 //! What is told of a fault beside its title: the texts are read once more.
 
 use crate::run::thread_count;
-use crate::working::FULL;
 use cli_commands::Texts;
 use details::Detail;
+use machine::RunFault;
 use places::{Place, Text};
 use program_check::{detail_of, read_program};
 use region_rules::Checked;
@@ -16,7 +16,7 @@ use world_values::{Call, World};
 /// What was found where a text is refused, by the fault's number and its place, in words that no contract fixes.
 /// There are none where memory is refused.
 pub(crate) fn detail_at(alloc: Global, texts: &Texts, number: u32, place: Place) -> Detail {
-    if number == FULL {
+    if Some(number) == RunFault::Full.number() {
         return Detail::of(b"at most 1000000 entries");
     }
     match place {

@@ -10,12 +10,12 @@ ghost use Rattle.jnirun.specs.Runs.{RunsTexts};
 ghost use Rattle.jnirun.specs.Works.{WorkMeaning, EndsWork, AreRefusedWork, IsWorkOrFails};
 ghost use Rattle.world.specs.ReadingWorlds.{world_of_text};
 
-use crate::errors::{of_load, of_lower, of_reading, of_report};
+use crate::errors::{of_load, of_lower, of_reading, of_report, of_run};
 use crate::run::trap_at;
 use lower::Program;
 use lower_parallel::{Watch, lower_parallel};
-use machine::Machine;
-use places::{Place, Text};
+use machine::{Machine, RunFault};
+use places::Text;
 use program_check::{RunError, read_program};
 use region_rules::Checked;
 use replay::TrapAt;
@@ -26,9 +26,6 @@ use std::sync::Wait;
 use std::thread::Threads;
 use world::read_world;
 use world_values::World;
-
-/// The number of the fault that a journal has no room for another entry. It has no line.
-pub(crate) const FULL: u32 = 92;
 
 /// How many workers lower a program.
 const LOWERING: usize = 4;
@@ -86,7 +83,7 @@ fn tell_work<W: Sink>(
         Verdict::Stalled => report_work(alloc, machine, out),
         Verdict::Full => {
             let _ = machine.journal();
-            Err(RunError::Fault(FULL, Place::Line(Text::Program, 0)))
+            Err(of_run(RunFault::Full))
         }
     }
 }

@@ -11,7 +11,7 @@ report_work-requires-in-Stalled-clause-has_room g c = let h = rw c.in-Stalled.is
 pub returns-in-Full-clause-run : goal.returns-in-Full-clause-run
 returns-in-Full-clause-run g c = λ program world under.
     let h = rw c.in-Full.is at c.requires.verdict in
-    filled program world (g.W.Sink.written c.args.out.now) c.args.machine.now under h.0 h.1 c.journal.ensures.fits c.journal.ensures.fair
+    rw c.of_run.ensures (filled program world (g.W.Sink.written c.args.out.now) c.args.machine.now under h.0 h.1 c.journal.ensures.fits c.journal.ensures.fair)
 
 pub returns-in-Full-clause-accepted : goal.returns-in-Full-clause-accepted
-returns-in-Full-clause-accepted g c = (inr refl, refl)
+returns-in-Full-clause-accepted g c = rw c.of_run.ensures (inr refl, refl)
