@@ -1,5 +1,5 @@
--- The files of a command, and the text of each.
-use Rattle.std.specs.Prelude.{ℕ, List}
+-- The files of a command, the text of each, and which command runs workers.
+use Rattle.std.specs.Prelude.{ℕ, List, Bool, true, false}
 use Rattle.cli_commands.specs.declared.command.Command.{Command}
 use Rattle.cli_commands.specs.declared.command.Command.TheVariants.{Check, Run, Work, Replay}
 use Rattle.places.specs.declared.place.Text.{Text}
@@ -23,3 +23,8 @@ text_of program world order which.Program = program
 text_of program world order which.World = world
 text_of program world order which.Schedule = order
 text_of program world order which.Journal = order
+
+-- workers run the threads of the command's world
+abbrev pub runs_workers : Command → Bool
+runs_workers (Work program world) = true
+runs_workers command = false

@@ -30,7 +30,7 @@ pub enum Command<'a> {
 
 impl<'a> Command<'a> {
     ghost use Rattle.std.specs.Prelude.{◌≡◌};
-    ghost use Rattle.cli_commands.specs.Commands.{name_of};
+    ghost use Rattle.cli_commands.specs.Commands.{name_of, runs_workers};
 
     /// The name of the file of a text. A check has no file but its program, and what workers do no order of the steps.
     pub fn name_of(self, text: Text) -> &'a str
@@ -47,5 +47,12 @@ impl<'a> Command<'a> {
             (Command::Replay { world, .. }, Text::World) => world,
             (Command::Replay { journal, .. }, _) => journal,
         }
+    }
+
+    /// Whether workers run it. Nothing else that is done with files has to wait for a thread.
+    pub fn runs_workers(self) -> bool
+        ensures { result ≡ runs_workers self.entry }
+    {
+        matches!(self, Command::Work { .. })
     }
 }
