@@ -18,5 +18,5 @@ pub use program_check::{RunError, check_text};
 pub use replay::TrapAt;
 pub use replaying::{replay_text, runs_are_replayed};
 pub use run::run_text;
-pub use serving::serve;
+pub use serving::{serve, serve_sequential};
 pub use working::work_text;

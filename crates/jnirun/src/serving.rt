@@ -1,7 +1,10 @@
 //! The commands over any files and sinks.
 
-ghost use Rattle.std.specs.Prelude.{◌≡◌, None};
-ghost use Rattle.sinks.specs.Sink.{CanFail};
+ghost use Rattle.std.specs.Prelude.{◌≡◌, ℕ, false, None, Err, IfErr, IfOk, OnOk};
+ghost use Rattle.sinks.specs.Sink.{CanFail, Written};
+ghost use Rattle.cli_commands.specs.Commands.{runs_workers};
+ghost use Rattle.cli_commands.specs.Files.{AreTexts};
+ghost use Rattle.places.specs.declared.place.Place.{Place};
 ghost use Rattle.program_check.specs.Checks.{PassesCheck, FailsCheck};
 ghost use Rattle.jnirun.specs.Runs.{RunsTexts};
 ghost use Rattle.jnirun.specs.Serve.{TextsWrite, TextsEarn, passed, fault_words, trap_words, TellsTrap, ServesTexts, Serves};
@@ -42,15 +45,15 @@ fn check_and_say<W: Sink>(
     }
 }
 
-/// Checks, runs or replays. Answers the trap that stopped the run, if one did.
-fn run_texts<W: Sink, R: Threads + Wait + Sync>(
-    rt: &R,
+/// Checks, runs by a schedule or replays. Answers the trap that stopped the run, if one did.
+fn run_texts<W: Sink>(
     alloc: Global,
     command: Command<'_>,
     texts: &Texts,
     out: &mut W,
 ) -> Result<Option<TrapAt>, RunError>
-    requires { CanFail (W.written out.old) }
+    requires can_fail { CanFail (W.written out.old) }
+    requires sequential { runs_workers command ≡ false }
     ensures { RunsTexts (W.written out.old) (W.written out.new) result
         (TextsWrite command.entry texts.now.program.items texts.now.world.items texts.now.order.items)
         (TextsEarn command.entry texts.now.program.items texts.now.world.items texts.now.order.items) }
@@ -58,7 +61,7 @@ fn run_texts<W: Sink, R: Threads + Wait + Sync>(
     match command {
         Command::Check { .. } => check_and_say(alloc, &texts.program, out),
         Command::Run { .. } => run_text(alloc, &texts.program, &texts.world, &texts.order, out),
-        Command::Work { .. } => work_text(rt, alloc, &texts.program, &texts.world, out),
+        Command::Work { .. } => unreachable!(),
         Command::Replay { .. } => {
             replay_text(alloc, &texts.program, &texts.world, &texts.order, out)
         }
@@ -118,9 +121,8 @@ fn refuse<O: Sink, E: Sink>(
 ) -> u8
     requires out { CanFail (O.written out.old) }
     requires err { CanFail (E.written err.old) }
-    requires earned { TextsEarn command texts.now.program.items texts.now.world.items texts.now.order.items
-        number place }
-    ensures { ServesTexts command.entry texts.now.program.items texts.now.world.items texts.now.order.items
+    ensures { TextsEarn command.entry texts.now.program.items texts.now.world.items texts.now.order.items number place
+        → ServesTexts command.entry texts.now.program.items texts.now.world.items texts.now.order.items
         (O.written out.old) (O.written out.new) (E.written err.old) (E.written err.new) result }
 {
     match say_fault(out, number, place) {
@@ -144,21 +146,24 @@ fn refuse<O: Sink, E: Sink>(
     }
 }
 
-/// Checks, runs or replays, and says how it went.
-fn serve_texts<O: Sink, E: Sink, R: Threads + Wait + Sync>(
-    rt: &R,
+/// Says how it went with the texts of a command, and answers the status.
+fn tell_outcome<O: Sink, E: Sink>(
     alloc: Global,
     command: Command<'_>,
     texts: &Texts,
+    outcome: Result<Option<TrapAt>, RunError>,
     out: &mut O,
     err: &mut E,
 ) -> u8
-    requires out { CanFail (O.written out.old) }
+    requires out { (number : ℕ) (place : Place) → outcome ≡ Err (RunError.Fault number place) → CanFail (O.written out.old) }
     requires err { CanFail (E.written err.old) }
-    ensures { ServesTexts command.entry texts.now.program.items texts.now.world.items texts.now.order.items
-        (O.written out.old) (O.written out.new) (E.written err.old) (E.written err.new) result }
+    ensures { (before : Written) → RunsTexts before (O.written out.old) outcome
+        (TextsWrite command.entry texts.now.program.items texts.now.world.items texts.now.order.items)
+        (TextsEarn command.entry texts.now.program.items texts.now.world.items texts.now.order.items)
+        → ServesTexts command.entry texts.now.program.items texts.now.world.items texts.now.order.items
+        before (O.written out.new) (E.written err.old) (E.written err.new) result }
 {
-    match run_texts(rt, alloc, command, texts, out) {
+    match outcome {
         Ok(trap) => {
             tell_trap(command, &texts.program, trap, err);
             DONE
@@ -171,12 +176,58 @@ fn serve_texts<O: Sink, E: Sink, R: Threads + Wait + Sync>(
     }
 }
 
-/// Does what a command asks for, and answers the program's status: 0 done, 1 a text is refused, 3 memory, a file or a
-/// writer failed.
+/// Reads the files of a command. Where that fails it says so on `err`, and the error is the status.
+fn read_or_tell<F: Files, E: Sink>(
+    alloc: Global,
+    command: Command<'_>,
+    files: &mut F,
+    err: &mut E,
+) -> Result<Texts, u8>
+    requires { CanFail (E.written err.old) }
+    ensures given { IfOk result (λ texts. AreTexts (F.gives files.old) command.entry texts.program.items texts.world.items texts.order.items) }
+    ensures silent { OnOk result (E.written err.new ≡ E.written err.old) }
+    ensures told { IfErr result (λ status. (out : Written)
+        → Serves (F.gives files.old) (F.lacks files.old) command.entry out out (E.written err.old) (E.written err.new) status) }
+{
+    match read_texts(alloc, files, command) {
+        Ok(texts) => Ok(texts),
+        Err(FileFault::Memory) => Err(fail(err, b"memory\n")),
+        Err(FileFault::File) => Err(fail(err, b"file\n")),
+    }
+}
+
+/// Does what a command without workers asks for, and answers the program's status: 0 done, 1 a text is refused, 3 memory,
+/// a file or a writer failed.
 ///
 /// Standard output gets what the command writes, or the line of a fault; standard error gets where and why a text is
 /// refused, with the line of that text, where a trap stopped the run, in the same way, or one word for what failed.
 /// That standard error fails changes no status.
+///
+/// It can't wait for a thread or a lock, so it returns, if the methods of its files and its sinks do.
+pub fn serve_sequential<F: Files, O: Sink, E: Sink>(
+    alloc: Global,
+    command: Command<'_>,
+    files: &mut F,
+    out: &mut O,
+    err: &mut E,
+) -> u8
+    requires out { CanFail (O.written out.old) }
+    requires err { CanFail (E.written err.old) }
+    requires sequential { runs_workers command ≡ false }
+    ensures { Serves (F.gives files.old) (F.lacks files.old) command.entry (O.written out.old) (O.written out.new)
+        (E.written err.old) (E.written err.new) result }
+{
+    match read_or_tell(alloc, command, files, err) {
+        Ok(texts) => {
+            let outcome = run_texts(alloc, command, &texts, out);
+            tell_outcome(alloc, command, &texts, outcome, out, err)
+        }
+        Err(status) => status,
+    }
+}
+
+/// Does what any command asks for, as `serve_sequential` does, to which it leaves all but a run by workers. That waits for
+/// them, so it isn't proved to return.
 pub fn serve<F: Files, O: Sink, E: Sink, R: Threads + Wait + Sync>(
     rt: &R,
     alloc: Global,
@@ -190,9 +241,14 @@ pub fn serve<F: Files, O: Sink, E: Sink, R: Threads + Wait + Sync>(
     ensures { Serves (F.gives files.old) (F.lacks files.old) command.entry (O.written out.old) (O.written out.new)
         (E.written err.old) (E.written err.new) result }
 {
-    match read_texts(alloc, files, command) {
-        Ok(texts) => serve_texts(rt, alloc, command, &texts, out, err),
-        Err(FileFault::Memory) => fail(err, b"memory\n"),
-        Err(FileFault::File) => fail(err, b"file\n"),
+    let Command::Work { .. } = command else {
+        return serve_sequential(alloc, command, files, out, err);
+    };
+    match read_or_tell(alloc, command, files, err) {
+        Ok(texts) => {
+            let outcome = work_text(rt, alloc, &texts.program, &texts.world, out);
+            tell_outcome(alloc, command, &texts, outcome, out, err)
+        }
+        Err(status) => status,
     }
 }
