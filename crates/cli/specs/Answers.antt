@@ -1,7 +1,8 @@
 -- What the program answers, by what its words ask for.
-use Rattle.std.specs.Prelude.{◌≡◌, ℕ, List, Option, Some, None, codes, string_bytes}
+use Rattle.std.specs.Prelude.{◌≡◌, ℕ, Bool, false, List, Option, Some, None, codes, string_bytes}
 use Rattle.sinks.specs.Sink.{Written}
 use Rattle.jnirun.specs.Runs.{AppendsRun, StopsRun}
+use Rattle.cli_commands.specs.Commands.{runs_workers}
 use Rattle.cli_commands.specs.Saying.{Tells}
 use Rattle.jnirun.specs.Serve.{Serves}
 use Rattle.cli_explanations.specs.declared.Explanation.{Explanation}
@@ -31,6 +32,11 @@ Declines words err err_after status = (status ≡ 2) × Tells err err_after word
 abbrev pub needs_order : List ℕ
 needs_order =
     codes "error: run needs one of --schedule FILE and --workers\n\nUsage: jnirun run <PROG> <WORLD> --schedule <FILE>\n       jnirun run <PROG> <WORLD> --workers\n"
+
+-- a run by workers is asked for
+abbrev pub asks_for_workers : Request → Bool
+asks_for_workers (Serve command) = runs_workers command
+asks_for_workers request = false
 
 -- what the program answers
 abbrev pub Answers : (gives : List ℕ → List ℕ → Type 0) → (lacks : List ℕ → Type 0) → Request → (out out_after err err_after : Written) → (status : ℕ) → Type 0

@@ -1,18 +1,16 @@
 //! The program over any files and sinks, once the words are read.
 
-ghost use Rattle.std.specs.Prelude.{◌≡◌, ◌≢◌, codes};
+ghost use Rattle.std.specs.Prelude.{◌≡◌, ◌≢◌, false, codes};
 ghost use Rattle.sinks.specs.Sink.{CanFail};
 ghost use Rattle.cli_commands.specs.Saying.{Tells};
-ghost use Rattle.cli.specs.Answers.{IsTextOf, Shows, Declines, Answers};
+ghost use Rattle.cli.specs.Answers.{IsTextOf, Shows, Declines, asks_for_workers, Answers};
 
 use cli_explanations::Explanation;
 use cli_words::Request;
-use jnirun::{COMMAND_LINE, DONE, Files, fail, say, serve};
+use jnirun::{COMMAND_LINE, DONE, Files, fail, say, serve_sequential};
 use sinks::Sink;
 use std::alloc::Global;
 use std::io::ErrorKind;
-use std::sync::Wait;
-use std::thread::Threads;
 
 const NO_EXPLANATION: &[u8] =
     b"error: there is no fault or trap of this number: explain N, or explain trap N\n";
@@ -69,10 +67,10 @@ fn explain<O: Sink, E: Sink>(explanation: Option<Explanation>, out: &mut O, err:
     }
 }
 
-/// Does what was asked for, and answers the program's status: 0 done, 1 a text is refused, 2 the words are no command
-/// line, 3 memory, a file or a writer failed.
-pub fn answer<F: Files, O: Sink, E: Sink, R: Threads + Wait + Sync>(
-    rt: &R,
+/// Does what was asked for, unless that is a run by workers, and answers the program's status: 0 done, 1 a text is refused,
+/// 2 the words are no command line, 3 memory, a file or a writer failed. It can't wait for a thread or a lock, so it
+/// returns, as the methods of its files and its sinks do.
+pub fn answer<F: Files, O: Sink, E: Sink>(
     alloc: Global,
     request: &Request<'_>,
     files: &mut F,
@@ -81,11 +79,12 @@ pub fn answer<F: Files, O: Sink, E: Sink, R: Threads + Wait + Sync>(
 ) -> u8
     requires out { CanFail (O.written out.old) }
     requires err { CanFail (E.written err.old) }
+    requires sequential { asks_for_workers request.now ≡ false }
     ensures { Answers (F.gives files.old) (F.lacks files.old) request.now (O.written out.old) (O.written out.new)
         (E.written err.old) (E.written err.new) result }
 {
     match request {
-        Request::Serve(command) => serve(rt, alloc, *command, files, out, err),
+        Request::Serve(command) => serve_sequential(alloc, *command, files, out, err),
         Request::Explain(explanation) => explain(*explanation, out, err),
         Request::Show(text) => show(text.as_bytes(), out, err),
         Request::Misuse(text) => decline(text.as_bytes(), err),

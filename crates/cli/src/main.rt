@@ -3,55 +3,38 @@
 //! explain N` and `jnirun explain trap N`.
 #![tactic(auto)]
 
-ghost use Rattle.sinks.specs.Sink.{CanFail};
-
 mod answering;
 
 use crate::answering::{answer, lacks_words};
-use jnirun::{FileSystem, fail};
-use sinks::{Sink, StdSink};
-use std::env::Args;
+use cli_words::Request;
+use jnirun::{FileSystem, serve};
+use sinks::StdSink;
+use std::env::Env;
+use std::io::ErrorKind;
 use std::process::ExitCode;
-use std::rt::Files;
-use std::sync::Wait;
-use std::thread::Threads;
 
-/// Answers what the words ask for, and gives the status.
-fn answer_words<R: AllocGlobal + Files + Threads + Wait + Sync, O: Sink, E: Sink>(
-    rt: &R,
-    words: &[String],
-    out: &mut O,
-    err: &mut E,
-) -> u8
-    requires out { CanFail (O.written out.old) }
-    requires err { CanFail (E.written err.old) }
-{
-    let request = cli_words::read(rt.alloc(), words);
-    answer(rt, rt.alloc(), &request, &mut FileSystem::new(rt), out, err)
-}
-
-/// Gathers the words, and answers what they ask for.
-fn answer_args<R: AllocGlobal + Files + Threads + Wait + Sync, O: Sink, E: Sink>(
-    rt: &R,
-    args: Args,
-    out: &mut O,
-    err: &mut E,
-) -> u8
-    requires out { CanFail (O.written out.old) }
-    requires err { CanFail (E.written err.old) }
-{
-    match args.collect::<Vec<String>>(rt.alloc()) {
-        Ok(words) => answer_words(rt, &words, out, err),
-        Err(_) => fail(err, b"memory\n"),
+/// The words of the command line, or why there are none.
+fn words_of<R: AllocGlobal + Env>(rt: &R) -> Result<Vec<String>, ErrorKind> {
+    match std::env::args(rt) {
+        Ok(args) => args.collect(rt.alloc()).map_err(|_| ErrorKind::OutOfMemory),
+        Err(error) => Err(error.kind()),
     }
 }
 
 fn main(rt: HostRuntime) -> ExitCode {
+    let alloc = rt.alloc();
+    let files = &mut FileSystem::new(&rt);
     let out = &mut StdSink::new(rt.stdout());
     let err = &mut StdSink::new(rt.stderr());
-    let status = match std::env::args(&rt) {
-        Ok(args) => answer_args(&rt, args, out, err),
-        Err(error) => lacks_words(error.kind(), err),
+    let status = match words_of(&rt) {
+        Ok(words) => match &cli_words::read(alloc, &words) {
+            // A run by workers waits for them. Nothing else can wait.
+            Request::Serve(command) if command.runs_workers() => {
+                serve(&rt, alloc, *command, files, out, err)
+            }
+            request => answer(alloc, request, files, out, err),
+        },
+        Err(kind) => lacks_words(kind, err),
     };
     ExitCode::from(status)
 }
