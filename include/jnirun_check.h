@@ -1,8 +1,9 @@
 /*
  * The check of native methods, for virtual machines and tools: a static library with one function.
  *
- * `gate/embed` shows how it is built and linked. The library calls the malloc, realloc and free of the program that it is
- * linked with. These come from one allocator, and a block is aligned to each power of two up to 16 that divides its size.
+ * `gate/install` puts it into a folder, where a program is linked with it alone; `gate/embed` shows how it is built and
+ * linked. The library calls the malloc, realloc and free of the program that it is linked with. These come from one
+ * allocator, and a block is aligned to each power of two up to 16 that divides its size.
  */
 #ifndef JNIRUN_CHECK_H
 #define JNIRUN_CHECK_H
