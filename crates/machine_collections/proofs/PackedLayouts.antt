@@ -212,6 +212,7 @@ module _ (Kept Viewed : ℕ → Type 0) (old new : Layout) (rises : RiseFrom 0 o
           ⊎_elim (λ (l : x < y). inl (omega (arith, l)))
           (λ (r : (x ≡ y) ⊎ (y < x)). ⊎_elim (λ (e : x ≡ y). inr (inl (ap suc e))) (λ (g : y < x). inr (inr (omega (arith, g)))) r)
           (compare x y)
+
       by_order : (c.address < b.address) ⊎ ((c.address ≡ b.address) ⊎ (b.address < c.address)) → c.address < b.address
       by_order (inl l) = l
       by_order (inr (inl e)) =
