@@ -1,5 +1,5 @@
 -- What the layers answer, as what a run does to the sink.
-use Rattle.std.proofs.Common.{◌≡◌, ℕ, List, ◌++◌, ◌∷◌, suc, Option, Some, None, Result, Ok, Err, length, refl, sym, ap, ◌∙◌, subst, ◌+◌, ◌≤◌, arith, length-append}
+use Rattle.std.proofs.Common.{◌≡◌, ℕ, List, ◌++◌, ◌∷◌, suc, Option, Some, None, Result, Ok, Err, length, refl, sym, ap, ◌∙◌, subst, ◌+◌, ◌≤◌, arith, length-append, []}
 use Rattle.std.specs.Prelude.{OnOk}
 use Rattle.std.specs.Option.{option_map}
 use Rattle.syntax.specs.declared.unit.Item.{Item}
@@ -56,9 +56,9 @@ follows_short (Waits s end k journal words e h) = let short : length journal ≤
 follows_short (Steps s next end k refused journal words c e h) = let short : length journal ≤ length words = follows_short h in omega (arith, short)
 
 -- so the journal is never full before the last of a schedule's words
-pub never_full : (items : List Item) (meant : World) (begun ended : Run) (words : Schedule) → IsUnstarted items meant begun → RunsInto begun ended words Full → length words ≤ 1000000 → ⊥
-never_full items meant begun ended words un into few =
-    let steps : ended.journal ≡ into.along.steps = into.along.journal ∙ ap (λ (j : List Entry). j ++ into.along.steps) un.unstarted in
+pub never_full : (begun ended : Run) (words : Schedule) → begun.journal ≡ [] → RunsInto begun ended words Full → length words ≤ 1000000 → ⊥
+never_full begun ended words unstarted into few =
+    let steps : ended.journal ≡ into.along.steps = into.along.journal ∙ ap (λ (j : List Entry). j ++ into.along.steps) unstarted in
     let short : length into.along.steps ≤ length into.taken = follows_short into.along.follows in
     let parts : length words ≡ length into.taken + suc (length into.left) = ap length into.is ∙ length-append into.taken (into.next ∷ into.left) in
     let full : 1000000 ≤ length ended.journal = into.ends.0 in

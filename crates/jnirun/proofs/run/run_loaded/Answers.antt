@@ -1,4 +1,4 @@
-use Rattle.std.proofs.Common.{refl, subst, Ok, Err}
+use Rattle.std.proofs.Common.{subst, Ok, Err}
 use Rattle.machine.specs.declared.fault.RunFault.{RunFault}
 use Rattle.machine.specs.Run.{RunsInto}
 use Rattle.jnirun.proofs.RunLemmas.{ran, report_fails, never_full}
@@ -6,7 +6,7 @@ use Rattle.jnirun.proofs.run.run_loaded.Goals as goal
 
 pub unreachable-requires : goal.unreachable-requires
 unreachable-requires g c =
-    never_full c.args.machine.now.unit c.args.machine.now.world c.args.machine.now c.run.new.self c.args.schedule.now (record { of_unit = refl; on_world = refl; unstarted = c.requires.unstarted }) (subst (λ (f : RunFault). RunsInto c.args.machine.now c.run.new.self c.args.schedule.now f) c.in-Err-Full.field-0-is c.in-Err-Full.ensures.err) c.requires.few
+    never_full c.args.machine.now c.run.new.self c.args.schedule.now c.requires.unstarted (subst (λ (f : RunFault). RunsInto c.args.machine.now c.run.new.self c.args.schedule.now f) c.in-Err-Full.field-0-is c.in-Err-Full.ensures.err) c.requires.few
 
 pub returns-in-Ok-report-clause-run : goal.returns-in-Ok-report-clause-run
 returns-in-Ok-report-clause-run g c = λ program world order loaded.
