@@ -1,13 +1,13 @@
 //! The program over any files and sinks, once the words are read.
 
-ghost use Rattle.std.specs.Prelude.{◌≡◌, ◌≢◌, false, codes};
+ghost use Rattle.std.specs.Prelude.{◌≡◌, ◌≢◌, false, codes, IfSome, IfNone};
 ghost use Rattle.sinks.specs.Sink.{CanFail};
 ghost use Rattle.cli_commands.specs.Saying.{Tells};
 ghost use Rattle.cli.specs.Answers.{IsTextOf, Shows, Declines, asks_for_workers, Answers};
 
 use cli_explanations::Explanation;
 use cli_words::Request;
-use jnirun::{COMMAND_LINE, DONE, Files, fail, say, serve_sequential};
+use jnirun::{COMMAND_LINE, Command, DONE, Files, fail, say, serve_sequential};
 use sinks::Sink;
 use std::alloc::Global;
 use std::io::ErrorKind;
@@ -64,6 +64,27 @@ fn explain<O: Sink, E: Sink>(explanation: Option<Explanation>, out: &mut O, err:
     match explanation {
         Some(explanation) => show(explanation.text, out, err),
         None => decline(NO_EXPLANATION, err),
+    }
+}
+
+/// The command of a run by workers, where one is asked for.
+pub fn run_by_workers<'a>(request: &Request<'a>) -> Option<Command<'a>>
+    ensures some { IfSome result (λ command. request.now ≡ Request.Serve command) }
+    ensures none { IfNone result (asks_for_workers request.now ≡ false) }
+{
+    match request {
+        Request::Serve(command) => {
+            if command.runs_workers() {
+                Some(*command)
+            } else {
+                None
+            }
+        }
+        Request::Explain(_)
+        | Request::Show(_)
+        | Request::Misuse(_)
+        | Request::LacksOrder
+        | Request::LacksMemory => None,
     }
 }
 

@@ -5,8 +5,7 @@
 
 mod answering;
 
-use crate::answering::{answer, lacks_words};
-use cli_words::Request;
+use crate::answering::{answer, lacks_words, run_by_workers};
 use jnirun::{FileSystem, serve};
 use sinks::StdSink;
 use std::env::Env;
@@ -27,13 +26,14 @@ fn main(rt: HostRuntime) -> ExitCode {
     let out = &mut StdSink::new(rt.stdout());
     let err = &mut StdSink::new(rt.stderr());
     let status = match words_of(&rt) {
-        Ok(words) => match &cli_words::read(alloc, &words) {
+        Ok(words) => {
+            let request = cli_words::read(alloc, &words);
             // A run by workers waits for them. Nothing else can wait.
-            Request::Serve(command) if command.runs_workers() => {
-                serve(&rt, alloc, *command, files, out, err)
+            match run_by_workers(&request) {
+                Some(command) => serve(&rt, alloc, command, files, out, err),
+                None => answer(alloc, &request, files, out, err),
             }
-            request => answer(alloc, request, files, out, err),
-        },
+        }
         Err(kind) => lacks_words(kind, err),
     };
     ExitCode::from(status)
