@@ -28,8 +28,8 @@ final class World {
     final List<String> asked = new ArrayList<>();
     final List<List<Call>> threads = new ArrayList<>();
 
-    /** The number of the first object: before it there are 42 built-in classes, two for each of the world's, and an OutOfMemoryError object. */
-    int first = 44;
+    /** The number of the first object. */
+    int first;
 
     private final Map<String, Object> named = new HashMap<>();
     private final Map<Class<?>, List<Field>> fields = new HashMap<>();
@@ -37,9 +37,11 @@ final class World {
     void take(String line) throws ReflectiveOperationException {
         String[] words = line.split(" ");
         switch (words[0]) {
+            case "first":
+                first = Integer.parseInt(words[1]);
+                break;
             case "class":
                 fields.put(classOf(words[1]), new ArrayList<>());
-                first += 2;
                 break;
             case "field":
                 fields.get(classOf(words[1])).add(classOf(words[1]).getDeclaredField(words[2]));

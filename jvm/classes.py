@@ -5,25 +5,25 @@ in none. A reference that a native method takes or gives is an Object here, as a
 import re
 import struct
 
+
+def lang(names):
+    """Names of classes of java.lang."""
+    return [f"java/lang/{name}" for name in names.split()]
+
+
 # The exceptions that functions of the JNI throw, all that every world has, and all classes of the library that it has.
-THROWN = [
-    f"java/lang/{name}"
-    for name in (
-        "NoSuchFieldError NoClassDefFoundError OutOfMemoryError ArrayIndexOutOfBoundsException StringIndexOutOfBoundsException ArrayStoreException "
-        "NegativeArraySizeException IllegalMonitorStateException"
-    ).split()
-]
-THROWABLES = THROWN + [
-    f"java/lang/{name}"
-    for name in (
-        "Throwable Error LinkageError IncompatibleClassChangeError VirtualMachineError Exception RuntimeException IndexOutOfBoundsException"
-    ).split()
-]
-LIBRARY = THROWABLES + ["java/lang/Object", "java/lang/Class", "java/lang/String"]
+THROWN = lang(
+    "NoSuchFieldError NoClassDefFoundError OutOfMemoryError ArrayIndexOutOfBoundsException StringIndexOutOfBoundsException "
+    "ArrayStoreException NegativeArraySizeException IllegalMonitorStateException"
+)
+THROWABLES = THROWN + lang("Throwable Error LinkageError IncompatibleClassChangeError VirtualMachineError Exception RuntimeException IndexOutOfBoundsException")
+LIBRARY = THROWABLES + lang("Object Class String")
+NUMBER_ARRAYS = ["[I", "[S", "[B", "[C"]
 ABSTRACT = "java/lang/VirtualMachineError"
 OBJECT = "Ljava/lang/Object;"
 MESSAGE = "(Ljava/lang/String;)V"
 FUNCTION = re.compile(r"JNIEXPORT (\w+) JNICALL (\w+) \( JNIEnv \* \w+ , jclass \w+ ((?:, \w+ \w+ )*)\)")
+CLASS_NAME = re.compile(r"[A-Za-z]\w*(?:/[A-Za-z]\w*)*", re.A)
 NOT_CODE = re.compile(r'/\*.*?\*/|//[^\n]*|"[^"\n]*"', re.S)
 TEXT = re.compile(r'"([^"\n]*)"|/\*.*?\*/|//[^\n]*', re.S)
 PUBLIC, STATIC, SUPER, NATIVE = 0x0001, 0x0008, 0x0020, 0x0100
@@ -54,20 +54,31 @@ def method_of(function):
     return path.rpartition("/")[::2]
 
 
-def classes_of(program, world):
-    """The classes that a world declares, by their names, with the program's native methods."""
+def declared_in(world):
+    """The classes that a world declares, by their names."""
     found = {}
     for words in (line.split(" ") for line in world.split("\n")):
         if words[0] == "class":
             found[words[1]] = Class(words[3] if len(words) > 2 else "java/lang/Object")
         elif words[0] == "field":
-            found[words[1]].fields.append(words[2:])
+            found[words[1]].fields.append((words[2], words[3]))
         elif words[0] == "static":
-            found[words[1]].statics.append(words[2:])
+            found[words[1]].statics.append((words[2], words[3]))
         elif words[0] in ("thread", "call") and method_of(words[1])[0] not in found:
             raise NotMade("a native method of a class of the library")
         elif words[0] == "object" and words[2] == ABSTRACT:
             raise NotMade("an object of an abstract class")
+    return found
+
+
+def classes_of(program, world):
+    """The classes that a world declares, by their names, with the program's native methods."""
+    try:
+        found = declared_in(world)
+    except LookupError as wrong:
+        raise NotMade("a world that isn't well formed") from wrong
+    if not all(map(CLASS_NAME.fullmatch, found)):
+        raise NotMade("a world that isn't well formed")
     if any(name.startswith(("java/", "jnirun/")) for name in found):
         raise NotMade("a class in a package that is taken")
     for function, type_ in natives_of(program):
@@ -89,12 +100,18 @@ def throwables_of(classes):
 def asked_of(program, classes):
     """The classes that a program may ask for, and that its world doesn't have."""
     plain = {*LIBRARY, *classes}
-    known = plain | {f"[L{it};" for it in plain} | {"[I", "[S", "[B", "[C"}
+    known = {*plain, *(f"[L{it};" for it in plain), *NUMBER_ARRAYS}
     return [text for text in dict.fromkeys(TEXT.findall(program)) if text not in known and re.fullmatch(r"\[*[\w/$]+;?", text)]
 
 
+def first_number(classes):
+    """The number of a world's first object: before it are the class objects, with those of arrays, and an OutOfMemoryError object."""
+    return 2 * (len(LIBRARY) + len(classes)) + len(NUMBER_ARRAYS) + 2
+
+
 def lines_of(program, world, classes):
-    """A world's lines for World.java: a class and a method stand for a function, and after them are the classes that are asked for."""
+    """A world's lines for World.java: a class and a method stand for a function, and beside them are the first number and the classes that are asked for."""
+    yield f"first {first_number(classes)}"
     for line in world.split("\n"):
         word, _, rest = line.partition(" ")
         if word in ("thread", "call"):
