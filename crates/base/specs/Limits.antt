@@ -51,9 +51,13 @@ most_calls = 256
 
 -- ---- runs
 
--- of a journal; and the turns of a schedule
+-- the steps of a journal, and its clearings; and the turns of a schedule
 abbrev pub most_entries : ℕ
 most_entries = 1000000
+
+-- the greatest name that a journal's text may have
+abbrev pub most_name : ℕ
+most_name = 4294967295
 
 -- the local references for which a thread's frames have capacity, all together
 abbrev pub most_references : ℕ

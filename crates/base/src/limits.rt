@@ -36,8 +36,11 @@ pub const MOST_THREADS: usize = 8;
 /// The most calls of a thread.
 pub const MOST_CALLS: usize = 256;
 
-/// The most entries of a journal, and turns of a schedule.
+/// The most steps of a journal, the most of its clearings, and the most turns of a schedule.
 pub const MOST_ENTRIES: usize = 1_000_000;
+
+/// The greatest name of an object that a journal's text may have.
+pub const MOST_NAME: u64 = 4_294_967_295;
 
 /// The most local references for which a thread's frames have capacity, all together.
 pub const MOST_REFERENCES: u32 = 1_024;

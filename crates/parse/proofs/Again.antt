@@ -11,7 +11,7 @@ use Rattle.parse_lexemes.specs.declared.first.Fixed.{Fixed}
 use Rattle.parse_lexemes.specs.declared.first.Fixed.TheVariants as fixed
 use Rattle.parse_lexemes.specs.Meaning.{Meaning, Fixed', Name'}
 use Rattle.parse_lexemes.specs.Lexemes.{Lexed, same_fixed, is_fixed_meaning, expect}
-use Rattle.parse_lexemes.specs.Spelling.{Spelled, Anywhere, OnLine, mark, word, reference_word, element_word, variable_word, result_word, parameter_word}
+use Rattle.parse_lexemes.specs.Spelling.{Spelled, Anywhere, OnLine, mark, word, static_word, element_word, variable_word, result_word, parameter_word}
 use Rattle.parse_expressions.specs.Spelling.{expression, setting, test_tokens}
 use Rattle.parse_statements.specs.Spelling.{statement, inside}
 use Rattle.parse.specs.Spelling.{parameter, function, item}
@@ -23,7 +23,7 @@ use Rattle.parse.proofs.Forms.{IsFunction, AreItems}
 use Rattle.parse_expressions.proofs.Forms.{IsTest, IsExpr}
 use Rattle.parse_lexemes.proofs.Singles.{Begins, same_itself, begins_split, begins_length, shortens, first_rest, first_is, expect_again, name_again, on_is, on_line_is}
 use Rattle.parse_expressions.proofs.Table.{Closes, closes_mark}
-use Rattle.parse_lexemes.proofs.TypeWords.{reference_type_again, result_type_again, parameter_type_again}
+use Rattle.parse_lexemes.proofs.TypeWords.{static_type_again, result_type_again, parameter_type_again}
 use Rattle.parse_expressions.proofs.Levels.{expr_reads_again}
 use Rattle.parse_expressions.proofs.JniCalls.{test_again}
 use Rattle.parse_statements.proofs.Sentences.{call_tail, element_tail, setting_tail, IsPlain, plain_again}
@@ -393,10 +393,10 @@ static_again s ls rest h =
     let es4 : List Spelled = word words.Null ∷ mark marks.Semicolon ∷ [] in
     let es3 : List Spelled = mark marks.Assign ∷ es4 in
     let es2 : List Spelled = Anywhere (Name' s.name) ∷ es3 in
-    let es1 : List Spelled = word (reference_word s.type) ∷ es2 in
+    let es1 : List Spelled = word (static_word s.type) ∷ es2 in
     let h1 = first_rest (OnLine s.line m) es1 ls rest h in
-    let t = reference_type_again s.type es2 (rest_of ls) rest h1 in
-    let h2 = first_rest (word (reference_word s.type)) es2 (rest_of ls) rest h1 in
+    let t = static_type_again s.type es2 (rest_of ls) rest h1 in
+    let h2 = first_rest (word (static_word s.type)) es2 (rest_of ls) rest h1 in
     let n = name_again s.name es3 (rest_of (rest_of ls)) rest h2 in
     let a = expect_again (fixed.Mark marks.Assign) es4 (rest_of (rest_of (rest_of ls))) rest (first_rest (Anywhere (Name' s.name)) es3 (rest_of (rest_of ls)) rest h2) in
     let b = expect_again (fixed.Word words.Null) (mark marks.Semicolon ∷ []) a.0 rest a.2 in

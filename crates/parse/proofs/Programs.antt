@@ -3,7 +3,7 @@ use Rattle.std.proofs.Common.{◌≡◌, ℕ, zero, suc, ◌+◌, ◌-◌, ◌<�
 use Rattle.std.specs.Prelude.{◌==◌, ◌≢◌, flat_map}
 use Rattle.std.proofs.lemmas.Bool.{eqb-false}
 use Rattle.scan.specs.declared.token.Mark.TheVariants as marks
-use Rattle.syntax.specs.Tree.{ReferenceType, ResultType, ParameterType, Parameter, Block, Function, Static, Item, StaticItem, FunctionItem}
+use Rattle.syntax.specs.Tree.{StaticType, ResultType, ParameterType, Parameter, Block, Function, Static, Item, StaticItem, FunctionItem}
 use Rattle.syntax.specs.Parts.{functions_of, statics_of}
 use Rattle.parse_lexemes.specs.declared.fault.ParseError.{ParseError}
 use Rattle.scan.specs.declared.reserved.Word.TheVariants as words
@@ -12,16 +12,16 @@ use Rattle.parse_lexemes.specs.declared.first.Fixed.TheVariants as fixed
 use Rattle.parse_lexemes.specs.Results.{◌>>=◌}
 use Rattle.parse_lexemes.specs.Meaning.{Fixed', Name'}
 use Rattle.parse_lexemes.specs.Lexemes.{Lexed, line_at, expect, name_at}
-use Rattle.parse_lexemes.specs.Spelling.{Spelled, Anywhere, OnLine, mark, word, reference_word, result_word, parameter_word}
+use Rattle.parse_lexemes.specs.Spelling.{Spelled, Anywhere, OnLine, mark, word, static_word, result_word, parameter_word}
 use Rattle.parse_statements.specs.Spelling.{inside}
 use Rattle.parse.specs.Spelling.{parameter, function, item}
-use Rattle.parse_lexemes.specs.Reading.{starts_with, rest_of, found, reference_type_at, result_type_at, parameter_type_at}
+use Rattle.parse_lexemes.specs.Reading.{starts_with, rest_of, found, static_type_at, result_type_at, parameter_type_at}
 use Rattle.parse_statements.specs.Reading.{block_at}
 use Rattle.parse.specs.Reading.{parameter_at, parameters_at, head_at, body_at, signature_at, function_at, static_at, ReadItem, item_at, items_at}
 use Rattle.parse_statements.proofs.Forms.{names_in, IsBlock}
 use Rattle.parse.proofs.Forms.{IsFunction, AreItems}
 use Rattle.parse_lexemes.proofs.Singles.{Begins, bind_ok, ok_is, chosen, begins_append, first_takes, starts_takes, expect_takes, then_takes, name_takes, shortens}
-use Rattle.parse_lexemes.proofs.TypeWords.{reference_type_takes, result_type_takes, parameter_type_takes}
+use Rattle.parse_lexemes.proofs.TypeWords.{static_type_takes, result_type_takes, parameter_type_takes}
 use Rattle.parse_statements.proofs.Nested.{block_takes}
 
 -- the parameters that each function has, up to the name of its class
@@ -211,23 +211,23 @@ function_takes ls x h =
 abbrev ReadStatic : Type 0
 ReadStatic = Result (Static × List Lexed) ParseError
 
-abbrev static_of : ℕ → ReferenceType → List ℕ → Static
+abbrev static_of : ℕ → StaticType → List ℕ → Static
 static_of line t n = record { line = line; type = t; name = n }
 
-abbrev static4 : ℕ → ReferenceType → List ℕ → List Lexed → ReadStatic
+abbrev static4 : ℕ → StaticType → List ℕ → List Lexed → ReadStatic
 static4 line t n c = expect (fixed.Mark marks.Semicolon) c >>= λ rest. Ok (static_of line t n, rest)
 
-abbrev static3 : ℕ → ReferenceType → List ℕ → List Lexed → ReadStatic
+abbrev static3 : ℕ → StaticType → List ℕ → List Lexed → ReadStatic
 static3 line t n b = expect (fixed.Word words.Null) b >>= static4 line t n
 
-abbrev static2 : ℕ → ReferenceType → List ℕ × List Lexed → ReadStatic
+abbrev static2 : ℕ → StaticType → List ℕ × List Lexed → ReadStatic
 static2 line t n = expect (fixed.Mark marks.Assign) n.1 >>= static3 line t n.0
 
-abbrev static1 : ℕ → ReferenceType × List Lexed → ReadStatic
+abbrev static1 : ℕ → StaticType × List Lexed → ReadStatic
 static1 line t = name_at t.1 >>= static2 line t.0
 
 abbrev static0 : ℕ → List Lexed → ReadStatic
-static0 line a = found (reference_type_at a) a >>= static1 line
+static0 line a = found (static_type_at a) a >>= static1 line
 
 record TakesStatic (ls : List Lexed) (x : Static × List Lexed) : Type 0 where
   parts : Begins (item (StaticItem x.0)) ls x.1
@@ -238,21 +238,21 @@ unfolding static_at
 static_takes ls x h =
     let line = line_at ls in
     let a = bind_ok (expect (fixed.Word words.Static) ls) (static0 line) x h in
-    let b = bind_ok (found (reference_type_at a.0) a.0) (static1 line) x a.2 in
+    let b = bind_ok (found (static_type_at a.0) a.0) (static1 line) x a.2 in
     let c = bind_ok (name_at b.0.1) (static2 line b.0.0) x b.2 in
     let d = bind_ok (expect (fixed.Mark marks.Assign) c.0.1) (static3 line b.0.0 c.0.0) x c.2 in
     let e = bind_ok (expect (fixed.Word words.Null) d.0) (static4 line b.0.0 c.0.0) x d.2 in
     let f = bind_ok (expect (fixed.Mark marks.Semicolon) e.0) (λ rest. Ok (static_of line b.0.0 c.0.0, rest)) x e.2 in
-    let type = found_ok (reference_type_at a.0) a.0 b.0 b.1 in
-    let first = subst (λ (mid : List Lexed). Begins (word (reference_word b.0.0) ∷ []) a.0 mid) type.1 (reference_type_takes b.0.0 a.0 type.0) in
+    let type = found_ok (static_type_at a.0) a.0 b.0 b.1 in
+    let first = subst (λ (mid : List Lexed). Begins (word (static_word b.0.0) ∷ []) a.0 mid) type.1 (static_type_takes b.0.0 a.0 type.0) in
     let es4 : List Spelled = word words.Null ∷ mark marks.Semicolon ∷ [] in
     let es3 : List Spelled = mark marks.Assign ∷ es4 in
     let es2 : List Spelled = Anywhere (Name' c.0.0) ∷ es3 in
-    let es1 : List Spelled = word (reference_word b.0.0) ∷ es2 in
+    let es1 : List Spelled = word (static_word b.0.0) ∷ es2 in
     let t4 = then_takes (fixed.Word words.Null) (mark marks.Semicolon ∷ []) d.0 e.0 f.0 e.1 (expect_takes (fixed.Mark marks.Semicolon) e.0 f.0 f.1) in
     let t3 = then_takes (fixed.Mark marks.Assign) es4 c.0.1 d.0 f.0 d.1 t4 in
     let t2 = begins_append (Anywhere (Name' c.0.0) ∷ []) es3 b.0.1 c.0.1 f.0 (name_takes b.0.1 c.0 c.1) t3 in
-    let t1 = begins_append (word (reference_word b.0.0) ∷ []) es2 a.0 b.0.1 f.0 first t2 in
+    let t1 = begins_append (word (static_word b.0.0) ∷ []) es2 a.0 b.0.1 f.0 first t2 in
     let t0 = begins_append (OnLine line (Fixed' (fixed.Word words.Static)) ∷ []) es1 ls a.0 f.0 (on_expected (fixed.Word words.Static) ls a.0 a.1) t1 in
     subst (λ (y : Static × List Lexed). TakesStatic ls y) (ok_is (static_of line b.0.0 c.0.0, f.0) x f.2) (record {
       parts = t0;

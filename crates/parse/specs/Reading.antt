@@ -11,7 +11,7 @@ use Rattle.parse_lexemes.specs.declared.first.Fixed.TheVariants as fixed
 use Rattle.parse_lexemes.specs.Results.{◌>>=◌}
 use Rattle.parse_lexemes.specs.Lexemes.{Lexed, fault_at, line_at, expect, name_at}
 use Rattle.parse_statements.specs.Reading.{block_at}
-use Rattle.parse_lexemes.specs.Reading.{starts_with, rest_of, reference_type_at, result_type_at, parameter_type_at, found}
+use Rattle.parse_lexemes.specs.Reading.{starts_with, rest_of, static_type_at, result_type_at, parameter_type_at, found}
 
 -- the parameters that each function has, up to the name of its class
 unfoldable pub head_at : List Lexed → Result (List Lexed) ParseError
@@ -67,7 +67,7 @@ function_at ls = do
 unfoldable pub static_at : List Lexed → Result (Static × List Lexed) ParseError
 static_at ls = do
   a ← expect (fixed.Word words.Static) ls
-  t ← found (reference_type_at a) a
+  t ← found (static_type_at a) a
   name ← name_at t.1
   b ← expect (fixed.Mark marks.Assign) name.1
   c ← expect (fixed.Word words.Null) b

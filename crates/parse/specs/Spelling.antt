@@ -9,7 +9,7 @@ use Rattle.syntax.specs.Limits.{IsTree}
 use Rattle.scan.specs.declared.reserved.Word.TheVariants as words
 use Rattle.parse_lexemes.specs.Meaning.{token_meaning}
 use Rattle.parse_statements.specs.Spelling.{inside}
-use Rattle.parse_lexemes.specs.Spelling.{Spelled, mark, word, name, on_line, reference_word, constant_word, result_word, parameter_word, Anywhere, OnLine}
+use Rattle.parse_lexemes.specs.Spelling.{Spelled, mark, word, name, on_line, constant_word, static_word, result_word, parameter_word, Anywhere, OnLine}
 
 -- ---- functions and statics
 
@@ -31,7 +31,7 @@ function f =
 
 abbrev pub item : Item → List Spelled
 item (StaticItem s) = on_line s.line (word words.Static ∷ word
-    (reference_word s.type) ∷ name s.name ∷ mark marks.Assign ∷ word (constant_word Null) ∷ mark marks.Semicolon ∷ [])
+    (static_word s.type) ∷ name s.name ∷ mark marks.Assign ∷ word (constant_word Null) ∷ mark marks.Semicolon ∷ [])
 item (FunctionItem f) = function f
 
 abbrev pub spell : SourceUnit → List Spelled

@@ -115,7 +115,7 @@ fn static_reference(alloc: Global, lexemes: Cursor<'_>) -> Result<(Static, Curso
 {
     let line = lexemes.line();
     let rest = lexemes.expect(Fixed::Word(Word::Static))?;
-    let Some(kind) = rest.reference_type() else {
+    let Some(kind) = rest.static_type() else {
         return Err(rest.unexpected());
     };
     let (name, rest) = rest.skip().name()?;

@@ -3,14 +3,14 @@ use Rattle.std.proofs.Common.{◌≡◌, ℕ, List, [], ◌∷◌, Option, Some,
 use Rattle.std.specs.Prelude.{◌⊎◌}
 use Rattle.std.specs.Option.{option_map, option_flatten}
 use Rattle.base.specs.Element.{ElementType, JInt, JShort, JByte, JChar}
-use Rattle.syntax.specs.Tree.{ReferenceType, JObject, JClass, JString, JArray, JThrowable, JIntArray, JShortArray, JByteArray, JCharArray, JObjectArray, Constant, True, False, Commit, Abort, Null, ResultType, Void, IntResult, ReferenceResult, ParameterType, IntParameter, ReferenceParameter, VariableType, UInt32, JIntVariable, JSize, JBoolean, JFieldId, ReferenceVariable}
+use Rattle.syntax.specs.Tree.{ReferenceType, JObject, JClass, JString, JArray, JThrowable, JIntArray, JShortArray, JByteArray, JCharArray, JObjectArray, Constant, True, False, Commit, Abort, Null, ResultType, Void, IntResult, ReferenceResult, ParameterType, IntParameter, ReferenceParameter, VariableType, UInt32, JIntVariable, JSize, JBoolean, JFieldId, ReferenceVariable, StaticType, ReferenceStatic, WeakStatic}
 use Rattle.scan.specs.declared.reserved.Word.{Word}
 use Rattle.scan.specs.declared.reserved.Word.TheVariants as words
 use Rattle.parse_lexemes.specs.declared.first.Fixed.TheVariants as fixed
 use Rattle.parse_lexemes.specs.Meaning.{Meaning, Fixed', Name', Number', Text'}
 use Rattle.parse_lexemes.specs.Lexemes.{Lexed, same_word, line_at}
-use Rattle.parse_lexemes.specs.Spelling.{Spelled, OnLine, word, reference_word, constant_word, element_word, variable_word, result_word, parameter_word}
-use Rattle.parse_lexemes.specs.Reading.{rest_of, constant_of_word, word_in, word_at, reference_of_word, result_of_word, element_of_word, parameter_of_word, variable_of_word, reference_type_at, result_type_at, element_type_at, parameter_type_at, variable_type_at}
+use Rattle.parse_lexemes.specs.Spelling.{Spelled, OnLine, word, reference_word, constant_word, element_word, variable_word, static_word, result_word, parameter_word}
+use Rattle.parse_lexemes.specs.Reading.{rest_of, constant_of_word, word_in, word_at, reference_of_word, static_of_word, result_of_word, element_of_word, parameter_of_word, variable_of_word, static_type_at, result_type_at, element_type_at, parameter_type_at, variable_type_at}
 use Rattle.parse_lexemes.proofs.Singles.{Begins, chosen, word_is}
 
 -- ---- constants
@@ -45,18 +45,6 @@ reference_is words.JcharArray r e = let f : JCharArray ≡ r = cc in ap referenc
 reference_is words.JobjectArray r e = let f : JObjectArray ≡ r = cc in ap reference_word f
 reference_is _ r e = absurd cc
 
-reference_again : (r : ReferenceType) → reference_of_word (reference_word r) ≡ Some r
-reference_again JObject = refl
-reference_again JClass = refl
-reference_again JString = refl
-reference_again JArray = refl
-reference_again JThrowable = refl
-reference_again JIntArray = refl
-reference_again JShortArray = refl
-reference_again JByteArray = refl
-reference_again JCharArray = refl
-reference_again JObjectArray = refl
-
 element_again : (t : ElementType) → element_of_word (element_word t) ≡ Some t
 element_again JInt = refl
 element_again JShort = refl
@@ -82,6 +70,33 @@ parameter_again (ReferenceParameter JShortArray) = refl
 parameter_again (ReferenceParameter JByteArray) = refl
 parameter_again (ReferenceParameter JCharArray) = refl
 parameter_again (ReferenceParameter JObjectArray) = refl
+
+static_again : (t : StaticType) → static_of_word (static_word t) ≡ Some t
+static_again WeakStatic = refl
+static_again (ReferenceStatic JObject) = refl
+static_again (ReferenceStatic JClass) = refl
+static_again (ReferenceStatic JString) = refl
+static_again (ReferenceStatic JArray) = refl
+static_again (ReferenceStatic JThrowable) = refl
+static_again (ReferenceStatic JIntArray) = refl
+static_again (ReferenceStatic JShortArray) = refl
+static_again (ReferenceStatic JByteArray) = refl
+static_again (ReferenceStatic JCharArray) = refl
+static_again (ReferenceStatic JObjectArray) = refl
+
+static_is : (w : Word) (t : StaticType) → static_of_word w ≡ Some t → w ≡ static_word t
+static_is words.Jweak t e = let f : WeakStatic ≡ t = cc in ap static_word f
+static_is words.Jobject t e = let f : ReferenceStatic JObject ≡ t = cc in ap static_word f
+static_is words.Jclass t e = let f : ReferenceStatic JClass ≡ t = cc in ap static_word f
+static_is words.Jstring t e = let f : ReferenceStatic JString ≡ t = cc in ap static_word f
+static_is words.Jarray t e = let f : ReferenceStatic JArray ≡ t = cc in ap static_word f
+static_is words.Jthrowable t e = let f : ReferenceStatic JThrowable ≡ t = cc in ap static_word f
+static_is words.JintArray t e = let f : ReferenceStatic JIntArray ≡ t = cc in ap static_word f
+static_is words.JshortArray t e = let f : ReferenceStatic JShortArray ≡ t = cc in ap static_word f
+static_is words.JbyteArray t e = let f : ReferenceStatic JByteArray ≡ t = cc in ap static_word f
+static_is words.JcharArray t e = let f : ReferenceStatic JCharArray ≡ t = cc in ap static_word f
+static_is words.JobjectArray t e = let f : ReferenceStatic JObjectArray ≡ t = cc in ap static_word f
+static_is _ t e = absurd cc
 
 result_again : (t : ResultType) → result_of_word (result_word t) ≡ Some t
 result_again Void = refl
@@ -171,14 +186,14 @@ word_on : (w : Word) (es : List Spelled) (ls rest : List Lexed) → word_at ls �
 word_on w es [] rest e h = absurd cc
 word_on w es (l ∷ ls) rest e h = ((word_meaning l.meaning w e, refl), h)
 
-pub reference_type_takes : (t : ReferenceType) (ls : List Lexed) → reference_type_at ls ≡ Some t → Begins (word (reference_word t) ∷ []) ls (rest_of ls)
-reference_type_takes t ls e =
-    let w = flat_some reference_of_word (word_at ls) t e in
-    word_takes (reference_word t) ls (w.1 ∙ ap (λ (v : Word). Some v) (reference_is w.0 t w.2))
+pub static_type_takes : (t : StaticType) (ls : List Lexed) → static_type_at ls ≡ Some t → Begins (word (static_word t) ∷ []) ls (rest_of ls)
+static_type_takes t ls e =
+    let w = flat_some static_of_word (word_at ls) t e in
+    word_takes (static_word t) ls (w.1 ∙ ap (λ (v : Word). Some v) (static_is w.0 t w.2))
 
-pub reference_type_again : (t : ReferenceType) (es : List Spelled) (ls rest : List Lexed) → Begins (word (reference_word t) ∷ es) ls rest → reference_type_at ls ≡ Some t
-reference_type_again t es [] rest h = absurd h
-reference_type_again t es (l ∷ ls) rest h = rw h.0 (reference_again t)
+pub static_type_again : (t : StaticType) (es : List Spelled) (ls rest : List Lexed) → Begins (word (static_word t) ∷ es) ls rest → static_type_at ls ≡ Some t
+static_type_again t es [] rest h = absurd h
+static_type_again t es (l ∷ ls) rest h = rw h.0 (static_again t)
 
 pub result_type_takes : (t : ResultType) (ls : List Lexed) → result_type_at ls ≡ Some t → Begins (word (result_word t) ∷ []) ls (rest_of ls)
 result_type_takes t ls e =

@@ -101,6 +101,7 @@ word_code words.JniCommit = 32
 word_code words.JniAbort = 33
 word_code words.Null = 34
 word_code words.Unused = 35
+word_code words.Jweak = 36
 
 abbrev pub same_mark : Mark → Mark → Bool
 same_mark a b = mark_code a == mark_code b

@@ -2,7 +2,7 @@
 use Rattle.std.specs.Prelude.{ℕ, Bool, true, false, nat_lt, List, [], ◌∷◌, Option, Some, None, Result, Ok, Err, if◌then◌else◌}
 use Rattle.std.specs.Option.{option_map, option_flatten}
 use Rattle.base.specs.Element.{ElementType, JInt, JShort, JByte, JChar}
-use Rattle.syntax.specs.Tree.{ReferenceType, JObject, JClass, JString, JArray, JThrowable, JIntArray, JShortArray, JByteArray, JCharArray, JObjectArray, Constant, True, False, Commit, Abort, Null, ParameterType, IntParameter, ReferenceParameter, VariableType, UInt32, JSize, JBoolean, JFieldId, ReferenceVariable, ResultType, Void, IntResult, ReferenceResult}
+use Rattle.syntax.specs.Tree.{ReferenceType, JObject, JClass, JString, JArray, JThrowable, JIntArray, JShortArray, JByteArray, JCharArray, JObjectArray, Constant, True, False, Commit, Abort, Null, ParameterType, IntParameter, ReferenceParameter, VariableType, UInt32, JSize, JBoolean, JFieldId, ReferenceVariable, ResultType, Void, IntResult, ReferenceResult, StaticType, ReferenceStatic, WeakStatic}
 use Rattle.parse_lexemes.specs.declared.fault.ParseRule.TheVariants.{NoForm}
 use Rattle.parse_lexemes.specs.declared.fault.ParseError.{ParseError}
 use Rattle.parse_lexemes.specs.Faults.{breaks}
@@ -76,6 +76,10 @@ result_of_word words.Void = Some Void
 result_of_word words.Jint = Some IntResult
 result_of_word w = option_map (λ r. ReferenceResult r) (reference_of_word w)
 
+abbrev pub static_of_word : Word → Option StaticType
+static_of_word words.Jweak = Some WeakStatic
+static_of_word w = option_map (λ r. ReferenceStatic r) (reference_of_word w)
+
 abbrev pub element_of_word : Word → Option ElementType
 element_of_word words.Jint = Some JInt
 element_of_word words.Jshort = Some JShort
@@ -91,9 +95,9 @@ variable_of_word words.Jboolean = Some JBoolean
 variable_of_word words.JfieldId = Some JFieldId
 variable_of_word w = option_map (λ r. ReferenceVariable r) (reference_of_word w)
 
--- the type that comes next: of references, of a result, of a parameter, of an element, of a variable
-abbrev pub reference_type_at : List Lexed → Option ReferenceType
-reference_type_at ls = option_flatten (option_map reference_of_word (word_at ls))
+-- the type that comes next: of a static, of a result, of a parameter, of an element, of a variable
+abbrev pub static_type_at : List Lexed → Option StaticType
+static_type_at ls = option_flatten (option_map static_of_word (word_at ls))
 
 abbrev pub result_type_at : List Lexed → Option ResultType
 result_type_at ls = option_flatten (option_map result_of_word (word_at ls))

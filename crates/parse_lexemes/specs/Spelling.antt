@@ -3,7 +3,7 @@ use Rattle.std.specs.Prelude.{ℕ, List, [], ◌∷◌}
 use Rattle.base.specs.Bytes.{Identifier}
 use Rattle.base.specs.Element.{ElementType, JInt, JShort, JByte, JChar}
 use Rattle.scan.specs.declared.token.Mark.{Mark}
-use Rattle.syntax.specs.Tree.{ReferenceType, JObject, JClass, JString, JArray, JThrowable, JIntArray, JShortArray, JByteArray, JCharArray, JObjectArray, Constant, True, False, Commit, Abort, Null, ResultType, Void, IntResult, ReferenceResult, ParameterType, IntParameter, ReferenceParameter, VariableType, UInt32, JIntVariable, JSize, JBoolean, JFieldId, ReferenceVariable}
+use Rattle.syntax.specs.Tree.{ReferenceType, JObject, JClass, JString, JArray, JThrowable, JIntArray, JShortArray, JByteArray, JCharArray, JObjectArray, Constant, True, False, Commit, Abort, Null, ResultType, Void, IntResult, ReferenceResult, ParameterType, IntParameter, ReferenceParameter, VariableType, UInt32, JIntVariable, JSize, JBoolean, JFieldId, ReferenceVariable, StaticType, ReferenceStatic, WeakStatic}
 use Rattle.scan.specs.declared.reserved.Word.{Word}
 use Rattle.scan.specs.declared.reserved.Word.TheVariants as words
 use Rattle.parse_lexemes.specs.declared.first.Fixed.TheVariants as fixed
@@ -76,6 +76,11 @@ abbrev pub result_word : ResultType → Word
 result_word Void = words.Void
 result_word IntResult = words.Jint
 result_word (ReferenceResult r) = reference_word r
+
+-- the word of a static's type
+abbrev pub static_word : StaticType → Word
+static_word (ReferenceStatic r) = reference_word r
+static_word WeakStatic = words.Jweak
 
 -- the word of a parameter's type
 abbrev pub parameter_word : ParameterType → Word

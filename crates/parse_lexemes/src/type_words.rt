@@ -3,13 +3,13 @@
 ghost use Rattle.std.specs.Prelude.{◌≡◌};
 ghost use Rattle.std.specs.Option.{option_map};
 ghost use Rattle.base.specs.Element.{element_value};
-ghost use Rattle.syntax.specs.Views.{reference_tree, result_tree, parameter_type_tree, variable_type_tree};
+ghost use Rattle.syntax.specs.Views.{reference_tree, static_type_tree, result_tree, parameter_type_tree, variable_type_tree};
 ghost use Rattle.parse_lexemes.specs.Lexemes.{views};
-ghost use Rattle.parse_lexemes.specs.Reading.{reference_of_word, result_of_word, element_of_word, parameter_of_word, variable_of_word, reference_type_at, result_type_at, element_type_at, parameter_type_at, variable_type_at};
+ghost use Rattle.parse_lexemes.specs.Reading.{reference_of_word, static_of_word, result_of_word, element_of_word, parameter_of_word, variable_of_word, static_type_at, result_type_at, element_type_at, parameter_type_at, variable_type_at};
 
 use crate::cursor::Cursor;
 use scan::Word;
-use syntax::{ElementType, ParameterType, ReferenceType, ResultType, VariableType};
+use syntax::{ElementType, ParameterType, ReferenceType, ResultType, StaticType, VariableType};
 
 /// The reference type of a word (JNI Specification, chapter 3, "Reference Types").
 fn reference_of(word: Word) -> Option<ReferenceType>
@@ -27,6 +27,16 @@ fn reference_of(word: Word) -> Option<ReferenceType>
         Word::JcharArray => Some(ReferenceType::CharArray),
         Word::JobjectArray => Some(ReferenceType::ObjectArray),
         _ => None,
+    }
+}
+
+/// The static's type of a word.
+fn static_of(word: Word) -> Option<StaticType>
+    ensures { option_map static_type_tree result ≡ static_of_word word }
+{
+    match word {
+        Word::Jweak => Some(StaticType::Weak),
+        _ => Some(StaticType::Reference(reference_of(word)?)),
     }
 }
 
@@ -78,11 +88,11 @@ fn variable_of(word: Word) -> Option<VariableType>
 }
 
 impl Cursor<'_> {
-    /// The type of references, where one comes next.
-    pub fn reference_type(self) -> Option<ReferenceType>
-        ensures { option_map reference_tree result ≡ reference_type_at (views self.entry) }
+    /// The type of a static, where one comes next.
+    pub fn static_type(self) -> Option<StaticType>
+        ensures { option_map static_type_tree result ≡ static_type_at (views self.entry) }
     {
-        reference_of(self.word()?)
+        static_of(self.word()?)
     }
 
     /// The type of a result, where one comes next.

@@ -29,7 +29,7 @@ reference_words =
     ∷ (codes "jarray", words.Jarray) ∷ (codes "jthrowable", words.Jthrowable)
     ∷ (codes "jintArray", words.JintArray) ∷ (codes "jshortArray", words.JshortArray)
     ∷ (codes "jbyteArray", words.JbyteArray) ∷ (codes "jcharArray", words.JcharArray)
-    ∷ (codes "jobjectArray", words.JobjectArray) ∷ []
+    ∷ (codes "jobjectArray", words.JobjectArray) ∷ (codes "jweak", words.Jweak) ∷ []
 
 -- the named constants
 abbrev pub constant_words : ByName Word

@@ -68,6 +68,8 @@ pub enum Word {
     JcharArray,
     /// `jobjectArray`
     JobjectArray,
+    /// `jweak`
+    Jweak,
     /// `JNI_TRUE`
     JniTrue,
     /// `JNI_FALSE`
@@ -120,7 +122,7 @@ static EARLY_WORDS: [&[Row]; 10] = [
 ];
 
 /// Those of `j`.
-static J_WORDS: [Row; 24] = [
+static J_WORDS: [Row; 25] = [
     (b"JNIEXPORT", Word::JniExport),
     (b"JNICALL", Word::JniCall),
     (b"JNIEnv", Word::JniEnv),
@@ -141,6 +143,7 @@ static J_WORDS: [Row; 24] = [
     (b"jbyteArray", Word::JbyteArray),
     (b"jcharArray", Word::JcharArray),
     (b"jobjectArray", Word::JobjectArray),
+    (b"jweak", Word::Jweak),
     (b"JNI_TRUE", Word::JniTrue),
     (b"JNI_FALSE", Word::JniFalse),
     (b"JNI_COMMIT", Word::JniCommit),

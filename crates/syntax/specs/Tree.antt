@@ -27,6 +27,11 @@ pub data VariableType : Type 0 where
   UInt32 JIntVariable JSize JBoolean JFieldId : VariableType
   ReferenceVariable : ReferenceType → VariableType
 
+-- the types that a static may have; a weak global reference doesn't keep its object
+pub data StaticType : Type 0 where
+  ReferenceStatic : ReferenceType → StaticType
+  WeakStatic : StaticType
+
 -- the operators in front of an operand, and the casts
 pub data PrefixOp : Type 0 where
   LogicalNot Complement ToWord ToInt : PrefixOp
@@ -106,7 +111,7 @@ pub record Function : Type 0 where
 -- a file-scope reference, which begins as NULL
 pub record Static : Type 0 where
   pub line : ℕ
-  pub type : ReferenceType
+  pub type : StaticType
   pub name : Identifier
 
 -- an item of a text

@@ -20,6 +20,8 @@ use Rattle.syntax.specs.declared.declared_type.ReferenceType.{ReferenceType as R
 use Rattle.syntax.specs.declared.declared_type.ReferenceType.TheVariants as reference
 use Rattle.syntax.specs.declared.declared_type.ParameterType.{ParameterType as ParameterTypeInMemory}
 use Rattle.syntax.specs.declared.declared_type.ParameterType.TheVariants as parameter
+use Rattle.syntax.specs.declared.declared_type.StaticType.{StaticType as StaticTypeInMemory}
+use Rattle.syntax.specs.declared.declared_type.StaticType.TheVariants as static
 use Rattle.syntax.specs.declared.declared_type.VariableType.{VariableType as VariableTypeInMemory}
 use Rattle.syntax.specs.declared.declared_type.VariableType.TheVariants as variable
 use Rattle.syntax.specs.declared.stmt.Stmt.{Stmt as StmtInMemory}
@@ -33,7 +35,7 @@ use Rattle.syntax.specs.declared.unit.Function.{Function as FunctionInMemory}
 use Rattle.syntax.specs.declared.unit.Static.{Static as StaticInMemory}
 use Rattle.syntax.specs.declared.unit.Item.{Item as ItemInMemory}
 use Rattle.syntax.specs.declared.unit.Item.TheVariants as item
-use Rattle.syntax.specs.Tree.{PrefixOp, LogicalNot, Complement, ToWord, ToInt, BinaryOp, LogicalOr, LogicalAnd, BitOr, BitXor, BitAnd, Equal, NotEqual, Less, LessEqual, Greater, GreaterEqual, ShiftLeft, ShiftRight, Add, Subtract, Multiply, Divide, Remainder, Constant, True, False, Commit, Abort, Null, ReferenceType, JObject, JClass, JString, JArray, JThrowable, JIntArray, JShortArray, JByteArray, JCharArray, JObjectArray, ParameterType, IntParameter, ReferenceParameter, VariableType, UInt32, JIntVariable, JSize, JBoolean, JFieldId, ReferenceVariable, Expr, Number, Named, Variable, Element, Prefix, Binary, Paren, Argument, Value, Text, AddressOf, Call, RightSide, FromExpr, FromCall, Test, TestExpr, TestCall, Stmt, Declare, DeclareBuffer, DeclareChars, DeclareArray, Assign, AssignElement, Perform, PutJint, If, IfElse, While, Return, ReturnValue, Block, End, Next, ResultType, Void, IntResult, ReferenceResult, Parameter, Function, Static, Item, StaticItem, FunctionItem, SourceUnit}
+use Rattle.syntax.specs.Tree.{PrefixOp, LogicalNot, Complement, ToWord, ToInt, BinaryOp, LogicalOr, LogicalAnd, BitOr, BitXor, BitAnd, Equal, NotEqual, Less, LessEqual, Greater, GreaterEqual, ShiftLeft, ShiftRight, Add, Subtract, Multiply, Divide, Remainder, Constant, True, False, Commit, Abort, Null, ReferenceType, JObject, JClass, JString, JArray, JThrowable, JIntArray, JShortArray, JByteArray, JCharArray, JObjectArray, ParameterType, IntParameter, ReferenceParameter, StaticType, ReferenceStatic, WeakStatic, VariableType, UInt32, JIntVariable, JSize, JBoolean, JFieldId, ReferenceVariable, Expr, Number, Named, Variable, Element, Prefix, Binary, Paren, Argument, Value, Text, AddressOf, Call, RightSide, FromExpr, FromCall, Test, TestExpr, TestCall, Stmt, Declare, DeclareBuffer, DeclareChars, DeclareArray, Assign, AssignElement, Perform, PutJint, If, IfElse, While, Return, ReturnValue, Block, End, Next, ResultType, Void, IntResult, ReferenceResult, Parameter, Function, Static, Item, StaticItem, FunctionItem, SourceUnit}
 
 abbrev pub prefix_tree : PrefixInMemory → PrefixOp
 prefix_tree prefix.LogicalNot = LogicalNot
@@ -166,8 +168,12 @@ function_tree f = record {
   body = block_tree f.body;
 }
 
+abbrev pub static_type_tree : StaticTypeInMemory → StaticType
+static_type_tree (static.Reference r) = ReferenceStatic (reference_tree r)
+static_type_tree static.Weak = WeakStatic
+
 abbrev pub static_tree : StaticInMemory → Static
-static_tree s = record { line = s.line; type = reference_tree s.kind; name = s.name }
+static_tree s = record { line = s.line; type = static_type_tree s.kind; name = s.name }
 
 abbrev pub item_tree : ItemInMemory → Item
 item_tree (item.Static s) = StaticItem (static_tree s)

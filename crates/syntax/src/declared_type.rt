@@ -1,4 +1,4 @@
-//! The types of parameters and variables.
+//! The types of parameters, variables and statics.
 
 /// A reference type (JNI Specification, chapter 3, "Reference Types").
 #[derive(Clone, Copy)]
@@ -31,6 +31,14 @@ pub enum ParameterType {
     /// `jint`
     Jint,
     Reference(ReferenceType),
+}
+
+/// The type of a static.
+#[derive(Clone, Copy)]
+pub enum StaticType {
+    Reference(ReferenceType),
+    /// `jweak`, a weak global reference, which doesn't keep its object.
+    Weak,
 }
 
 /// The type of a number, a flag, a reference or a field ID that is declared.

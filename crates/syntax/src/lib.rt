@@ -10,7 +10,7 @@ mod unit;
 
 pub use base::ElementType;
 pub use call::{Argument, Call, RightSide, Test};
-pub use declared_type::{ParameterType, ReferenceType, VariableType};
+pub use declared_type::{ParameterType, ReferenceType, StaticType, VariableType};
 pub use expr::{BinaryOp, Constant, Expr, NullTest, PrefixOp};
 pub use name::Name;
 pub use stmt::{Block, Form, Stmt};

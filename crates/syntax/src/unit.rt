@@ -4,7 +4,7 @@ ghost use Rattle.std.specs.Prelude.{◌≡◌};
 ghost use Rattle.syntax.specs.Limits.{IsTree};
 ghost use Rattle.syntax.specs.Views.{unit_tree};
 
-use crate::declared_type::{ParameterType, ReferenceType};
+use crate::declared_type::{ParameterType, ReferenceType, StaticType};
 use crate::name::Name;
 use crate::stmt::Block;
 use std::marker::Model;
@@ -21,7 +21,7 @@ pub enum Item {
 pub struct Static {
     /// The line of its `static`, counted from 1.
     pub line: usize,
-    pub kind: ReferenceType,
+    pub kind: StaticType,
     pub name: Name,
 }
 
