@@ -1,5 +1,5 @@
 -- what the functions of the JNI work on
-use Rattle.jni.specs.JniFunction.{JniFunction, NewLocalRef, NewGlobalRef, DeleteLocalRef, DeleteGlobalRef, IsSameObject, EnsureLocalCapacity, PushLocalFrame, PopLocalFrame, GetField, SetField, GetStaticField, SetStaticField, GetObjectField, SetObjectField, GetStaticObjectField, SetStaticObjectField, GetArrayLength, NewArray, NewObjectArray, GetObjectArrayElement, SetObjectArrayElement, GetArrayRegion, SetArrayRegion, NewStringUTF, GetStringLength, GetStringRegion, GetBuffer, ReleaseBuffer, Throw, ThrowNew, ExceptionOccurred, ExceptionCheck, ExceptionClear, FatalError, MonitorEnter, MonitorExit}
+use Rattle.jni.specs.JniFunction.{JniFunction, NewLocalRef, NewGlobalRef, NewWeakGlobalRef, DeleteLocalRef, DeleteGlobalRef, DeleteWeakGlobalRef, IsSameObject, EnsureLocalCapacity, PushLocalFrame, PopLocalFrame, GetField, SetField, GetStaticField, SetStaticField, GetObjectField, SetObjectField, GetStaticObjectField, SetStaticObjectField, GetArrayLength, NewArray, NewObjectArray, GetObjectArrayElement, SetObjectArrayElement, GetArrayRegion, SetArrayRegion, NewStringUTF, GetStringLength, GetStringRegion, GetBuffer, ReleaseBuffer, Throw, ThrowNew, ExceptionOccurred, ExceptionCheck, ExceptionClear, FatalError, MonitorEnter, MonitorExit}
 use Rattle.jni.specs.declared.subject.Subject.{Subject}
 use Rattle.jni.specs.declared.subject.Subject.TheVariants as subject
 
@@ -7,8 +7,10 @@ use Rattle.jni.specs.declared.subject.Subject.TheVariants as subject
 abbrev pub subject_of : JniFunction → Subject
 subject_of NewLocalRef = subject.References
 subject_of NewGlobalRef = subject.References
+subject_of NewWeakGlobalRef = subject.References
 subject_of DeleteLocalRef = subject.References
 subject_of DeleteGlobalRef = subject.References
+subject_of DeleteWeakGlobalRef = subject.References
 subject_of IsSameObject = subject.References
 subject_of EnsureLocalCapacity = subject.References
 subject_of PushLocalFrame = subject.References

@@ -4,8 +4,8 @@ use Rattle.std.specs.Borrow.{Bor}
 use Rattle.base.specs.Bytes.{Identifier}
 use Rattle.base.specs.Element.{element_value}
 use Rattle.jni.specs.Access.{Access, ElementsCopy, ArrayView, CharsCopy, CharsView}
-use Rattle.jni.specs.JniFunction.{JniFunction, FindClass, GetSuperclass, GetObjectClass, IsInstanceOf, IsAssignableFrom, AllocObject, NewLocalRef, NewGlobalRef, DeleteLocalRef, DeleteGlobalRef, IsSameObject, EnsureLocalCapacity, PushLocalFrame, PopLocalFrame, GetFieldID, GetStaticFieldID, GetField, SetField, GetStaticField, SetStaticField, GetObjectField, SetObjectField, GetStaticObjectField, SetStaticObjectField, GetArrayLength, NewObjectArray, GetObjectArrayElement, SetObjectArrayElement, NewArray, GetArrayRegion, SetArrayRegion, GetBuffer, ReleaseBuffer, NewStringUTF, GetStringLength, GetStringRegion, Throw, ThrowNew, ExceptionOccurred, ExceptionCheck, ExceptionClear, FatalError, MonitorEnter, MonitorExit, is_allowed_pending, prototype, all_functions}
-use Rattle.jni.specs.Prototype.{Prototype, ParameterKind, Nullable, NonNull, ClassObject, AnyArray, ObjectArray, StringObject, NumberArray, LocalVariable, StaticVariable, FieldID, IntNumber, TextBytes, ArrayVariable, BufferVariable, Mode, IsCopy, ResultKind, NewLocal, NewGlobal, GivesFlag, GivesInt, GivesField, GivesNothing, GivesBuffer}
+use Rattle.jni.specs.JniFunction.{JniFunction, FindClass, GetSuperclass, GetObjectClass, IsInstanceOf, IsAssignableFrom, AllocObject, NewLocalRef, NewGlobalRef, NewWeakGlobalRef, DeleteLocalRef, DeleteGlobalRef, DeleteWeakGlobalRef, IsSameObject, EnsureLocalCapacity, PushLocalFrame, PopLocalFrame, GetFieldID, GetStaticFieldID, GetField, SetField, GetStaticField, SetStaticField, GetObjectField, SetObjectField, GetStaticObjectField, SetStaticObjectField, GetArrayLength, NewObjectArray, GetObjectArrayElement, SetObjectArrayElement, NewArray, GetArrayRegion, SetArrayRegion, GetBuffer, ReleaseBuffer, NewStringUTF, GetStringLength, GetStringRegion, Throw, ThrowNew, ExceptionOccurred, ExceptionCheck, ExceptionClear, FatalError, MonitorEnter, MonitorExit, is_allowed_pending, prototype, all_functions}
+use Rattle.jni.specs.Prototype.{Prototype, ParameterKind, Nullable, NonNull, AnyReference, ClassObject, AnyArray, ObjectArray, StringObject, NumberArray, LocalVariable, StaticVariable, WeakVariable, FieldID, IntNumber, TextBytes, ArrayVariable, BufferVariable, Mode, IsCopy, ResultKind, NewLocal, NewGlobal, NewWeak, GivesFlag, GivesInt, GivesField, GivesNothing, GivesBuffer}
 use Rattle.jni.specs.StateEffect.{StateEffect, Gets, Releases, Deletes, Pops, Other, state_effect}
 use Rattle.jni.specs.declared.access.Access.{Access as AccessInMemory}
 use Rattle.jni.specs.declared.access.Access.TheVariants as access
@@ -36,8 +36,10 @@ function_value function.IsAssignableFrom = IsAssignableFrom
 function_value function.AllocObject = AllocObject
 function_value function.NewLocalRef = NewLocalRef
 function_value function.NewGlobalRef = NewGlobalRef
+function_value function.NewWeakGlobalRef = NewWeakGlobalRef
 function_value function.DeleteLocalRef = DeleteLocalRef
 function_value function.DeleteGlobalRef = DeleteGlobalRef
+function_value function.DeleteWeakGlobalRef = DeleteWeakGlobalRef
 function_value function.IsSameObject = IsSameObject
 function_value function.EnsureLocalCapacity = EnsureLocalCapacity
 function_value function.PushLocalFrame = PushLocalFrame
@@ -77,6 +79,7 @@ function_value function.MonitorExit = MonitorExit
 abbrev pub parameter_value : ParameterInMemory → ParameterKind
 parameter_value parameter.Nullable = Nullable
 parameter_value parameter.NonNull = NonNull
+parameter_value parameter.AnyReference = AnyReference
 parameter_value parameter.ClassObject = ClassObject
 parameter_value parameter.AnyArray = AnyArray
 parameter_value parameter.ObjectArray = ObjectArray
@@ -84,6 +87,7 @@ parameter_value parameter.StringObject = StringObject
 parameter_value (parameter.NumberArray t) = NumberArray (element_value t)
 parameter_value parameter.LocalVariable = LocalVariable
 parameter_value parameter.StaticVariable = StaticVariable
+parameter_value parameter.WeakVariable = WeakVariable
 parameter_value parameter.FieldID = FieldID
 parameter_value parameter.IntNumber = IntNumber
 parameter_value parameter.TextBytes = TextBytes
@@ -96,6 +100,7 @@ parameter_value parameter.IsCopy = IsCopy
 abbrev pub result_value : ResultInMemory → ResultKind
 result_value results.NewLocal = NewLocal
 result_value results.NewGlobal = NewGlobal
+result_value results.NewWeak = NewWeak
 result_value results.GivesFlag = GivesFlag
 result_value results.GivesInt = GivesInt
 result_value results.GivesField = GivesField

@@ -27,8 +27,10 @@ pub enum JniFunction {
     AllocObject,
     NewLocalRef,
     NewGlobalRef,
+    NewWeakGlobalRef,
     DeleteLocalRef,
     DeleteGlobalRef,
+    DeleteWeakGlobalRef,
     IsSameObject,
     EnsureLocalCapacity,
     PushLocalFrame,
@@ -98,21 +100,23 @@ macro_rules! rows {
 // what a call does to buffers, references and frames, and whether it may be called while an exception is pending.
 
 /// Those of classes and references.
-static REFERENCE_ROWS: [Prototype; 14] = rows! {
-    b"FindClass"           [TextBytes]                => NewLocal,     Other,   false;
-    b"GetSuperclass"       [ClassObject]              => NewLocal,     Other,   false;
-    b"GetObjectClass"      [NonNull]                  => NewLocal,     Other,   false;
-    b"IsInstanceOf"        [Nullable, ClassObject]    => GivesFlag,    Other,   false;
-    b"IsAssignableFrom"    [ClassObject, ClassObject] => GivesFlag,    Other,   false;
-    b"AllocObject"         [ClassObject]              => NewLocal,     Other,   false;
-    b"NewLocalRef"         [Nullable]                 => NewLocal,     Other,   false;
-    b"NewGlobalRef"        [Nullable]                 => NewGlobal,    Other,   false;
-    b"DeleteLocalRef"      [LocalVariable]            => GivesNothing, Deletes, true;
-    b"DeleteGlobalRef"     [StaticVariable]           => GivesNothing, Other,   true;
-    b"IsSameObject"        [Nullable, Nullable]       => GivesFlag,    Other,   false;
-    b"EnsureLocalCapacity" [IntNumber]                => GivesInt,     Other,   false;
-    b"PushLocalFrame"      [IntNumber]                => GivesInt,     Other,   true;
-    b"PopLocalFrame"       [Nullable]                 => NewLocal,     Pops,    true;
+static REFERENCE_ROWS: [Prototype; 16] = rows! {
+    b"FindClass"           [TextBytes]                  => NewLocal,     Other,   false;
+    b"GetSuperclass"       [ClassObject]                => NewLocal,     Other,   false;
+    b"GetObjectClass"      [NonNull]                    => NewLocal,     Other,   false;
+    b"IsInstanceOf"        [Nullable, ClassObject]      => GivesFlag,    Other,   false;
+    b"IsAssignableFrom"    [ClassObject, ClassObject]   => GivesFlag,    Other,   false;
+    b"AllocObject"         [ClassObject]                => NewLocal,     Other,   false;
+    b"NewLocalRef"         [AnyReference]               => NewLocal,     Other,   false;
+    b"NewGlobalRef"        [AnyReference]               => NewGlobal,    Other,   false;
+    b"NewWeakGlobalRef"    [Nullable]                   => NewWeak,      Other,   false;
+    b"DeleteLocalRef"      [LocalVariable]              => GivesNothing, Deletes, true;
+    b"DeleteGlobalRef"     [StaticVariable]             => GivesNothing, Other,   true;
+    b"DeleteWeakGlobalRef" [WeakVariable]               => GivesNothing, Other,   true;
+    b"IsSameObject"        [AnyReference, AnyReference] => GivesFlag,    Other,   false;
+    b"EnsureLocalCapacity" [IntNumber]                  => GivesInt,     Other,   false;
+    b"PushLocalFrame"      [IntNumber]                  => GivesInt,     Other,   true;
+    b"PopLocalFrame"       [Nullable]                   => NewLocal,     Pops,    true;
 };
 
 /// Those of fields of references, arrays of objects, and the length of any array.
@@ -211,10 +215,10 @@ fn typed_number(element: ElementType) -> usize
     ensures { take 9 (drop result all_functions) ≡ typed_functions (element_value element) }
 {
     match element {
-        ElementType::Int => 35,
-        ElementType::Short => 44,
-        ElementType::Byte => 53,
-        ElementType::Char => 62,
+        ElementType::Int => 37,
+        ElementType::Short => 46,
+        ElementType::Byte => 55,
+        ElementType::Char => 64,
     }
 }
 
@@ -224,9 +228,9 @@ fn buffer_number(access: Access) -> usize
 {
     match access {
         Access::ElementsCopy(element) => typed_number(element) + 7,
-        Access::ArrayView => 71,
-        Access::CharsCopy => 73,
-        Access::CharsView => 75,
+        Access::ArrayView => 73,
+        Access::CharsCopy => 75,
+        Access::CharsView => 77,
     }
 }
 
@@ -241,7 +245,7 @@ fn row_at(rows: &'static [Prototype], first: usize, number: usize) -> &'static P
 
 /// The row of a number of classes and references.
 fn reference_row(number: usize) -> &'static Prototype
-    requires { number < 14 }
+    requires { number < 16 }
     ensures { slice_get all_rows number ≡ Some (facts result.now) }
 {
     row_at(&REFERENCE_ROWS, 0, number)
@@ -249,80 +253,80 @@ fn reference_row(number: usize) -> &'static Prototype
 
 /// The row of a number of fields of references, arrays of objects, and the length of any array.
 fn object_row(number: usize) -> &'static Prototype
-    requires begun { 14 ≤ number }
-    requires inside { number < 24 }
+    requires begun { 16 ≤ number }
+    requires inside { number < 26 }
     ensures { slice_get all_rows number ≡ Some (facts result.now) }
 {
-    row_at(&OBJECT_ROWS, 14, number)
+    row_at(&OBJECT_ROWS, 16, number)
 }
 
 /// The row of a number of strings, exceptions and monitors.
 fn string_row(number: usize) -> &'static Prototype
-    requires begun { 24 ≤ number }
-    requires inside { number < 35 }
+    requires begun { 26 ≤ number }
+    requires inside { number < 37 }
     ensures { slice_get all_rows number ≡ Some (facts result.now) }
 {
-    row_at(&STRING_ROWS, 24, number)
+    row_at(&STRING_ROWS, 26, number)
 }
 
 /// The row of a number of elements of `jint`.
 fn int_row(number: usize) -> &'static Prototype
-    requires begun { 35 ≤ number }
-    requires inside { number < 44 }
+    requires begun { 37 ≤ number }
+    requires inside { number < 46 }
     ensures { slice_get all_rows number ≡ Some (facts result.now) }
 {
-    row_at(&INT_ROWS, 35, number)
+    row_at(&INT_ROWS, 37, number)
 }
 
 /// The row of a number of elements of `jshort`.
 fn short_row(number: usize) -> &'static Prototype
-    requires begun { 44 ≤ number }
-    requires inside { number < 53 }
+    requires begun { 46 ≤ number }
+    requires inside { number < 55 }
     ensures { slice_get all_rows number ≡ Some (facts result.now) }
 {
-    row_at(&SHORT_ROWS, 44, number)
+    row_at(&SHORT_ROWS, 46, number)
 }
 
 /// The row of a number of elements of `jbyte`.
 fn byte_row(number: usize) -> &'static Prototype
-    requires begun { 53 ≤ number }
-    requires inside { number < 62 }
+    requires begun { 55 ≤ number }
+    requires inside { number < 64 }
     ensures { slice_get all_rows number ≡ Some (facts result.now) }
 {
-    row_at(&BYTE_ROWS, 53, number)
+    row_at(&BYTE_ROWS, 55, number)
 }
 
 /// The row of a number of elements of `jchar`.
 fn char_row(number: usize) -> &'static Prototype
-    requires begun { 62 ≤ number }
-    requires inside { number < 71 }
+    requires begun { 64 ≤ number }
+    requires inside { number < 73 }
     ensures { slice_get all_rows number ≡ Some (facts result.now) }
 {
-    row_at(&CHAR_ROWS, 62, number)
+    row_at(&CHAR_ROWS, 64, number)
 }
 
 /// The row of a number of views of arrays and strings, and copies of strings.
 fn view_row(number: usize) -> &'static Prototype
-    requires begun { 71 ≤ number }
-    requires inside { number < 77 }
+    requires begun { 73 ≤ number }
+    requires inside { number < 79 }
     ensures { slice_get all_rows number ≡ Some (facts result.now) }
 {
-    row_at(&VIEW_ROWS, 71, number)
+    row_at(&VIEW_ROWS, 73, number)
 }
 
 /// The row of a number.
 fn row(number: usize) -> &'static Prototype
-    requires { number < 77 }
+    requires { number < 79 }
     ensures { slice_get all_rows number ≡ Some (facts result.now) }
 {
     match number {
-        ..14 => reference_row(number),
-        14..24 => object_row(number),
-        24..35 => string_row(number),
-        35..44 => int_row(number),
-        44..53 => short_row(number),
-        53..62 => byte_row(number),
-        62..71 => char_row(number),
+        ..16 => reference_row(number),
+        16..26 => object_row(number),
+        26..37 => string_row(number),
+        37..46 => int_row(number),
+        46..55 => short_row(number),
+        55..64 => byte_row(number),
+        64..73 => char_row(number),
         _ => view_row(number),
     }
 }
@@ -341,33 +345,35 @@ impl JniFunction {
             JniFunction::AllocObject => 5,
             JniFunction::NewLocalRef => 6,
             JniFunction::NewGlobalRef => 7,
-            JniFunction::DeleteLocalRef => 8,
-            JniFunction::DeleteGlobalRef => 9,
-            JniFunction::IsSameObject => 10,
-            JniFunction::EnsureLocalCapacity => 11,
-            JniFunction::PushLocalFrame => 12,
-            JniFunction::PopLocalFrame => 13,
-            JniFunction::GetFieldID => 14,
-            JniFunction::GetStaticFieldID => 15,
-            JniFunction::GetObjectField => 16,
-            JniFunction::SetObjectField => 17,
-            JniFunction::GetStaticObjectField => 18,
-            JniFunction::SetStaticObjectField => 19,
-            JniFunction::GetArrayLength => 20,
-            JniFunction::NewObjectArray => 21,
-            JniFunction::GetObjectArrayElement => 22,
-            JniFunction::SetObjectArrayElement => 23,
-            JniFunction::NewStringUTF => 24,
-            JniFunction::GetStringLength => 25,
-            JniFunction::GetStringRegion => 26,
-            JniFunction::Throw => 27,
-            JniFunction::ThrowNew => 28,
-            JniFunction::ExceptionOccurred => 29,
-            JniFunction::ExceptionCheck => 30,
-            JniFunction::ExceptionClear => 31,
-            JniFunction::FatalError => 32,
-            JniFunction::MonitorEnter => 33,
-            JniFunction::MonitorExit => 34,
+            JniFunction::NewWeakGlobalRef => 8,
+            JniFunction::DeleteLocalRef => 9,
+            JniFunction::DeleteGlobalRef => 10,
+            JniFunction::DeleteWeakGlobalRef => 11,
+            JniFunction::IsSameObject => 12,
+            JniFunction::EnsureLocalCapacity => 13,
+            JniFunction::PushLocalFrame => 14,
+            JniFunction::PopLocalFrame => 15,
+            JniFunction::GetFieldID => 16,
+            JniFunction::GetStaticFieldID => 17,
+            JniFunction::GetObjectField => 18,
+            JniFunction::SetObjectField => 19,
+            JniFunction::GetStaticObjectField => 20,
+            JniFunction::SetStaticObjectField => 21,
+            JniFunction::GetArrayLength => 22,
+            JniFunction::NewObjectArray => 23,
+            JniFunction::GetObjectArrayElement => 24,
+            JniFunction::SetObjectArrayElement => 25,
+            JniFunction::NewStringUTF => 26,
+            JniFunction::GetStringLength => 27,
+            JniFunction::GetStringRegion => 28,
+            JniFunction::Throw => 29,
+            JniFunction::ThrowNew => 30,
+            JniFunction::ExceptionOccurred => 31,
+            JniFunction::ExceptionCheck => 32,
+            JniFunction::ExceptionClear => 33,
+            JniFunction::FatalError => 34,
+            JniFunction::MonitorEnter => 35,
+            JniFunction::MonitorExit => 36,
             JniFunction::GetField(element) => typed_number(element),
             JniFunction::SetField(element) => typed_number(element) + 1,
             JniFunction::GetStaticField(element) => typed_number(element) + 2,
@@ -449,7 +455,7 @@ static BY_LENGTH: [&[JniFunction]; 32] = [
         GetBuffer(CharsCopy),
     ],
     &[DeleteGlobalRef, GetStringLength, GetStringRegion],
-    &[IsAssignableFrom, GetStaticFieldID],
+    &[IsAssignableFrom, NewWeakGlobalRef, GetStaticFieldID],
     &[
         ExceptionOccurred,
         GetStaticField(Int),
@@ -470,6 +476,7 @@ static BY_LENGTH: [&[JniFunction]; 32] = [
         ReleaseBuffer(CharsCopy),
     ],
     &[
+        DeleteWeakGlobalRef,
         EnsureLocalCapacity,
         GetBuffer(INTS),
         GetStaticField(Short),

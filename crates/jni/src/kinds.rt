@@ -8,6 +8,8 @@ use base::ElementType;
 pub enum ParameterKind {
     /// A reference that may be NULL.
     Nullable,
+    /// A reference that may be NULL, or a weak global one.
+    AnyReference,
     /// A reference that may not be NULL, as are the next five.
     NonNull,
     /// A class object.
@@ -22,8 +24,10 @@ pub enum ParameterKind {
     NumberArray(ElementType),
     /// A local reference: the variable itself, not its value, which may be NULL.
     LocalVariable,
-    /// A static: the variable itself, not its value, which may be NULL.
+    /// A static that isn't weak: the variable itself, not its value, which may be NULL.
     StaticVariable,
+    /// A weak static: the variable itself, not its value, which may be NULL.
+    WeakVariable,
     /// A field ID.
     FieldID,
     /// A `jint` or a `jsize`.
@@ -47,6 +51,8 @@ pub enum ResultKind {
     NewLocal,
     /// A global reference.
     NewGlobal,
+    /// A weak global reference.
+    NewWeak,
     /// A `jboolean`.
     GivesFlag,
     /// A number.

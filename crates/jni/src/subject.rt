@@ -11,7 +11,7 @@ use crate::function::JniFunction;
 pub enum Subject {
     /// Classes, and the IDs of their fields.
     Classes,
-    /// Local and global references, and frames.
+    /// Local, global and weak global references, and frames.
     References,
     /// The fields of objects.
     Fields,
@@ -38,6 +38,8 @@ impl JniFunction {
         match self {
             JniFunction::NewLocalRef | JniFunction::NewGlobalRef => Subject::References,
             JniFunction::DeleteLocalRef | JniFunction::DeleteGlobalRef => Subject::References,
+            JniFunction::NewWeakGlobalRef => Subject::References,
+            JniFunction::DeleteWeakGlobalRef => Subject::References,
             JniFunction::IsSameObject | JniFunction::EnsureLocalCapacity => Subject::References,
             JniFunction::PushLocalFrame | JniFunction::PopLocalFrame => Subject::References,
             JniFunction::GetField(_) | JniFunction::SetField(_) => Subject::Fields,

@@ -8,8 +8,8 @@ use Rattle.base.specs.Bytes.{Identifier}
 use Rattle.base.specs.Options.{some_passes}
 use Rattle.syntax.specs.Parts.{line_of, statements_of, statements_within, declared_name, names_declared, parameter_names}
 use Rattle.syntax.specs.Tree.{ResultType, Void, ParameterType, IntParameter, ReferenceParameter, Parameter, ReferenceVariable, Stmt, Declare, DeclareBuffer, DeclareChars, If, IfElse, While, Block, End, Next, Function, Item, StaticItem, FunctionItem, SourceUnit}
-use Rattle.type_rules.specs.Sorts.{Scope, Ref, Global}
-use Rattle.type_rules.specs.SortRules.{Place, StaticForm, HeadForm, StatementForm, has_name, has_repeated, broken_at, places_within, places_of, function_places, item_places, with_declared, parameter_sort, IsSorted}
+use Rattle.type_rules.specs.Sorts.{Scope, Ref}
+use Rattle.type_rules.specs.SortRules.{Place, StaticForm, HeadForm, StatementForm, has_name, has_repeated, broken_at, places_within, places_of, function_places, item_places, with_declared, parameter_sort, IsSorted, static_sort}
 use Rattle.region_states.specs.NewNames.{own_names, AreNew, DeclaresNew, DeclareNew, DeclaresOnce, ItemOnce}
 use Rattle.region_rules.specs.RegionStates.{ReferenceAt, parameter_state, state_at_entry}
 use Rattle.region_states.specs.SameStates.{NamedState}
@@ -142,7 +142,7 @@ items_once : (items : List Item) (taken : List Identifier) (statics : Scope) →
 items_once [] taken statics h = tt
 items_once (StaticItem g ∷ items) taken statics h =
     let place : Place = record { line = g.line; known = statics; taken = taken; returns = Void; form = StaticForm g } in
-    (tt, items_once items (g.name ∷ taken) ((g.name, Global) ∷ statics) (second_empty (broken_at place) (flat_map broken_at (item_places (g.name ∷ taken) ((g.name, Global) ∷ statics) items)) h))
+    (tt, items_once items (g.name ∷ taken) ((g.name, static_sort g.type) ∷ statics) (second_empty (broken_at place) (flat_map broken_at (item_places (g.name ∷ taken) ((g.name, static_sort g.type) ∷ statics) items)) h))
 items_once (FunctionItem f ∷ items) taken statics h =
     let own = function_places taken statics f in
     let later = item_places (f.name ∷ taken) statics items in

@@ -7,11 +7,11 @@ use Rattle.base.specs.Element.{JChar}
 use Rattle.base.specs.Options.{some_passes}
 use Rattle.syntax.specs.Tree.{Commit, Abort}
 use Rattle.syntax.specs.Parts.{statements_of, statements_within, line_of, declared_name, right_side, own_call, own_expressions, used_names, assigned_name, written_name, names_declared, parameter_names}
-use Rattle.syntax.specs.Tree.{ResultType, Void, IntResult, ReferenceResult, ParameterType, IntParameter, ReferenceParameter, VariableType, UInt32, JIntVariable, JSize, JBoolean, JFieldId, ReferenceVariable, Expr, Number, Named, Variable, Argument, Value, Call, RightSide, FromExpr, FromCall, Test, TestExpr, TestCall, Stmt, Declare, DeclareBuffer, DeclareChars, DeclareArray, Assign, AssignElement, Perform, PutJint, If, IfElse, While, Return, ReturnValue, Block, End, Next, Function, Static, Item, StaticItem, FunctionItem, SourceUnit}
+use Rattle.syntax.specs.Tree.{ResultType, Void, IntResult, ReferenceResult, ParameterType, IntParameter, ReferenceParameter, VariableType, UInt32, JIntVariable, JSize, JBoolean, JFieldId, ReferenceVariable, Expr, Number, Named, Variable, Argument, Value, Call, RightSide, FromExpr, FromCall, Test, TestExpr, TestCall, Stmt, Declare, DeclareBuffer, DeclareChars, DeclareArray, Assign, AssignElement, Perform, PutJint, If, IfElse, While, Return, ReturnValue, Block, End, Next, Function, StaticType, ReferenceStatic, WeakStatic, Static, Item, StaticItem, FunctionItem, SourceUnit}
 use Rattle.class_rules.specs.Mangling.{unmangle}
 use Rattle.jni.specs.JniFunction.{JniFunction, PushLocalFrame, function_named, prototype}
-use Rattle.jni.specs.Prototype.{ParameterKind, Mode, ResultKind, GivesNothing, GivesInt, GivesFlag, NewLocal, NewGlobal, GivesField, GivesBuffer}
-use Rattle.type_rules.specs.Sorts.{Sort, Word, Jint, Flag, Ref, Global, FieldId, Buffer, Array, Scope, sort_in, is_unknown, sort_of, is_word, is_jint, is_flag, is_truth, is_ref, is_field, is_index, has_elements, is_buffer_for, is_read_only, is_null, name_sort, call_arguments_fit}
+use Rattle.jni.specs.Prototype.{ParameterKind, Mode, ResultKind, GivesNothing, GivesInt, GivesFlag, NewLocal, NewGlobal, NewWeak, GivesField, GivesBuffer}
+use Rattle.type_rules.specs.Sorts.{Sort, Word, Jint, Flag, Ref, Global, Weak, FieldId, Buffer, Array, Scope, sort_in, is_unknown, sort_of, is_word, is_jint, is_flag, is_truth, is_ref, is_field, is_index, has_elements, is_buffer_for, is_read_only, is_null, name_sort, call_arguments_fit}
 
 -- ---- places: the forms of a unit that a rule can be broken at
 
@@ -42,6 +42,11 @@ variable_sort (ReferenceVariable r) = Ref
 abbrev pub parameter_sort : ParameterType → Sort
 parameter_sort IntParameter = Jint
 parameter_sort (ReferenceParameter r) = Ref
+
+-- the sort of a static
+abbrev pub static_sort : StaticType → Sort
+static_sort (ReferenceStatic r) = Global
+static_sort WeakStatic = Weak
 
 -- the names known after a statement
 abbrev pub with_declared : Scope → Stmt → Scope
@@ -83,7 +88,7 @@ abbrev pub item_places : List Identifier → Scope → List Item → List Place
 item_places taken statics [] = []
 item_places taken statics (StaticItem s ∷ items) =
     record { line = s.line; known = statics; taken = taken; returns = Void; form = StaticForm s }
-    ∷ item_places (s.name ∷ taken) ((s.name, Global) ∷ statics) items
+    ∷ item_places (s.name ∷ taken) ((s.name, static_sort s.type) ∷ statics) items
 item_places taken statics (FunctionItem f ∷ items) = function_places taken statics f ++ item_places (f.name ∷ taken) statics items
 
 -- the places of a unit, in text order
@@ -104,6 +109,8 @@ result_fits s GivesFlag = is_flag s
 result_fits s NewLocal = is_ref s
 result_fits (Some Global) NewGlobal = true
 result_fits s NewGlobal = false
+result_fits (Some Weak) NewWeak = true
+result_fits s NewWeak = false
 result_fits s GivesField = is_field s
 result_fits s (GivesBuffer a) = is_buffer_for a s
 
@@ -117,9 +124,10 @@ abbrev pub call_fits : Option Sort → Option JniFunction → Bool
 call_fits s None = true
 call_fits s (Some f) = not (is_push f) && result_fits s (prototype f).result
 
--- what may be dropped: any result but a buffer and a global reference
+-- what may be dropped: any result but a buffer and a global reference, weak or not
 abbrev pub is_droppable : ResultKind → Bool
 is_droppable NewGlobal = false
+is_droppable NewWeak = false
 is_droppable (GivesBuffer a) = false
 is_droppable r = true
 
@@ -140,6 +148,7 @@ value_sets scope (Some Jint) e = is_jint (sort_of scope e)
 value_sets scope (Some Flag) e = is_flag (sort_of scope e)
 value_sets scope (Some Ref) e = is_null e || is_some (name_sort scope e)
 value_sets scope (Some Global) e = is_null e
+value_sets scope (Some Weak) e = is_null e
 value_sets scope (Some FieldId) e = is_null e
 value_sets scope s e = false
 

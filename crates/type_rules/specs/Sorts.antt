@@ -8,11 +8,11 @@ use Rattle.syntax.specs.Parts.{null_tested}
 use Rattle.syntax.specs.Tree.{PrefixOp, LogicalNot, Complement, ToWord, ToInt, BinaryOp, LogicalOr, LogicalAnd, Equal, NotEqual, Less, LessEqual, Greater, GreaterEqual, Expr, Number, Named, Variable, Element, Prefix, Binary, Paren, Argument, Value, Text, AddressOf, Call}
 use Rattle.jni.specs.Access.{Access, ElementsCopy, ArrayView, CharsCopy, CharsView}
 use Rattle.jni.specs.JniFunction.{JniFunction, prototype}
-use Rattle.jni.specs.Prototype.{ParameterKind, FieldID, IntNumber, TextBytes, IsCopy, Mode, LocalVariable, StaticVariable, ArrayVariable, BufferVariable}
+use Rattle.jni.specs.Prototype.{ParameterKind, FieldID, IntNumber, TextBytes, IsCopy, Mode, AnyReference, LocalVariable, StaticVariable, WeakVariable, ArrayVariable, BufferVariable}
 
--- what a name or an expression is; all reference types are one sort
+-- what a name or an expression is; all reference types are one sort, and a static is of another, or of a third where it is weak
 pub data Sort : Type 0 where
-  Word Jint Flag Truth Ref Global FieldId : Sort
+  Word Jint Flag Truth Ref Global Weak FieldId : Sort
   Buffer : ElementType → (writable : Bool) → Sort
   Array : ElementType → (size : ℕ) → Sort
 
@@ -145,6 +145,11 @@ abbrev pub is_global : Option Sort → Bool
 is_global (Some Global) = true
 is_global s = false
 
+-- a weak global reference
+abbrev pub is_weak : Option Sort → Bool
+is_weak (Some Weak) = true
+is_weak s = false
+
 -- a field ID
 abbrev pub is_field : Option Sort → Bool
 is_field (Some FieldId) = true
@@ -182,6 +187,10 @@ name_sort scope e = None
 abbrev pub is_reference : Option Sort → Bool
 is_reference s = is_ref s || is_global s
 
+-- the same, or a weak global reference
+abbrev pub is_any_reference : Option Sort → Bool
+is_any_reference s = is_reference s || is_weak s
+
 -- an argument of a parameter; a mode is judged by a rule of its own
 abbrev pub value_fits : Scope → ParameterKind → Expr → Bool
 value_fits scope IntNumber e = is_jint (sort_of scope e)
@@ -190,6 +199,8 @@ value_fits scope IsCopy e = is_null e
 value_fits scope Mode e = true
 value_fits scope LocalVariable e = is_ref (name_sort scope e)
 value_fits scope StaticVariable e = is_global (name_sort scope e)
+value_fits scope WeakVariable e = is_weak (name_sort scope e)
+value_fits scope AnyReference e = is_null e || is_any_reference (name_sort scope e)
 value_fits scope FieldID e = is_null e || is_field (name_sort scope e)
 value_fits scope (ArrayVariable t) e = is_array_of t (name_sort scope e)
 value_fits scope (BufferVariable a) e = is_buffer_for a (name_sort scope e)

@@ -8,5 +8,5 @@ mod typed;
 
 pub use calls::own_call;
 pub use known::Known;
-pub use sort::{Sort, parameter_sort, variable_sort};
+pub use sort::{Sort, parameter_sort, static_sort, variable_sort};
 pub use typed::Typed;

@@ -1,11 +1,11 @@
 //! The sorts of names and expressions.
 
 ghost use Rattle.std.specs.Prelude.{◌≡◌};
-ghost use Rattle.syntax.specs.Views.{variable_type_tree, parameter_type_tree};
-ghost use Rattle.type_rules.specs.SortRules.{variable_sort, parameter_sort};
+ghost use Rattle.syntax.specs.Views.{variable_type_tree, parameter_type_tree, static_type_tree};
+ghost use Rattle.type_rules.specs.SortRules.{variable_sort, parameter_sort, static_sort};
 ghost use Rattle.type_rules.specs.SortViews.{sort_value};
 
-use syntax::{ElementType, ParameterType, VariableType};
+use syntax::{ElementType, ParameterType, StaticType, VariableType};
 
 /// What a name or an expression is.
 #[derive(Clone, Copy)]
@@ -22,6 +22,8 @@ pub enum Sort {
     Ref,
     /// A reference that all functions share.
     Global,
+    /// A weak reference that all functions share.
+    Weak,
     FieldId,
     /// A buffer, and whether it may be written.
     Buffer(ElementType, bool),
@@ -49,5 +51,15 @@ pub fn parameter_sort(kind: ParameterType) -> Sort
     match kind {
         ParameterType::Jint => Sort::Jint,
         ParameterType::Reference(_) => Sort::Ref,
+    }
+}
+
+/// The sort of a static.
+pub fn static_sort(kind: StaticType) -> Sort
+    ensures { sort_value result ≡ static_sort (static_type_tree kind) }
+{
+    match kind {
+        StaticType::Reference(_) => Sort::Global,
+        StaticType::Weak => Sort::Weak,
     }
 }

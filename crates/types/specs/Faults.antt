@@ -13,9 +13,9 @@ use Rattle.types.specs.declared.fault.SortRule.TheVariants as rules
 use Rattle.types.specs.declared.fault.TypeError.{TypeError}
 use Rattle.types.specs.declared.fault.TypeError.TheVariants.{Memory, Fault}
 use Rattle.type_rules.specs.declared.sort.Sort.{Sort as SortInMemory}
-use Rattle.type_rules.specs.Sorts.{Ref, Global, Scope}
+use Rattle.type_rules.specs.Sorts.{Ref, Scope}
 use Rattle.type_rules.specs.SortViews.{sort_value}
-use Rattle.type_rules.specs.SortRules.{SortRule, UnknownName, DeclaredTwice, SortMisfit, UnknownFunction, ArgumentCount, ReferenceCopied, BadMode, ReadOnlyWrite, Place, StaticForm, StatementForm, breaks_sort_rule, broken_at, places_of, function_places, has_name, has_repeated, parameter_sort}
+use Rattle.type_rules.specs.SortRules.{SortRule, UnknownName, DeclaredTwice, SortMisfit, UnknownFunction, ArgumentCount, ReferenceCopied, BadMode, ReadOnlyWrite, Place, StaticForm, StatementForm, breaks_sort_rule, broken_at, places_of, function_places, has_name, has_repeated, parameter_sort, static_sort}
 
 -- the rule of the definitions
 abbrev pub rule_of : RuleInMemory → SortRule
@@ -100,7 +100,7 @@ own_places taken statics (FunctionItem f) = function_places taken statics f
 
 -- the statics after an item
 abbrev pub with_static : Scope → Item → Scope
-with_static statics (StaticItem s) = (s.name, Global) ∷ statics
+with_static statics (StaticItem s) = (s.name, static_sort s.type) ∷ statics
 with_static statics (FunctionItem f) = statics
 
 -- what is refused at a function's head after items of these names, where its parameters and the statics have those

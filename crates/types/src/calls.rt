@@ -6,7 +6,7 @@ ghost use Rattle.std.specs.Option.{option_map};
 ghost use Rattle.syntax.specs.Parts.{call_expressions};
 ghost use Rattle.syntax.specs.Views.{expr_tree, argument_tree, call_tree};
 ghost use Rattle.base.specs.Options.{some_passes};
-ghost use Rattle.type_rules.specs.Sorts.{is_unknown, is_null, is_reference, name_sort, value_fits, address_fits, text_fits, argument_fits, arguments_fit, call_arguments_fit};
+ghost use Rattle.type_rules.specs.Sorts.{is_unknown, is_null, is_reference, is_any_reference, name_sort, value_fits, address_fits, text_fits, argument_fits, arguments_fit, call_arguments_fit};
 ghost use Rattle.type_rules.specs.SortRules.{is_formed, is_mode, modes_fit, has_wrong_count, has_wrong_mode, result_fits, is_droppable, is_push, call_fits, may_be_dropped, may_be_tested};
 ghost use Rattle.jni.specs.Table.{function_value, parameter_value, result_value};
 ghost use Rattle.type_rules.specs.SortViews.{sort_value};
@@ -15,7 +15,9 @@ ghost use Rattle.type_rules.specs.Uses.{argument_uses, call_uses};
 
 use crate::expressions::{has_unknown, is_formed, is_null, name_sort, sort_of};
 use crate::scope::{is_unknown, sort_in};
-use crate::sort::{is_array_of, is_buffer_for, is_field, is_flag, is_global, is_jint, is_ref};
+use crate::sort::{
+    is_array_of, is_buffer_for, is_field, is_flag, is_global, is_jint, is_ref, is_weak,
+};
 use jni::{JniFunction, ParameterKind, ResultKind};
 use syntax::{Argument, Call, Constant, Expr, Name};
 use type_rules::{Known, Sort};
@@ -25,6 +27,13 @@ fn is_reference(known: &Known<'_, Sort>, e: &Expr) -> bool
     ensures { result ≡ (is_null (expr_tree e.now) || is_reference (name_sort (scope_of known.now) (expr_tree e.now))) }
 {
     is_null(e) || is_ref(name_sort(known, e)) || is_global(name_sort(known, e))
+}
+
+/// Whether an expression is NULL or the bare name of a reference, which may be weak.
+fn is_any_reference(known: &Known<'_, Sort>, e: &Expr) -> bool
+    ensures { result ≡ (is_null (expr_tree e.now) || is_any_reference (name_sort (scope_of known.now) (expr_tree e.now))) }
+{
+    is_reference(known, e) || is_weak(name_sort(known, e))
 }
 
 /// Whether an expression fits a parameter; a mode is judged by a rule of its own.
@@ -38,6 +47,8 @@ fn value_fits(known: &Known<'_, Sort>, kind: ParameterKind, e: &Expr) -> bool
         ParameterKind::Mode => true,
         ParameterKind::LocalVariable => is_ref(name_sort(known, e)),
         ParameterKind::StaticVariable => is_global(name_sort(known, e)),
+        ParameterKind::WeakVariable => is_weak(name_sort(known, e)),
+        ParameterKind::AnyReference => is_any_reference(known, e),
         ParameterKind::FieldID => is_null(e) || is_field(name_sort(known, e)),
         ParameterKind::ArrayVariable(element) => is_array_of(element, name_sort(known, e)),
         ParameterKind::BufferVariable(access) => is_buffer_for(access, name_sort(known, e)),
@@ -167,6 +178,7 @@ fn result_fits(sort: Option<Sort>, kind: ResultKind) -> bool
         ResultKind::GivesFlag => is_flag(sort),
         ResultKind::NewLocal => is_ref(sort),
         ResultKind::NewGlobal => is_global(sort),
+        ResultKind::NewWeak => is_weak(sort),
         ResultKind::GivesField => is_field(sort),
         ResultKind::GivesBuffer(access) => is_buffer_for(access, sort),
     }
@@ -176,7 +188,10 @@ fn result_fits(sort: Option<Sort>, kind: ResultKind) -> bool
 fn is_droppable(kind: ResultKind) -> bool
     ensures { result ≡ is_droppable (result_value kind) }
 {
-    !matches!(kind, ResultKind::NewGlobal | ResultKind::GivesBuffer(_))
+    !matches!(
+        kind,
+        ResultKind::NewGlobal | ResultKind::NewWeak | ResultKind::GivesBuffer(_)
+    )
 }
 
 /// Whether a function is `PushLocalFrame`, whose number a test for 0 alone may take.

@@ -2,9 +2,8 @@
 
 ghost use Rattle.std.specs.Prelude.{◌≡◌, ◌∷◌, ◌++◌, OnOk, map};
 ghost use Rattle.syntax.specs.Parts.{item_name};
-ghost use Rattle.syntax.specs.Views.{block_tree, function_tree, item_tree, result_tree};
-ghost use Rattle.type_rules.specs.SortRules.{DeclaredTwice, has_name, places_of, function_places, item_places};
-ghost use Rattle.type_rules.specs.SortViews.{sort_value};
+ghost use Rattle.syntax.specs.Views.{block_tree, function_tree, item_tree, result_tree, static_type_tree};
+ghost use Rattle.type_rules.specs.SortRules.{DeclaredTwice, has_name, static_sort, places_of, function_places, item_places};
 ghost use Rattle.types.specs.Faults.{Faults, Refuses, Finds, broken_if, scope_of, found, head_faults, own_places, with_static};
 
 use crate::blocks::check_block;
@@ -14,7 +13,7 @@ use crate::telling::head_detail;
 use class_rules::mangling::is_mangled;
 use std::alloc::{AllocError, Global};
 use syntax::{Function, Item, Name, Static};
-use type_rules::{Known, Sort};
+use type_rules::{Known, Sort, static_sort};
 
 /// The first rule that a function's head breaks after items of these names, where its parameters and the statics have those.
 fn judge_head(names: &[Name], entry: &[Name], f: &Function) -> Result<(), TypeError>
@@ -105,7 +104,7 @@ fn check_static<'a>(
 ) -> Result<(), TypeError>
     ensures finds { Finds result (broken_if (has_name names.old.items s.now.name) DeclaredTwice s.now.line) }
     ensures names { OnOk result (names.new.items ≡ s.now.name ∷ names.old.items) }
-    ensures statics { OnOk result (scope_of statics.new ≡ (s.now.name, sort_value Sort.Global) ∷ scope_of statics.old) }
+    ensures statics { OnOk result (scope_of statics.new ≡ (s.now.name, static_sort (static_type_tree s.now.kind)) ∷ scope_of statics.old) }
 {
     refuse_name_if(
         has_name(names, &s.name),
@@ -113,7 +112,7 @@ fn check_static<'a>(
         s.line,
         &s.name,
     )?;
-    statics.declare(&s.name, Sort::Global)?;
+    statics.declare(&s.name, static_sort(s.kind))?;
     put_first(names, &s.name)?;
     Ok(())
 }

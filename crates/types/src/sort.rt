@@ -3,7 +3,7 @@
 ghost use Rattle.std.specs.Prelude.{◌≡◌};
 ghost use Rattle.std.specs.Option.{option_map};
 ghost use Rattle.base.specs.Element.{element_value};
-ghost use Rattle.type_rules.specs.Sorts.{is_word, is_jint, is_flag, is_truth, is_ref, is_global, is_field, is_index, is_castable, has_elements, is_nullable, is_array_of, is_buffer_for, is_read_only};
+ghost use Rattle.type_rules.specs.Sorts.{is_word, is_jint, is_flag, is_truth, is_ref, is_global, is_weak, is_field, is_index, is_castable, has_elements, is_nullable, is_array_of, is_buffer_for, is_read_only};
 ghost use Rattle.jni.specs.Table.{access_value};
 ghost use Rattle.type_rules.specs.SortViews.{sort_value};
 
@@ -45,6 +45,12 @@ pub(crate) fn is_global(sort: Option<Sort>) -> bool
     ensures { result ≡ is_global (option_map sort_value sort) }
 {
     matches!(sort, Some(Sort::Global))
+}
+
+pub(crate) fn is_weak(sort: Option<Sort>) -> bool
+    ensures { result ≡ is_weak (option_map sort_value sort) }
+{
+    matches!(sort, Some(Sort::Weak))
 }
 
 pub(crate) fn is_field(sort: Option<Sort>) -> bool

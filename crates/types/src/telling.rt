@@ -68,6 +68,7 @@ fn with_sort(detail: Detail, sort: Option<Sort>) -> Detail {
         Some(Sort::Truth) => detail.words(b"a truth value"),
         Some(Sort::Ref) => detail.words(b"a local reference"),
         Some(Sort::Global) => detail.words(b"a static reference"),
+        Some(Sort::Weak) => detail.words(b"jweak"),
         Some(Sort::FieldId) => detail.words(b"jfieldID"),
         Some(Sort::Buffer(element, true)) => detail.words(element_words(element)).words(b" *"),
         Some(Sort::Buffer(_, false)) => detail.words(b"const jchar *"),
@@ -191,6 +192,7 @@ fn with_right_sides(detail: Detail, sort: Option<Sort>) -> Detail {
     match sort {
         Some(Sort::Ref) => detail.words(b"NULL or a call that gives a local reference"),
         Some(Sort::Global) => detail.words(b"NULL or a call of NewGlobalRef"),
+        Some(Sort::Weak) => detail.words(b"NULL or a call of NewWeakGlobalRef"),
         Some(Sort::FieldId) => detail.words(b"NULL or a call that gives a jfieldID"),
         Some(Sort::Buffer(..)) => with_sort(detail.words(b"a call that gives "), sort),
         Some(Sort::Array(..)) => detail.words(b"an element of the array"),
@@ -206,6 +208,7 @@ fn with_result(detail: Detail, kind: ResultKind) -> Detail {
         ResultKind::GivesFlag => detail.words(b"jboolean"),
         ResultKind::NewLocal => detail.words(b"a local reference"),
         ResultKind::NewGlobal => detail.words(b"a global reference"),
+        ResultKind::NewWeak => detail.words(b"a weak global reference"),
         ResultKind::GivesField => detail.words(b"jfieldID"),
         ResultKind::GivesBuffer(access) => with_access(detail, access),
     }
@@ -358,8 +361,10 @@ fn with_parameter(detail: Detail, kind: ParameterKind) -> Detail {
         | ParameterKind::ObjectArray
         | ParameterKind::StringObject
         | ParameterKind::NumberArray(_) => detail.words(b"the name of a reference"),
+        ParameterKind::AnyReference => detail.words(b"the name of a reference, weak or not"),
         ParameterKind::LocalVariable => detail.words(b"the name of a local reference"),
         ParameterKind::StaticVariable => detail.words(b"the name of a static"),
+        ParameterKind::WeakVariable => detail.words(b"the name of a jweak"),
         ParameterKind::FieldID => detail.words(b"the name of a jfieldID"),
         ParameterKind::IntNumber => detail.words(b"jint"),
         ParameterKind::TextBytes => detail.words(b"a string"),
