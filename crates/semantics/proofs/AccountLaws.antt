@@ -1,4 +1,4 @@
--- An entry is of a thread that can step, prints at most one number, and changes no other thread's part.
+-- A step is of a thread that can step, prints at most one number, and changes no other thread's part.
 use Rattle.std.proofs.Common.{◌≡◌, ◌≢◌, ℕ, zero, suc, Bool, true, false, List, [], ◌∷◌, ◌++◌, length, map, Option, Some, None, refl, sym, ap, ◌∙◌, subst, inl, inr}
 use Rattle.std.specs.Prelude.{◌==◌, ◌&&◌, not, is_none, IsSome, slice_get, slice_set, if◌then◌else◌, ◌⊎◌}
 use Rattle.std.specs.List.{filter}
@@ -9,15 +9,14 @@ use Rattle.std.proofs.lemmas.List.{append-nil}
 use Rattle.std.proofs.lemmas.List.Elements.{filter-append}
 use Rattle.syntax.specs.Tree.{SourceUnit}
 use Rattle.class_rules.specs.Class.{Classes}
-use Rattle.semantics.specs.declared.journal.Entry.TheVariants.{Step}
 use Rattle.semantics.specs.declared.printed.Printed.{Printed}
-use Rattle.semantics.specs.Journal.{Journal, is_step_of}
+use Rattle.semantics.specs.Journal.{Step, Journal, is_step_of}
 use Rattle.semantics.specs.World.{World}
 use Rattle.semantics.specs.AccountLaws.{OthersStay, StepsMay, StepsPrint, Prints}
 use Rattle.semantics.specs.Run.{replay, replay_from, account_at, entries_of, printed_by, ending_of}
 use Rattle.semantics.specs.Start.{start}
 use Rattle.semantics.specs.State.{State, Stop, thread_at, set_thread, in_use, advanced, with_event}
-use Rattle.semantics.specs.Step.{is_blocked, is_live, can_step, step_of, world_step}
+use Rattle.semantics.specs.Step.{is_blocked, is_live, can_step, step_of, turn_step}
 use Rattle.semantics.specs.Thread.{Thread, Shared, Unfinished, Event, Quiet, Trapped, PrintedNumber, Advance, Advances, NoAdvance}
 use Rattle.semantics.specs.ThreadStep.{thread_step}
 use Rattle.semantics.proofs.RunLaws.{replay_from-append}
@@ -41,7 +40,7 @@ tested true after next h = (refl, h)
 tested false after next h = let bad : None ≡ Some next = h in absurd (cc)
 
 pub may_step : StepsMay
-unfolding world_step
+unfolding turn_step
 may_step unit classes s next k refused h =
     let can = (tested (can_step classes s k) (step_of unit classes s k refused (thread_at s k)) next h).0 in
     let parts = and_parts (is_none s.stop && is_live (thread_at s k)) (not (is_blocked classes s k)) can in
@@ -65,8 +64,8 @@ stepped : (unit : SourceUnit) (classes : Classes) (s next : State) (k : ℕ) (re
 stepped unit classes s next k refused None h = let bad : None ≡ Some next = h in absurd (cc)
 stepped unit classes s next k refused (Some t) h = moved s next k (thread_step unit classes (in_use s) k s.shared t refused) h
 
-by_step : (unit : SourceUnit) (classes : Classes) (s next : State) (k : ℕ) (refused : Bool) → world_step unit classes s (Step k refused) ≡ Some next → Stepped s k next
-unfolding world_step
+by_step : (unit : SourceUnit) (classes : Classes) (s next : State) (k : ℕ) (refused : Bool) → turn_step unit classes s k refused ≡ Some next → Stepped s k next
+unfolding turn_step
 by_step unit classes s next k refused h =
     stepped unit classes s next k refused (thread_at s k) (tested (can_step classes s k) (step_of unit classes s k refused (thread_at s k)) next h).1
 
@@ -96,7 +95,7 @@ differ k other ne = go (eqb_tells k other)
     go (inr apart) = apart.0
 
 -- a last element that is left out
-left_out : {X : Type 0} (p : X → Bool) (xs : List X) (x : X) → p x ≡ false → filter p (xs ++ x ∷ []) ≡ filter p xs
+pub left_out : {X : Type 0} (p : X → Bool) (xs : List X) (x : X) → p x ≡ false → filter p (xs ++ x ∷ []) ≡ filter p xs
 left_out p xs x h =
     let last : filter p (x ∷ []) ≡ [] = rw h refl in
     filter-append p xs (x ∷ []) ∙ ap (λ l. filter p xs ++ l) last ∙ append-nil (filter p xs)
@@ -126,7 +125,7 @@ thread_is : (s : State) (k : ℕ) → thread_at s k ≡ thread_of s.threads k
 thread_is s zero = refl
 thread_is s (suc i) = refl
 
-same_account : (unit : SourceUnit) (w : World) (journal : Journal) (k : ℕ) (refused : Bool) (other : ℕ) → other ≢ k → (s next : State) → world_step unit w.classes s (Step k refused) ≡ Some next
+same_account : (unit : SourceUnit) (w : World) (journal : Journal) (k : ℕ) (refused : Bool) (other : ℕ) → other ≢ k → (s next : State) → turn_step unit w.classes s k refused ≡ Some next
     → account_at (journal ++ Step k refused ∷ []) other next ≡ account_at journal other s
 same_account unit w journal k refused other ne s next h =
     let step : Stepped s k next = by_step unit w.classes s next k refused h in
@@ -144,7 +143,7 @@ others_stay unit w journal k refused other some ne =
     let split = replay_from-append unit w (start unit w) journal (Step k refused ∷ []) in
     ap (option_map (account_at (journal ++ Step k refused ∷ []) other)) split ∙ before (replay unit w journal) (subst (λ (o : Option State). IsSome o) split some)
   where
-    last : (s : State) (o : Option State) → world_step unit w.classes s (Step k refused) ≡ o → IsSome (option_and_then (λ s'. replay_from unit w s' []) o)
+    last : (s : State) (o : Option State) → turn_step unit w.classes s k refused ≡ o → IsSome (option_and_then (λ s'. replay_from unit w s' []) o)
         → option_map (account_at (journal ++ Step k refused ∷ []) other) (option_and_then (λ s'. replay_from unit w s' []) o) ≡ Some (account_at journal other s)
     last s None is h = absurd (false≢true h)
     last s (Some next) is h = ap Some (same_account unit w journal k refused other ne s next is)
@@ -152,4 +151,4 @@ others_stay unit w journal k refused other some ne =
     before : (o : Option State) → IsSome (option_and_then (λ s. replay_from unit w s (Step k refused ∷ [])) o)
         → option_map (account_at (journal ++ Step k refused ∷ []) other) (option_and_then (λ s. replay_from unit w s (Step k refused ∷ [])) o) ≡ option_map (account_at journal other) o
     before None h = absurd (false≢true h)
-    before (Some s) h = last s (world_step unit w.classes s (Step k refused)) refl h
+    before (Some s) h = last s (turn_step unit w.classes s k refused) refl h

@@ -11,10 +11,10 @@ use Rattle.jni.specs.JniFunction.{JniFunction}
 use Rattle.semantics.specs.Object.{ObjectValue, Reference}
 use Rattle.semantics.specs.Arguments.{Actual, ReleaseMode, CopyBackAndFree, CopyBack, FreeUncopied, number_given, reference_given, object_given, text_given, variable_given, mode_given}
 use Rattle.semantics.specs.CallTable.{call_effect}
-use Rattle.semantics.specs.CallEffects.{CallEffect, Throws, Halts, Leaves, at_index, at_region, ensure_effect, push_effect, frames_effect, refuses_frames, delete_local_effect, delete_global_effect, found_class_effect, found_field_effect, new_array_effect, get_region_effect, set_region_effect, store_effect, release_effect, enter_effect, exit_effect, local_array, with_capacity}
+use Rattle.semantics.specs.CallEffects.{CallEffect, Throws, Halts, Leaves, at_index, at_region, ensure_effect, push_effect, frames_effect, refuses_frames, delete_local_effect, delete_global_effect, delete_weak_effect, found_class_effect, found_field_effect, new_array_effect, get_region_effect, set_region_effect, store_effect, release_effect, enter_effect, exit_effect, local_array, with_capacity}
 use Rattle.semantics.specs.Heap.{Heap, class_of, with_values}
 use Rattle.semantics.specs.Thread.{Shared, Thread, BuffersInUse, Frame, Monitor, capacities, monitor_of}
-use Rattle.semantics.specs.Variable.{Variable}
+use Rattle.semantics.specs.Variable.{Variable, StaticReference, Empty, Live, Weakly, Cleared, Deleted}
 
 -- the effect leaves as many objects as the state has
 abbrev Keeps : Shared → CallEffect → Type 0
@@ -49,9 +49,21 @@ delete_local_keeps : (s : Shared) (t : Thread) (v : Option Variable) (r : Refere
 delete_local_keeps s t v None = refl
 delete_local_keeps s t v (Some n) = refl
 
-delete_global_keeps : (s : Shared) (t : Thread) (x : Identifier) (r : Reference) → Keeps s (delete_global_effect s t x r)
+delete_global_keeps : (s : Shared) (t : Thread) (x : Identifier) (r : Option StaticReference) → Keeps s (delete_global_effect s t x r)
 delete_global_keeps s t x None = refl
-delete_global_keeps s t x (Some n) = refl
+delete_global_keeps s t x (Some Empty) = refl
+delete_global_keeps s t x (Some (Live n)) = refl
+delete_global_keeps s t x (Some (Weakly n)) = refl
+delete_global_keeps s t x (Some Cleared) = refl
+delete_global_keeps s t x (Some Deleted) = refl
+
+delete_weak_keeps : (s : Shared) (t : Thread) (x : Identifier) (r : Option StaticReference) → Keeps s (delete_weak_effect s t x r)
+delete_weak_keeps s t x None = refl
+delete_weak_keeps s t x (Some Empty) = refl
+delete_weak_keeps s t x (Some (Live n)) = refl
+delete_weak_keeps s t x (Some (Weakly n)) = refl
+delete_weak_keeps s t x (Some Cleared) = refl
+delete_weak_keeps s t x (Some Deleted) = refl
 
 found_class_keeps : (s : Shared) (t : Thread) (c : ℕ) (o : Option ℕ) → Keeps s (found_class_effect s t c o)
 found_class_keeps s t c None = tt
@@ -93,7 +105,8 @@ module _ (classes : Classes) (in_use : BuffersInUse) (k : ℕ) (s : Shared) (t :
   unfolding call_effect
   effect_keeps jni.FindClass = found_class_keeps s t _ (class_named classes (text_given args 0))
   effect_keeps jni.DeleteLocalRef = delete_local_keeps s t (lookup (variable_given args 0) t.variables) (reference_given args 0)
-  effect_keeps jni.DeleteGlobalRef = delete_global_keeps s t (variable_given args 0) (reference_given args 0)
+  effect_keeps jni.DeleteGlobalRef = delete_global_keeps s t (variable_given args 0) (lookup (variable_given args 0) s.statics)
+  effect_keeps jni.DeleteWeakGlobalRef = delete_weak_keeps s t (variable_given args 0) (lookup (variable_given args 0) s.statics)
   effect_keeps jni.EnsureLocalCapacity = ensure_keeps classes s t (number_given args 0)
   effect_keeps jni.PushLocalFrame = push_keeps classes s t (number_given args 0)
   effect_keeps jni.GetFieldID = found_field_keeps s t _ (find_field classes (object_given args 0) (text_given args 1) (text_given args 2))

@@ -8,3 +8,8 @@ pub mod RunLaws
 pub mod StepLaws
 pub mod ShownRows
 pub mod ShownNames
+pub mod StaticCounts
+pub mod WeakLaws
+pub mod ClearedEffects
+pub mod ClearedSteps
+pub mod ClearedMade

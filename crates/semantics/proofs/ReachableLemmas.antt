@@ -5,7 +5,7 @@ use Rattle.std.proofs.lemmas.Bool.{false≢true, or_left, or_right, or_cases, eq
 use Rattle.std.proofs.lemmas.List.Folds.{list_any-append}
 use Rattle.semantics.specs.World.{World}
 use Rattle.semantics.specs.Heap.{Heap}
-use Rattle.semantics.specs.Reachable.{from_one, roots, references_of, Reachable, FromRoot, FromObject, is_in, rising, grown, closed, reachable, ListsReachable}
+use Rattle.semantics.specs.Reachable.{from_one, roots, references_of, Reached, FromRoot, FromObject, is_in, rising, grown, closed, reached, reachable, ListsReached}
 use Rattle.semantics.specs.State.{State}
 
 -- ---- membership
@@ -43,7 +43,7 @@ dropped : (p : ℕ → Bool) (y : ℕ) (ys : List ℕ) (x : ℕ) → (In ys x �
 dropped p y ys x further e f (inl q) = absurd (both_ways (p x) (subst (λ z. p z ≡ false) q f) e)
 dropped p y ys x further e f (inr k) = further k
 
-in_filter : (p : ℕ → Bool) (xs : List ℕ) (x : ℕ) → p x ≡ true → In xs x → In (filter p xs) x
+pub in_filter : (p : ℕ → Bool) (xs : List ℕ) (x : ℕ) → p x ≡ true → In xs x → In (filter p xs) x
 in_filter p [] x e h = h
 in_filter p (y ∷ ys) x e h =
     cond_both (p y) (y ∷ filter p ys) (filter p ys) (λ l. In l x)
@@ -57,7 +57,7 @@ was_kept : (p : ℕ → Bool) (y : ℕ) (ys : List ℕ) (x : ℕ) → (In (filte
 was_kept p y ys x further e (inl q) = (subst (λ z. p z ≡ true) q e, subst (λ z. In (z ∷ ys) x) (sym q) (in_head x ys))
 was_kept p y ys x further e (inr k) = ((further k).0, in_tail y ys x (further k).1)
 
-from_filter : (p : ℕ → Bool) (xs : List ℕ) (x : ℕ) → In (filter p xs) x → Passed p xs x
+pub from_filter : (p : ℕ → Bool) (xs : List ℕ) (x : ℕ) → In (filter p xs) x → Passed p xs x
 from_filter p [] x h = absurd (false≢true h)
 from_filter p (y ∷ ys) x h =
     cond_both (p y) (y ∷ filter p ys) (filter p ys) (λ l. In l x → Passed p (y ∷ ys) x)
@@ -264,24 +264,28 @@ length-from_one : (n : ℕ) → length (from_one n) ≡ n
 length-from_one zero = refl
 length-from_one (suc n) = let r = length-from_one n in omega (arith, r, length-append (from_one n) (suc n ∷ []))
 
-module _ (w : World) (s : State) where
-  saturated_roots : Saturated s.shared.heap (rising s.shared.heap (roots w s)) (reachable w s)
-  saturated_roots = closed_saturates (length s.shared.heap) s.shared.heap (is_in (roots w s)) (omega (arith, length-from_one (length s.shared.heap)))
+module _ (heap : Heap) (from : List ℕ) where
+  saturated_roots : Saturated heap (rising heap from) (reached heap from)
+  saturated_roots = closed_saturates (length heap) heap (is_in from) (omega (arith, length-from_one (length heap)))
 
-  is_listed : (n : ℕ) → Reachable w s n → In (reachable w s) n
-  is_listed n (FromRoot x a c) = saturated_roots.bigger x (in_filter (is_in (roots w s)) (from_one (length s.shared.heap)) x (contains_in (roots w s) x c) (contains_in (from_one (length s.shared.heap)) x a))
-  is_listed n (FromObject m x r a c) = saturated_roots.saturated m x (is_listed m r) (contains_in (references_of s.shared.heap m) x c) (contains_in (from_one (length s.shared.heap)) x a)
+  is_listed : (n : ℕ) → Reached heap from n → In (reached heap from) n
+  is_listed n (FromRoot x a c) = saturated_roots.bigger x (in_filter (is_in from) (from_one (length heap)) x (contains_in from x c) (contains_in (from_one (length heap)) x a))
+  is_listed n (FromObject m x r a c) = saturated_roots.saturated m x (is_listed m r) (contains_in (references_of heap m) x c) (contains_in (from_one (length heap)) x a)
 
-  from_root : (x : ℕ) → In (rising s.shared.heap (roots w s)) x → Reachable w s x
-  from_root x k = let passed = from_filter (is_in (roots w s)) (from_one (length s.shared.heap)) x k in FromRoot x (to_contains (from_one (length s.shared.heap)) x passed.1) (to_contains (roots w s) x passed.0)
+  from_root : (x : ℕ) → In (rising heap from) x → Reached heap from x
+  from_root x k = let passed = from_filter (is_in from) (from_one (length heap)) x k in FromRoot x (to_contains (from_one (length heap)) x passed.1) (to_contains from x passed.0)
 
-  from_object : (m x : ℕ) → Reachable w s m → In (names_of s.shared.heap) x → In (references_of s.shared.heap m) x → Reachable w s x
-  from_object m x r a k = FromObject m x r (to_contains (from_one (length s.shared.heap)) x a) (to_contains (references_of s.shared.heap m) x k)
+  from_object : (m x : ℕ) → Reached heap from m → In (names_of heap) x → In (references_of heap m) x → Reached heap from x
+  from_object m x r a k = FromObject m x r (to_contains (from_one (length heap)) x a) (to_contains (references_of heap m) x k)
 
-  -- the computed list has exactly the reachable objects
-  pub reachable_lists : ListsReachable w s (reachable w s)
-  reachable_lists = record {
-    sound = λ n c. closed_least (length s.shared.heap) s.shared.heap (Reachable w s) from_object (rising s.shared.heap (roots w s)) from_root n (contains_in (reachable w s) n c);
-    complete = λ n r. to_contains (reachable w s) n (is_listed n r);
-    in_order = in_order_from s.shared.heap (reachable w s) (closed_rising (length s.shared.heap) s.shared.heap (is_in (roots w s)));
+  -- the computed list has exactly the objects that are reached
+  pub reached_lists : ListsReached heap from (reached heap from)
+  reached_lists = record {
+    sound = λ n c. closed_least (length heap) heap (Reached heap from) from_object (rising heap from) from_root n (contains_in (reached heap from) n c);
+    complete = λ n r. to_contains (reached heap from) n (is_listed n r);
+    in_order = in_order_from heap (reached heap from) (closed_rising (length heap) heap (is_in from));
   }
+
+-- the same of what is reached from the roots
+pub reachable_lists : (w : World) (s : State) → ListsReached s.shared.heap (roots w s) (reachable w s)
+reachable_lists w s = reached_lists s.shared.heap (roots w s)

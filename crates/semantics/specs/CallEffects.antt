@@ -11,7 +11,7 @@ use Rattle.semantics.specs.Arguments.{ReleaseMode, CopyBackAndFree, CopyBack, Fr
 use Rattle.semantics.specs.Heap.{Heap, next_name, numbers_of, with_numbers, with_value_at}
 use Rattle.semantics.specs.Thread.{Shared, Thread, Frame, Monitor, BuffersInUse, capacities, without_monitor}
 use Rattle.semantics.specs.Value.{Value, Int, Trap, OutOfRange}
-use Rattle.semantics.specs.Variable.{Variable, LocalRef, Elements, LocalArray, Buffer, NoBuffer, Copy, View, assign, change, Deleted}
+use Rattle.semantics.specs.Variable.{Variable, LocalRef, Elements, LocalArray, Buffer, NoBuffer, Copy, View, assign, change, StaticReference, Live, Weakly, Cleared, Deleted}
 
 -- what a call gives
 pub data CallResult : Type 0 where
@@ -19,6 +19,8 @@ pub data CallResult : Type 0 where
   NullResult : CallResult
   ScalarResult : Value → CallResult
   ReferenceResult : Reference → CallResult
+  -- a weak global reference
+  WeakResult : Reference → CallResult
   FieldResult : Option FieldId → CallResult
   BufferResult : Buffer → CallResult
 
@@ -95,10 +97,16 @@ abbrev pub delete_local_effect : Shared → Thread → Option Variable → Refer
 delete_local_effect s t v None = Leaves [] s t NoResult
 delete_local_effect s t v (Some n) = Leaves [] s (record t { frames = without_local (level_of v) n t.frames }) NoResult
 
--- NULL: nothing; else one global reference less, and the static is marked
-abbrev pub delete_global_effect : Shared → Thread → Identifier → Reference → CallEffect
-delete_global_effect s t x None = Leaves [] s t NoResult
-delete_global_effect s t x (Some n) = Leaves [] (record s { globals = without_one n s.globals; statics = assign x Deleted s.statics }) t NoResult
+-- where the static holds a global reference, it is one less, and the static is marked
+abbrev pub delete_global_effect : Shared → Thread → Identifier → Option StaticReference → CallEffect
+delete_global_effect s t x (Some (Live n)) = Leaves [] (record s { globals = without_one n s.globals; statics = assign x Deleted s.statics }) t NoResult
+delete_global_effect s t x r = Leaves [] s t NoResult
+
+-- where the static holds a weak global reference, cleared or not, it is marked
+abbrev pub delete_weak_effect : Shared → Thread → Identifier → Option StaticReference → CallEffect
+delete_weak_effect s t x (Some (Weakly n)) = Leaves [] (record s { statics = assign x Deleted s.statics }) t NoResult
+delete_weak_effect s t x (Some Cleared) = Leaves [] (record s { statics = assign x Deleted s.statics }) t NoResult
+delete_weak_effect s t x r = Leaves [] s t NoResult
 
 -- ---- what only changes the heap, and what makes one object
 

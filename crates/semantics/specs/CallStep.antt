@@ -5,11 +5,11 @@ use Rattle.base.specs.Bytes.{Identifier, lookup}
 use Rattle.base.specs.Element.{ElementType, JInt}
 use Rattle.class_rules.specs.Class.{Classes}
 use Rattle.jni.specs.JniFunction.{JniFunction, MonitorEnter, prototype}
-use Rattle.jni.specs.Prototype.{ResultKind, NewLocal, NewGlobal, GivesFlag, GivesInt, GivesField, GivesBuffer, GivesNothing}
+use Rattle.jni.specs.Prototype.{ResultKind, NewLocal, NewGlobal, NewWeak, GivesFlag, GivesInt, GivesField, GivesBuffer, GivesNothing}
 use Rattle.semantics.specs.Object.{Object}
 use Rattle.semantics.specs.World.{fresh_object}
 use Rattle.semantics.specs.Arguments.{Actual, address_given, object_given}
-use Rattle.semantics.specs.CallEffects.{CallResult, NoResult, NullResult, ScalarResult, ReferenceResult, FieldResult, BufferResult, CallEffect, Throws, Leaves, out_of_memory, with_local, Halts}
+use Rattle.semantics.specs.CallEffects.{CallResult, NoResult, NullResult, ScalarResult, ReferenceResult, WeakResult, FieldResult, BufferResult, CallEffect, Throws, Leaves, out_of_memory, with_local, Halts}
 use Rattle.semantics.specs.CallTable.{call_effect}
 use Rattle.semantics.specs.Checks.{call_trap}
 use Rattle.semantics.specs.Effect.{Effect, Calls, tasks_after}
@@ -17,7 +17,7 @@ use Rattle.semantics.specs.Heap.{next_name}
 use Rattle.semantics.specs.Task.{Task, VariableKind, ScalarKind, ReferenceKind, FieldKind, BufferKind, Target, Declared, Assigned}
 use Rattle.semantics.specs.Thread.{Thread, Monitor, Shared, BuffersInUse, Quiet, Trapped, Advance, Advances, NoAdvance, monitor_of}
 use Rattle.semantics.specs.Value.{Int, Flag, Trap}
-use Rattle.semantics.specs.Variable.{Variable, Scalar, LocalRef, FieldHandle, Elements, NoBuffer, Copy, View, StaticReference, Empty, Variables, as_static, assign}
+use Rattle.semantics.specs.Variable.{Variable, Scalar, LocalRef, FieldHandle, Elements, NoBuffer, Copy, View, StaticReference, Empty, Variables, as_static, as_weak, assign}
 
 -- ---- where a result goes
 
@@ -42,6 +42,7 @@ filled v given = v
 -- what a static holds of a result
 abbrev pub static_result : CallResult → StaticReference
 static_result (ReferenceResult r) = as_static r
+static_result (WeakResult r) = as_weak r
 static_result given = Empty
 
 -- whether a call gave 0
@@ -75,6 +76,7 @@ tell_copy x given vs = vs
 abbrev pub failure : ResultKind → CallResult
 failure NewLocal = NullResult
 failure NewGlobal = NullResult
+failure NewWeak = NullResult
 failure GivesField = NullResult
 failure (GivesBuffer access) = NullResult
 failure GivesInt = ScalarResult (Int (negsuc 0))

@@ -7,11 +7,11 @@ use Rattle.class_rules.specs.BuiltIns.{has_own_making, throwable_class, number_a
 use Rattle.class_rules.specs.Class.{Classes, class_named, class_kind, is_plain, superclass, assignable, array_class_of, element_class}
 use Rattle.class_rules.specs.Fields.{FieldId, find_field, find_static}
 use Rattle.jni.specs.Access.{ElementsCopy, ArrayView, CharsCopy, CharsView}
-use Rattle.jni.specs.JniFunction.{JniFunction, FindClass, GetSuperclass, GetObjectClass, IsInstanceOf, IsAssignableFrom, AllocObject, NewLocalRef, NewGlobalRef, DeleteLocalRef, DeleteGlobalRef, IsSameObject, EnsureLocalCapacity, PushLocalFrame, PopLocalFrame, GetFieldID, GetStaticFieldID, GetField, SetField, GetStaticField, SetStaticField, GetObjectField, SetObjectField, GetStaticObjectField, SetStaticObjectField, GetArrayLength, NewObjectArray, GetObjectArrayElement, SetObjectArrayElement, NewArray, GetArrayRegion, SetArrayRegion, NewStringUTF, GetStringLength, GetStringRegion, Throw, ThrowNew, ExceptionOccurred, ExceptionCheck, ExceptionClear, FatalError, MonitorEnter, MonitorExit, GetBuffer, ReleaseBuffer}
+use Rattle.jni.specs.JniFunction.{JniFunction, FindClass, GetSuperclass, GetObjectClass, IsInstanceOf, IsAssignableFrom, AllocObject, NewLocalRef, NewGlobalRef, NewWeakGlobalRef, DeleteLocalRef, DeleteGlobalRef, DeleteWeakGlobalRef, IsSameObject, EnsureLocalCapacity, PushLocalFrame, PopLocalFrame, GetFieldID, GetStaticFieldID, GetField, SetField, GetStaticField, SetStaticField, GetObjectField, SetObjectField, GetStaticObjectField, SetStaticObjectField, GetArrayLength, NewObjectArray, GetObjectArrayElement, SetObjectArrayElement, NewArray, GetArrayRegion, SetArrayRegion, NewStringUTF, GetStringLength, GetStringRegion, Throw, ThrowNew, ExceptionOccurred, ExceptionCheck, ExceptionClear, FatalError, MonitorEnter, MonitorExit, GetBuffer, ReleaseBuffer}
 use Rattle.semantics.specs.Object.{Number, Refers, Reference}
 use Rattle.semantics.specs.World.{fresh_object}
 use Rattle.semantics.specs.Arguments.{Actual, reference_given, object_given, number_given, text_given, field_given, variable_given, mode_given, FreeUncopied}
-use Rattle.semantics.specs.CallEffects.{CallResult, NoResult, ScalarResult, ReferenceResult, CallEffect, Leaves, ensure_effect, push_effect, same_reference, delete_local_effect, delete_global_effect, heap_effect, new_effect, found_class_effect, found_field_effect, new_array_effect, string_object, at_index, at_region, get_region_effect, set_region_effect, store_effect, copy_effect, view_effect, with_freed, release_effect, throw_new_effect, enter_effect, exit_effect, Halts}
+use Rattle.semantics.specs.CallEffects.{CallResult, NoResult, ScalarResult, ReferenceResult, WeakResult, CallEffect, Leaves, ensure_effect, push_effect, same_reference, delete_local_effect, delete_global_effect, delete_weak_effect, heap_effect, new_effect, found_class_effect, found_field_effect, new_array_effect, string_object, at_index, at_region, get_region_effect, set_region_effect, store_effect, copy_effect, view_effect, with_freed, release_effect, throw_new_effect, enter_effect, exit_effect, Halts}
 use Rattle.semantics.specs.Heap.{Heap, is_instance, holds_number, holds_reference, fits_type, class_of, values_of, value_at, numbers_of, number_in, reference_in, field_place, static_place, fits_class, with_value_at}
 use Rattle.semantics.specs.Thread.{Shared, Thread, BuffersInUse, monitor_of}
 use Rattle.semantics.specs.Value.{Int, Flag, convert, Fatal}
@@ -107,8 +107,10 @@ module _ (classes : Classes) (in_use : BuffersInUse) (k : ℕ) (s : Shared) (t :
   call_effect AllocObject = new_effect s t (fresh_object classes (object 0))
   call_effect NewLocalRef = gives_reference (reference 0)
   call_effect NewGlobalRef = Leaves [] (record s { globals = option_to_list (reference 0) ++ s.globals }) t (ReferenceResult (reference 0))
+  call_effect NewWeakGlobalRef = gives (WeakResult (reference 0))
   call_effect DeleteLocalRef = delete_local_effect s t (lookup (variable_given args 0) t.variables) (reference 0)
-  call_effect DeleteGlobalRef = delete_global_effect s t (variable_given args 0) (reference 0)
+  call_effect DeleteGlobalRef = delete_global_effect s t (variable_given args 0) (lookup (variable_given args 0) s.statics)
+  call_effect DeleteWeakGlobalRef = delete_weak_effect s t (variable_given args 0) (lookup (variable_given args 0) s.statics)
   call_effect IsSameObject = gives_flag (same_reference (reference 0) (reference 1))
   call_effect EnsureLocalCapacity = ensure_effect classes s t (number 0)
   call_effect PushLocalFrame = push_effect classes s t (number 0)

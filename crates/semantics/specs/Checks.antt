@@ -5,7 +5,7 @@ use Rattle.base.specs.Element.{ElementType}
 use Rattle.class_rules.specs.BuiltIns.{string_class, number_array}
 use Rattle.class_rules.specs.Class.{Classes, class_kind, is_plain, is_object_array}
 use Rattle.jni.specs.JniFunction.{JniFunction, PopLocalFrame, is_allowed_pending, prototype}
-use Rattle.jni.specs.Prototype.{LocalVariable, StaticVariable, ParameterKind, Nullable, ClassObject, NumberArray, AnyArray, ObjectArray, StringObject, ResultKind, NewLocal}
+use Rattle.jni.specs.Prototype.{LocalVariable, StaticVariable, WeakVariable, ParameterKind, Nullable, AnyReference, ClassObject, NumberArray, AnyArray, ObjectArray, StringObject, ResultKind, NewLocal}
 use Rattle.semantics.specs.Arguments.{Actual, ReferenceActual, FieldActual}
 use Rattle.semantics.specs.CallTable.{go_together}
 use Rattle.semantics.specs.Heap.{Heap, class_of, is_class_object}
@@ -23,8 +23,10 @@ is_deleted a = false
 -- NULL where an object or a field ID is asked for
 abbrev pub is_missing : ParameterKind × Actual → Bool
 is_missing (Nullable, a) = false
+is_missing (AnyReference, a) = false
 is_missing (LocalVariable, a) = false
 is_missing (StaticVariable, a) = false
+is_missing (WeakVariable, a) = false
 is_missing (p, ReferenceActual x Empty) = true
 is_missing (p, FieldActual None) = true
 is_missing (p, a) = false

@@ -28,15 +28,18 @@ pub mod Activation
 pub mod Return
 pub mod ThreadStep
 pub mod State
+pub mod Reachable
+pub mod WeakReferences
+pub mod WeakArguments
 pub mod Step
 -- whole runs
 pub mod Start
 pub mod Load
-pub mod Reachable
 pub mod Report
 pub mod ReportOf
 pub mod Run
 pub mod AccountLaws
--- values and names of objects, traps, events and endings in memory
+-- values and names of objects, traps, events, endings and entries in memory
 pub mod Views
 pub mod EventViews
+pub mod EntryViews

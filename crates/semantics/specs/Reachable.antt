@@ -42,10 +42,14 @@ references_of heap n = filter_map reference_in (values_of heap n)
 abbrev pub IsName : Heap → ℕ → Type 0
 IsName heap n = Contains (from_one (length heap)) n
 
--- an object is reachable that is a root, or that a reachable object refers to
-pub data Reachable (w : World) (s : State) : ℕ → Type 0 where
-  FromRoot : (n : ℕ) → IsName s.shared.heap n → Contains (roots w s) n → Reachable w s n
-  FromObject : (m n : ℕ) → Reachable w s m → IsName s.shared.heap n → Contains (references_of s.shared.heap m) n → Reachable w s n
+-- an object is reached from some names that is one of them, or that a reached object refers to
+pub data Reached (heap : Heap) (from : List ℕ) : ℕ → Type 0 where
+  FromRoot : (n : ℕ) → IsName heap n → Contains from n → Reached heap from n
+  FromObject : (m n : ℕ) → Reached heap from m → IsName heap n → Contains (references_of heap m) n → Reached heap from n
+
+-- an object is reachable that is reached from the roots
+abbrev pub Reachable : World → State → ℕ → Type 0
+Reachable w s = Reached s.shared.heap (roots w s)
 
 -- ---- the same, computed
 
@@ -69,19 +73,23 @@ closed (suc n) heap names =
     let further = closed n heap more in
     cond (length more == length names) names further
 
+-- the names of the objects that are reached from some names, in rising order
+abbrev pub reached : Heap → List ℕ → List ℕ
+reached heap from = closed (length heap) heap (rising heap from)
+
 -- the names of the reachable objects, in rising order
 abbrev pub reachable : World → State → List ℕ
-reachable w s = closed (length s.shared.heap) s.shared.heap (rising s.shared.heap (roots w s))
+reachable w s = reached s.shared.heap (roots w s)
 
--- the list has exactly the reachable objects, once each and in rising order
-pub record ListsReachable (w : World) (s : State) (names : List ℕ) : Type 0 where
-  pub sound : (n : ℕ) → Contains names n → Reachable w s n
-  pub complete : (n : ℕ) → Reachable w s n → Contains names n
-  pub in_order : names ≡ rising s.shared.heap names
+-- the list has exactly the objects that are reached, once each and in rising order
+pub record ListsReached (heap : Heap) (from names : List ℕ) : Type 0 where
+  pub sound : (n : ℕ) → Contains names n → Reached heap from n
+  pub complete : (n : ℕ) → Reached heap from n → Contains names n
+  pub in_order : names ≡ rising heap names
 
--- the computed list is the set of the reachable objects
-abbrev pub ReachableIsComputed : Type 0
-ReachableIsComputed = (w : World) (s : State) → ListsReachable w s (reachable w s)
+-- the computed list is the set of the objects that are reached
+abbrev pub ReachedIsComputed : Type 0
+ReachedIsComputed = (heap : Heap) (from : List ℕ) → ListsReached heap from (reached heap from)
 
 -- ---- cells
 

@@ -4,7 +4,7 @@ use Rattle.base.specs.Bytes.{Identifier, lookup}
 use Rattle.class_rules.specs.Fields.{FieldId}
 use Rattle.semantics.specs.Heap.{Heap, numbers_of}
 use Rattle.semantics.specs.Value.{Value, Outcome, Gives, Traps, Stuck, OutOfRange, outcome_then}
-use Rattle.semantics.specs.Variable.{Variable, Scalar, LocalRef, FieldHandle, Elements, LocalArray, NoBuffer, Copy, View, StaticReference, Empty, Variables, Statics, as_static}
+use Rattle.semantics.specs.Variable.{Variable, Scalar, LocalRef, FieldHandle, Elements, LocalArray, NoBuffer, Copy, View, StaticReference, Empty, Variables, Statics, as_static, as_argument}
 
 -- answers about a name, each where the name is of that sort
 pub record Sight : Type 0 where
@@ -14,7 +14,7 @@ pub record Sight : Type 0 where
   pub is_null : Identifier → Outcome Bool
   -- an element of a buffer or an array
   pub element : Identifier → ℕ → Outcome ℤ
-  -- what a local reference or a static holds
+  -- what a local reference or a static is as an argument
   pub reference : Identifier → StaticReference
   -- what a field ID holds
   pub field : Identifier → Option FieldId
@@ -55,11 +55,11 @@ abbrev pub in_range : {A : Type 0} → Option A → Outcome A
 in_range (Some a) = Gives a
 in_range None = Traps OutOfRange
 
--- what a local reference or a static holds
+-- what a local reference or a static is as an argument
 abbrev pub held_reference : Option Variable → Option StaticReference → StaticReference
 held_reference (Some (LocalRef level r)) s = as_static r
 held_reference (Some v) s = Empty
-held_reference None (Some s) = s
+held_reference None (Some s) = as_argument s
 held_reference None None = Empty
 
 -- what a field ID holds

@@ -1,12 +1,13 @@
 -- One step of a run.
-use Rattle.std.specs.Prelude.{ℕ, Bool, true, false, if◌then◌else◌, is_none, not, ◌&&◌, Option, Some, None}
+use Rattle.std.specs.Prelude.{ℕ, Bool, true, false, if◌then◌else◌, is_none, not, ◌&&◌, List, Option, Some, None}
 use Rattle.syntax.specs.Tree.{SourceUnit}
 use Rattle.class_rules.specs.Class.{Classes}
-use Rattle.semantics.specs.declared.journal.Entry.{Entry}
-use Rattle.semantics.specs.declared.journal.Entry.TheVariants.{Step}
+use Rattle.semantics.specs.Journal.{Entry, Step, Clearing}
 use Rattle.semantics.specs.State.{State, thread_at, in_use, advanced}
 use Rattle.semantics.specs.Thread.{Ending, Unfinished, Thread, Shared}
 use Rattle.semantics.specs.ThreadStep.{waits, thread_step}
+use Rattle.semantics.specs.WeakReferences.{may_clear, with_cleared}
+use Rattle.semantics.specs.World.{World}
 
 -- the thread is there and waits for a monitor
 abbrev pub is_waiting : Classes → (k : ℕ) → Shared → Option Thread → Bool
@@ -36,6 +37,15 @@ abbrev pub step_of : SourceUnit → Classes → State → (k : ℕ) → (refused
 step_of unit classes s k refused None = None
 step_of unit classes s k refused (Some t) = advanced s k (thread_step unit classes (in_use s) k s.shared t refused)
 
+-- the state after a step of thread k, where it is possible
+unfoldable pub turn_step : SourceUnit → Classes → State → (k : ℕ) → (refused : Bool) → Option State
+turn_step unit classes s k refused = if can_step classes s k then step_of unit classes s k refused (thread_at s k) else None
+
+-- the state after weak references to these objects were cleared, where that is possible; a trap doesn't hinder it
+unfoldable pub clearing_step : World → State → List ℕ → Option State
+clearing_step w s names = if may_clear w s names then Some (with_cleared names s) else None
+
 -- the state after an entry, where it is possible
-unfoldable pub world_step : SourceUnit → Classes → State → Entry → Option State
-world_step unit classes s (Step k refused) = if can_step classes s k then step_of unit classes s k refused (thread_at s k) else None
+abbrev pub world_step : SourceUnit → World → State → Entry → Option State
+world_step unit w s (Step k refused) = turn_step unit w.classes s k refused
+world_step unit w s (Clearing names) = clearing_step w s names

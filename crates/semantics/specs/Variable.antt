@@ -21,10 +21,12 @@ pub data Variable : Type 0 where
   Elements : ElementType → Buffer → Variable
   LocalArray : ElementType → List ℤ → Variable
 
--- a file-scope reference: NULL, the name of an object, or deleted, which isn't NULL
+-- a file-scope reference: NULL, the name of an object, or deleted, which isn't NULL; a weak one has the name weakly, or was cleared
 pub data StaticReference : Type 0 where
   Empty : StaticReference
   Live : (object : ℕ) → StaticReference
+  Weakly : (object : ℕ) → StaticReference
+  Cleared : StaticReference
   Deleted : StaticReference
 
 -- the variables of a call
@@ -49,6 +51,19 @@ change x f ((y, v) ∷ rest) = let further = change x f rest in if bytes_eq x y 
 abbrev pub as_static : Reference → StaticReference
 as_static None = Empty
 as_static (Some n) = Live n
+
+-- what a static holds that a weak global reference is put into
+abbrev pub as_weak : Reference → StaticReference
+as_weak None = Empty
+as_weak (Some n) = Weakly n
+
+-- what a reference argument is, where a static holds it: of a weak reference its object, and NULL where it was cleared
+abbrev pub as_argument : StaticReference → StaticReference
+as_argument Empty = Empty
+as_argument (Live n) = Live n
+as_argument (Weakly n) = Live n
+as_argument Cleared = Empty
+as_argument Deleted = Deleted
 
 -- the object that it is, if it is one
 abbrev pub as_reference : StaticReference → Reference

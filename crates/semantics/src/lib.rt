@@ -14,13 +14,13 @@ mod schedule;
 mod static_reference;
 mod trap;
 
-ghost use Rattle.semantics.specs.AccountLaws.{OthersStay, StepsMay, StepsPrint};
-ghost use Rattle.semantics.specs.Reachable.{ReachableIsComputed};
+ghost use Rattle.semantics.specs.AccountLaws.{ClearingsAreFew, ClearingsStay, LostAreCleared, OthersStay, StepsMay, StepsPrint};
+ghost use Rattle.semantics.specs.Reachable.{ReachedIsComputed};
 
 pub use event::{Ending, Event, Stop};
-pub use journal::Entry;
+pub use journal::{Entry, EntryKind};
 pub use level::{CALL_LEVEL, Level};
-pub use object_id::{NO_OBJECT, ObjectId};
+pub use object_id::{NO_OBJECT, ObjectId, are_rising};
 pub use object_value::ObjectValue;
 pub use objects::Objects;
 pub use printed::Printed;
@@ -28,9 +28,9 @@ pub use schedule::ScheduleWord;
 pub use static_reference::StaticReference;
 pub use trap::Trap;
 
-/// The computed list is the set of the reachable objects.
+/// The computed list is the set of the objects that are reached.
 pub fn reachable_is_computed()
-    ensures { ReachableIsComputed }
+    ensures { ReachedIsComputed }
 {}
 
 /// An entry of one thread, marked or not, changes no other thread's part in a journal.
@@ -38,12 +38,27 @@ pub fn others_stay()
     ensures { OthersStay }
 {}
 
-/// An entry is of a thread that can step: no trap has stopped the machine, and it has neither ended nor waits.
+/// A clearing changes no thread's part in a journal.
+pub fn clearings_stay()
+    ensures { ClearingsStay }
+{}
+
+/// A journal has no more clearings than steps.
+pub fn clearings_are_few()
+    ensures { ClearingsAreFew }
+{}
+
+/// The clearing of all that is held weakly and lost is possible, and leaves nothing lost.
+pub fn lost_are_cleared()
+    ensures { LostAreCleared }
+{}
+
+/// A step is of a thread that can step: no trap has stopped the machine, and it has neither ended nor waits.
 pub fn steps_may()
     ensures { StepsMay }
 {}
 
-/// An entry prints at most one number, of its own thread, behind those printed before.
+/// A step prints at most one number, of its own thread, behind those printed before.
 pub fn steps_print()
     ensures { StepsPrint }
 {}
