@@ -1,14 +1,14 @@
 -- An accepted unit is safe: from the entry of each of its functions the tasks break no rule.
-use Rattle.std.proofs.Common.{◌≡◌, ℕ, Bool, true, false, List, [], ◌∷◌, ◌++◌, map, Option, Some, refl, ap, ◌∙◌, if◌then◌else◌}
+use Rattle.std.proofs.Common.{◌≡◌, ℕ, Bool, true, false, List, [], ◌∷◌, ◌++◌, map, Option, Some, refl, ap, ◌∙◌, subst, if◌then◌else◌}
 use Rattle.std.specs.Prelude.{flat_map}
 use Rattle.std.specs.List.{list_any, AllByRecursion}
 use Rattle.std.specs.Str.{bytes_eq}
 use Rattle.std.proofs.lemmas.Slice.Eq.{bytes_eq-Decides}
 use Rattle.base.specs.Bytes.{Identifier, lookup}
 use Rattle.syntax.specs.Parts.{functions_of, statics_of, parameter_names}
-use Rattle.syntax.specs.Tree.{Void, Static, Function, Item, StaticItem, FunctionItem, SourceUnit}
-use Rattle.type_rules.specs.Sorts.{Sort, Global, Scope, sort_in}
-use Rattle.type_rules.specs.SortRules.{SortRule, UnknownName, DeclaredTwice, SortMisfit, UnknownFunction, ArgumentCount, ReferenceCopied, BadMode, ReadOnlyWrite, sort_rules, Place, StaticForm, HeadForm, has_name, has_repeated, breaks, broken_at, places_of, function_places, item_places, IsSorted}
+use Rattle.syntax.specs.Tree.{Void, StaticType, ReferenceStatic, WeakStatic, Static, Function, Item, StaticItem, FunctionItem, SourceUnit}
+use Rattle.type_rules.specs.Sorts.{Sort, Scope, is_weak, sort_in}
+use Rattle.type_rules.specs.SortRules.{SortRule, UnknownName, DeclaredTwice, SortMisfit, UnknownFunction, ArgumentCount, ReferenceCopied, BadMode, ReadOnlyWrite, sort_rules, Place, StaticForm, HeadForm, has_name, has_repeated, breaks, broken_at, places_of, function_places, item_places, IsSorted, static_sort}
 use Rattle.region_rules.specs.Regions.{AcceptedFunction, HasRegions}
 use Rattle.semantics.specs.Journal.{Journal}
 use Rattle.semantics.specs.Load.{Loads}
@@ -23,8 +23,10 @@ use Rattle.semantics_safety.specs.Owners.{owners_after}
 use Rattle.semantics_safety.specs.Stands.{IsSound}
 use Rattle.semantics_safety.specs.StepSafe.{HasCalls, AcceptedIsSafe}
 use Rattle.semantics_safety.specs.Wanted.{GoesOn}
-use Rattle.semantics_safety.proofs.EntryPoints.{entry_scope, entry_point, SeesStatics, HasNamesOnce}
+use Rattle.semantics_safety.specs.WeakNames.{WeakNames, IsOfKind, AreOfKind, static_sorts, weak_names}
+use Rattle.semantics_safety.proofs.EntryPoints.{entry_scope, entry_point, IsStaticSort, SeesStatics, HasNamesOnce, or_false}
 use Rattle.semantics_safety.proofs.NameLaws.{front_same}
+use Rattle.semantics_safety.proofs.SetLaws.{kinds_named}
 use Rattle.type_rules.proofs.PlaceLists.{AreUnbroken, first_empty, second_empty, front_unbroken, back_unbroken, none_broken, first_false, second_false}
 use Rattle.semantics_safety.proofs.Runs.{Enters, runs_are_safe, threads_are_sound}
 
@@ -63,23 +65,27 @@ all_there : (gs : List Static) → AllByRecursion (IsThere (map null_static gs))
 all_there [] = tt
 all_there (g ∷ gs) = ((Empty, front_same g.name Empty (map null_static gs)), there_further g.name Empty (map null_static gs) gs (all_there gs))
 
-sees_more : (ss : Statics) (scope : Scope) (g : Static) → IsThere ss g → SeesStatics scope ss → SeesStatics ((g.name, Global) ∷ scope) ss
+static_sorted : (type : StaticType) → IsStaticSort (static_sort type)
+static_sorted (ReferenceStatic r) = tt
+static_sorted WeakStatic = tt
+
+sees_more : (ss : Statics) (scope : Scope) (g : Static) → IsThere ss g → SeesStatics scope ss → SeesStatics ((g.name, static_sort g.type) ∷ scope) ss
 sees_more ss scope g there sees x s e = by_test (bytes_eq x g.name) refl e
   where
-    by_test : (b : Bool) → bytes_eq x g.name ≡ b → (if b then Some Global else sort_in scope x) ≡ Some s → (s ≡ Global) × ((r : StaticReference) × (lookup x ss ≡ Some r))
-    by_test true same at = (let is : s ≡ Global = cc in is, (there.0, ap (λ (y : Identifier). lookup y ss) ((bytes_eq-Decides x g.name).0 same) ∙ there.1))
+    by_test : (b : Bool) → bytes_eq x g.name ≡ b → (if b then Some (static_sort g.type) else sort_in scope x) ≡ Some s → IsStaticSort s × ((r : StaticReference) × (lookup x ss ≡ Some r))
+    by_test true same at = (let is : static_sort g.type ≡ s = cc in subst IsStaticSort is (static_sorted g.type), (there.0, ap (λ (y : Identifier). lookup y ss) ((bytes_eq-Decides x g.name).0 same) ∙ there.1))
     by_test false other at = sees x s at
 
 -- ---- functions
 
 -- each known name is a static
-abbrev pub AreGlobals : Scope → Type 0
-AreGlobals scope = (x : Identifier) (s : Sort) → sort_in scope x ≡ Some s → s ≡ Global
+abbrev pub AreStatics : Scope → Type 0
+AreStatics scope = (x : Identifier) (s : Sort) → sort_in scope x ≡ Some s → IsStaticSort s
 
 -- an accepted function's tasks break no rule from its entry on
 abbrev pub GivesWanted : Function → Scope → Type 0
 GivesWanted f scope =
-    AreGlobals scope → HasNamesOnce f scope → AreUnbroken (places_of f.result (entry_scope f scope) (parameter_names f ++ map (λ s. s.0) scope) f.body) → AcceptedFunction f → GoesOn (tasks_of f.body) (entry_point f scope)
+    AreStatics scope → HasNamesOnce f scope → AreUnbroken (places_of f.result (entry_scope f scope) (parameter_names f ++ map (λ s. s.0) scope) f.body) → AcceptedFunction f → GoesOn (tasks_of f.body) (entry_point f scope)
 
 -- the functions and the statics of these items
 abbrev functions_in : List Item → List Function
@@ -88,27 +94,65 @@ functions_in items = functions_of (record { items = items })
 abbrev statics_in : List Item → List Static
 statics_in items = statics_of (record { items = items })
 
+-- the place of a static
+abbrev static_place : List Identifier → Scope → Static → Place
+static_place taken scope g = record { line = g.line; known = scope; taken = taken; returns = Void; form = StaticForm g }
+
+static_new : (taken : List Identifier) (scope : Scope) (g : Static) → broken_at (static_place taken scope g) ≡ [] → has_name taken g.name ≡ false
+static_new taken scope g none =
+    let place = static_place taken scope g in
+    let p : SortRule → Bool = λ rule. breaks rule place place.form in
+    let twice = second_false (p UnknownName) (list_any p (DeclaredTwice ∷ other_rules)) (none_broken p g.line sort_rules none) in
+    first_false (p DeclaredTwice) (list_any p other_rules) twice
+
+static_kind : (weak : Bool) (type : StaticType) → weak ≡ is_weak (Some (static_sort type)) → IsOfKind weak (static_sort type)
+static_kind weak (ReferenceStatic r) e = e
+static_kind weak WeakStatic e = e
+
+-- which of these are weak
+abbrev weak_in : List Static → WeakNames
+weak_in all x = is_weak (sort_in (static_sorts all) x)
+
+-- a name that isn't taken yet has the sort that it has among the items that are left
+abbrev AreLeft : List Static → List Identifier → List Item → Type 0
+AreLeft all taken items = (x : Identifier) → has_name taken x ≡ false → sort_in (static_sorts all) x ≡ sort_in (static_sorts (statics_in items)) x
+
+left_static : (all : List Static) (taken : List Identifier) (g : Static) (items : List Item) → AreLeft all taken (StaticItem g ∷ items) → AreLeft all (g.name ∷ taken) items
+left_static all taken g items left x new =
+    let both = or_false (bytes_eq x g.name) (has_name taken x) new in
+    left x both.1 ∙ ap (λ (b : Bool). if b then Some (static_sort g.type) else sort_in (static_sorts (statics_in items)) x) both.0
+
+left_function : (all : List Static) (taken : List Identifier) (f : Function) (items : List Item) → AreLeft all taken (FunctionItem f ∷ items) → AreLeft all (f.name ∷ taken) items
+left_function all taken f items left x new = left x (or_false (bytes_eq x f.name) (has_name taken x) new).1
+
 module _ (gives : (f : Function) (scope : Scope) → GivesWanted f scope) where
-  all_enter : (ss : Statics) (items : List Item) (taken : List Identifier) (scope : Scope) → SeesStatics scope ss → AllByRecursion (IsThere ss) (statics_in items) → AreUnbroken (item_places taken scope items) → AllByRecursion AcceptedFunction (functions_in items)
-      → AllByRecursion (Enters ss) (functions_in items)
-  all_enter ss [] taken scope sees there sorted regions = tt
-  all_enter ss (StaticItem g ∷ items) taken scope sees there sorted regions =
-      all_enter ss items (g.name ∷ taken) ((g.name, Global) ∷ scope) (sees_more ss scope g there.0 sees) there.1
-      (second_empty (broken_at (record { line = g.line; known = scope; taken = taken; returns = Void; form = StaticForm g })) (flat_map broken_at (item_places (g.name ∷ taken) ((g.name, Global) ∷ scope) items)) sorted) regions
-  all_enter ss (FunctionItem f ∷ items) taken scope sees there sorted regions =
+  all_enter : (ss : Statics) (all : List Static) (items : List Item) (taken : List Identifier) (scope : Scope) → SeesStatics scope ss → AreOfKind (weak_in all) scope → AreLeft all taken items → AllByRecursion (IsThere ss) (statics_in items) → AreUnbroken (item_places taken scope items) → AllByRecursion AcceptedFunction (functions_in items)
+      → AllByRecursion (Enters (weak_in all) ss) (functions_in items)
+  all_enter ss all [] taken scope sees kinds left there sorted regions = tt
+  all_enter ss all (StaticItem g ∷ items) taken scope sees kinds left there sorted regions =
+      let new = static_new taken scope g (first_empty (broken_at (static_place taken scope g)) (flat_map broken_at (item_places (g.name ∷ taken) ((g.name, static_sort g.type) ∷ scope) items)) sorted) in
+      all_enter ss all items (g.name ∷ taken) ((g.name, static_sort g.type) ∷ scope) (sees_more ss scope g there.0 sees)
+      (kinds_named (weak_in all) g.name (static_sort g.type) scope (static_kind (weak_in all g.name) g.type (ap is_weak (left g.name new ∙ front_same g.name (static_sort g.type) (static_sorts (statics_in items))))) kinds)
+      (left_static all taken g items left) there.1
+      (second_empty (broken_at (static_place taken scope g)) (flat_map broken_at (item_places (g.name ∷ taken) ((g.name, static_sort g.type) ∷ scope) items)) sorted) regions
+  all_enter ss all (FunctionItem f ∷ items) taken scope sees kinds left there sorted regions =
       let further = item_places (f.name ∷ taken) scope items in
       let body = places_of f.result (entry_scope f scope) (parameter_names f ++ map (λ s. s.0) scope) f.body in
       let own : AreUnbroken (head_place taken scope f ∷ body) = front_unbroken (function_places taken scope f) further sorted in
       let once = names_once taken scope f (first_empty (broken_at (head_place taken scope f)) (flat_map broken_at body) own) in (
-        (scope, sees, once, gives f scope (λ x s e. (sees x s e).0) once (second_empty (broken_at (head_place taken scope f)) (flat_map broken_at body) own) regions.0),
-        all_enter ss items (f.name ∷ taken) scope sees there (back_unbroken (function_places taken scope f) further sorted) regions.1,
+        (scope, sees, kinds, once, gives f scope (λ x s e. (sees x s e).0) once (second_empty (broken_at (head_place taken scope f)) (flat_map broken_at body) own) regions.0),
+        all_enter ss all items (f.name ∷ taken) scope sees kinds (left_function all taken f items left) there (back_unbroken (function_places taken scope f) further sorted) regions.1,
       )
 
   no_names : (ss : Statics) → SeesStatics [] ss
   no_names ss x s e = absurd (cc)
 
-  accepted_enters : (unit : SourceUnit) → IsSorted unit → HasRegions unit → AllByRecursion (Enters (null_statics unit)) (functions_of unit)
-  accepted_enters unit sorted regions = all_enter (null_statics unit) unit.items [] [] (no_names (null_statics unit)) (all_there (statics_of unit)) sorted regions
+  no_kinds : (weak : WeakNames) → AreOfKind weak []
+  no_kinds weak x s e = absurd (cc)
+
+  accepted_enters : (unit : SourceUnit) → IsSorted unit → HasRegions unit → AllByRecursion (Enters (weak_names unit) (null_statics unit)) (functions_of unit)
+  accepted_enters unit sorted regions =
+      all_enter (null_statics unit) (statics_of unit) unit.items [] [] (no_names (null_statics unit)) (no_kinds (weak_names unit)) (λ x e. refl) (all_there (statics_of unit)) sorted regions
 
   -- after each journal, each thread is at a point from which its tasks break no rule, or before an entry
   pub accepted_are_sound : (unit : SourceUnit) (w : World) → IsSorted unit → HasRegions unit → Loads unit w → HasCalls w → (journal : Journal) (s : State) (k : ℕ) (t : Thread) → replay unit w journal ≡ Some s → thread_at s k ≡ Some t

@@ -4,15 +4,14 @@ use Rattle.std.specs.Prelude.{slice_get, slice_set}
 use Rattle.std.specs.List.{AllByRecursion}
 use Rattle.std.specs.Option.{option_and_then}
 use Rattle.syntax.specs.Tree.{SourceUnit}
-use Rattle.semantics.specs.declared.journal.Entry.{Entry}
-use Rattle.semantics.specs.declared.journal.Entry.TheVariants.{Step}
-use Rattle.semantics.specs.Journal.{Journal}
+use Rattle.semantics.specs.Journal.{Entry, Step, Clearing, Journal}
 use Rattle.semantics.specs.Run.{replay_from}
 use Rattle.semantics.specs.Start.{start, waiting_thread}
 use Rattle.semantics.specs.State.{State, advanced, in_use, set_thread, thread_at, with_event}
-use Rattle.semantics.specs.Step.{can_step, step_of, world_step}
+use Rattle.semantics.specs.Step.{can_step, step_of, turn_step, clearing_step, world_step}
 use Rattle.semantics.specs.Thread.{Caller, Thread, Event, Quiet, PrintedNumber, Trapped, Advance, Advances, NoAdvance}
 use Rattle.semantics.specs.ThreadStep.{thread_step}
+use Rattle.semantics.specs.WeakReferences.{may_clear, with_cleared}
 use Rattle.semantics.specs.World.{Invocation, World}
 use Rattle.semantics_safety.proofs.CallersKept.{LeavesCallers, callers_left}
 
@@ -71,15 +70,28 @@ module _ (unit : SourceUnit) (w : World) where
   can_next s k refused next true h e = thread_next s k refused next (thread_at s k) refl h e
   can_next s k refused next false h e = absurd (cc)
 
-  step_next : (s : State) (e : Entry) (next : State) → AllByRecursion IsAlone s.threads → world_step unit w.classes s e ≡ Some next → AllByRecursion IsAlone next.threads
-  unfolding world_step
-  step_next s (Step k refused) next h e = can_next s k refused next (can_step w.classes s k) h e
+  turn_next : (s : State) (k : ℕ) (refused : Bool) (next : State) → AllByRecursion IsAlone s.threads → turn_step unit w.classes s k refused ≡ Some next → AllByRecursion IsAlone next.threads
+  unfolding turn_step
+  turn_next s k refused next h e = can_next s k refused next (can_step w.classes s k) h e
+
+  -- a clearing leaves the threads as they are
+  cleared_next : (s : State) (names : List ℕ) (next : State) → AllByRecursion IsAlone s.threads → clearing_step w s names ≡ Some next → AllByRecursion IsAlone next.threads
+  unfolding clearing_step
+  cleared_next s names next h e = by_test (may_clear w s names) e
+    where
+      by_test : (b : Bool) → (if b then Some (with_cleared names s) else None) ≡ Some next → AllByRecursion IsAlone next.threads
+      by_test true g = let same : with_cleared names s ≡ next = cc in subst (λ (x : State). AllByRecursion IsAlone x.threads) same h
+      by_test false g = absurd (cc)
+
+  step_next : (s : State) (e : Entry) (next : State) → AllByRecursion IsAlone s.threads → world_step unit w s e ≡ Some next → AllByRecursion IsAlone next.threads
+  step_next s (Step k refused) next h e = turn_next s k refused next h e
+  step_next s (Clearing names) next h e = cleared_next s names next h e
 
   from : (journal : Journal) (s end : State) → AllByRecursion IsAlone s.threads → replay_from unit w s journal ≡ Some end → AllByRecursion IsAlone end.threads
   from [] s end h e = let same : s ≡ end = cc in subst (λ (x : State). AllByRecursion IsAlone x.threads) same h
-  from (entry ∷ rest) s end h e = by_step (world_step unit w.classes s entry) refl (λ next g. from rest next end g) e
+  from (entry ∷ rest) s end h e = by_step (world_step unit w s entry) refl (λ next g. from rest next end g) e
     where
-      by_step : (o : Option State) → world_step unit w.classes s entry ≡ o → ((next : State) → AllByRecursion IsAlone next.threads → replay_from unit w next rest ≡ Some end → AllByRecursion IsAlone end.threads)
+      by_step : (o : Option State) → world_step unit w s entry ≡ o → ((next : State) → AllByRecursion IsAlone next.threads → replay_from unit w next rest ≡ Some end → AllByRecursion IsAlone end.threads)
           → option_and_then (λ next. replay_from unit w next rest) o ≡ Some end → AllByRecursion IsAlone end.threads
       by_step None is later g = absurd (cc)
       by_step (Some next) is later g = later next (step_next s entry next h is) g

@@ -8,14 +8,14 @@ use Rattle.base.specs.Element.{ElementType, JInt, JShort, JByte, JChar, same_ele
 use Rattle.syntax.specs.Parts.{names_in, elements_in, argument_expressions}
 use Rattle.syntax.specs.Tree.{Null, Expr, Number, Named, Variable, Element, Prefix, Binary, Paren, Argument, Value, Text, AddressOf}
 use Rattle.jni.specs.Access.{Access, ElementsCopy, ArrayView, CharsCopy, CharsView}
-use Rattle.jni.specs.Prototype.{ParameterKind, Nullable, NonNull, ClassObject, AnyArray, ObjectArray, StringObject, NumberArray, LocalVariable, StaticVariable, FieldID, IntNumber, TextBytes, ArrayVariable, BufferVariable, Mode, IsCopy}
-use Rattle.type_rules.specs.Sorts.{Sort, Jint, Flag, Ref, Global, Buffer, Array, sort_in, sort_of, is_jint, is_flag, is_ref, is_global, is_reference, is_field, is_array_of, is_buffer_for, is_null, name_sort, argument_fits, arguments_fit}
+use Rattle.jni.specs.Prototype.{ParameterKind, Nullable, NonNull, AnyReference, ClassObject, AnyArray, ObjectArray, StringObject, NumberArray, LocalVariable, StaticVariable, WeakVariable, FieldID, IntNumber, TextBytes, ArrayVariable, BufferVariable, Mode, IsCopy}
+use Rattle.type_rules.specs.Sorts.{Sort, Jint, Flag, Ref, Global, Weak, Buffer, Array, sort_in, sort_of, is_jint, is_flag, is_ref, is_global, is_weak, is_any_reference, is_reference, is_field, is_array_of, is_buffer_for, is_null, name_sort, argument_fits, arguments_fit}
 use Rattle.type_rules.specs.Sorts as sort
 use Rattle.type_rules.specs.SortRules.{is_mode, is_mode_parameter, modes_fit}
 use Rattle.region_rules.specs.RegionRules.{is_dead, is_untested, is_free}
 use Rattle.region_rules.specs.RegionStates.{RegionState, state_of}
 use Rattle.semantics.specs.Task.{operand}
-use Rattle.semantics_safety.specs.Points.{Point, ReferenceFits, ReferenceArgumentFits, GivenFits, OperandFits, OperandsFit}
+use Rattle.semantics_safety.specs.Points.{Point, ReferenceFits, AnyReferenceFits, ReferenceArgumentFits, GivenFits, OperandFits, OperandsFit}
 use Rattle.semantics_safety.proofs.ExpressionFits.{AreStated, MayRead, is_live, usable_if, expression_fits}
 
 -- ---- expressions together
@@ -77,6 +77,10 @@ pub is_a_global : (o : Option Sort) → is_global o ≡ true → o ≡ Some Glob
 is_a_global (Some Global) h = refl
 is_a_global o h = absurd (cc)
 
+pub is_a_weak : (o : Option Sort) → is_weak o ≡ true → o ≡ Some Weak
+is_a_weak (Some Weak) h = refl
+is_a_weak o h = absurd (cc)
+
 pub is_a_field : (o : Option Sort) → is_field o ≡ true → o ≡ Some sort.FieldId
 is_a_field (Some sort.FieldId) h = refl
 is_a_field o h = absurd (cc)
@@ -116,6 +120,12 @@ module _ (p : Point) (stated : AreStated p) where
   reference_fits x (Some Global) e h alive = tt
   reference_fits x o e h alive = absurd (cc)
 
+  any_reference_fits : (x : Identifier) (o : Option Sort) → sort_in p.names x ≡ o → is_any_reference o ≡ true → is_dead (state_of p.regions x) ≡ false → AnyReferenceFits p x o
+  any_reference_fits x (Some Ref) e h alive = is_live p stated x e alive
+  any_reference_fits x (Some Global) e h alive = tt
+  any_reference_fits x (Some Weak) e h alive = tt
+  any_reference_fits x o e h alive = absurd (cc)
+
   alive_name : (x : Identifier) → MayReadAll p.regions (Variable x ∷ []) → is_dead (state_of p.regions x) ≡ false
   alive_name x h = (neither (is_dead (state_of p.regions x)) false h.alive).0
 
@@ -133,6 +143,12 @@ module _ (p : Point) (stated : AreStated p) where
   reference_argument (Text t) h read = absurd (cc)
   reference_argument (AddressOf x) h read = absurd (cc)
 
+  -- the same, weak or not
+  any_argument : (a : Argument) → argument_fits p.names AnyReference a ≡ true → MayReadAll p.regions (argument_expressions a) → GivenFits p AnyReference a
+  any_argument (Value (Named Null)) h read = tt
+  any_argument (Value (Variable x)) h read = any_reference_fits x (sort_in p.names x) refl h (alive_name x read)
+  any_argument a h read = absurd (cc)
+
   mode_argument : (a : Argument) → IsRightMode Mode a → GivenFits p Mode a
   mode_argument (Value (Number n unsigned)) h = tt
   mode_argument (Value (Named c)) h = tt
@@ -145,6 +161,10 @@ module _ (p : Point) (stated : AreStated p) where
   static_argument : (a : Argument) → argument_fits p.names StaticVariable a ≡ true → GivenFits p StaticVariable a
   static_argument (Value (Variable x)) h = is_a_global (sort_in p.names x) h
   static_argument a h = absurd (cc)
+
+  weak_argument : (a : Argument) → argument_fits p.names WeakVariable a ≡ true → GivenFits p WeakVariable a
+  weak_argument (Value (Variable x)) h = is_a_weak (sort_in p.names x) h
+  weak_argument a h = absurd (cc)
 
   field_argument : (a : Argument) → argument_fits p.names FieldID a ≡ true → GivenFits p FieldID a
   field_argument (Value (Named c)) h = tt
@@ -229,6 +249,8 @@ module _ (p : Point) (stated : AreStated p) where
       same_as_nullable (AddressOf x) h = h
   argument_is LocalVariable a h mode read tested = local_argument a h read
   argument_is StaticVariable a h mode read tested = static_argument a h
+  argument_is WeakVariable a h mode read tested = weak_argument a h
+  argument_is AnyReference a h mode read tested = any_argument a h read
   argument_is FieldID a h mode read tested = field_argument a h
   argument_is IntNumber a h mode read tested = number_argument a h read
   argument_is TextBytes a h mode read tested = text_argument a h

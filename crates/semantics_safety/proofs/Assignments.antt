@@ -13,8 +13,8 @@ use Rattle.syntax.specs.Tree as tree
 use Rattle.syntax.specs.Tree.{ResultType, Expr, Argument, Call, RightSide, FromExpr, FromCall, Stmt}
 use Rattle.jni.specs.Access.{Access}
 use Rattle.jni.specs.JniFunction.{JniFunction, GetBuffer, prototype}
-use Rattle.jni.specs.Prototype.{ResultKind, NewLocal, NewGlobal, GivesFlag, GivesInt, GivesField, GivesNothing, GivesBuffer}
-use Rattle.type_rules.specs.Sorts.{Sort, Word, Jint, Flag, Ref, Global, Buffer, sort_in, sort_of, is_buffer_for, is_ref, is_field, is_null, name_sort}
+use Rattle.jni.specs.Prototype.{ResultKind, NewLocal, NewGlobal, NewWeak, GivesFlag, GivesInt, GivesField, GivesNothing, GivesBuffer}
+use Rattle.type_rules.specs.Sorts.{Sort, Word, Jint, Flag, Ref, Global, Weak, Buffer, sort_in, sort_of, is_buffer_for, is_ref, is_field, is_null, name_sort}
 use Rattle.type_rules.specs.Sorts as sort
 use Rattle.type_rules.specs.SortRules as rules
 use Rattle.type_rules.specs.SortRules.{result_fits, call_fits, value_sets}
@@ -262,6 +262,10 @@ is_a_global : (o : Option Sort) → result_fits o NewGlobal ≡ true → o ≡ S
 is_a_global (Some Global) h = refl
 is_a_global o h = absurd (cc)
 
+is_a_weak : (o : Option Sort) → result_fits o NewWeak ≡ true → o ≡ Some Weak
+is_a_weak (Some Weak) h = refl
+is_a_weak o h = absurd (cc)
+
 is_a_field : (o : Option Sort) → is_field o ≡ true → o ≡ Some sort.FieldId
 is_a_field (Some sort.FieldId) h = refl
 is_a_field o h = absurd (cc)
@@ -324,6 +328,7 @@ module _ (p : Point) (taken : List Identifier) (returns : ResultType) (known : I
     assigned o e GivesFlag is fit = subst (λ (o : Option Sort). AssignsResult later o x GivesFlag get k) (sym (is_a_flag o fit)) (stateless_same later taken after_known x (set_to (FromCall c)) k Flag (e ∙ is_a_flag o fit) (λ h. h) now)
     assigned o e GivesField is fit = subst (λ (o : Option Sort). AssignsResult later o x GivesField get k) (sym (is_a_field o fit)) (stateless_same later taken after_known x (set_to (FromCall c)) k sort.FieldId (e ∙ is_a_field o fit) (λ h. h) now)
     assigned o e NewGlobal is fit = subst (λ (o : Option Sort). AssignsResult later o x NewGlobal get k) (sym (is_a_global o fit)) (stateless_same later taken after_known x (set_to (FromCall c)) k Global (e ∙ is_a_global o fit) (λ h. h) now)
+    assigned o e NewWeak is fit = subst (λ (o : Option Sort). AssignsResult later o x NewWeak get k) (sym (is_a_weak o fit)) (stateless_same later taken after_known x (set_to (FromCall c)) k Weak (e ∙ is_a_weak o fit) (λ h. h) now)
     assigned o e NewLocal is fit =
         let ref = is_a_ref o fit in
         subst (λ (o : Option Sort). AssignsResult later o x NewLocal get k) (sym ref) (may_set p taken known line x (FromCall c) obeys (e ∙ ref), reference_set later taken after_known x (FromCall c) k (e ∙ ref) now)
@@ -368,6 +373,7 @@ module _ (p : Point) (taken : List Identifier) (known : IsKnown p taken) (line :
       null (Some Ref) at' (first_so (is_null e) (is_some (name_sort p.names e)) fit uncopied)
       (may_set p taken known line x (FromExpr e) obeys at', reference_set p taken known x (FromExpr e) k at' now)
   valued (Some Global) at' fit uncopied = null (Some Global) at' fit (stateless_same p taken known x (set_to (FromExpr e)) k Global at' (λ h. h) now)
+  valued (Some Weak) at' fit uncopied = null (Some Weak) at' fit (stateless_same p taken known x (set_to (FromExpr e)) k Weak at' (λ h. h) now)
   valued (Some sort.FieldId) at' fit uncopied = null (Some sort.FieldId) at' fit (stateless_same p taken known x (set_to (FromExpr e)) k sort.FieldId at' (λ h. h) now)
   valued o at' fit uncopied = absurd (cc)
 

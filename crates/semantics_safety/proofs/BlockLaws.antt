@@ -4,7 +4,7 @@ use Rattle.base.specs.Bytes.{Identifier}
 use Rattle.syntax.specs.Tree.{Stmt, If, IfElse, While, Block, End, Next, TestExpr, TestCall, Call}
 use Rattle.jni.specs.Access.{Access}
 use Rattle.jni.specs.JniFunction.{JniFunction, prototype, function_named}
-use Rattle.jni.specs.Prototype.{ResultKind, NewLocal, NewGlobal, GivesFlag, GivesInt, GivesField, GivesBuffer}
+use Rattle.jni.specs.Prototype.{ResultKind, NewLocal, NewGlobal, NewWeak, GivesFlag, GivesInt, GivesField, GivesBuffer}
 use Rattle.type_rules.specs.Sorts.{Sort, sort_in}
 use Rattle.type_rules.specs.Sorts as sort
 use Rattle.region_rules.specs.RegionStates.{get_of}
@@ -33,6 +33,7 @@ null_declared_more k l h p (BufferKind t) x r = (r.0, (r.1.0, h _ r.1.1))
 null_assigned_more : (k l : Point → Type 0) → k ⇒ l → (p : Point) (s : Option Sort) (x : Identifier) → AssignsNull p s x k → AssignsNull p s x l
 null_assigned_more k l h p (Some sort.Ref) x r = (r.0, h _ r.1)
 null_assigned_more k l h p (Some sort.Global) x r = h p r
+null_assigned_more k l h p (Some sort.Weak) x r = h p r
 null_assigned_more k l h p (Some sort.FieldId) x r = h p r
 null_assigned_more k l h p s x r = absurd r
 
@@ -49,6 +50,7 @@ result_assigned_more k l h p (Some sort.Jint) x GivesInt get r = h p r
 result_assigned_more k l h p (Some sort.Flag) x GivesFlag get r = h p r
 result_assigned_more k l h p (Some sort.Ref) x NewLocal get r = (r.0, h _ r.1)
 result_assigned_more k l h p (Some sort.Global) x NewGlobal get r = h p r
+result_assigned_more k l h p (Some sort.Weak) x NewWeak get r = h p r
 result_assigned_more k l h p (Some sort.FieldId) x GivesField get r = h p r
 result_assigned_more k l h p (Some (sort.Buffer t writable)) x (GivesBuffer access) get r = (r.0, r.1, h _ r.2)
 result_assigned_more k l h p s x result get r = absurd r

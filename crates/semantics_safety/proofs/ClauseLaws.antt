@@ -10,7 +10,7 @@ use Rattle.syntax.specs.Tree as tree
 use Rattle.syntax.specs.Tree.{Argument}
 use Rattle.jni.specs.Access.{Access, is_critical}
 use Rattle.jni.specs.JniFunction.{JniFunction, prototype}
-use Rattle.jni.specs.Prototype.{ParameterKind, FieldID, IntNumber, TextBytes, LocalVariable, StaticVariable, ArrayVariable, BufferVariable, Mode, IsCopy}
+use Rattle.jni.specs.Prototype.{ParameterKind, FieldID, IntNumber, TextBytes, AnyReference, LocalVariable, StaticVariable, WeakVariable, ArrayVariable, BufferVariable, Mode, IsCopy}
 use Rattle.type_rules.specs.Sorts.{Sort, sort_in}
 use Rattle.type_rules.specs.Sorts as sort
 use Rattle.type_rules.specs.SortGroups.{IsNumberSort}
@@ -24,11 +24,12 @@ use Rattle.semantics.specs.Term.{Term, Done, Read, IsNull, Prefix, And, Or, Bina
 use Rattle.semantics.specs.Thread.{Frame}
 use Rattle.semantics.specs.Variable.{Variable, LocalRef, Elements, Buffer, NoBuffer, Copy, View, StaticReference, Variables, Statics, viewed}
 use Rattle.semantics_safety.specs.Owners.{Owners, IsOwn}
-use Rattle.semantics_safety.specs.Points.{Point, AreOnce, IsLive, IsUsable, NullTestFits, ElementsFit, ReferenceFits, HasSort, ReferenceArgumentFits, NameFits, FieldArgumentFits, ModeFits, CopyFits, TextFits, GivenFits, OperandFits, OperandsFit, is_copy, owns, owners}
+use Rattle.semantics_safety.specs.Points.{Point, AreOnce, IsLive, IsUsable, NullTestFits, ElementsFit, ReferenceFits, AnyReferenceFits, HasSort, ReferenceArgumentFits, AnyReferenceArgumentFits, NameFits, FieldArgumentFits, ModeFits, CopyFits, TextFits, GivenFits, OperandFits, OperandsFit, is_copy, owns, owners}
 use Rattle.semantics_safety.specs.StepSafe.{MayMeetView, is_lent, references_at, IsAlive}
 use Rattle.semantics_safety.specs.Stands.{VariableFits, IsOf, Shows, Stands}
 use Rattle.semantics_safety.specs.Used.{term_names, argument_names, operand_names, task_names}
 use Rattle.semantics_safety.specs.Wanted.{Holds, HasNoView, MeetsViews, MayReturnFrom, ReturnedFits, ReturnFits, Runs}
+use Rattle.semantics_safety.specs.WeakNames.{WeakNames}
 use Rattle.semantics_safety.proofs.NameLaws.{front_same, front_other}
 
 -- ---- all variables
@@ -50,7 +51,7 @@ none_lent_in : (vs : Variables) → AllByRecursion (λ (e : Identifier × Variab
 none_lent_in [] h = refl
 none_lent_in (e ∷ rest) h = ap (λ (b : Bool). b || list_any (λ (v : Identifier × Variable). is_lent v.1) rest) h.0 ∙ none_lent_in rest h.1
 
-module _ (ss : Statics) (vs : Variables) (frames : List Frame) (p : Point) {own : Owners} (stands : Stands own ss vs frames p) where
+module _ (ss : Statics) (vs : Variables) (frames : List Frame) (p : Point) {weak : WeakNames} {own : Owners} (stands : Stands weak own ss vs frames p) where
   -- ---- views
 
   view_of : (critical : Bool) (m n : ℕ) (b : Buffer) → IsOf critical m b → b ≡ View n → critical ≡ true
@@ -189,6 +190,7 @@ module _ (ss : Statics) (vs : Variables) (frames : List Frame) (p : Point) {own 
   other_alive : (x : Identifier) (s : Sort) (o : Option Variable) (g : Option StaticReference) → (s ≡ sort.Ref → ⊥) → VariableFits s o g → Serves x o
   other_alive x sort.Ref o g away h = absurd (away refl)
   other_alive x sort.Global o g away (none, h) = subst (Serves x) (sym none) (tt, tt)
+  other_alive x sort.Weak o g away (none, h) = subst (Serves x) (sym none) (tt, tt)
   other_alive x sort.FieldId o g away (f, h) = subst (Serves x) (sym h) (tt, tt)
   other_alive x (sort.Buffer t w) o g away (b, h) = subst (Serves x) (sym h) (tt, tt)
   other_alive x (sort.Array t size) o g away (zs, h) = subst (Serves x) (sym h) (tt, tt)
@@ -217,6 +219,12 @@ module _ (ss : Statics) (vs : Variables) (frames : List Frame) (p : Point) {own 
   reference_alive x (Some sort.Global) e h = other_alive x sort.Global (lookup x vs) (lookup x ss) (λ c. cc) (stands.sorts x sort.Global e)
   reference_alive x o e h = absurd h
 
+  any_reference_alive : (x : Identifier) (o : Option Sort) → sort_in p.names x ≡ o → AnyReferenceFits p x o → Alive x
+  any_reference_alive x (Some sort.Ref) e h = live_alive x h
+  any_reference_alive x (Some sort.Global) e h = other_alive x sort.Global (lookup x vs) (lookup x ss) (λ c. cc) (stands.sorts x sort.Global e)
+  any_reference_alive x (Some sort.Weak) e h = other_alive x sort.Weak (lookup x vs) (lookup x ss) (λ c. cc) (stands.sorts x sort.Weak e)
+  any_reference_alive x o e h = absurd h
+
   both_alive : (xs ys : List Identifier) → AllByRecursion Alive xs → AllByRecursion Alive ys → AllByRecursion Alive (xs ++ ys)
   both_alive [] ys h g = g
   both_alive (x ∷ xs) ys h g = (h.0, both_alive xs ys h.1 g)
@@ -243,6 +251,11 @@ module _ (ss : Statics) (vs : Variables) (frames : List Frame) (p : Point) {own 
   reference_argument_alive (tree.Value (tree.Named tree.Null)) h = tt
   reference_argument_alive (tree.Value (tree.Variable x)) h = (reference_alive x (sort_in p.names x) refl h, tt)
   reference_argument_alive a h = absurd h
+
+  any_argument_alive : (a : Argument) → AnyReferenceArgumentFits p a → AllByRecursion Alive (argument_names a)
+  any_argument_alive (tree.Value (tree.Named tree.Null)) h = tt
+  any_argument_alive (tree.Value (tree.Variable x)) h = (any_reference_alive x (sort_in p.names x) refl h, tt)
+  any_argument_alive a h = absurd h
 
   sort_alive : (x : Identifier) (s : Sort) → (s ≡ sort.Ref → ⊥) → sort_in p.names x ≡ Some s → Alive x
   sort_alive x s away e = other_alive x s (lookup x vs) (lookup x ss) away (stands.sorts x s e)
@@ -274,6 +287,8 @@ module _ (ss : Statics) (vs : Variables) (frames : List Frame) (p : Point) {own 
   given_alive TextBytes a h = text_alive a h
   given_alive LocalVariable a h = named_alive (IsLive p) a live_alive h
   given_alive StaticVariable a h = named_alive (λ x. sort_in p.names x ≡ Some sort.Global) a (λ x e. sort_alive x sort.Global (λ c. cc) e) h
+  given_alive WeakVariable a h = named_alive (λ x. sort_in p.names x ≡ Some sort.Weak) a (λ x e. sort_alive x sort.Weak (λ c. cc) e) h
+  given_alive AnyReference a h = any_argument_alive a h
   given_alive FieldID a h = field_argument_alive a h
   given_alive (ArrayVariable t) a h = named_alive (λ x. (size : ℕ) × (sort_in p.names x ≡ Some (sort.Array t size))) a (λ x e. sort_alive x (sort.Array t e.0) (λ c. cc) e.1) h
   given_alive (BufferVariable access) a h = named_alive (IsUsable p) a usable_alive h

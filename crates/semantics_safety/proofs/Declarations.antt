@@ -7,7 +7,7 @@ use Rattle.syntax.specs.Tree as tree
 use Rattle.syntax.specs.Tree.{VariableType, UInt32, JIntVariable, JSize, JBoolean, JFieldId, ReferenceVariable, Expr, Argument, Call, FromExpr, FromCall}
 use Rattle.jni.specs.Access.{Access}
 use Rattle.jni.specs.JniFunction.{JniFunction, GetBuffer, prototype}
-use Rattle.jni.specs.Prototype.{ResultKind, NewLocal, NewGlobal, GivesFlag, GivesInt, GivesField, GivesBuffer}
+use Rattle.jni.specs.Prototype.{ResultKind, NewLocal, NewGlobal, NewWeak, GivesFlag, GivesInt, GivesField, GivesBuffer}
 use Rattle.type_rules.specs.Sorts.{Sort, Word, Jint, Flag, Ref, Buffer, sort_of, is_word, is_null, name_sort}
 use Rattle.type_rules.specs.Sorts as sort
 use Rattle.type_rules.specs.SortRules as rules
@@ -86,12 +86,21 @@ no_global_result JBoolean h = cc
 no_global_result JFieldId h = cc
 no_global_result (ReferenceVariable r) h = cc
 
+no_weak_result : (t : VariableType) → result_fits (Some (variable_sort t)) NewWeak ≡ true → ⊥
+no_weak_result UInt32 h = cc
+no_weak_result JIntVariable h = cc
+no_weak_result JSize h = cc
+no_weak_result JBoolean h = cc
+no_weak_result JFieldId h = cc
+no_weak_result (ReferenceVariable r) h = cc
+
 module _ (q : Point) (taken : List Identifier) (known : IsKnown q taken) (x : Identifier) (new : has_name taken x ≡ false) (k : Point → Type 0) where
   declared_result : (line : ℕ) (c : Call) (t : VariableType) (result : ResultKind) (get : Option (Access × Option Identifier)) → result_fits (Some (variable_sort t)) result ≡ true
       → (IsKnown (record { names = (x, variable_sort t) ∷ q.names; regions = with_set q.regions (tree.Declare line t x (FromCall c)) }) (taken ++ x ∷ []) → k (record { names = (x, variable_sort t) ∷ q.names; regions = with_set q.regions (tree.Declare line t x (FromCall c)) }))
       → DeclaresResult q (kind_of t) x result get k
   declared_result line c t (GivesBuffer access) get fit h = absurd (no_buffer_result t access fit)
   declared_result line c t NewGlobal get fit h = absurd (no_global_result t fit)
+  declared_result line c t NewWeak get fit h = absurd (no_weak_result t fit)
   declared_result line c JIntVariable GivesInt get fit h = (is_new q taken x known new, h (known_named q taken known x new Jint tt))
   declared_result line c JSize GivesInt get fit h = (is_new q taken x known new, h (known_named q taken known x new Jint tt))
   declared_result line c JBoolean GivesFlag get fit h = (is_new q taken x known new, h (known_named q taken known x new Flag tt))

@@ -29,18 +29,19 @@ use Rattle.semantics_safety.specs.Points.{Point, value_sort, ElementsFit, HasSor
 use Rattle.semantics_safety.specs.Stands.{Stands}
 use Rattle.semantics_safety.specs.Wanted.{at, Teaches, Nothing, ForNull, ForOther, IsTrueNow, IsFalseNow, Closes, Outside, MayReturnFrom, ReturnedFits, ReturnFits, SetsNumber, ResultGoes, CallFits, CallKeeps, operand_argument, call_seen, RunsTest, RunsBlock, Turns, Runs, GoesOn}
 use Rattle.semantics_safety.specs.Follows.{Follows}
+use Rattle.semantics_safety.specs.WeakNames.{WeakNames}
 use Rattle.semantics_safety.proofs.Values.{ValueFits, IndexFits, index_fits}
 use Rattle.semantics_safety.proofs.TermLaws.{TermFits, Answers, reduce_fits}
 use Rattle.semantics_safety.proofs.BlockLaws.{block_goes}
 use Rattle.semantics_safety.proofs.SightLaws.{sees}
 use Rattle.semantics_safety.proofs.PointLaws.{stands_after, stands_null, stands_usable}
 
-module _ (heap : Heap) (ss : Statics) (vs : Variables) (frames : List Frame) (p : Point) {own : Owners} (stands : Stands own ss vs frames p) (rest : List Task) where
+module _ (heap : Heap) (ss : Statics) (vs : Variables) (frames : List Frame) (p : Point) {weak : WeakNames} {own : Owners} (stands : Stands weak own ss vs frames p) (rest : List Task) where
   abbrev sight : Sight
   sight = seen vs ss heap
 
   abbrev Goes : Effect → Type 0
-  Goes e = Follows own sight ss vs frames p rest e
+  Goes e = Follows weak own sight ss vs frames p rest e
 
   -- ---- tasks with an expression
 
@@ -98,7 +99,7 @@ module _ (heap : Heap) (ss : Statics) (vs : Variables) (frames : List Frame) (p 
 
   -- what a test that was worked out has taught
   abbrev Learns : (on_true on_false : Point → Type 0) → Term → Type 0
-  Learns on_true on_false u = (q : Point) × Stands own ss vs frames q × RunsTest u on_true on_false q
+  Learns on_true on_false u = (q : Point) × Stands weak own ss vs frames q × RunsTest u on_true on_false q
 
   null_found : (x : Identifier) (on_true on_false : Point → Type 0) (b : Bool) → sight.is_null x ≡ Gives b → on_true (at p (with_changed p.regions x made_free)) → on_false (at p (with_changed p.regions x made_usable)) → Learns on_true on_false (Done (Truth b))
   null_found x on_true on_false true e h g = (at p (with_changed p.regions x made_free), stands_null ss vs frames p stands x (lookup x ss) e, (refl, (at p (with_changed p.regions x made_free), at p (with_changed p.regions x made_usable), IsTrueNow (at p (with_changed p.regions x made_usable)), h, g)))

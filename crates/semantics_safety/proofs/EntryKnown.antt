@@ -4,11 +4,11 @@ use Rattle.std.specs.List.{cons_option}
 use Rattle.std.specs.Str.{bytes_eq}
 use Rattle.base.specs.Bytes.{Identifier, ByName, lookup}
 use Rattle.syntax.specs.Tree.{ParameterType, IntParameter, ReferenceParameter, Parameter, Function, JClass}
-use Rattle.type_rules.specs.Sorts.{Sort, Jint, Ref, Global, Truth, Buffer, Scope, sort_in}
+use Rattle.type_rules.specs.Sorts.{Sort, Jint, Ref, Global, Weak, Truth, Buffer, Scope, sort_in}
 use Rattle.type_rules.specs.SortRules.{parameter_sort, has_name, has_repeated}
 use Rattle.region_rules.specs.RegionStates.{VariableState, BufferState, ReferenceAt, BufferIn}
-use Rattle.semantics_safety.proofs.Accepted.{AreGlobals}
-use Rattle.semantics_safety.proofs.EntryPoints.{known, known_at, known_is, once_known, absent_known, or_false, entry_scope, entry_point, HasNamesOnce}
+use Rattle.semantics_safety.proofs.Accepted.{AreStatics}
+use Rattle.semantics_safety.proofs.EntryPoints.{known, known_at, known_is, once_known, absent_known, or_false, entry_scope, entry_point, IsStaticSort, HasNamesOnce}
 use Rattle.semantics_safety.proofs.KnownPoints.{IsKnown, held_of}
 use Rattle.semantics_safety.specs.Points.{Point}
 use Rattle.syntax.specs.Parts.{parameter_names}
@@ -27,9 +27,9 @@ one_reference (ReferenceParameter r) x y inner states true e at later = ap (λ (
 one_reference (ReferenceParameter r) x y inner states false e at later = ap (λ (b : Bool). if b then Some (ReferenceAt 1 true) else lookup x states) e ∙ later at
 
 -- a reference has its state
-pub reference_known : (ps : List Parameter) (scope : Scope) (x : Identifier) → AreGlobals scope → sort_in (scope_of ps scope) x ≡ Some Ref → lookup x (known ps) ≡ Some (ReferenceAt 1 true)
-reference_known [] scope x globals e = absurd (let c : Ref ≡ Global = globals x Ref e in cc)
-reference_known (p ∷ ps) scope x globals e = one_reference p.type x p.name (sort_in (scope_of ps scope) x) (known ps) (bytes_eq x p.name) refl e (reference_known ps scope x globals)
+pub reference_known : (ps : List Parameter) (scope : Scope) (x : Identifier) → AreStatics scope → sort_in (scope_of ps scope) x ≡ Some Ref → lookup x (known ps) ≡ Some (ReferenceAt 1 true)
+reference_known [] scope x statics e = absurd (statics x Ref e)
+reference_known (p ∷ ps) scope x statics e = one_reference p.type x p.name (sort_in (scope_of ps scope) x) (known ps) (bytes_eq x p.name) refl e (reference_known ps scope x statics)
 
 one_taken : (b : Bool) (s t : Sort) (inner : Option Sort) (c : Bool) → (if b then Some t else inner) ≡ Some s → (inner ≡ Some s → c ≡ true) → (b || c) ≡ true
 one_taken true s t inner c e later = refl
@@ -67,6 +67,7 @@ abbrev pub IsEntrySort : Sort → Type 0
 IsEntrySort Jint = Unit {0}
 IsEntrySort Ref = Unit {0}
 IsEntrySort Global = Unit {0}
+IsEntrySort Weak = Unit {0}
 IsEntrySort s = ⊥
 
 parameter_entry : (type : ParameterType) → IsEntrySort (parameter_sort type)
@@ -77,22 +78,27 @@ one_entry : (b : Bool) (s t : Sort) (inner : Option Sort) → (if b then Some t 
 one_entry true s t inner e h later = let same : t ≡ s = cc in subst IsEntrySort same h
 one_entry false s t inner e h later = later e
 
-pub entry_sort : (ps : List Parameter) (scope : Scope) (x : Identifier) (s : Sort) → AreGlobals scope → sort_in (scope_of ps scope) x ≡ Some s → IsEntrySort s
-entry_sort [] scope x s globals e = subst IsEntrySort (sym (globals x s e)) tt
-entry_sort (p ∷ ps) scope x s globals e = one_entry (bytes_eq x p.name) s (parameter_sort p.type) (sort_in (scope_of ps scope) x) e (parameter_entry p.type) (entry_sort ps scope x s globals)
+static_entry : (s : Sort) → IsStaticSort s → IsEntrySort s
+static_entry Global h = tt
+static_entry Weak h = tt
+static_entry s h = absurd h
+
+pub entry_sort : (ps : List Parameter) (scope : Scope) (x : Identifier) (s : Sort) → AreStatics scope → sort_in (scope_of ps scope) x ≡ Some s → IsEntrySort s
+entry_sort [] scope x s statics e = static_entry s (statics x s e)
+entry_sort (p ∷ ps) scope x s statics e = one_entry (bytes_eq x p.name) s (parameter_sort p.type) (sort_in (scope_of ps scope) x) e (parameter_entry p.type) (entry_sort ps scope x s statics)
 
 no_held : (access : Access) (a : Identifier) (b : BufferState) → BufferIn b ≡ ReferenceAt 1 true → ⊥
 no_held access a b e = cc
 
 -- what is known at the entry of a function
-pub entry_known : (f : Function) (scope : Scope) → AreGlobals scope → HasNamesOnce f scope → IsKnown (entry_point f scope) (parameter_names f ++ map (λ s. s.0) scope)
-entry_known f scope globals once =
+pub entry_known : (f : Function) (scope : Scope) → AreStatics scope → HasNamesOnce f scope → IsKnown (entry_point f scope) (parameter_names f ++ map (λ s. s.0) scope)
+entry_known f scope statics once =
     let ps : List Parameter = record { type = ReferenceParameter JClass; name = f.class_name } ∷ f.parameters in
     subst (λ (states : ByName VariableState). IsKnown (record { names = entry_scope f scope; regions = record { variables = (f.class_name, ReferenceAt 1 true) ∷ states; frames = 1 } }) (parameter_names f ++ map (λ s. s.0) scope)) (sym (known_is f.parameters)) (record {
       stated = record {
-        no_truth = λ x e. entry_sort ps scope x Truth globals e;
-        reference = λ x e. (1, true, reference_known ps scope x globals e);
-        buffer = λ x t writable e. absurd (entry_sort ps scope x (Buffer t writable) globals e);
+        no_truth = λ x e. entry_sort ps scope x Truth statics e;
+        reference = λ x e. (1, true, reference_known ps scope x statics e);
+        buffer = λ x t writable e. absurd (entry_sort ps scope x (Buffer t writable) statics e);
       };
       named_taken = names_taken ps scope;
       known_taken = λ x v e. names_taken ps scope x Ref (state_named ps scope x v once e).1;

@@ -9,7 +9,7 @@ use Rattle.base.specs.Bytes.{Identifier, ByName, lookup}
 use Rattle.base.specs.Element.{ElementType}
 use Rattle.syntax.specs.Parts.{parameter_names}
 use Rattle.syntax.specs.Tree.{ParameterType, IntParameter, ReferenceParameter, Parameter, Function}
-use Rattle.type_rules.specs.Sorts.{Sort, Ref, Global, Scope, sort_in}
+use Rattle.type_rules.specs.Sorts.{Sort, Ref, Global, Weak, Scope, sort_in}
 use Rattle.type_rules.specs.SortRules.{parameter_sort, has_name, has_repeated}
 use Rattle.region_rules.specs.RegionStates.{VariableState, ReferenceAt, BufferIn, parameter_state, state_at_entry}
 use Rattle.semantics.specs.Activation.{parameter_variable, parameter_variables, named_object, entry_frame}
@@ -22,9 +22,10 @@ use Rattle.semantics_safety.specs.Owners.{holders, level_held}
 use Rattle.semantics_safety.specs.Points.{Point, AreOnce, is_copy, owns}
 use Rattle.semantics_safety.specs.Stands.{VariableFits, Shows, copies, Stands}
 use Rattle.semantics_safety.specs.StepSafe.{references_at}
+use Rattle.semantics_safety.specs.WeakNames.{WeakNames, AreOfKind, HoldWeakly, IsOfKind}
 use Rattle.semantics_safety.proofs.FrameLaws.{both_true}
 use Rattle.semantics_safety.proofs.NameLaws.{front_same, front_other}
-use Rattle.semantics_safety.proofs.SetLaws.{none_some}
+use Rattle.semantics_safety.proofs.SetLaws.{none_some, kinds_named}
 
 -- ---- the point
 
@@ -36,9 +37,15 @@ entry_scope f statics = (f.class_name, Ref) ∷ map {B = Identifier × Sort} (λ
 abbrev pub entry_point : Function → Scope → Point
 entry_point f statics = record { names = entry_scope f statics; regions = state_at_entry f }
 
+-- the sorts of statics
+abbrev pub IsStaticSort : Sort → Type 0
+IsStaticSort Global = Unit {0}
+IsStaticSort Weak = Unit {0}
+IsStaticSort s = ⊥
+
 -- the statics above the function are there
 abbrev pub SeesStatics : Scope → Statics → Type 0
-SeesStatics scope ss = (x : Identifier) (s : Sort) → sort_in scope x ≡ Some s → (s ≡ Global) × ((r : StaticReference) × (lookup x ss ≡ Some r))
+SeesStatics scope ss = (x : Identifier) (s : Sort) → sort_in scope x ≡ Some s → IsStaticSort s × ((r : StaticReference) × (lookup x ss ≡ Some r))
 
 -- no name occurs twice
 abbrev pub HasNamesOnce : Function → Scope → Type 0
@@ -167,7 +174,12 @@ one_fits (ReferenceParameter t) (Refers r) g h = (1, r, refl)
 
 module _ (ss : Statics) (scope : Scope) (sees : SeesStatics scope ss) where
   static_fits : (x : Identifier) (s : Sort) → sort_in scope x ≡ Some s → VariableFits s None (lookup x ss)
-  static_fits x s e = let found = sees x s e in subst (λ (t : Sort). VariableFits t None (lookup x ss)) (sym found.0) (refl, (found.1.0, found.1.1))
+  static_fits x s e = let found = sees x s e in by_sort s found.0 found.1
+    where
+      by_sort : (t : Sort) → IsStaticSort t → ((r : StaticReference) × (lookup x ss ≡ Some r)) → VariableFits t None (lookup x ss)
+      by_sort Global h there = (refl, (there.0, there.1))
+      by_sort Weak h there = (refl, (there.0, there.1))
+      by_sort t h there = absurd h
 
   parameters_fit : (ps : List Parameter) (vs : List ObjectValue) → fit_parameters ps vs ≡ true → (x : Identifier) (s : Sort) → sort_in (map {B = Identifier × Sort} (λ p. (p.name, parameter_sort p.type)) ps ++ scope) x ≡ Some s
       → VariableFits s (lookup x (listed ps vs)) (lookup x ss)
@@ -279,7 +291,16 @@ none_owned vs level n ((x, v) ∷ states) h each = count_none (owns vs level n (
 
 -- ---- the whole
 
-module _ (ss : Statics) (scope : Scope) (f : Function) (class : ℕ) (arguments : List ObjectValue) (sees : SeesStatics scope ss) (fits : fit_parameters f.parameters arguments ≡ true) (once : HasNamesOnce f scope) where
+parameter_kind : (weak : Bool) (type : ParameterType) → IsOfKind weak (parameter_sort type)
+parameter_kind weak IntParameter = tt
+parameter_kind weak (ReferenceParameter r) = tt
+
+parameters_kinds : (weak : WeakNames) (ps : List Parameter) (scope : Scope) → AreOfKind weak scope → AreOfKind weak (map {B = Identifier × Sort} (λ p. (p.name, parameter_sort p.type)) ps ++ scope)
+parameters_kinds weak [] scope kinds = kinds
+parameters_kinds weak (p ∷ ps) scope kinds =
+    kinds_named weak p.name (parameter_sort p.type) (map {B = Identifier × Sort} (λ p. (p.name, parameter_sort p.type)) ps ++ scope) (parameter_kind (weak p.name) p.type) (parameters_kinds weak ps scope kinds)
+
+module _ (weak : WeakNames) (ss : Statics) (scope : Scope) (f : Function) (class : ℕ) (arguments : List ObjectValue) (sees : SeesStatics scope ss) (kinds : AreOfKind weak scope) (only : HoldWeakly weak ss) (fits : fit_parameters f.parameters arguments ≡ true) (once : HasNamesOnce f scope) where
   abbrev entry_variables : Variables
   entry_variables = (f.class_name, LocalRef 1 (Some class)) ∷ listed f.parameters arguments
 
@@ -310,7 +331,7 @@ module _ (ss : Statics) (scope : Scope) (f : Function) (class : ℕ) (arguments 
       (count_more (is_copy 1 n (lookup f.class_name entry_variables)) (n == class) (f.class_name, ReferenceAt 1 true) (filter (owns entry_variables 1 n) (known f.parameters)) class (filter (λ j. n == j) (filter_map named_object arguments))
       (ap (is_copy 1 n) each.0 ∙ turned class n) (known_backed entry_variables n f.parameters arguments fits each.1))
 
-  stands_so : Stands (holders entry_variables) ss entry_variables entry_frames (record { names = entry_scope f scope; regions = record { variables = entry_known; frames = 1 } })
+  stands_so : Stands weak (holders entry_variables) ss entry_variables entry_frames (record { names = entry_scope f scope; regions = record { variables = entry_known; frames = 1 } })
   stands_so = record {
     sorts = λ x s e.
         first_fits (bytes_eq x f.class_name) s Ref (LocalRef 1 (Some class)) (sort_in (map {B = Identifier × Sort} (λ p. (p.name, parameter_sort p.type)) f.parameters ++ scope) x) (lookup x (listed f.parameters arguments)) (lookup x ss) e
@@ -324,10 +345,12 @@ module _ (ss : Statics) (scope : Scope) (f : Function) (class : ℕ) (arguments 
     depth = refl;
     backed = λ level n. backed_at level n (1 == level) refl;
     owned = λ x level l n e h. ap level_held h;
+    kinds = kinds_named weak f.class_name Ref (map {B = Identifier × Sort} (λ p. (p.name, parameter_sort p.type)) f.parameters ++ scope) tt (parameters_kinds weak f.parameters scope kinds);
+    only = only;
   }
 
   -- the thread is at the first statement with what is known there
-  pub stands_at_entry : Stands (holders ((f.class_name, LocalRef 1 (Some class)) ∷ parameter_variables (zip f.parameters arguments))) ss ((f.class_name, LocalRef 1 (Some class)) ∷ parameter_variables (zip f.parameters arguments)) entry_frames (entry_point f scope)
+  pub stands_at_entry : Stands weak (holders ((f.class_name, LocalRef 1 (Some class)) ∷ parameter_variables (zip f.parameters arguments))) ss ((f.class_name, LocalRef 1 (Some class)) ∷ parameter_variables (zip f.parameters arguments)) entry_frames (entry_point f scope)
   stands_at_entry =
-      subst (λ (vs : Variables). Stands (holders ((f.class_name, LocalRef 1 (Some class)) ∷ vs)) ss ((f.class_name, LocalRef 1 (Some class)) ∷ vs) entry_frames (entry_point f scope)) (sym (listed_is f.parameters arguments))
-      (subst (λ (states : ByName VariableState). Stands (holders entry_variables) ss entry_variables entry_frames (record { names = entry_scope f scope; regions = record { variables = (f.class_name, ReferenceAt 1 true) ∷ states; frames = 1 } })) (sym (known_is f.parameters)) stands_so)
+      subst (λ (vs : Variables). Stands weak (holders ((f.class_name, LocalRef 1 (Some class)) ∷ vs)) ss ((f.class_name, LocalRef 1 (Some class)) ∷ vs) entry_frames (entry_point f scope)) (sym (listed_is f.parameters arguments))
+      (subst (λ (states : ByName VariableState). Stands weak (holders entry_variables) ss entry_variables entry_frames (record { names = entry_scope f scope; regions = record { variables = (f.class_name, ReferenceAt 1 true) ∷ states; frames = 1 } })) (sym (known_is f.parameters)) stands_so)

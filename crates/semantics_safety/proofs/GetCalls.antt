@@ -33,10 +33,11 @@ use Rattle.semantics_safety.specs.Owners.{Owners}
 use Rattle.semantics_safety.specs.Points.{Point, OperandFits, OperandsFit, is_copy, owns}
 use Rattle.semantics_safety.specs.Stands.{VariableFits, IsOf, Lends, Shows, Goes, Stands}
 use Rattle.semantics_safety.specs.Wanted.{Holds, IsNew, DeclaresResult, AssignsResult, ResultGoes, Runs, GoesOn, CallKeeps, call_seen, operand_argument, at, named}
+use Rattle.semantics_safety.specs.WeakNames.{WeakNames}
 use Rattle.semantics_safety.proofs.FrameLaws.{counted_here}
 use Rattle.semantics_safety.proofs.NameLaws.{one_or_other, front_same, front_other, lookup_same, lookup_other, known_same, known_other}
 use Rattle.semantics_safety.proofs.QuietLaws.{IsNoTest, nothing_after}
-use Rattle.semantics_safety.proofs.SetLaws.{none_some, once_changed, owners_elsewhere, owners_same, sorts_named, stands_at, stands_kept}
+use Rattle.semantics_safety.proofs.SetLaws.{none_some, once_changed, owners_elsewhere, owners_same, sorts_named, kinds_named, stands_at, stands_kept}
 use Rattle.semantics_safety.proofs.StepLaws.{Lands, same_statics, apart_buffer, sort_of_buffer, buffer_no_copy}
 
 -- NULL, or a buffer of the object that a variable holds
@@ -63,10 +64,10 @@ fewer_owners vs x b l m ((y, v) ∷ known) = by_test (bytes_eq x y) (fewer_owner
         let old = counted_here (owns vs l m (y, v)) (y, v) (filter (owns vs l m) known) in
         omega (arith, new, old, later)
 
-module _ (classes : Classes) (in_use : BuffersInUse) (k : ℕ) (s : Shared) (t : Thread) (rest : List Task) (p : Point) {own : Owners} (stands : Stands own s.statics t.variables t.frames p) (access : Access) (a : Identifier) (level : ℕ) (here_a : state_of p.regions a ≡ Some (ReferenceAt level true)) (b : Buffer) (is_lent : IsLentBy t.variables access a b) where
+module _ (classes : Classes) (in_use : BuffersInUse) (k : ℕ) (s : Shared) (t : Thread) (rest : List Task) (p : Point) {weak : WeakNames} {own : Owners} (stands : Stands weak own s.statics t.variables t.frames p) (access : Access) (a : Identifier) (level : ℕ) (here_a : state_of p.regions a ≡ Some (ReferenceAt level true)) (b : Buffer) (is_lent : IsLentBy t.variables access a b) where
   -- a new variable holds the buffer
   got_declared : (x : Identifier) (u : ElementType) (w : Bool) → IsNew p x
-      → Stands own s.statics (assign x (Elements u b) t.variables) t.frames (at (named p x (sort.Buffer u w)) (with_new p.regions x (BufferIn (Untested access a))))
+      → Stands weak own s.statics (assign x (Elements u b) t.variables) t.frames (at (named p x (sort.Buffer u w)) (with_new p.regions x (BufferIn (Untested access a))))
   got_declared x u w new = stands_at s.statics t.variables t.frames p stands x (Elements u b) t.frames (at (named p x (sort.Buffer u w)) (with_new p.regions x (BufferIn (Untested access a)))) (record {
     elsewhere = λ y other. front_other x y (BufferIn (Untested access a)) p.regions.variables other;
     apart = λ y c access' m l h at_c same. new.unused y access' (subst (Holds p y access') same h);
@@ -78,6 +79,7 @@ module _ (classes : Classes) (in_use : BuffersInUse) (k : ℕ) (s : Shared) (t :
         (u, b, refl, lent_moved t.variables (assign x (Elements u b) t.variables) access a b (lookup_other x a (Elements u b) t.variables other) is_lent);
     sorts = sorts_named s.statics t.variables t.frames p stands x (Elements u b) (sort.Buffer u w) (b, refl);
     held = λ v c e. inr (access, a, inl (front_same x (BufferIn (Untested access a)) p.regions.variables));
+    kinds = kinds_named weak x (sort.Buffer u w) p.names tt stands.kinds;
     known_once = (new.unknown, stands.known_once);
     depth = stands.depth;
     backed = λ l m.
@@ -90,7 +92,7 @@ module _ (classes : Classes) (in_use : BuffersInUse) (k : ℕ) (s : Shared) (t :
 
   -- a buffer that is there and free holds it
   got_assigned : (x : Identifier) (u : ElementType) (old : Buffer) → state_of p.regions x ≡ Some (BufferIn Free) → lookup x t.variables ≡ Some (Elements u old)
-      → Stands own s.statics (assign x (Elements u b) t.variables) t.frames (at p (with_changed p.regions x (λ v. BufferIn (Untested access a))))
+      → Stands weak own s.statics (assign x (Elements u b) t.variables) t.frames (at p (with_changed p.regions x (λ v. BufferIn (Untested access a))))
   got_assigned x u old e at_x = stands_at s.statics t.variables t.frames p stands x (Elements u b) t.frames (at p (with_changed p.regions x (λ v. BufferIn (Untested access a)))) (record {
     elsewhere = λ y other. known_other p.regions x y (λ v. BufferIn (Untested access a)) other;
     apart = λ y c access' m l h at_c. apart_buffer classes in_use k s t rest p stands x u old at_x c m l at_c;
@@ -108,6 +110,7 @@ module _ (classes : Classes) (in_use : BuffersInUse) (k : ℕ) (s : Shared) (t :
       | inr other ↦ subst (λ (o : Option Variable). VariableFits r o (lookup y s.statics)) (sym (lookup_other x y (Elements u b) t.variables other)) (stands.sorts y r h)
     ];
     held = λ v c h. inr (access, a, inl (known_there x e));
+    kinds = stands.kinds;
     known_once = once_changed (λ (y : Identifier) (old : VariableState). if bytes_eq x y then BufferIn (Untested access a) else old) p.regions.variables stands.known_once;
     depth = stands.depth;
     backed = λ l m.
@@ -127,21 +130,21 @@ module _ (classes : Classes) (in_use : BuffersInUse) (k : ℕ) (s : Shared) (t :
       known_there : (x : Identifier) → state_of p.regions x ≡ Some (BufferIn Free) → state_of (with_changed p.regions x (λ v. BufferIn (Untested access a))) x ≡ Some (BufferIn (Untested access a))
       known_there x e = known_same p.regions x (λ v. BufferIn (Untested access a)) ∙ ap (option_map (λ (v : VariableState). BufferIn (Untested access a))) e
 
-  declared : (kind : VariableKind) (x : Identifier) → DeclaresResult p kind x (GivesBuffer access) (Some (access, Some a)) (GoesOn rest) → Lands own s.statics (put (Declared kind x) (BufferResult b) s (with_tasks t rest))
+  declared : (kind : VariableKind) (x : Identifier) → DeclaresResult p kind x (GivesBuffer access) (Some (access, Some a)) (GoesOn rest) → Lands weak own s.statics (put (Declared kind x) (BufferResult b) s (with_tasks t rest))
   declared (BufferKind u) x (new, (w, for_it, g)) = ((at (named p x (sort.Buffer u w)) (with_new p.regions x (BufferIn (Untested access a))), got_declared x u w new, g), same_statics s.statics)
   declared ScalarKind x h = absurd h
   declared ReferenceKind x h = absurd h
   declared FieldKind x h = absurd h
 
-  assigned : (x : Identifier) (o : Option Sort) → AssignsResult p o x (GivesBuffer access) (Some (access, Some a)) (GoesOn rest) → Lands own s.statics (put_assigned x (BufferResult b) s (with_tasks t rest) (lookup x t.variables))
+  assigned : (x : Identifier) (o : Option Sort) → AssignsResult p o x (GivesBuffer access) (Some (access, Some a)) (GoesOn rest) → Lands weak own s.statics (put_assigned x (BufferResult b) s (with_tasks t rest) (lookup x t.variables))
   assigned x (Some (sort.Buffer u w)) (e, for_it, g) =
       let shown = stands.shows x (BufferIn Free) e in
-      subst (λ (v : Option Variable). Lands own s.statics (put_assigned x (BufferResult b) s (with_tasks t rest) v)) (sym shown.2)
+      subst (λ (v : Option Variable). Lands weak own s.statics (put_assigned x (BufferResult b) s (with_tasks t rest) v)) (sym shown.2)
       ((at p (with_changed p.regions x (λ v. BufferIn (Untested access a))), got_assigned x shown.0 shown.1 e shown.2, g), same_statics s.statics)
   assigned x o h = absurd h
 
   -- the buffer goes where it may
-  pub buffer_lands : (target : Target) → ResultGoes target (GivesBuffer access) (Some (access, Some a)) (GoesOn rest) p → Lands own s.statics (put target (BufferResult b) s (with_tasks t rest))
+  pub buffer_lands : (target : Target) → ResultGoes target (GivesBuffer access) (Some (access, Some a)) (GoesOn rest) p → Lands weak own s.statics (put target (BufferResult b) s (with_tasks t rest))
   buffer_lands (Declared kind x) h = declared kind x h
   buffer_lands (Assigned x) h = assigned x (sort_in p.names x) h
   buffer_lands (Tested c d) h = absurd h
@@ -149,8 +152,8 @@ module _ (classes : Classes) (in_use : BuffersInUse) (k : ℕ) (s : Shared) (t :
 
 -- ---- whether it is a copy
 
-module _ (ss : Statics) (vs : Variables) (frames : List Frame) (p : Point) {own : Owners} (stands : Stands own ss vs frames p) (y : Identifier) (flag : sort_in p.names y ≡ Some sort.Flag) where
-  flag_set : (v : Bool) → Stands own ss (assign y (Scalar (Flag v)) vs) frames p
+module _ (ss : Statics) (vs : Variables) (frames : List Frame) (p : Point) {weak : WeakNames} {own : Owners} (stands : Stands weak own ss vs frames p) (y : Identifier) (flag : sort_in p.names y ≡ Some sort.Flag) where
+  flag_set : (v : Bool) → Stands weak own ss (assign y (Scalar (Flag v)) vs) frames p
   flag_set v =
       let old = stands.sorts y sort.Flag flag in
       stands_kept ss vs frames p stands y (Scalar (Flag v)) sort.Flag (Scalar old.0) flag old.1 (λ level r e. no_ref old.0 level r e) (λ u b e. no_buffer old.0 u b e) (Flag v, refl, refl) (λ u b e. absurd (no_buffer (Flag v) u b e))
@@ -169,7 +172,7 @@ module _ (ss : Statics) (vs : Variables) (frames : List Frame) (p : Point) {own 
       cc
 
   -- the flag tells it
-  pub stands_told : (b : Buffer) → Stands own ss (tell_copy (Some y) (BufferResult b) vs) frames p
+  pub stands_told : (b : Buffer) → Stands weak own ss (tell_copy (Some y) (BufferResult b) vs) frames p
   stands_told NoBuffer = stands
   stands_told (Copy n zs) = flag_set true
   stands_told (View n) = flag_set false
@@ -196,7 +199,7 @@ none_missing classes heap t buffer f args none =
     (list_any (is_misfit classes heap) (zip (prototype f).parameters args) || not (go_together classes heap buffer args f))
     (lacks_room (prototype f).result (slice_get (frames_after f t.frames) 0)) ExceptionPending DeletedReference NullReference WrongObject NoCapacity none
 
-module _ (classes : Classes) (in_use : BuffersInUse) (k : ℕ) (s : Shared) (t : Thread) (line : ℕ) (rest : List Task) (p : Point) {own : Owners} (stands : Stands own s.statics t.variables t.frames p) (whole : Goes own s.statics t t.tasks) where
+module _ (classes : Classes) (in_use : BuffersInUse) (k : ℕ) (s : Shared) (t : Thread) (line : ℕ) (rest : List Task) (p : Point) {weak : WeakNames} {own : Owners} (stands : Stands weak own s.statics t.variables t.frames p) (whole : Goes weak own s.statics t t.tasks) where
   -- the object of the first argument
   abbrev object_of : Identifier → Option Variable → ℕ
   object_of a o = name_or_zero (reference_in_actual (Some (ReferenceActual a (held_reference o (lookup a s.statics)))))
@@ -218,19 +221,19 @@ module _ (classes : Classes) (in_use : BuffersInUse) (k : ℕ) (s : Shared) (t :
     IsFlagOrNone y = (y ≡ None) ⊎ ((x : Identifier) × (y ≡ Some x) × (sort_in p.names x ≡ Some sort.Flag))
 
     got : (shared : Shared) → shared.statics ≡ s.statics → (b : Buffer) → IsLentBy t.variables access a b → (y : Option Identifier) → IsFlagOrNone y
-        → Lands own shared.statics (put target (BufferResult b) shared (record t { tasks = Some (tasks_after line target false ++ rest); variables = tell_copy y (BufferResult b) t.variables }))
+        → Lands weak own shared.statics (put target (BufferResult b) shared (record t { tasks = Some (tasks_after line target false ++ rest); variables = tell_copy y (BufferResult b) t.variables }))
     got shared same b is y told =
-        subst (λ (tasks : List Task). Lands own shared.statics (put target (BufferResult b) shared (record t { tasks = Some tasks; variables = tell_copy y (BufferResult b) t.variables }))) (sym (nothing_after t line rest target false away)) (by_copy told)
+        subst (λ (tasks : List Task). Lands weak own shared.statics (put target (BufferResult b) shared (record t { tasks = Some tasks; variables = tell_copy y (BufferResult b) t.variables }))) (sym (nothing_after t line rest target false away)) (by_copy told)
       where
-        there : Stands own shared.statics t.variables t.frames p
-        there = subst (λ (ss : Statics). Stands own ss t.variables t.frames p) (sym same) stands
+        there : Stands weak own shared.statics t.variables t.frames p
+        there = subst (λ (ss : Statics). Stands weak own ss t.variables t.frames p) (sym same) stands
 
-        by_copy : IsFlagOrNone y → Lands own shared.statics (put target (BufferResult b) shared (record t { tasks = Some rest; variables = tell_copy y (BufferResult b) t.variables }))
+        by_copy : IsFlagOrNone y → Lands weak own shared.statics (put target (BufferResult b) shared (record t { tasks = Some rest; variables = tell_copy y (BufferResult b) t.variables }))
         by_copy (inl none) =
-            subst (λ (z : Option Identifier). Lands own shared.statics (put target (BufferResult b) shared (record t { tasks = Some rest; variables = tell_copy z (BufferResult b) t.variables }))) (sym none)
+            subst (λ (z : Option Identifier). Lands weak own shared.statics (put target (BufferResult b) shared (record t { tasks = Some rest; variables = tell_copy z (BufferResult b) t.variables }))) (sym none)
             (buffer_lands classes in_use k shared t rest p there access a level here_a b is target goes)
         by_copy (inr (x, is_x, flag)) =
-            subst (λ (z : Option Identifier). Lands own shared.statics (put target (BufferResult b) shared (record t { tasks = Some rest; variables = tell_copy z (BufferResult b) t.variables }))) (sym is_x)
+            subst (λ (z : Option Identifier). Lands weak own shared.statics (put target (BufferResult b) shared (record t { tasks = Some rest; variables = tell_copy z (BufferResult b) t.variables }))) (sym is_x)
             (buffer_lands classes in_use k shared (record t { variables = tell_copy (Some x) (BufferResult b) t.variables }) rest p (stands_told shared.statics t.variables t.frames p there x flag b) access a level here_a b
             (lent_moved t.variables (tell_copy (Some x) (BufferResult b) t.variables) access a b (told_apart shared.statics t.variables t.frames p there x flag a level r b at_a) is) target goes)
 
@@ -282,19 +285,19 @@ module _ (classes : Classes) (in_use : BuffersInUse) (k : ℕ) (s : Shared) (t :
 
   got_at : (access : Access) (a : Identifier) (c : Operand) (level : ℕ) (r : Reference) (target : Target) → IsNoTest target → state_of p.regions a ≡ Some (ReferenceAt level true) → lookup a t.variables ≡ Some (LocalRef level r) → OperandFits p IsCopy c
       → ResultGoes target (GivesBuffer access) (Some (access, Some a)) (GoesOn rest) p → (o : Option Trap) → trap_of_call classes s t target (GetBuffer access) (got_with access a c) ≡ o
-      → LandsBy (Calls line target (GetBuffer access) (got_with access a c)) (length t.frames) own s.statics (after_call classes in_use k s t line target (GetBuffer access) (got_with access a c) rest (checked o (call_effect classes in_use k s t (got_with access a c) (GetBuffer access))))
+      → LandsBy weak (Calls line target (GetBuffer access) (got_with access a c)) (length t.frames) own s.statics (after_call classes in_use k s t line target (GetBuffer access) (got_with access a c) rest (checked o (call_effect classes in_use k s t (got_with access a c) (GetBuffer access))))
   got_at access a c level r target away here_a at_a fit goes (Some trap) e = (whole, λ x q g. (q, g))
   got_at access a c level None target away here_a at_a fit goes None e =
       absurd (let missing = null_missing access a c level at_a in let none = none_missing classes s.heap t (target_element t.variables target) (GetBuffer access) (got_with access a c) e in let both : true ≡ false = sym missing ∙ none in cc)
   got_at access a c level (Some n) target away here_a at_a fit goes None e =
-      subst (λ (e : CallEffect). LandsBy (Calls line target (GetBuffer access) (got_with access a c)) (length t.frames) own s.statics (after_call classes in_use k s t line target (GetBuffer access) (got_with access a c) rest e)) (sym (got_is access a c))
-      (put_by line (GetBuffer access) (got_with access a c) (length t.frames) own own target (λ y other. refl) (BufferResult (buffer_got access a)) s.statics _ _
-      (subst (λ (y : Option Identifier). Lands own s.statics (put target (BufferResult (buffer_got access a)) (record s { heap = s.heap ++ [] }) (record t { tasks = Some (tasks_after line target false ++ rest); variables = tell_copy y (BufferResult (buffer_got access a)) t.variables }))) (sym (told_is access a c))
+      subst (λ (e : CallEffect). LandsBy weak (Calls line target (GetBuffer access) (got_with access a c)) (length t.frames) own s.statics (after_call classes in_use k s t line target (GetBuffer access) (got_with access a c) rest e)) (sym (got_is access a c))
+      (put_by weak line (GetBuffer access) (got_with access a c) (length t.frames) own own target (λ y other. refl) (BufferResult (buffer_got access a)) s.statics _ _
+      (subst (λ (y : Option Identifier). Lands weak own s.statics (put target (BufferResult (buffer_got access a)) (record s { heap = s.heap ++ [] }) (record t { tasks = Some (tasks_after line target false ++ rest); variables = tell_copy y (BufferResult (buffer_got access a)) t.variables }))) (sym (told_is access a c))
       (got access a level here_a (Some n) at_a target away goes (record s { heap = s.heap ++ [] }) refl (buffer_got access a) (got_lent access a level n at_a) (told_in c) (told_fits c fit))))
 
   get_operands : (access : Access) (target : Target) (operands : List Operand) → IsNoTest target → CallKeeps p (GetBuffer access) (map operand_argument operands) → OperandsFit p (owner access ∷ IsCopy ∷ []) operands
       → ResultGoes target (GivesBuffer access) (get_of (call_seen (GetBuffer access) operands)) (GoesOn rest) p
-      → LandsBy (Calls line target (GetBuffer access) (actuals (sight_of s t) (GetBuffer access) operands)) (length t.frames) own s.statics (call_step classes in_use k s t line target (GetBuffer access) (actuals (sight_of s t) (GetBuffer access) operands) rest false)
+      → LandsBy weak (Calls line target (GetBuffer access) (actuals (sight_of s t) (GetBuffer access) operands)) (length t.frames) own s.statics (call_step classes in_use k s t line target (GetBuffer access) (actuals (sight_of s t) (GetBuffer access) operands) rest false)
   get_operands access target (Given (tree.Value (tree.Variable a)) ∷ c ∷ []) away (level, e) fit goes =
       let shown = stands.shows a (ReferenceAt level true) e in
       got_at access a c level shown.0 target away e shown.1 fit.1.0 goes (trap_of_call classes s t target (GetBuffer access) (got_with access a c)) refl
@@ -307,7 +310,7 @@ module _ (classes : Classes) (in_use : BuffersInUse) (k : ℕ) (s : Shared) (t :
 
   -- the calls that get a buffer
   pub get_lands : (access : Access) (target : Target) (operands : List Operand) → Runs (Invoke line target (GetBuffer access) operands) (GoesOn rest) p
-      → LandsBy (Calls line target (GetBuffer access) (actuals (sight_of s t) (GetBuffer access) operands)) (length t.frames) own s.statics (call_step classes in_use k s t line target (GetBuffer access) (actuals (sight_of s t) (GetBuffer access) operands) rest false)
+      → LandsBy weak (Calls line target (GetBuffer access) (actuals (sight_of s t) (GetBuffer access) operands)) (length t.frames) own s.statics (call_step classes in_use k s t line target (GetBuffer access) (actuals (sight_of s t) (GetBuffer access) operands) rest false)
   get_lands access (Tested a b) operands r = absurd (get_no_push access r.1)
   get_lands access (Declared kind x) operands r = get_operands access (Declared kind x) operands tt r.0.rules r.0.sorts r.2
   get_lands access (Assigned x) operands r = get_operands access (Assigned x) operands tt r.0.rules r.0.sorts r.2

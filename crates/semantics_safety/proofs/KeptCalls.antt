@@ -11,7 +11,7 @@ use Rattle.jni.specs.JniFunction as jni
 use Rattle.jni.specs.JniFunction.{JniFunction, prototype}
 use Rattle.jni.specs.Prototype.{ResultKind, NewLocal}
 use Rattle.semantics.specs.Arguments.{Actual, ReleaseMode, CopyBackAndFree, CopyBack, FreeUncopied, number_given, object_given, reference_given, text_given, variable_given, mode_given}
-use Rattle.semantics.specs.CallEffects.{CallResult, NoResult, NullResult, ScalarResult, ReferenceResult, FieldResult, BufferResult, CallEffect, Throws, Halts, Leaves, out_of_memory, with_capacity, ensure_effect, push_effect, delete_local_effect, delete_global_effect, found_class_effect, found_field_effect, new_array_effect, at_index, at_region, local_array, get_region_effect, set_region_effect, store_effect, release_effect, enter_effect, exit_effect}
+use Rattle.semantics.specs.CallEffects.{CallResult, NoResult, NullResult, ScalarResult, ReferenceResult, FieldResult, BufferResult, CallEffect, Throws, Halts, Leaves, out_of_memory, with_capacity, ensure_effect, push_effect, delete_local_effect, delete_global_effect, delete_weak_effect, found_class_effect, found_field_effect, new_array_effect, at_index, at_region, local_array, get_region_effect, set_region_effect, store_effect, release_effect, enter_effect, exit_effect}
 use Rattle.semantics.specs.CallStep.{put, put_assigned, received, failure, resumed, trap_of_call, checked, completed, after_call, after_refusal, call_step}
 use Rattle.semantics.specs.CallTable.{call_effect}
 use Rattle.semantics.specs.Effect.{Effect, Becomes, Sets, SetsNull, SetsElement, MakesArray, Prints, Calls, Returns, TrapsAt, NoEffect, effect_of}
@@ -21,7 +21,7 @@ use Rattle.semantics.specs.Task.{Task, Target, Declared, Assigned, Tested, Dropp
 use Rattle.semantics.specs.Thread.{Thread, Caller, Shared, BuffersInUse, Monitor, Advance, Advances, NoAdvance, capacities, monitor_of, sight_of}
 use Rattle.semantics.specs.ThreadStep.{set_element, with_tasks, after_effect, after_refused_effect, step_within}
 use Rattle.semantics.specs.Value.{Trap}
-use Rattle.semantics.specs.Variable.{Variable, Scalar, LocalRef, FieldHandle, Elements, LocalArray, NoBuffer, Copy, View}
+use Rattle.semantics.specs.Variable.{Variable, Scalar, LocalRef, FieldHandle, Elements, LocalArray, NoBuffer, Copy, View, StaticReference, Empty, Live, Weakly, Cleared, Deleted}
 use Rattle.semantics.specs.World.{Invocation, fresh_object}
 use Rattle.semantics_safety.proofs.CallLaws.{IsNoReturn}
 
@@ -116,9 +116,21 @@ module _ (classes : Classes) (in_use : BuffersInUse) (k : ℕ) (s : Shared) (t :
   delete_local_keeps o None = refl
   delete_local_keeps o (Some n) = refl
 
-  delete_global_keeps : (x : Identifier) (r : Reference) → EffectKeeps (held t) (delete_global_effect s t x r)
+  delete_global_keeps : (x : Identifier) (r : Option StaticReference) → EffectKeeps (held t) (delete_global_effect s t x r)
   delete_global_keeps x None = refl
-  delete_global_keeps x (Some n) = refl
+  delete_global_keeps x (Some Empty) = refl
+  delete_global_keeps x (Some (Live n)) = refl
+  delete_global_keeps x (Some (Weakly n)) = refl
+  delete_global_keeps x (Some Cleared) = refl
+  delete_global_keeps x (Some Deleted) = refl
+
+  delete_weak_keeps : (x : Identifier) (r : Option StaticReference) → EffectKeeps (held t) (delete_weak_effect s t x r)
+  delete_weak_keeps x None = refl
+  delete_weak_keeps x (Some Empty) = refl
+  delete_weak_keeps x (Some (Live n)) = refl
+  delete_weak_keeps x (Some (Weakly n)) = refl
+  delete_weak_keeps x (Some Cleared) = refl
+  delete_weak_keeps x (Some Deleted) = refl
 
   release_keeps : (n : ℕ) (x : Identifier) (mode : ReleaseMode) → EffectKeeps (held t) (release_effect s t n x mode)
   release_keeps n x CopyBackAndFree = refl
@@ -139,7 +151,8 @@ module _ (classes : Classes) (in_use : BuffersInUse) (k : ℕ) (s : Shared) (t :
   effect_keeps args jni.EnsureLocalCapacity = ensure_keeps (number_given args 0)
   effect_keeps args jni.PushLocalFrame = push_keeps (number_given args 0)
   effect_keeps args jni.DeleteLocalRef = delete_local_keeps (lookup (variable_given args 0) t.variables) (reference_given args 0)
-  effect_keeps args jni.DeleteGlobalRef = delete_global_keeps (variable_given args 0) (reference_given args 0)
+  effect_keeps args jni.DeleteGlobalRef = delete_global_keeps (variable_given args 0) (lookup (variable_given args 0) s.statics)
+  effect_keeps args jni.DeleteWeakGlobalRef = delete_weak_keeps (variable_given args 0) (lookup (variable_given args 0) s.statics)
   effect_keeps args jni.GetFieldID = field_keeps _ (find_field classes (object_given args 0) (text_given args 1) (text_given args 2))
   effect_keeps args jni.GetStaticFieldID = field_keeps _ (find_static classes (object_given args 0) (text_given args 1) (text_given args 2))
   effect_keeps args (jni.NewArray T) = array_keeps _ (number_given args 0) _

@@ -14,6 +14,7 @@ use Rattle.semantics_safety.specs.Points.{Point, is_copy, owns, owners}
 use Rattle.semantics_safety.specs.StepSafe.{references_at}
 use Rattle.semantics_safety.specs.Stands.{IsOwned, Shows, copies, Stands}
 use Rattle.semantics_safety.specs.Wanted.{Holds, at}
+use Rattle.semantics_safety.specs.WeakNames.{WeakNames}
 use Rattle.semantics_safety.proofs.FrameLaws.{one_if, counted_here}
 use Rattle.semantics_safety.proofs.NameLaws.{one_or_other, known_same}
 use Rattle.semantics_safety.proofs.PointLaws.{owned_changed, shows_changed, mapped_some, other_held}
@@ -92,7 +93,7 @@ pub killed_shows : (vs : Variables) (w : VariableState) (o : Option Variable) �
 killed_shows vs (ReferenceAt level live) o h = h
 killed_shows vs (BufferIn b) o h = h
 
-module _ (ss : Statics) (vs : Variables) (frames : List Frame) (p : Point) {own : Owners} (stands : Stands own ss vs frames p) (x : Identifier) where
+module _ (ss : Statics) (vs : Variables) (frames : List Frame) (p : Point) {weak : WeakNames} {own : Owners} (stands : Stands weak own ss vs frames p) (x : Identifier) where
   -- its own reference may go
   pub killed_owned : IsOwned (λ y. if bytes_eq y x then None else own y) vs (at p (with_changed p.regions x killed))
   killed_owned y level l n e h = by_test (bytes_eq y x) refl
@@ -109,9 +110,11 @@ module _ (ss : Statics) (vs : Variables) (frames : List Frame) (p : Point) {own 
   here_held access a (inr e) = inr (known_same p.regions x killed ∙ ap (option_map killed) e)
 
   -- in frames that have enough
-  pub stands_killed : (after : List Frame) → length after ≡ length frames → ((level m : ℕ) → owners (with_changed p.regions x killed) vs level m ≤ copies (references_at level after) m) → Stands own ss vs after (at p (with_changed p.regions x killed))
+  pub stands_killed : (after : List Frame) → length after ≡ length frames → ((level m : ℕ) → owners (with_changed p.regions x killed) vs level m ≤ copies (references_at level after) m) → Stands weak own ss vs after (at p (with_changed p.regions x killed))
   stands_killed after depth backed = record {
     sorts = stands.sorts;
+    kinds = stands.kinds;
+    only = stands.only;
     shows = shows_changed ss vs frames p stands x None killed (λ w h. killed_shows vs w (lookup x vs) h);
     held = λ y u b h. elim (stands.held y u b h) [
       | inl none ↦ inl none

@@ -17,6 +17,7 @@ use Rattle.semantics_safety.specs.Owners.{Owners}
 use Rattle.semantics_safety.specs.Points.{Point}
 use Rattle.semantics_safety.specs.Stands.{Stands}
 use Rattle.semantics_safety.specs.Wanted.{AssignsResult, Runs, call_seen, at}
+use Rattle.semantics_safety.specs.WeakNames.{WeakNames}
 use Rattle.semantics_safety.proofs.PoppedLaws.{stands_popped}
 use Rattle.semantics_safety.proofs.QuietLaws.{IsFree, free_call}
 
@@ -29,9 +30,9 @@ frames_stay f frames h = refl
 no_local : GivesNothing ≡ NewLocal → ⊥
 no_local e = cc
 
-module _ (ss : Statics) (vs : Variables) (frames : List Frame) (p : Point) {own : Owners} (stands : Stands own ss vs frames p) (k : Point → Type 0) (x : Identifier) (level : ℕ) (r : Reference) (there : lookup x vs ≡ Some (LocalRef level r)) where
+module _ (ss : Statics) (vs : Variables) (frames : List Frame) (p : Point) {weak : WeakNames} {own : Owners} (stands : Stands weak own ss vs frames p) (k : Point → Type 0) (x : Identifier) (level : ℕ) (r : Reference) (there : lookup x vs ≡ Some (LocalRef level r)) where
   -- the variable that is set at a point is of the frame that is current there
-  set_level : (q : Point) (fs : List Frame) → Stands own ss vs fs q → (s : Option Sort) (get : Option (Access × Option Identifier)) → AssignsResult q s x NewLocal get k → level ≡ length fs
+  set_level : (q : Point) (fs : List Frame) → Stands weak own ss vs fs q → (s : Option Sort) (get : Option (Access × Option Identifier)) → AssignsResult q s x NewLocal get k → level ≡ length fs
   set_level q fs now (Some sort.Ref) get (may, goes) =
       let shown = now.shows x _ may.known in
       let same : level ≡ q.regions.frames = cc in

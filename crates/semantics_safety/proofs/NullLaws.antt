@@ -15,16 +15,17 @@ use Rattle.region_rules.specs.RegionStates.{VariableState, Free, ReferenceAt, Bu
 use Rattle.semantics.specs.Task.{Task, Target, Declared, Assigned, VariableKind, ScalarKind, ReferenceKind, FieldKind, BufferKind}
 use Rattle.semantics.specs.Thread.{Thread, Shared, BuffersInUse}
 use Rattle.semantics.specs.ThreadStep.{with_tasks}
-use Rattle.semantics.specs.Variable.{Variable, LocalRef, FieldHandle, Elements, Buffer, NoBuffer, StaticReference, Empty, assign}
+use Rattle.semantics.specs.Variable.{Variable, LocalRef, FieldHandle, Elements, Buffer, NoBuffer, StaticReference, Empty, Weakly, assign}
 use Rattle.semantics_safety.specs.Owners.{Owners}
 use Rattle.semantics_safety.specs.Points.{Point, is_copy, owns}
 use Rattle.semantics_safety.specs.Stands.{VariableFits, Shows, Stands}
 use Rattle.semantics_safety.specs.Wanted.{Holds, IsNew, MaySet, revived, DeclaresNull, AssignsNull, SetsNullThere, GoesOn, at, named}
+use Rattle.semantics_safety.specs.WeakNames.{WeakNames}
 use Rattle.semantics_safety.proofs.NameLaws.{one_or_other, lookup_same, lookup_other, front_same, front_other, known_same, known_other}
-use Rattle.semantics_safety.proofs.SetLaws.{once_changed, stands_new, stands_kept, stands_at, owners_elsewhere, sorts_named, sorts_kept}
+use Rattle.semantics_safety.proofs.SetLaws.{once_changed, stands_new, stands_kept, stands_at, owners_elsewhere, sorts_named, sorts_kept, kinds_named}
 use Rattle.semantics_safety.proofs.StepLaws.{Lands, null_declared}
 
-module _ (classes : Classes) (in_use : BuffersInUse) (k : ℕ) (s : Shared) (t : Thread) (rest : List Task) (p : Point) {own : Owners} (stands : Stands own s.statics t.variables t.frames p) where
+module _ (classes : Classes) (in_use : BuffersInUse) (k : ℕ) (s : Shared) (t : Thread) (rest : List Task) (p : Point) {weak : WeakNames} {own : Owners} (stands : Stands weak own s.statics t.variables t.frames p) where
   field_no_buffer : (f : _) (u : ElementType) (b : Buffer) → FieldHandle f ≡ Elements u b → ⊥
   field_no_buffer f u b e = cc
 
@@ -35,7 +36,7 @@ module _ (classes : Classes) (in_use : BuffersInUse) (k : ℕ) (s : Shared) (t :
   null_buffer v u b e = cc
 
   -- a new buffer that is NULL
-  buffer_declared : (x : Identifier) (u : ElementType) (w : Bool) → IsNew p x → Stands own s.statics (assign x (Elements u NoBuffer) t.variables) t.frames (at (named p x (sort.Buffer u w)) (with_new p.regions x (BufferIn Free)))
+  buffer_declared : (x : Identifier) (u : ElementType) (w : Bool) → IsNew p x → Stands weak own s.statics (assign x (Elements u NoBuffer) t.variables) t.frames (at (named p x (sort.Buffer u w)) (with_new p.regions x (BufferIn Free)))
   buffer_declared x u w new = stands_at s.statics t.variables t.frames p stands x (Elements u NoBuffer) t.frames _ (record {
     elsewhere = λ y other. front_other x y (BufferIn Free) p.regions.variables other;
     apart = λ y a access m level h at_a same. new.unused y access (subst (Holds p y access) same h);
@@ -45,6 +46,7 @@ module _ (classes : Classes) (in_use : BuffersInUse) (k : ℕ) (s : Shared) (t :
         subst (λ (v : VariableState). Shows (assign x (Elements u NoBuffer) t.variables) v (Some (Elements u NoBuffer))) one (u, NoBuffer, refl, refl);
     sorts = sorts_named s.statics t.variables t.frames p stands x (Elements u NoBuffer) (sort.Buffer u w) (NoBuffer, refl);
     held = λ v b e. inl (null_buffer u v b e);
+    kinds = kinds_named weak x (sort.Buffer u w) p.names tt stands.kinds;
     known_once = (new.unknown, stands.known_once);
     depth = stands.depth;
     backed = λ level n.
@@ -55,16 +57,19 @@ module _ (classes : Classes) (in_use : BuffersInUse) (k : ℕ) (s : Shared) (t :
     owned_here = λ level l n known h. absurd (let c : Elements u NoBuffer ≡ LocalRef l (Some n) = h in cc);
   })
 
-  declared_lands : (kind : VariableKind) (x : Identifier) → DeclaresNull p kind x (GoesOn rest) → Lands own s.statics (put (Declared kind x) NullResult s (with_tasks t rest))
+  declared_lands : (kind : VariableKind) (x : Identifier) → DeclaresNull p kind x (GoesOn rest) → Lands weak own s.statics (put (Declared kind x) NullResult s (with_tasks t rest))
   declared_lands ScalarKind x h = absurd h
   declared_lands ReferenceKind x (new, g) = ((at (named p x sort.Ref) (with_new p.regions x (ReferenceAt p.regions.frames true)), null_declared classes in_use k s t rest p stands x new, g), λ y r e. (r, e))
   declared_lands FieldKind x (new, g) =
-      ((named p x sort.FieldId, stands_new s.statics t.variables t.frames p stands x (FieldHandle None) sort.FieldId new (None, refl) (λ u b e. absurd (field_no_buffer None u b e)), g), λ y r e. (r, e))
+      ((named p x sort.FieldId, stands_new s.statics t.variables t.frames p stands x (FieldHandle None) sort.FieldId new tt (None, refl) (λ u b e. absurd (field_no_buffer None u b e)), g), λ y r e. (r, e))
   declared_lands (BufferKind u) x (new, (w, g)) = ((at (named p x (sort.Buffer u w)) (with_new p.regions x (BufferIn Free)), buffer_declared x u w new, g), λ y r e. (r, e))
 
+  no_empty : (n : ℕ) → Empty ≡ Weakly n → ⊥
+  no_empty n e = cc
+
   -- a static that is set
-  pub stands_static : (x : Identifier) (g : StaticReference) → Stands own (assign x g s.statics) t.variables t.frames p
-  stands_static x g = record {
+  pub stands_static : (x : Identifier) (g : StaticReference) → ((n : ℕ) → g ≡ Weakly n → weak x ≡ true) → Stands weak own (assign x g s.statics) t.variables t.frames p
+  stands_static x g right = record {
     sorts = λ y r e. static_fits r y (stands.sorts y r e);
     shows = stands.shows;
     held = stands.held;
@@ -73,6 +78,14 @@ module _ (classes : Classes) (in_use : BuffersInUse) (k : ℕ) (s : Shared) (t :
     depth = stands.depth;
     backed = stands.backed;
     owned = stands.owned;
+    kinds = stands.kinds;
+    only = λ y n e. elim (one_or_other y x) [
+      | inl same ↦
+          let here : lookup x (assign x g s.statics) ≡ Some (Weakly n) = subst (λ (z : Identifier). lookup z (assign x g s.statics) ≡ Some (Weakly n)) same e in
+          let both : Some g ≡ Some (Weakly n) = sym (lookup_same x g s.statics) ∙ here in
+          subst (λ (z : Identifier). weak z ≡ true) (sym same) (right n (cc))
+      | inr other ↦ stands.only y n (sym (lookup_other x y g s.statics other) ∙ e)
+    ];
   }
     where
       there : (y : Identifier) (r : StaticReference) → lookup y s.statics ≡ Some r → (q : StaticReference) × (lookup y (assign x g s.statics) ≡ Some q)
@@ -80,6 +93,7 @@ module _ (classes : Classes) (in_use : BuffersInUse) (k : ℕ) (s : Shared) (t :
 
       static_fits : (r : Sort) (y : Identifier) → VariableFits r (lookup y t.variables) (lookup y s.statics) → VariableFits r (lookup y t.variables) (lookup y (assign x g s.statics))
       static_fits sort.Global y (none, (q, e)) = (none, there y q e)
+      static_fits sort.Weak y (none, (q, e)) = (none, there y q e)
       static_fits sort.Ref y h = h
       static_fits sort.FieldId y h = h
       static_fits (sort.Buffer u w) y h = h
@@ -133,7 +147,7 @@ module _ (classes : Classes) (in_use : BuffersInUse) (k : ℕ) (s : Shared) (t :
   ref_no_buffer : (level : ℕ) (r : _) (u : ElementType) (b : Buffer) → LocalRef level r ≡ Elements u b → ⊥
   ref_no_buffer level r u b e = cc
 
-  pub nulled : (x : Identifier) → MaySet p x → sort_in p.names x ≡ Some sort.Ref → Stands own s.statics (assign x (LocalRef p.regions.frames None) t.variables) t.frames (at p (with_changed p.regions x revived))
+  pub nulled : (x : Identifier) → MaySet p x → sort_in p.names x ≡ Some sort.Ref → Stands weak own s.statics (assign x (LocalRef p.regions.frames None) t.variables) t.frames (at p (with_changed p.regions x revived))
   nulled x may e = stands_at s.statics t.variables t.frames p stands x (LocalRef p.regions.frames None) t.frames (at p (with_changed p.regions x revived)) (record {
     elsewhere = λ y other. known_other p.regions x y revived other;
     apart = λ y a access m level h at_a same. may.unused y access (subst (Holds p y access) same h);
@@ -143,6 +157,7 @@ module _ (classes : Classes) (in_use : BuffersInUse) (k : ℕ) (s : Shared) (t :
         subst (λ (v : VariableState). Shows (assign x (LocalRef p.regions.frames None) t.variables) v (Some (LocalRef p.regions.frames None))) one (None, refl);
     sorts = sorts_kept s.statics t.variables t.frames p stands x (LocalRef p.regions.frames None) sort.Ref e (p.regions.frames, None, refl);
     held = λ u b h. absurd (ref_no_buffer p.regions.frames None u b h);
+    kinds = stands.kinds;
     known_once = once_changed (λ (y : Identifier) (old : VariableState). if bytes_eq x y then revived old else old) p.regions.variables stands.known_once;
     depth = stands.depth;
     backed = λ level n. let fewer = fewer_owners x p.regions.frames level n p.regions.variables in let enough = stands.backed level n in omega (arith, fewer, enough);
@@ -150,21 +165,24 @@ module _ (classes : Classes) (in_use : BuffersInUse) (k : ℕ) (s : Shared) (t :
     owned_here = λ level l n known h. absurd (let c : LocalRef p.regions.frames None ≡ LocalRef l (Some n) = h in cc);
   })
 
-  pub assigned_lands : (x : Identifier) (o : Option Sort) → sort_in p.names x ≡ o → AssignsNull p o x (GoesOn rest) → Lands own s.statics (put_assigned x NullResult s (with_tasks t rest) (lookup x t.variables))
+  pub assigned_lands : (x : Identifier) (o : Option Sort) → sort_in p.names x ≡ o → AssignsNull p o x (GoesOn rest) → Lands weak own s.statics (put_assigned x NullResult s (with_tasks t rest) (lookup x t.variables))
   assigned_lands x (Some sort.Ref) e (may, g) =
       let shown = stands.shows x _ may.known in
-      subst (λ (v : Option Variable). Lands own s.statics (put_assigned x NullResult s (with_tasks t rest) v)) (sym shown.1) ((at p (with_changed p.regions x revived), nulled x may e, g), λ y r h. (r, h))
+      subst (λ (v : Option Variable). Lands weak own s.statics (put_assigned x NullResult s (with_tasks t rest) v)) (sym shown.1) ((at p (with_changed p.regions x revived), nulled x may e, g), λ y r h. (r, h))
   assigned_lands x (Some sort.Global) e g =
       let fits = stands.sorts x sort.Global e in
-      subst (λ (v : Option Variable). Lands own s.statics (put_assigned x NullResult s (with_tasks t rest) v)) (sym fits.0) ((p, stands_static x Empty, g), statics_stay x Empty)
+      subst (λ (v : Option Variable). Lands weak own s.statics (put_assigned x NullResult s (with_tasks t rest) v)) (sym fits.0) ((p, stands_static x Empty (λ n c. absurd (no_empty n c)), g), statics_stay x Empty)
+  assigned_lands x (Some sort.Weak) e g =
+      let fits = stands.sorts x sort.Weak e in
+      subst (λ (v : Option Variable). Lands weak own s.statics (put_assigned x NullResult s (with_tasks t rest) v)) (sym fits.0) ((p, stands_static x Empty (λ n c. absurd (no_empty n c)), g), statics_stay x Empty)
   assigned_lands x (Some sort.FieldId) e g =
       let fits = stands.sorts x sort.FieldId e in
-      subst (λ (v : Option Variable). Lands own s.statics (put_assigned x NullResult s (with_tasks t rest) v)) (sym fits.1)
+      subst (λ (v : Option Variable). Lands weak own s.statics (put_assigned x NullResult s (with_tasks t rest) v)) (sym fits.1)
       ((p, stands_kept s.statics t.variables t.frames p stands x (FieldHandle None) sort.FieldId (FieldHandle fits.0) e fits.1 (field_no_ref fits.0) (field_no_buffer fits.0) (None, refl) (λ u b c. absurd (field_no_buffer None u b c)), g), λ y r h. (r, h))
   assigned_lands x o e h = absurd h
 
   -- NULL goes where it may
-  pub null_lands : (target : Target) → SetsNullThere p target (GoesOn rest) → Lands own s.statics (put target NullResult s (with_tasks t rest))
+  pub null_lands : (target : Target) → SetsNullThere p target (GoesOn rest) → Lands weak own s.statics (put target NullResult s (with_tasks t rest))
   null_lands (Declared kind x) h = declared_lands kind x h
   null_lands (Assigned x) h = assigned_lands x (sort_in p.names x) refl h
   null_lands target h = absurd h

@@ -12,10 +12,11 @@ use Rattle.semantics.specs.Variable.{Variable, StaticReference, Variables, Stati
 use Rattle.semantics_safety.specs.Owners.{Owners, is_target, level_held, left_by, after_call, after_event}
 use Rattle.semantics_safety.specs.Points.{Point}
 use Rattle.semantics_safety.specs.Stands.{IsOwned, Stands, Goes}
+use Rattle.semantics_safety.specs.WeakNames.{WeakNames}
 use Rattle.semantics_safety.proofs.StepLaws.{Lands}
 
 -- the thread at its point, with other owners
-pub stands_with : {own : Owners} (new : Owners) (ss : Statics) (vs : Variables) (frames : List Frame) (p : Point) → Stands own ss vs frames p → IsOwned new vs p → Stands new ss vs frames p
+pub stands_with : {weak : WeakNames} {own : Owners} (new : Owners) (ss : Statics) (vs : Variables) (frames : List Frame) (p : Point) → Stands weak own ss vs frames p → IsOwned new vs p → Stands weak new ss vs frames p
 stands_with new ss vs frames p stands owned = record {
   sorts = stands.sorts;
   shows = stands.shows;
@@ -25,25 +26,27 @@ stands_with new ss vs frames p stands owned = record {
   depth = stands.depth;
   backed = stands.backed;
   owned = owned;
+  kinds = stands.kinds;
+  only = stands.only;
 }
 
 -- a step of this effect that leaves the thread at a point with the owners after it
-abbrev pub LandsBy : Effect → (frames : ℕ) → Owners → Statics → Advance → Type 0
-LandsBy e frames own ss (Advances s t event) = Goes (after_event event e frames own t.variables) s.statics t t.tasks × ((x : Identifier) (r : StaticReference) → lookup x ss ≡ Some r → (q : StaticReference) × (lookup x s.statics ≡ Some q))
-LandsBy e frames own ss NoAdvance = ⊥
+abbrev pub LandsBy : WeakNames → Effect → (frames : ℕ) → Owners → Statics → Advance → Type 0
+LandsBy weak e frames own ss (Advances s t event) = Goes weak (after_event event e frames own t.variables) s.statics t t.tasks × ((x : Identifier) (r : StaticReference) → lookup x ss ≡ Some r → (q : StaticReference) × (lookup x s.statics ≡ Some q))
+LandsBy weak e frames own ss NoAdvance = ⊥
 
 -- the same, where it is possible
-abbrev pub LandsByIfPossible : Effect → (frames : ℕ) → Owners → Statics → Advance → Type 0
-LandsByIfPossible e frames own ss NoAdvance = Unit {0}
-LandsByIfPossible e frames own ss (Advances s t event) = LandsBy e frames own ss (Advances s t event)
+abbrev pub LandsByIfPossible : WeakNames → Effect → (frames : ℕ) → Owners → Statics → Advance → Type 0
+LandsByIfPossible weak e frames own ss NoAdvance = Unit {0}
+LandsByIfPossible weak e frames own ss (Advances s t event) = LandsBy weak e frames own ss (Advances s t event)
 
-pub by_if_possible : (e : Effect) (frames : ℕ) (own : Owners) (ss : Statics) (a : Advance) → LandsBy e frames own ss a → LandsByIfPossible e frames own ss a
-by_if_possible e frames own ss NoAdvance h = tt
-by_if_possible e frames own ss (Advances s t event) h = h
+pub by_if_possible : (weak : WeakNames) (e : Effect) (frames : ℕ) (own : Owners) (ss : Statics) (a : Advance) → LandsBy weak e frames own ss a → LandsByIfPossible weak e frames own ss a
+by_if_possible weak e frames own ss NoAdvance h = tt
+by_if_possible weak e frames own ss (Advances s t event) h = h
 
 -- ---- a call
 
-module _ (line : ℕ) (f : JniFunction) (args : List Actual) (frames : ℕ) (own new : Owners) where
+module _ (weak : WeakNames) (line : ℕ) (f : JniFunction) (args : List Actual) (frames : ℕ) (own new : Owners) where
   -- what the call leaves, but for its target
   abbrev pub IsLeft : Target → Type 0
   IsLeft target = (y : Identifier) → is_target target y ≡ false → new y ≡ left_by f args frames own y
@@ -55,19 +58,19 @@ module _ (line : ℕ) (f : JniFunction) (args : List Actual) (frames : ℕ) (own
       by_test true is = ap level_held h
       by_test false is = sym (left x is) ∙ owned x level l n e h
 
-  goes_after : (target : Target) → IsLeft target → (ss : Statics) (t : Thread) (o : Option (List Task)) → Goes new ss t o → Goes (after_call target f args frames own t.variables) ss t o
+  goes_after : (target : Target) → IsLeft target → (ss : Statics) (t : Thread) (o : Option (List Task)) → Goes weak new ss t o → Goes weak (after_call target f args frames own t.variables) ss t o
   goes_after target left ss t None g = g
   goes_after target left ss t (Some tasks) (p, stands, g) = (p, stands_with (after_call target f args frames own t.variables) ss t.variables t.frames p stands (after_owned target left t.variables p stands.owned), g)
 
-  pub quiet_by : (target : Target) → IsLeft target → (ss : Statics) (s : Shared) (t : Thread) → Lands new ss (Advances s t Quiet) → LandsBy (Calls line target f args) frames own ss (Advances s t Quiet)
+  pub quiet_by : (target : Target) → IsLeft target → (ss : Statics) (s : Shared) (t : Thread) → Lands weak new ss (Advances s t Quiet) → LandsBy weak (Calls line target f args) frames own ss (Advances s t Quiet)
   quiet_by target left ss s t h = (goes_after target left s.statics t t.tasks h.0, h.1)
 
-  pub assigned_by : (x : Identifier) → IsLeft (Assigned x) → (given : CallResult) (ss : Statics) (s : Shared) (t : Thread) (o : Option Variable) → Lands new ss (put_assigned x given s t o) → LandsBy (Calls line (Assigned x) f args) frames own ss (put_assigned x given s t o)
+  pub assigned_by : (x : Identifier) → IsLeft (Assigned x) → (given : CallResult) (ss : Statics) (s : Shared) (t : Thread) (o : Option Variable) → Lands weak new ss (put_assigned x given s t o) → LandsBy weak (Calls line (Assigned x) f args) frames own ss (put_assigned x given s t o)
   assigned_by x left given ss s t (Some v) h = quiet_by (Assigned x) left ss s (record t { variables = assign x (filled v given) t.variables }) h
   assigned_by x left given ss s t None h = quiet_by (Assigned x) left ss (record s { statics = assign x (static_result given) s.statics }) t h
 
   -- a result that is put into its target
-  pub put_by : (target : Target) → IsLeft target → (given : CallResult) (ss : Statics) (s : Shared) (t : Thread) → Lands new ss (put target given s t) → LandsBy (Calls line target f args) frames own ss (put target given s t)
+  pub put_by : (target : Target) → IsLeft target → (given : CallResult) (ss : Statics) (s : Shared) (t : Thread) → Lands weak new ss (put target given s t) → LandsBy weak (Calls line target f args) frames own ss (put target given s t)
   put_by (Declared kind x) left given ss s t h = quiet_by (Declared kind x) left ss s (record t { variables = assign x (filled (blank kind (length t.frames)) given) t.variables }) h
   put_by (Assigned x) left given ss s t h = assigned_by x left given ss s t (lookup x t.variables) h
   put_by (Tested a b) left given ss s t h = quiet_by (Tested a b) left ss s t h
@@ -102,6 +105,6 @@ own_stays (Returns given) away (PrintedNumber n) frames own vs = refl
 own_stays (TrapsAt trap l) away (PrintedNumber n) frames own vs = refl
 own_stays NoEffect away (PrintedNumber n) frames own vs = refl
 
-pub plain_by : (e : Effect) → IsNoCall e → (frames : ℕ) (own : Owners) (ss : Statics) (a : Advance) → Lands own ss a → LandsBy e frames own ss a
-plain_by e away frames own ss NoAdvance h = absurd h
-plain_by e away frames own ss (Advances s t event) h = (subst (λ (o : Owners). Goes o s.statics t t.tasks) (sym (own_stays e away event frames own t.variables)) h.0, h.1)
+pub plain_by : (weak : WeakNames) (e : Effect) → IsNoCall e → (frames : ℕ) (own : Owners) (ss : Statics) (a : Advance) → Lands weak own ss a → LandsBy weak e frames own ss a
+plain_by weak e away frames own ss NoAdvance h = absurd h
+plain_by weak e away frames own ss (Advances s t event) h = (subst (λ (o : Owners). Goes weak o s.statics t t.tasks) (sym (own_stays e away event frames own t.variables)) h.0, h.1)

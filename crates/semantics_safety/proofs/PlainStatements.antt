@@ -12,7 +12,7 @@ use Rattle.syntax.specs.Tree as tree
 use Rattle.syntax.specs.Tree.{ResultType, Void, IntResult, ReferenceResult, Null, Expr, Call, Stmt}
 use Rattle.jni.specs.Access.{Access, is_critical}
 use Rattle.jni.specs.JniFunction.{prototype}
-use Rattle.jni.specs.Prototype.{ResultKind, NewGlobal, GivesBuffer}
+use Rattle.jni.specs.Prototype.{ResultKind, NewGlobal, NewWeak, GivesBuffer}
 use Rattle.type_rules.specs.Sorts.{Sort, Jint, Array, sort_in, sort_of, is_jint, is_ref, is_index, has_elements, is_null, name_sort}
 use Rattle.type_rules.specs.SortRules as rules
 use Rattle.type_rules.specs.SortRules.{may_be_dropped, is_droppable, return_fits}
@@ -133,6 +133,7 @@ array_gives line t x size p taken returns way k known kept (obeys, is) h = (is_n
 
 may_drop : (result : ResultKind) → is_droppable result ≡ true → MayDrop result
 may_drop NewGlobal h = absurd (cc)
+may_drop NewWeak h = absurd (cc)
 may_drop (GivesBuffer access) h = absurd (cc)
 may_drop result h = tt
 

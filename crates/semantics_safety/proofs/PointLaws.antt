@@ -14,12 +14,15 @@ use Rattle.semantics_safety.specs.Owners.{Owners}
 use Rattle.semantics_safety.specs.Points.{Point, owns, owners}
 use Rattle.semantics_safety.specs.Stands.{IsOwned, Shows, BufferShows, Stands}
 use Rattle.semantics_safety.specs.Wanted.{Closes, Holds, at}
+use Rattle.semantics_safety.specs.WeakNames.{WeakNames}
 use Rattle.semantics_safety.proofs.NameLaws.{one_or_other, known_same, known_other}
 use Rattle.semantics_safety.proofs.SetLaws.{once_changed}
 
-pub stands_after : {own : Owners} (ss : Statics) (vs : Variables) (frames : List Frame) (p q : Point) → Stands own ss vs frames p → Closes p q → Stands own ss vs frames q
+pub stands_after : {weak : WeakNames} {own : Owners} (ss : Statics) (vs : Variables) (frames : List Frame) (p q : Point) → Stands weak own ss vs frames p → Closes p q → Stands weak own ss vs frames q
 stands_after ss vs frames p q stands closes = record {
   sorts = λ x s e. stands.sorts x s (closes.names x s e);
+  kinds = λ x s e. stands.kinds x s (closes.names x s e);
+  only = stands.only;
   shows = λ x v e. stands.shows x v (closes.known x v e);
   held = λ x u b e. elim (stands.held x u b e) [ inl none ↦ inl none | inr h ↦ inr (h.0, h.1, closes.held x h.0 h.1 h.2) ];
   once = stands.once;
@@ -110,7 +113,7 @@ usable_shows vs g o (BufferIn known) e h =
     subst (Shows vs (made_usable (BufferIn known))) (sym h.2)
     (usable_buffer vs h.0 h.1 known (is_buffer h.1 h.0 (subst (λ (v : Option Variable). holds_null v g ≡ Gives false) h.2 e)) h.3)
 
-module _ (ss : Statics) (vs : Variables) (frames : List Frame) (p : Point) {own : Owners} (stands : Stands own ss vs frames p) (x : Identifier) (g : Option StaticReference) where
+module _ (ss : Statics) (vs : Variables) (frames : List Frame) (p : Point) {weak : WeakNames} {own : Owners} (stands : Stands weak own ss vs frames p) (x : Identifier) (g : Option StaticReference) where
   pub shows_changed : (f : VariableState → VariableState) → ((w : VariableState) → Shows vs w (lookup x vs) → Shows vs (f w) (lookup x vs)) → (y : Identifier) (v : VariableState) → state_of (with_changed p.regions x f) y ≡ Some v → Shows vs v (lookup y vs)
   shows_changed f own y v e = elim (one_or_other y x) [
     | inl same ↦
@@ -140,9 +143,11 @@ module _ (ss : Statics) (vs : Variables) (frames : List Frame) (p : Point) {own 
   usable_held access a (inr e) = inr (known_same p.regions x made_usable ∙ ap (option_map made_usable) e)
 
   -- NULL was found
-  pub stands_null : holds_null (lookup x vs) g ≡ Gives true → Stands own ss vs frames (at p (with_changed p.regions x made_free))
+  pub stands_null : holds_null (lookup x vs) g ≡ Gives true → Stands weak own ss vs frames (at p (with_changed p.regions x made_free))
   stands_null e = record {
     sorts = stands.sorts;
+    kinds = stands.kinds;
+    only = stands.only;
     shows = shows_changed made_free (λ w h. free_shows vs g (lookup x vs) w e h);
     held = λ y u b h. elim (one_or_other y x) [
       | inl same ↦ inl (is_null_buffer b u (subst (λ (v : Option Variable). holds_null v g ≡ Gives true) (sym (ap (λ (z : Identifier). lookup z vs) same) ∙ h) e))
@@ -156,9 +161,11 @@ module _ (ss : Statics) (vs : Variables) (frames : List Frame) (p : Point) {own 
   }
 
   -- a buffer was found
-  pub stands_usable : holds_null (lookup x vs) g ≡ Gives false → Stands own ss vs frames (at p (with_changed p.regions x made_usable))
+  pub stands_usable : holds_null (lookup x vs) g ≡ Gives false → Stands weak own ss vs frames (at p (with_changed p.regions x made_usable))
   stands_usable e = record {
     sorts = stands.sorts;
+    kinds = stands.kinds;
+    only = stands.only;
     shows = shows_changed made_usable (λ w h. usable_shows vs g (lookup x vs) w e h);
     held = λ y u b h. elim (stands.held y u b h) [
       | inl none ↦ inl none

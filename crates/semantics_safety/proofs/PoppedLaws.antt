@@ -15,6 +15,7 @@ use Rattle.semantics_safety.specs.Points.{Point, AreOnce, is_copy, owns, owners}
 use Rattle.semantics_safety.specs.StepSafe.{references_at}
 use Rattle.semantics_safety.specs.Stands.{IsOwned, Shows, copies, Stands}
 use Rattle.semantics_safety.specs.Wanted.{Holds, at}
+use Rattle.semantics_safety.specs.WeakNames.{WeakNames}
 use Rattle.semantics_safety.proofs.FrameLaws.{one_if, counted_here, level_there, pushed_references, copies_pushed, both_true}
 use Rattle.semantics_safety.proofs.NameLaws.{front_same, front_other}
 use Rattle.semantics_safety.proofs.PointLaws.{mapped_some}
@@ -93,7 +94,7 @@ module _ (vs : Variables) (top level m : ℕ) where
 
 -- ---- the points
 
-module _ (ss : Statics) (vs : Variables) (frames : List Frame) (p : Point) {own : Owners} (stands : Stands own ss vs frames p) where
+module _ (ss : Statics) (vs : Variables) (frames : List Frame) (p : Point) {weak : WeakNames} {own : Owners} (stands : Stands weak own ss vs frames p) where
   shows_left : (y : Identifier) (v : VariableState) → lookup y (left_below p.regions.frames p.regions.variables) ≡ Some v → Shows vs v (lookup y vs)
   shows_left y v e =
       let was = mapped_some (killed_from p.regions.frames) (state_of p.regions y) v (sym (each_known p.regions.frames y p.regions.variables) ∙ e) in
@@ -148,9 +149,11 @@ module _ (ss : Statics) (vs : Variables) (frames : List Frame) (p : Point) {own 
       ap (other_than (length frames)) (stands.owned y level l n left.0 h) ∙ ap (λ (b : Bool). if b then None else Some l) other
 
   -- after the current frame
-  pub stands_popped : Stands own ss vs (drop 1 frames) (at p (after_pop p.regions))
+  pub stands_popped : Stands weak own ss vs (drop 1 frames) (at p (after_pop p.regions))
   stands_popped = record {
     sorts = stands.sorts;
+    kinds = stands.kinds;
+    only = stands.only;
     shows = shows_left;
     held = λ y u b h. elim (stands.held y u b h) [ inl none ↦ inl none | inr k ↦ inr (k.0, k.1, held_left y k.0 k.1 k.2) ];
     once = stands.once;
@@ -161,9 +164,11 @@ module _ (ss : Statics) (vs : Variables) (frames : List Frame) (p : Point) {own 
   }
 
   -- in a new frame
-  pub stands_pushed : (new : Frame) → Stands own ss vs (new ∷ frames) (at p (record p.regions { frames = p.regions.frames + 1 }))
+  pub stands_pushed : (new : Frame) → Stands weak own ss vs (new ∷ frames) (at p (record p.regions { frames = p.regions.frames + 1 }))
   stands_pushed new = record {
     sorts = stands.sorts;
+    kinds = stands.kinds;
+    only = stands.only;
     shows = stands.shows;
     held = stands.held;
     once = stands.once;

@@ -8,14 +8,14 @@ use Rattle.class_rules.specs.Fields.{FieldId, find_field, find_static}
 use Rattle.jni.specs.Access.{Access}
 use Rattle.jni.specs.JniFunction as jni
 use Rattle.jni.specs.JniFunction.{JniFunction, prototype}
-use Rattle.jni.specs.Prototype.{NewLocal, NewGlobal, GivesFlag, GivesField, GivesInt, GivesNothing, GivesBuffer, ResultKind}
+use Rattle.jni.specs.Prototype.{NewLocal, NewGlobal, NewWeak, GivesFlag, GivesField, GivesInt, GivesNothing, GivesBuffer, ResultKind}
 use Rattle.semantics.specs.Arguments.{Actual, number_given, object_given, text_given}
 use Rattle.semantics.specs.CallEffects.{CallEffect, ReferenceResult, found_field_effect, found_class_effect, new_array_effect, at_index, at_region, store_effect, set_region_effect, local_array, with_capacity, ensure_effect, enter_effect, exit_effect}
 use Rattle.semantics.specs.CallStep.{failure}
 use Rattle.semantics.specs.CallTable.{call_effect}
 use Rattle.semantics.specs.Thread.{Frame, Thread, Shared, BuffersInUse, Monitor, capacities, monitor_of}
 use Rattle.semantics.specs.Object.{ObjectValue, Reference}
-use Rattle.semantics_safety.proofs.ResultLaws.{Simple, AnInt, AFlag, AField, NoField, AGlobal, NoGlobal, NoLocal, NullLocal, NoResultThere}
+use Rattle.semantics_safety.proofs.ResultLaws.{Simple, AnInt, AFlag, AField, NoField, AGlobal, NoGlobal, AWeak, NoWeak, NoLocal, NullLocal, NoResultThere}
 use Rattle.semantics_safety.proofs.QuietLaws.{Gives, Plainly, ALocal, IsQuiet}
 use Rattle.semantics_safety.proofs.FrameLaws.{references_of}
 
@@ -23,6 +23,7 @@ use Rattle.semantics_safety.proofs.FrameLaws.{references_of}
 abbrev pub IsQuietFunction : JniFunction → Type 0
 IsQuietFunction jni.DeleteLocalRef = ⊥
 IsQuietFunction jni.DeleteGlobalRef = ⊥
+IsQuietFunction jni.DeleteWeakGlobalRef = ⊥
 IsQuietFunction jni.PushLocalFrame = ⊥
 IsQuietFunction jni.PopLocalFrame = ⊥
 IsQuietFunction (jni.GetArrayRegion T) = ⊥
@@ -90,6 +91,7 @@ module _ (classes : Classes) (in_use : BuffersInUse) (k : ℕ) (s : Shared) (t :
   effect_quiet jni.AllocObject h = (refl, refl, refl, ALocal _)
   effect_quiet jni.NewLocalRef h = (refl, refl, refl, reference_given_quiet _)
   effect_quiet jni.NewGlobalRef h = (refl, refl, refl, Plainly (AGlobal _))
+  effect_quiet jni.NewWeakGlobalRef h = (refl, refl, refl, Plainly (AWeak _))
   effect_quiet jni.IsSameObject h = (refl, refl, refl, Plainly (AFlag _))
   effect_quiet jni.EnsureLocalCapacity h = ensure_quiet (number_given args 0)
   effect_quiet jni.GetFieldID h = field_quiet _ (find_field classes (object_given args 0) (text_given args 1) (text_given args 2))
@@ -114,6 +116,7 @@ module _ (classes : Classes) (in_use : BuffersInUse) (k : ℕ) (s : Shared) (t :
   effect_quiet jni.MonitorExit h = exit_quiet (object_given args 0) (monitor_of s.monitors (object_given args 0))
   effect_quiet jni.DeleteLocalRef h = absurd h
   effect_quiet jni.DeleteGlobalRef h = absurd h
+  effect_quiet jni.DeleteWeakGlobalRef h = absurd h
   effect_quiet jni.PushLocalFrame h = absurd h
   effect_quiet jni.PopLocalFrame h = absurd h
   effect_quiet (jni.GetArrayRegion T) h = absurd h
@@ -127,6 +130,7 @@ module _ (classes : Classes) (in_use : BuffersInUse) (k : ℕ) (s : Shared) (t :
 failure_is_simple : (kind : ResultKind) → ((access : Access) → kind ≡ GivesBuffer access → ⊥) → Simple kind (failure kind)
 failure_is_simple NewLocal differs = NoLocal
 failure_is_simple NewGlobal differs = NoGlobal
+failure_is_simple NewWeak differs = NoWeak
 failure_is_simple GivesFlag differs = AFlag _
 failure_is_simple GivesInt differs = AnInt _
 failure_is_simple GivesField differs = NoField

@@ -22,7 +22,8 @@ use Rattle.semantics_safety.specs.Owners.{Owners, left_by}
 use Rattle.semantics_safety.specs.Points.{Point, owners}
 use Rattle.semantics_safety.specs.Stands.{copies, Goes, Stands}
 use Rattle.semantics_safety.specs.Wanted.{ResultGoes, GoesOn}
-use Rattle.semantics_safety.proofs.ResultLaws.{Simple, AnInt, AFlag, AField, NoField, AGlobal, NoGlobal, NoLocal, NullLocal, NoResultThere, result_lands}
+use Rattle.semantics_safety.specs.WeakNames.{WeakNames}
+use Rattle.semantics_safety.proofs.ResultLaws.{Simple, AnInt, AFlag, AField, NoField, AGlobal, NoGlobal, AWeak, NoWeak, NoLocal, NullLocal, NoResultThere, result_lands}
 use Rattle.semantics_safety.proofs.FrameLaws.{references_of, same_references, same_length, HasFrame, frame_again}
 use Rattle.semantics_safety.proofs.ReferenceLaws.{with_target, local_lands}
 use Rattle.semantics_safety.proofs.OwnerLaws.{LandsBy, LandsByIfPossible, by_if_possible, put_by}
@@ -72,6 +73,8 @@ module _ (t : Thread) (line : ℕ) (rest : List Task) where
   received_is kind given NoField = refl
   received_is kind given (AGlobal r) = refl
   received_is kind given NoGlobal = refl
+  received_is kind given (AWeak r) = refl
+  received_is kind given NoWeak = refl
   received_is kind given NoLocal = refl
   received_is kind given NullLocal = refl
   received_is kind given NoResultThere = refl
@@ -84,6 +87,8 @@ module _ (t : Thread) (line : ℕ) (rest : List Task) where
   told (Some x) vs kind given NoField = refl
   told (Some x) vs kind given (AGlobal r) = refl
   told (Some x) vs kind given NoGlobal = refl
+  told (Some x) vs kind given (AWeak r) = refl
+  told (Some x) vs kind given NoWeak = refl
   told (Some x) vs kind given NoLocal = refl
   told (Some x) vs kind given NullLocal = refl
   told (Some x) vs kind given NoResultThere = refl
@@ -115,39 +120,41 @@ module _ (t : Thread) (line : ℕ) (rest : List Task) where
 
 module _ (classes : Classes) (in_use : BuffersInUse) (k : ℕ) (s : Shared) (t : Thread) (line : ℕ) (target : Target) (f : JniFunction) (args : List Actual) (rest : List Task) (p : Point) (own : Owners) where
   -- a local reference goes into a frame that is there
-  local_completed : {now : Owners} (shared : Shared) (t' : Thread) (n : ℕ) (get : _) (frames : List Frame) → t'.frames ≡ frames → HasFrame frames → Stands now shared.statics t'.variables t'.frames p → ResultGoes target NewLocal get (GoesOn rest) p
-      → Lands (with_target target p.regions.frames now) shared.statics (put target (ReferenceResult (Some n)) shared (record t' { frames = with_local n t'.frames; tasks = Some rest }))
-  local_completed {now} shared t' n get [] e room there h = absurd room
-  local_completed {now} shared t' n get (frame ∷ below) e room there h =
-      subst (λ (frames : List Frame). Lands (with_target target p.regions.frames now) shared.statics (put target (ReferenceResult (Some n)) shared (record t' { frames = with_local n frames; tasks = Some rest }))) (sym e)
-      (local_lands shared t' rest frame below p (subst (λ (frames : List Frame). Stands now shared.statics t'.variables frames p) e there) n target get h)
+  local_completed : {weak : WeakNames} {now : Owners} (shared : Shared) (t' : Thread) (n : ℕ) (get : _) (frames : List Frame) → t'.frames ≡ frames → HasFrame frames → Stands weak now shared.statics t'.variables t'.frames p → ResultGoes target NewLocal get (GoesOn rest) p
+      → Lands weak (with_target target p.regions.frames now) shared.statics (put target (ReferenceResult (Some n)) shared (record t' { frames = with_local n t'.frames; tasks = Some rest }))
+  local_completed {weak} {now} shared t' n get [] e room there h = absurd room
+  local_completed {weak} {now} shared t' n get (frame ∷ below) e room there h =
+      subst (λ (frames : List Frame). Lands weak (with_target target p.regions.frames now) shared.statics (put target (ReferenceResult (Some n)) shared (record t' { frames = with_local n frames; tasks = Some rest }))) (sym e)
+      (local_lands shared t' rest frame below p (subst (λ (frames : List Frame). Stands weak now shared.statics t'.variables frames p) e there) n target get h)
 
   -- the same for any result
-  pub given_lands : {now : Owners} → ((y : Identifier) → now y ≡ left_by f args (length t.frames) own y) → (kind : ResultKind) (made : List Object) (s' : Shared) (t' : Thread) (given : CallResult) (get : _) → (prototype f).result ≡ kind → IsNoTest target → (kind ≡ NewLocal → HasFrame t'.frames) → Stands now s'.statics t'.variables t'.frames p → Gives kind given
-      → ResultGoes target kind get (GoesOn rest) p → LandsBy (Calls line target f args) (length t.frames) own s'.statics (completed classes in_use k s t line target f args rest made s' t' given)
-  given_lands {now} left kind made s' t' given get is away room there (Plainly simple) h =
+  pub given_lands : {weak : WeakNames} {now : Owners} → ((y : Identifier) → now y ≡ left_by f args (length t.frames) own y) → (kind : ResultKind) (made : List Object) (s' : Shared) (t' : Thread) (given : CallResult) (get : _) → (prototype f).result ≡ kind → IsNoTest target → (kind ≡ NewLocal → HasFrame t'.frames) → Stands weak now s'.statics t'.variables t'.frames p → Gives kind given
+      → ResultGoes target kind get (GoesOn rest) p → LandsBy weak (Calls line target f args) (length t.frames) own s'.statics (completed classes in_use k s t line target f args rest made s' t' given)
+  given_lands {weak} {now} left kind made s' t' given get is away room there (Plainly simple) h =
       let shared : Shared = record s' { heap = s'.heap ++ made } in
-      put_by line f args (length t.frames) own now target (λ y other. left y) given s'.statics shared _ (
-      subst (λ (result : ResultKind). Lands now s'.statics (put target given shared (record (received result given t') { tasks = Some (tasks_after line target (is_zero given) ++ rest); variables = tell_copy (address_given args 1) given t'.variables }))) (sym is)
-      (subst (λ (r : Thread). Lands now s'.statics (put target given shared r)) (sym (resumed_is t' line rest target (address_given args 1) kind given away simple))
+      put_by weak line f args (length t.frames) own now target (λ y other. left y) given s'.statics shared _ (
+      subst (λ (result : ResultKind). Lands weak now s'.statics (put target given shared (record (received result given t') { tasks = Some (tasks_after line target (is_zero given) ++ rest); variables = tell_copy (address_given args 1) given t'.variables }))) (sym is)
+      (subst (λ (r : Thread). Lands weak now s'.statics (put target given shared r)) (sym (resumed_is t' line rest target (address_given args 1) kind given away simple))
       (result_lands classes in_use k shared t' rest p there target kind given get simple h)))
-  given_lands {now} left kind made s' t' given get is away room there (ALocal n) h =
+  given_lands {weak} {now} left kind made s' t' given get is away room there (ALocal n) h =
       let shared : Shared = record s' { heap = s'.heap ++ made } in
-      put_by line f args (length t.frames) own (with_target target p.regions.frames now) target (λ y other. ap (λ (b : Bool). if b then Some p.regions.frames else now y) other ∙ left y) given s'.statics shared _ (
-      subst (λ (result : ResultKind). Lands (with_target target p.regions.frames now) s'.statics (put target (ReferenceResult (Some n)) shared (record (received result (ReferenceResult (Some n)) t') { tasks = Some (tasks_after line target false ++ rest); variables = tell_copy (address_given args 1) (ReferenceResult (Some n)) t'.variables }))) (sym is)
-      (subst (λ (r : Thread). Lands (with_target target p.regions.frames now) s'.statics (put target (ReferenceResult (Some n)) shared r)) (sym (resumed_local t' line rest target (address_given args 1) n away))
+      put_by weak line f args (length t.frames) own (with_target target p.regions.frames now) target (λ y other. ap (λ (b : Bool). if b then Some p.regions.frames else now y) other ∙ left y) given s'.statics shared _ (
+      subst (λ (result : ResultKind). Lands weak (with_target target p.regions.frames now) s'.statics (put target (ReferenceResult (Some n)) shared (record (received result (ReferenceResult (Some n)) t') { tasks = Some (tasks_after line target false ++ rest); variables = tell_copy (address_given args 1) (ReferenceResult (Some n)) t'.variables }))) (sym is)
+      (subst (λ (r : Thread). Lands weak (with_target target p.regions.frames now) s'.statics (put target (ReferenceResult (Some n)) shared r)) (sym (resumed_local t' line rest target (address_given args 1) n away))
       (local_completed shared t' n get t'.frames refl (room refl) there h)))
 
-module _ (classes : Classes) (in_use : BuffersInUse) (k : ℕ) (s : Shared) (t : Thread) (line : ℕ) (target : Target) (f : JniFunction) (args : List Actual) (rest : List Task) (p : Point) {own : Owners} (stands : Stands own s.statics t.variables t.frames p) where
+module _ (classes : Classes) (in_use : BuffersInUse) (k : ℕ) (s : Shared) (t : Thread) (line : ℕ) (target : Target) (f : JniFunction) (args : List Actual) (rest : List Task) (p : Point) {weak : WeakNames} {own : Owners} (stands : Stands weak own s.statics t.variables t.frames p) where
   -- the call ends no reference
   abbrev IsKept : Type 0
   IsKept = (y : Identifier) → own y ≡ left_by f args (length t.frames) own y
 
   -- the thread at its point, where a call has left its variables, its references and the statics as they were
-  stands_again : (s' : Shared) (t' : Thread) → t'.variables ≡ t.variables → references_of t'.frames ≡ references_of t.frames → s'.statics ≡ s.statics → Stands own s'.statics t'.variables t'.frames p
+  stands_again : (s' : Shared) (t' : Thread) → t'.variables ≡ t.variables → references_of t'.frames ≡ references_of t.frames → s'.statics ≡ s.statics → Stands weak own s'.statics t'.variables t'.frames p
   stands_again s' t' vs fs ss =
-      subst (λ (statics : Statics). Stands own statics t'.variables t'.frames p) (sym ss) (subst (λ (variables : Variables). Stands own s.statics variables t'.frames p) (sym vs) (record {
+      subst (λ (statics : Statics). Stands weak own statics t'.variables t'.frames p) (sym ss) (subst (λ (variables : Variables). Stands weak own s.statics variables t'.frames p) (sym vs) (record {
         sorts = stands.sorts;
+        kinds = stands.kinds;
+        only = stands.only;
         shows = stands.shows;
         held = stands.held;
         once = stands.once;
@@ -158,26 +165,26 @@ module _ (classes : Classes) (in_use : BuffersInUse) (k : ℕ) (s : Shared) (t :
       }))
 
   pub completed_lands : IsKept → (made : List Object) (s' : Shared) (t' : Thread) (given : CallResult) (get : _) → IsNoTest target → t'.variables ≡ t.variables → references_of t'.frames ≡ references_of t.frames → s'.statics ≡ s.statics → Simple (prototype f).result given → ResultGoes target (prototype f).result get (GoesOn rest) p
-      → LandsBy (Calls line target f args) (length t.frames) own s'.statics (completed classes in_use k s t line target f args rest made s' t' given)
+      → LandsBy weak (Calls line target f args) (length t.frames) own s'.statics (completed classes in_use k s t line target f args rest made s' t' given)
   completed_lands left made s' t' given get away vs fs ss simple h =
       let shared : Shared = record s' { heap = s'.heap ++ made } in
-      put_by line f args (length t.frames) own own target (λ y other. left y) given s'.statics shared _
-      (subst (λ (r : Thread). Lands own s'.statics (put target given shared r)) (sym (resumed_is t' line rest target (address_given args 1) (prototype f).result given away simple))
+      put_by weak line f args (length t.frames) own own target (λ y other. left y) given s'.statics shared _
+      (subst (λ (r : Thread). Lands weak own s'.statics (put target given shared r)) (sym (resumed_is t' line rest target (address_given args 1) (prototype f).result given away simple))
       (result_lands classes in_use k shared t' rest p (stands_again s' t' vs fs ss) target (prototype f).result given get simple h))
 
   -- such a call leads to a point again
-  pub quiet_lands : IsKept → (get : _) (e : CallEffect) → IsNoTest target → Goes own s.statics t t.tasks → ((prototype f).result ≡ NewLocal → HasFrame t.frames) → IsQuiet s t (prototype f).result e → ResultGoes target (prototype f).result get (GoesOn rest) p
-      → LandsBy (Calls line target f args) (length t.frames) own s.statics (after_call classes in_use k s t line target f args rest e)
+  pub quiet_lands : IsKept → (get : _) (e : CallEffect) → IsNoTest target → Goes weak own s.statics t t.tasks → ((prototype f).result ≡ NewLocal → HasFrame t.frames) → IsQuiet s t (prototype f).result e → ResultGoes target (prototype f).result get (GoesOn rest) p
+      → LandsBy weak (Calls line target f args) (length t.frames) own s.statics (after_call classes in_use k s t line target f args rest e)
   quiet_lands left get (Throws c) away whole room quiet h = completed_lands left (fresh_object classes c ∷ []) s (record t { pending = Some (next_name s.heap) }) (failure (prototype f).result) get away refl refl refl quiet h
   quiet_lands left get (Halts trap) away whole room quiet h = (whole, λ x r e. (r, e))
   quiet_lands left get (Leaves made s' t' given) away whole room quiet h =
-      subst (λ (ss : Statics). LandsBy (Calls line target f args) (length t.frames) own ss (completed classes in_use k s t line target f args rest made s' t' given)) quiet.2
+      subst (λ (ss : Statics). LandsBy weak (Calls line target f args) (length t.frames) own ss (completed classes in_use k s t line target f args rest made s' t' given)) quiet.2
       (given_lands classes in_use k s t line target f args rest p own left (prototype f).result made s' t' given get refl away (λ e. frame_again t'.frames t.frames quiet.1 (room e)) (stands_again s' t' quiet.0 quiet.1 quiet.2) quiet.3 h)
 
   -- and so does one whose allocation is refused, if it has one
   pub refused_lands : IsKept → (get : _) (makes : Bool) → IsNoTest target → Simple (prototype f).result (failure (prototype f).result) → ResultGoes target (prototype f).result get (GoesOn rest) p
-      → LandsByIfPossible (Calls line target f args) (length t.frames) own s.statics (after_refusal classes in_use k s t line target f args rest makes)
+      → LandsByIfPossible weak (Calls line target f args) (length t.frames) own s.statics (after_refusal classes in_use k s t line target f args rest makes)
   refused_lands left get true away simple h =
-      by_if_possible (Calls line target f args) (length t.frames) own s.statics (completed classes in_use k s t line target f args rest [] s (record t { pending = Some (out_of_memory classes) }) (failure (prototype f).result))
+      by_if_possible weak (Calls line target f args) (length t.frames) own s.statics (completed classes in_use k s t line target f args rest [] s (record t { pending = Some (out_of_memory classes) }) (failure (prototype f).result))
       (completed_lands left [] s (record t { pending = Some (out_of_memory classes) }) (failure (prototype f).result) get away refl refl refl simple h)
   refused_lands left get false away simple h = tt

@@ -19,9 +19,10 @@ use Rattle.semantics_safety.specs.Owners.{Owners, is_target}
 use Rattle.semantics_safety.specs.Points.{Point, AreOnce, is_copy, owns}
 use Rattle.semantics_safety.specs.Stands.{Shows, Stands}
 use Rattle.semantics_safety.specs.Wanted.{Holds, IsNew, MaySet, revived, DeclaresResult, AssignsResult, ResultGoes, GoesOn, at, named}
+use Rattle.semantics_safety.specs.WeakNames.{WeakNames}
 use Rattle.semantics_safety.proofs.FrameLaws.{one_if, counted_here, more_copies, copies_grow}
 use Rattle.semantics_safety.proofs.NameLaws.{lookup_same, lookup_other, front_same, front_other, known_same, known_other}
-use Rattle.semantics_safety.proofs.SetLaws.{once_changed, stands_at, owners_elsewhere, sorts_named, sorts_kept, not_first, one_owns}
+use Rattle.semantics_safety.proofs.SetLaws.{once_changed, stands_at, owners_elsewhere, sorts_named, sorts_kept, kinds_named, not_first, one_owns}
 use Rattle.semantics_safety.proofs.OwnerLaws.{stands_with}
 use Rattle.semantics_safety.proofs.StepLaws.{Lands, same_statics}
 
@@ -91,11 +92,13 @@ module _ (vs : Variables) (x : Identifier) (top n level m : ℕ) where
 
 -- ---- the points
 
-module _ (ss : Statics) (vs : Variables) (frame : Frame) (below : List Frame) (p : Point) {own : Owners} (stands : Stands own ss vs (frame ∷ below) p) (n : ℕ) where
+module _ (ss : Statics) (vs : Variables) (frame : Frame) (below : List Frame) (p : Point) {weak : WeakNames} {own : Owners} (stands : Stands weak own ss vs (frame ∷ below) p) (n : ℕ) where
   -- one reference more, which no variable holds
-  pub stands_more : Stands own ss vs (with_local n (frame ∷ below)) p
+  pub stands_more : Stands weak own ss vs (with_local n (frame ∷ below)) p
   stands_more = record {
     sorts = stands.sorts;
+    kinds = stands.kinds;
+    only = stands.only;
     shows = stands.shows;
     held = stands.held;
     once = stands.once;
@@ -107,7 +110,7 @@ module _ (ss : Statics) (vs : Variables) (frame : Frame) (below : List Frame) (p
 
   -- a new variable holds it
   pub stands_declared : {new : Owners} (x : Identifier) → ((y : Identifier) → y ≢ x → new y ≡ own y) → new x ≡ Some p.regions.frames → IsNew p x
-      → Stands new ss (assign x (LocalRef (suc (length below)) (Some n)) vs) (with_local n (frame ∷ below)) (at (named p x sort.Ref) (with_new p.regions x (ReferenceAt p.regions.frames true)))
+      → Stands weak new ss (assign x (LocalRef (suc (length below)) (Some n)) vs) (with_local n (frame ∷ below)) (at (named p x sort.Ref) (with_new p.regions x (ReferenceAt p.regions.frames true)))
   stands_declared x keeps here_own new = stands_at ss vs (frame ∷ below) p stands x (LocalRef (suc (length below)) (Some n)) (with_local n (frame ∷ below)) (at (named p x sort.Ref) (with_new p.regions x (ReferenceAt p.regions.frames true))) (record {
     elsewhere = λ y other. front_other x y (ReferenceAt p.regions.frames true) p.regions.variables other;
     apart = λ y a access m level h at_a same. new.unused y access (subst (Holds p y access) same h);
@@ -118,6 +121,7 @@ module _ (ss : Statics) (vs : Variables) (frame : Frame) (below : List Frame) (p
         (Some n, ap (λ (l : ℕ). Some (LocalRef l (Some n))) stands.depth);
     sorts = sorts_named ss vs (frame ∷ below) p stands x (LocalRef (suc (length below)) (Some n)) sort.Ref (suc (length below), Some n, refl);
     held = λ u b e. absurd (ref_no_buffer (suc (length below)) (Some n) u b e);
+    kinds = kinds_named weak x sort.Ref p.names tt stands.kinds;
     known_once = (new.unknown, stands.known_once);
     depth = stands.depth;
     backed = λ level m.
@@ -131,7 +135,7 @@ module _ (ss : Statics) (vs : Variables) (frame : Frame) (below : List Frame) (p
 
   -- a variable that is there holds it
   pub stands_assigned : {new : Owners} (x : Identifier) → ((y : Identifier) → y ≢ x → new y ≡ own y) → new x ≡ Some p.regions.frames → MaySet p x → sort_in p.names x ≡ Some sort.Ref
-      → Stands new ss (assign x (LocalRef p.regions.frames (Some n)) vs) (with_local n (frame ∷ below)) (at p (with_changed p.regions x revived))
+      → Stands weak new ss (assign x (LocalRef p.regions.frames (Some n)) vs) (with_local n (frame ∷ below)) (at p (with_changed p.regions x revived))
   stands_assigned x keeps here_own may e = stands_at ss vs (frame ∷ below) p stands x (LocalRef p.regions.frames (Some n)) (with_local n (frame ∷ below)) (at p (with_changed p.regions x revived)) (record {
     elsewhere = λ y other. known_other p.regions x y revived other;
     apart = λ y a access m level h at_a same. may.unused y access (subst (Holds p y access) same h);
@@ -141,6 +145,7 @@ module _ (ss : Statics) (vs : Variables) (frame : Frame) (below : List Frame) (p
         subst (λ (v : VariableState). Shows (assign x (LocalRef p.regions.frames (Some n)) vs) v (Some (LocalRef p.regions.frames (Some n)))) one (Some n, refl);
     sorts = sorts_kept ss vs (frame ∷ below) p stands x (LocalRef p.regions.frames (Some n)) sort.Ref e (p.regions.frames, Some n, refl);
     held = λ u b h. absurd (ref_no_buffer p.regions.frames (Some n) u b h);
+    kinds = stands.kinds;
     known_once = once_changed (λ (y : Identifier) (old : VariableState). if bytes_eq x y then revived old else old) p.regions.variables stands.known_once;
     depth = stands.depth;
     backed = λ level m.
@@ -169,27 +174,27 @@ name_other x y other = by_test (bytes_eq y x) refl
     by_test true e = absurd (other ((bytes_eq-Decides y x).0 e))
     by_test false e = refl
 
-module _ (s : Shared) (t : Thread) (rest : List Task) (frame : Frame) (below : List Frame) (p : Point) {own : Owners} (stands : Stands own s.statics t.variables (frame ∷ below) p) (n : ℕ) where
+module _ (s : Shared) (t : Thread) (rest : List Task) (frame : Frame) (below : List Frame) (p : Point) {weak : WeakNames} {own : Owners} (stands : Stands weak own s.statics t.variables (frame ∷ below) p) (n : ℕ) where
   -- the thread with the reference in its frame
   abbrev with_it : Thread
   with_it = record t { frames = with_local n (frame ∷ below); tasks = Some rest }
 
-  declared : (kind : VariableKind) (x : Identifier) (get : Option (Access × Option Identifier)) → DeclaresResult p kind x NewLocal get (GoesOn rest) → Lands (with_target (Declared kind x) p.regions.frames own) s.statics (put (Declared kind x) (ReferenceResult (Some n)) s with_it)
+  declared : (kind : VariableKind) (x : Identifier) (get : Option (Access × Option Identifier)) → DeclaresResult p kind x NewLocal get (GoesOn rest) → Lands weak (with_target (Declared kind x) p.regions.frames own) s.statics (put (Declared kind x) (ReferenceResult (Some n)) s with_it)
   declared ReferenceKind x get (new, g) =
       ((at (named p x sort.Ref) (with_new p.regions x (ReferenceAt p.regions.frames true)), stands_declared s.statics t.variables frame below p stands n x (λ y other. ap (λ (b : Bool). if b then Some p.regions.frames else own y) (name_other x y other)) (ap (λ (b : Bool). if b then Some p.regions.frames else own x) (name_same x)) new, g), same_statics s.statics)
   declared ScalarKind x get h = absurd h
   declared FieldKind x get h = absurd h
   declared (BufferKind u) x get h = absurd h
 
-  assigned : (x : Identifier) (o : Option Sort) (get : Option (Access × Option Identifier)) → sort_in p.names x ≡ o → AssignsResult p o x NewLocal get (GoesOn rest) → Lands (with_target (Assigned x) p.regions.frames own) s.statics (put_assigned x (ReferenceResult (Some n)) s with_it (lookup x t.variables))
+  assigned : (x : Identifier) (o : Option Sort) (get : Option (Access × Option Identifier)) → sort_in p.names x ≡ o → AssignsResult p o x NewLocal get (GoesOn rest) → Lands weak (with_target (Assigned x) p.regions.frames own) s.statics (put_assigned x (ReferenceResult (Some n)) s with_it (lookup x t.variables))
   assigned x (Some sort.Ref) get e (may, g) =
       let shown = stands.shows x _ may.known in
-      subst (λ (v : Option Variable). Lands (with_target (Assigned x) p.regions.frames own) s.statics (put_assigned x (ReferenceResult (Some n)) s with_it v)) (sym shown.1)
+      subst (λ (v : Option Variable). Lands weak (with_target (Assigned x) p.regions.frames own) s.statics (put_assigned x (ReferenceResult (Some n)) s with_it v)) (sym shown.1)
       ((at p (with_changed p.regions x revived), stands_assigned s.statics t.variables frame below p stands n x (λ y other. ap (λ (b : Bool). if b then Some p.regions.frames else own y) (name_other x y other)) (ap (λ (b : Bool). if b then Some p.regions.frames else own x) (name_same x)) may e, g), same_statics s.statics)
   assigned x o get e h = absurd h
 
   -- the reference goes where it may
-  pub local_lands : (target : Target) (get : Option (Access × Option Identifier)) → ResultGoes target NewLocal get (GoesOn rest) p → Lands (with_target target p.regions.frames own) s.statics (put target (ReferenceResult (Some n)) s with_it)
+  pub local_lands : (target : Target) (get : Option (Access × Option Identifier)) → ResultGoes target NewLocal get (GoesOn rest) p → Lands weak (with_target target p.regions.frames own) s.statics (put target (ReferenceResult (Some n)) s with_it)
   local_lands (Declared kind x) get h = declared kind x get h
   local_lands (Assigned x) get h = assigned x (sort_in p.names x) get refl h
   local_lands (Tested a b) get h = absurd h

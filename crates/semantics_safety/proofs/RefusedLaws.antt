@@ -6,9 +6,9 @@ use Rattle.base.specs.Bytes.{Identifier, lookup}
 use Rattle.class_rules.specs.Class.{Classes}
 use Rattle.syntax.specs.Tree.{SourceUnit}
 use Rattle.jni.specs.Access.{ElementsCopy, ArrayView, CharsCopy, CharsView}
-use Rattle.jni.specs.JniFunction.{JniFunction, DeleteLocalRef, DeleteGlobalRef, PushLocalFrame, PopLocalFrame, GetArrayRegion, GetStringRegion, GetBuffer, ReleaseBuffer}
+use Rattle.jni.specs.JniFunction.{JniFunction, DeleteLocalRef, DeleteGlobalRef, DeleteWeakGlobalRef, PushLocalFrame, PopLocalFrame, GetArrayRegion, GetStringRegion, GetBuffer, ReleaseBuffer}
 use Rattle.semantics.specs.Arguments.{Actual, ReleaseMode, CopyBackAndFree, CopyBack, FreeUncopied, number_given, object_given, variable_given, reference_given, mode_given}
-use Rattle.semantics.specs.CallEffects.{CallEffect, delete_local_effect, delete_global_effect, push_effect, release_effect}
+use Rattle.semantics.specs.CallEffects.{CallEffect, delete_local_effect, delete_global_effect, delete_weak_effect, push_effect, release_effect}
 use Rattle.semantics.specs.CallStep.{trap_of_call, checked, makes_objects, after_refusal, call_step}
 use Rattle.semantics.specs.CallTable.{call_effect}
 use Rattle.semantics.specs.Effect.{Effect, Calls, effect_of}
@@ -17,13 +17,14 @@ use Rattle.semantics.specs.Task.{Task, Target, Declared, Assigned, Tested, Dropp
 use Rattle.semantics.specs.Thread.{Thread, Shared, BuffersInUse, capacities, sight_of}
 use Rattle.semantics.specs.ThreadStep.{after_refused_effect, step_within}
 use Rattle.semantics.specs.Value.{Trap}
-use Rattle.semantics.specs.Variable.{Variable}
+use Rattle.semantics.specs.Variable.{Variable, StaticReference, Empty, Live, Weakly, Cleared, Deleted}
 use Rattle.semantics_safety.proofs.OwnerLaws.{LandsByIfPossible}
 use Rattle.semantics_safety.specs.Owners.{Owners}
 use Rattle.semantics_safety.specs.Points.{Point}
 use Rattle.semantics_safety.specs.Stands.{Goes, Stands}
 use Rattle.semantics_safety.specs.Wanted.{Runs, GoesOn}
 use Rattle.semantics_safety.specs.Follows.{Follows}
+use Rattle.semantics_safety.specs.WeakNames.{WeakNames}
 use Rattle.semantics_safety.proofs.EffectLaws.{effect_follows}
 use Rattle.semantics_safety.proofs.QuietLaws.{refused_lands}
 use Rattle.semantics_safety.proofs.QuietSteps.{refused_call_lands}
@@ -39,22 +40,34 @@ checked_none : (o : Option Trap) (e : CallEffect) → makes_objects e ≡ false 
 checked_none None e h = h
 checked_none (Some trap) e h = refl
 
-module _ (classes : Classes) (in_use : BuffersInUse) (k : ℕ) (s : Shared) (t : Thread) (line : ℕ) (rest : List Task) (own : Owners) where
+module _ (classes : Classes) (in_use : BuffersInUse) (k : ℕ) (s : Shared) (t : Thread) (line : ℕ) (rest : List Task) (weak : WeakNames) (own : Owners) where
   -- a call that makes no object has nothing to refuse
-  nothing_refused : (f : JniFunction) (target : Target) (args : List Actual) (b : Bool) → b ≡ false → LandsByIfPossible (Calls line target f args) (length t.frames) own s.statics (after_refusal classes in_use k s t line target f args rest b)
+  nothing_refused : (f : JniFunction) (target : Target) (args : List Actual) (b : Bool) → b ≡ false → LandsByIfPossible weak (Calls line target f args) (length t.frames) own s.statics (after_refusal classes in_use k s t line target f args rest b)
   nothing_refused f target args false e = tt
   nothing_refused f target args true e = absurd (cc)
 
-  none_refused : (f : JniFunction) (target : Target) (args : List Actual) → makes_objects (call_effect classes in_use k s t args f) ≡ false → LandsByIfPossible (Calls line target f args) (length t.frames) own s.statics (call_step classes in_use k s t line target f args rest true)
+  none_refused : (f : JniFunction) (target : Target) (args : List Actual) → makes_objects (call_effect classes in_use k s t args f) ≡ false → LandsByIfPossible weak (Calls line target f args) (length t.frames) own s.statics (call_step classes in_use k s t line target f args rest true)
   none_refused f target args h = nothing_refused f target args _ (checked_none (trap_of_call classes s t target f args) (call_effect classes in_use k s t args f) h)
 
   delete_none : (o : Option Variable) (r : Reference) → makes_objects (delete_local_effect s t o r) ≡ false
   delete_none o None = refl
   delete_none o (Some n) = refl
 
-  global_none : (x : Identifier) (r : Reference) → makes_objects (delete_global_effect s t x r) ≡ false
+  global_none : (x : Identifier) (r : Option StaticReference) → makes_objects (delete_global_effect s t x r) ≡ false
   global_none x None = refl
-  global_none x (Some n) = refl
+  global_none x (Some Empty) = refl
+  global_none x (Some (Live n)) = refl
+  global_none x (Some (Weakly n)) = refl
+  global_none x (Some Cleared) = refl
+  global_none x (Some Deleted) = refl
+
+  weak_none : (x : Identifier) (r : Option StaticReference) → makes_objects (delete_weak_effect s t x r) ≡ false
+  weak_none x None = refl
+  weak_none x (Some Empty) = refl
+  weak_none x (Some (Live n)) = refl
+  weak_none x (Some (Weakly n)) = refl
+  weak_none x (Some Cleared) = refl
+  weak_none x (Some Deleted) = refl
 
   push_none : (z : ℤ) → makes_objects (push_effect classes s t z) ≡ false
   push_none (pos n) = cond_both (nat_le (capacities (record { capacity = n; references = [] } ∷ t.frames)) 1024) _ _ (λ (e : CallEffect). makes_objects e ≡ false) (λ e. refl) (λ e. refl)
@@ -71,7 +84,11 @@ module _ (classes : Classes) (in_use : BuffersInUse) (k : ℕ) (s : Shared) (t :
 
   delete_global_made : (args : List Actual) → makes_objects (call_effect classes in_use k s t args DeleteGlobalRef) ≡ false
   unfolding call_effect
-  delete_global_made args = global_none (variable_given args 0) (reference_given args 0)
+  delete_global_made args = global_none (variable_given args 0) (lookup (variable_given args 0) s.statics)
+
+  delete_weak_made : (args : List Actual) → makes_objects (call_effect classes in_use k s t args DeleteWeakGlobalRef) ≡ false
+  unfolding call_effect
+  delete_weak_made args = weak_none (variable_given args 0) (lookup (variable_given args 0) s.statics)
 
   push_made : (args : List Actual) → makes_objects (call_effect classes in_use k s t args PushLocalFrame) ≡ false
   unfolding call_effect
@@ -95,13 +112,14 @@ module _ (classes : Classes) (in_use : BuffersInUse) (k : ℕ) (s : Shared) (t :
   release_made CharsCopy args = refl
   release_made CharsView args = refl
 
-  module _ (p : Point) (stands : Stands own s.statics t.variables t.frames p) (whole : Goes own s.statics t t.tasks) where
+  module _ (p : Point) (stands : Stands weak own s.statics t.variables t.frames p) (whole : Goes weak own s.statics t t.tasks) where
     -- the marked step of a call, by its function
-    pub each_refused_lands : (f : JniFunction) (target : Target) (operands : List Operand) (args : List Actual) → Runs (Invoke line target f operands) (GoesOn rest) p → LandsByIfPossible (Calls line target f args) (length t.frames) own s.statics (call_step classes in_use k s t line target f args rest true)
+    pub each_refused_lands : (f : JniFunction) (target : Target) (operands : List Operand) (args : List Actual) → Runs (Invoke line target f operands) (GoesOn rest) p → LandsByIfPossible weak (Calls line target f args) (length t.frames) own s.statics (call_step classes in_use k s t line target f args rest true)
     each_refused_lands DeleteLocalRef target operands args runs = none_refused DeleteLocalRef target args (delete_local_made args)
     each_refused_lands PushLocalFrame target operands args runs = none_refused PushLocalFrame target args (push_made args)
     each_refused_lands PopLocalFrame target operands args runs = none_refused PopLocalFrame target args (pop_made args)
     each_refused_lands DeleteGlobalRef target operands args runs = none_refused DeleteGlobalRef target args (delete_global_made args)
+    each_refused_lands DeleteWeakGlobalRef target operands args runs = none_refused DeleteWeakGlobalRef target args (delete_weak_made args)
     each_refused_lands (GetBuffer access) target operands args runs = none_refused (GetBuffer access) target args (get_made access args)
     each_refused_lands (ReleaseBuffer access) target operands args runs = none_refused (ReleaseBuffer access) target args (release_made access args)
     each_refused_lands (GetArrayRegion u) (Tested a b) operands args runs = absurd (array_no_push u runs.1)
@@ -114,11 +132,11 @@ module _ (classes : Classes) (in_use : BuffersInUse) (k : ℕ) (s : Shared) (t :
     each_refused_lands GetStringRegion Dropped operands args runs = refused_lands classes in_use k s t line Dropped GetStringRegion args rest p stands (λ y. refl) None _ tt NoResultThere runs.2
     each_refused_lands f target operands args runs = refused_call_lands classes in_use k s t line f args rest p stands tt whole target operands runs
 
-module _ (unit : SourceUnit) (classes : Classes) (in_use : BuffersInUse) (k : ℕ) (s : Shared) (t : Thread) (task : Task) (rest : List Task) (p : Point) {own : Owners} (stands : Stands own s.statics t.variables t.frames p) (runs : Runs task (GoesOn rest) p) (whole : Goes own s.statics t t.tasks) where
-  marked_lands : (e : Effect) → Follows own (sight_of s t) s.statics t.variables t.frames p rest e → LandsByIfPossible e (length t.frames) own s.statics (after_refused_effect classes in_use k s t rest e)
-  marked_lands (Calls line target f args) (operands, is, ready, r) = each_refused_lands classes in_use k s t line rest own p stands whole f target operands args r
+module _ (unit : SourceUnit) (classes : Classes) (in_use : BuffersInUse) (k : ℕ) (s : Shared) (t : Thread) (task : Task) (rest : List Task) (p : Point) {weak : WeakNames} {own : Owners} (stands : Stands weak own s.statics t.variables t.frames p) (runs : Runs task (GoesOn rest) p) (whole : Goes weak own s.statics t t.tasks) where
+  marked_lands : (e : Effect) → Follows weak own (sight_of s t) s.statics t.variables t.frames p rest e → LandsByIfPossible weak e (length t.frames) own s.statics (after_refused_effect classes in_use k s t rest e)
+  marked_lands (Calls line target f args) (operands, is, ready, r) = each_refused_lands classes in_use k s t line rest weak own p stands whole f target operands args r
   marked_lands e h = tt
 
   -- each marked step within a call leads to a point again, where it is possible
-  pub marked_step_lands : LandsByIfPossible (effect_of (sight_of s t) task) (length t.frames) own s.statics (step_within unit classes in_use k s t true (Some (task ∷ rest)))
+  pub marked_step_lands : LandsByIfPossible weak (effect_of (sight_of s t) task) (length t.frames) own s.statics (step_within unit classes in_use k s t true (Some (task ∷ rest)))
   marked_step_lands = marked_lands (effect_of (sight_of s t) task) (effect_follows s.heap s.statics t.variables t.frames p stands rest task runs)

@@ -16,6 +16,7 @@ use Rattle.semantics_safety.specs.Points.{Point}
 use Rattle.semantics_safety.specs.StepSafe.{came_from}
 use Rattle.semantics_safety.specs.Stands.{IsOf, Stands}
 use Rattle.semantics_safety.specs.Wanted.{CallKeeps, operand_argument}
+use Rattle.semantics_safety.specs.WeakNames.{WeakNames}
 
 first_actual : (sight : Sight) (access : Access) (a : Identifier) → look_up sight (owner access, Given (tree.Value (tree.Variable a))) ≡ ReferenceActual a (sight.reference a)
 first_actual sight (ElementsCopy t) a = refl
@@ -31,7 +32,7 @@ came u false n b (zs, e) = ap (λ (c : Buffer). came_from (Some (Elements u c)))
 abbrev name_in : Actual → ℕ
 name_in a = name_or_zero (reference_in_actual (Some a))
 
-module _ (heap : Heap) (ss : Statics) (vs : Variables) (frames : List Frame) (p : Point) {own : Owners} (stands : Stands own ss vs frames p) (access : Access) where
+module _ (heap : Heap) (ss : Statics) (vs : Variables) (frames : List Frame) (p : Point) {weak : WeakNames} {own : Owners} (stands : Stands weak own ss vs frames p) (access : Access) where
   abbrev sight : Sight
   sight = seen vs ss heap
 

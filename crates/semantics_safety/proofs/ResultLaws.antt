@@ -1,27 +1,28 @@
 -- A thread is at the point after a call's result that is no buffer and no new local reference.
-use Rattle.std.proofs.Common.{◌≡◌, ℕ, Bool, List, Option, Some, None, refl, sym, ◌∙◌, subst}
+use Rattle.std.proofs.Common.{◌≡◌, ℕ, Bool, true, List, Option, Some, None, refl, sym, ◌∙◌, subst}
 use Rattle.std.specs.Prelude.{ℤ}
 use Rattle.base.specs.Bytes.{Identifier, lookup}
 use Rattle.base.specs.Element.{ElementType}
 use Rattle.class_rules.specs.Class.{Classes}
 use Rattle.class_rules.specs.Fields.{FieldId}
 use Rattle.jni.specs.Access.{Access}
-use Rattle.jni.specs.Prototype.{ResultKind, NewLocal, NewGlobal, GivesFlag, GivesInt, GivesField, GivesNothing}
+use Rattle.jni.specs.Prototype.{ResultKind, NewLocal, NewGlobal, NewWeak, GivesFlag, GivesInt, GivesField, GivesNothing}
 use Rattle.type_rules.specs.Sorts.{Sort, sort_in}
 use Rattle.type_rules.specs.Sorts as sort
 use Rattle.semantics.specs.Object.{Reference}
-use Rattle.semantics.specs.CallEffects.{CallResult, NoResult, NullResult, ScalarResult, ReferenceResult, FieldResult}
+use Rattle.semantics.specs.CallEffects.{CallResult, NoResult, NullResult, ScalarResult, ReferenceResult, WeakResult, FieldResult}
 use Rattle.semantics.specs.CallStep.{put, put_assigned, static_result}
 use Rattle.semantics.specs.Task.{Task, Target, Declared, Assigned, Tested, Dropped, VariableKind, ScalarKind, ReferenceKind, FieldKind, BufferKind}
 use Rattle.semantics.specs.Thread.{Thread, Shared, BuffersInUse}
 use Rattle.semantics.specs.ThreadStep.{with_tasks}
 use Rattle.semantics.specs.Value.{Value, Int, Flag}
-use Rattle.semantics.specs.Variable.{Variable, Scalar, LocalRef, FieldHandle, Elements, Buffer, StaticReference}
+use Rattle.semantics.specs.Variable.{Variable, Scalar, LocalRef, FieldHandle, Elements, Buffer, StaticReference, Empty, Weakly}
 use Rattle.semantics_safety.specs.Owners.{Owners}
 use Rattle.semantics_safety.specs.Points.{Point}
 use Rattle.semantics_safety.specs.Stands.{VariableFits, Stands}
 use Rattle.region_rules.specs.RegionStates.{with_changed}
 use Rattle.semantics_safety.specs.Wanted.{revived, DeclaresResult, AssignsResult, ResultGoes, GoesOn, at, named}
+use Rattle.semantics_safety.specs.WeakNames.{WeakNames}
 use Rattle.semantics_safety.proofs.SetLaws.{stands_new, stands_kept}
 use Rattle.semantics_safety.proofs.StepLaws.{Lands}
 use Rattle.semantics_safety.proofs.NullLaws.{nulled, null_lands, assigned_lands, stands_static, statics_stay}
@@ -34,11 +35,13 @@ pub data Simple : ResultKind → CallResult → Type 0 where
   NoField : Simple GivesField NullResult
   AGlobal : (r : Reference) → Simple NewGlobal (ReferenceResult r)
   NoGlobal : Simple NewGlobal NullResult
+  AWeak : (r : Reference) → Simple NewWeak (WeakResult r)
+  NoWeak : Simple NewWeak NullResult
   NoLocal : Simple NewLocal NullResult
   NullLocal : Simple NewLocal (ReferenceResult None)
   NoResultThere : Simple GivesNothing NoResult
 
-module _ (classes : Classes) (in_use : BuffersInUse) (k : ℕ) (s : Shared) (t : Thread) (rest : List Task) (p : Point) {own : Owners} (stands : Stands own s.statics t.variables t.frames p) where
+module _ (classes : Classes) (in_use : BuffersInUse) (k : ℕ) (s : Shared) (t : Thread) (rest : List Task) (p : Point) {weak : WeakNames} {own : Owners} (stands : Stands weak own s.statics t.variables t.frames p) where
   scalar_no_buffer : (v : Value) (u : ElementType) (b : Buffer) → Scalar v ≡ Elements u b → ⊥
   scalar_no_buffer v u b e = cc
 
@@ -54,13 +57,13 @@ module _ (classes : Classes) (in_use : BuffersInUse) (k : ℕ) (s : Shared) (t :
   stay : (x : Identifier) (r : StaticReference) → lookup x s.statics ≡ Some r → (q : StaticReference) × (lookup x s.statics ≡ Some q)
   stay x r e = (r, e)
 
-  declared : (kind : VariableKind) (x : Identifier) (result : ResultKind) (given : CallResult) (get : Option (Access × Option Identifier)) → Simple result given → DeclaresResult p kind x result get (GoesOn rest) → Lands own s.statics (put (Declared kind x) given s (with_tasks t rest))
+  declared : (kind : VariableKind) (x : Identifier) (result : ResultKind) (given : CallResult) (get : Option (Access × Option Identifier)) → Simple result given → DeclaresResult p kind x result get (GoesOn rest) → Lands weak own s.statics (put (Declared kind x) given s (with_tasks t rest))
   declared ScalarKind x result given get (AnInt z) (new, g) =
-      ((named p x sort.Jint, stands_new s.statics t.variables t.frames p stands x (Scalar (Int z)) sort.Jint new (Int z, refl, refl) (λ u b c. absurd (scalar_no_buffer (Int z) u b c)), g), stay)
+      ((named p x sort.Jint, stands_new s.statics t.variables t.frames p stands x (Scalar (Int z)) sort.Jint new tt (Int z, refl, refl) (λ u b c. absurd (scalar_no_buffer (Int z) u b c)), g), stay)
   declared ScalarKind x result given get (AFlag b) (new, g) =
-      ((named p x sort.Flag, stands_new s.statics t.variables t.frames p stands x (Scalar (Flag b)) sort.Flag new (Flag b, refl, refl) (λ u c d. absurd (scalar_no_buffer (Flag b) u c d)), g), stay)
+      ((named p x sort.Flag, stands_new s.statics t.variables t.frames p stands x (Scalar (Flag b)) sort.Flag new tt (Flag b, refl, refl) (λ u c d. absurd (scalar_no_buffer (Flag b) u c d)), g), stay)
   declared FieldKind x result given get (AField f) (new, g) =
-      ((named p x sort.FieldId, stands_new s.statics t.variables t.frames p stands x (FieldHandle f) sort.FieldId new (f, refl) (λ u b c. absurd (field_no_buffer f u b c)), g), stay)
+      ((named p x sort.FieldId, stands_new s.statics t.variables t.frames p stands x (FieldHandle f) sort.FieldId new tt (f, refl) (λ u b c. absurd (field_no_buffer f u b c)), g), stay)
   declared FieldKind x result given get NoField h = null_lands classes in_use k s t rest p stands (Declared FieldKind x) h
   declared ReferenceKind x result given get NoLocal h = null_lands classes in_use k s t rest p stands (Declared ReferenceKind x) h
   declared ReferenceKind x result given get NullLocal h = null_lands classes in_use k s t rest p stands (Declared ReferenceKind x) h
@@ -70,27 +73,36 @@ module _ (classes : Classes) (in_use : BuffersInUse) (k : ℕ) (s : Shared) (t :
   declared (BufferKind u) x result given get NoField h = absurd h
   declared (BufferKind u) x result given get (AGlobal r) h = absurd h
   declared (BufferKind u) x result given get NoGlobal h = absurd h
+  declared (BufferKind u) x result given get (AWeak r) h = absurd h
+  declared (BufferKind u) x result given get NoWeak h = absurd h
   declared (BufferKind u) x result given get NoLocal h = absurd h
   declared (BufferKind u) x result given get NullLocal h = absurd h
   declared (BufferKind u) x result given get NoResultThere h = absurd h
   declared kind x result given get simple h = absurd h
 
-  number_put : (x : Identifier) (r : Sort) (v : Value) (o : Option Variable) → sort_in p.names x ≡ Some r → lookup x t.variables ≡ o → (old : Value) × (o ≡ Some (Scalar old)) → VariableFits r (Some (Scalar v)) (lookup x s.statics) → GoesOn rest p → Lands own s.statics (put_assigned x (ScalarResult v) s (with_tasks t rest) o)
+  number_put : (x : Identifier) (r : Sort) (v : Value) (o : Option Variable) → sort_in p.names x ≡ Some r → lookup x t.variables ≡ o → (old : Value) × (o ≡ Some (Scalar old)) → VariableFits r (Some (Scalar v)) (lookup x s.statics) → GoesOn rest p → Lands weak own s.statics (put_assigned x (ScalarResult v) s (with_tasks t rest) o)
   number_put x r v o e at_x (old, is) fits g =
-      subst (λ (w : Option Variable). Lands own s.statics (put_assigned x (ScalarResult v) s (with_tasks t rest) w)) (sym is)
+      subst (λ (w : Option Variable). Lands weak own s.statics (put_assigned x (ScalarResult v) s (with_tasks t rest) w)) (sym is)
       ((p, stands_kept s.statics t.variables t.frames p stands x (Scalar v) r (Scalar old) e (at_x ∙ is) (scalar_no_ref old) (scalar_no_buffer old) fits (λ u b c. absurd (scalar_no_buffer v u b c)), g), stay)
 
-  field_put : (x : Identifier) (f : Option FieldId) (o : Option Variable) → sort_in p.names x ≡ Some sort.FieldId → lookup x t.variables ≡ o → (old : Option FieldId) × (o ≡ Some (FieldHandle old)) → GoesOn rest p → Lands own s.statics (put_assigned x (FieldResult f) s (with_tasks t rest) o)
+  field_put : (x : Identifier) (f : Option FieldId) (o : Option Variable) → sort_in p.names x ≡ Some sort.FieldId → lookup x t.variables ≡ o → (old : Option FieldId) × (o ≡ Some (FieldHandle old)) → GoesOn rest p → Lands weak own s.statics (put_assigned x (FieldResult f) s (with_tasks t rest) o)
   field_put x f o e at_x (old, is) g =
-      subst (λ (w : Option Variable). Lands own s.statics (put_assigned x (FieldResult f) s (with_tasks t rest) w)) (sym is)
+      subst (λ (w : Option Variable). Lands weak own s.statics (put_assigned x (FieldResult f) s (with_tasks t rest) w)) (sym is)
       ((p, stands_kept s.statics t.variables t.frames p stands x (FieldHandle f) sort.FieldId (FieldHandle old) e (at_x ∙ is) (field_no_ref old) (field_no_buffer old) (f, refl) (λ u b c. absurd (field_no_buffer f u b c)), g), stay)
 
-  static_put : (x : Identifier) (given : CallResult) (o : Option Variable) → o ≡ None → GoesOn rest p → Lands own s.statics (put_assigned x given s (with_tasks t rest) o)
-  static_put x given o none g =
-      subst (λ (w : Option Variable). Lands own s.statics (put_assigned x given s (with_tasks t rest) w)) (sym none)
-      ((p, stands_static classes in_use k s t rest p stands x (static_result given), g), statics_stay classes in_use k s t rest p stands x (static_result given))
+  no_empty : (n : ℕ) → Empty ≡ Weakly n → ⊥
+  no_empty n e = cc
 
-  assigned : (x : Identifier) (o : Option Sort) (result : ResultKind) (given : CallResult) (get : Option (Access × Option Identifier)) → sort_in p.names x ≡ o → Simple result given → AssignsResult p o x result get (GoesOn rest) → Lands own s.statics (put_assigned x given s (with_tasks t rest) (lookup x t.variables))
+  no_global : (r : Reference) (n : ℕ) → static_result (ReferenceResult r) ≡ Weakly n → ⊥
+  no_global None n e = cc
+  no_global (Some m) n e = cc
+
+  static_put : (x : Identifier) (given : CallResult) (o : Option Variable) → ((n : ℕ) → static_result given ≡ Weakly n → weak x ≡ true) → o ≡ None → GoesOn rest p → Lands weak own s.statics (put_assigned x given s (with_tasks t rest) o)
+  static_put x given o right none g =
+      subst (λ (w : Option Variable). Lands weak own s.statics (put_assigned x given s (with_tasks t rest) w)) (sym none)
+      ((p, stands_static classes in_use k s t rest p stands x (static_result given) right, g), statics_stay classes in_use k s t rest p stands x (static_result given))
+
+  assigned : (x : Identifier) (o : Option Sort) (result : ResultKind) (given : CallResult) (get : Option (Access × Option Identifier)) → sort_in p.names x ≡ o → Simple result given → AssignsResult p o x result get (GoesOn rest) → Lands weak own s.statics (put_assigned x given s (with_tasks t rest) (lookup x t.variables))
   assigned x (Some sort.Jint) result given get e (AnInt z) g = let old = stands.sorts x sort.Jint e in number_put x sort.Jint (Int z) (lookup x t.variables) e refl (old.0, old.1) (Int z, refl, refl) g
   assigned x (Some sort.Flag) result given get e (AFlag b) g = let old = stands.sorts x sort.Flag e in number_put x sort.Flag (Flag b) (lookup x t.variables) e refl (old.0, old.1) (Flag b, refl, refl) g
   assigned x (Some sort.FieldId) result given get e (AField f) g = field_put x f (lookup x t.variables) e refl (stands.sorts x sort.FieldId e) g
@@ -98,22 +110,26 @@ module _ (classes : Classes) (in_use : BuffersInUse) (k : ℕ) (s : Shared) (t :
   assigned x (Some sort.Ref) result given get e NoLocal h = assigned_lands classes in_use k s t rest p stands x (Some sort.Ref) e h
   assigned x (Some sort.Ref) result given get e NullLocal (may, g) =
       let shown = stands.shows x _ may.known in
-      subst (λ (v : Option Variable). Lands own s.statics (put_assigned x (ReferenceResult None) s (with_tasks t rest) v)) (sym shown.1) ((at p (with_changed p.regions x revived), nulled classes in_use k s t rest p stands x may e, g), stay)
-  assigned x (Some sort.Global) result given get e (AGlobal r) g = static_put x (ReferenceResult r) (lookup x t.variables) ((stands.sorts x sort.Global e).0) g
-  assigned x (Some sort.Global) result given get e NoGlobal g = static_put x NullResult (lookup x t.variables) ((stands.sorts x sort.Global e).0) g
+      subst (λ (v : Option Variable). Lands weak own s.statics (put_assigned x (ReferenceResult None) s (with_tasks t rest) v)) (sym shown.1) ((at p (with_changed p.regions x revived), nulled classes in_use k s t rest p stands x may e, g), stay)
+  assigned x (Some sort.Global) result given get e (AGlobal r) g = static_put x (ReferenceResult r) (lookup x t.variables) (λ n c. absurd (no_global r n c)) ((stands.sorts x sort.Global e).0) g
+  assigned x (Some sort.Global) result given get e NoGlobal g = static_put x NullResult (lookup x t.variables) (λ n c. absurd (no_empty n c)) ((stands.sorts x sort.Global e).0) g
+  assigned x (Some sort.Weak) result given get e (AWeak r) g = static_put x (WeakResult r) (lookup x t.variables) (λ n c. stands.kinds x sort.Weak e) ((stands.sorts x sort.Weak e).0) g
+  assigned x (Some sort.Weak) result given get e NoWeak g = static_put x NullResult (lookup x t.variables) (λ n c. absurd (no_empty n c)) ((stands.sorts x sort.Weak e).0) g
   assigned x (Some (sort.Buffer u w)) result given get e (AnInt z) h = absurd h
   assigned x (Some (sort.Buffer u w)) result given get e (AFlag b) h = absurd h
   assigned x (Some (sort.Buffer u w)) result given get e (AField f) h = absurd h
   assigned x (Some (sort.Buffer u w)) result given get e NoField h = absurd h
   assigned x (Some (sort.Buffer u w)) result given get e (AGlobal r) h = absurd h
   assigned x (Some (sort.Buffer u w)) result given get e NoGlobal h = absurd h
+  assigned x (Some (sort.Buffer u w)) result given get e (AWeak r) h = absurd h
+  assigned x (Some (sort.Buffer u w)) result given get e NoWeak h = absurd h
   assigned x (Some (sort.Buffer u w)) result given get e NoLocal h = absurd h
   assigned x (Some (sort.Buffer u w)) result given get e NullLocal h = absurd h
   assigned x (Some (sort.Buffer u w)) result given get e NoResultThere h = absurd h
   assigned x o result given get e simple g = absurd g
 
   -- such a result goes where it may
-  pub result_lands : (target : Target) (result : ResultKind) (given : CallResult) (get : Option (Access × Option Identifier)) → Simple result given → ResultGoes target result get (GoesOn rest) p → Lands own s.statics (put target given s (with_tasks t rest))
+  pub result_lands : (target : Target) (result : ResultKind) (given : CallResult) (get : Option (Access × Option Identifier)) → Simple result given → ResultGoes target result get (GoesOn rest) p → Lands weak own s.statics (put target given s (with_tasks t rest))
   result_lands (Declared kind x) result given get simple h = declared kind x result given get simple h
   result_lands (Assigned x) result given get simple h = assigned x (sort_in p.names x) result given get refl simple h
   result_lands (Tested a b) result given get simple h = absurd h

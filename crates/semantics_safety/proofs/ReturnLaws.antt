@@ -6,10 +6,10 @@ use Rattle.std.proofs.lemmas.List.Concat.{flat_map-cons}
 use Rattle.base.specs.Bytes.{Identifier, lookup}
 use Rattle.class_rules.specs.Class.{Classes}
 use Rattle.jni.specs.JniFunction.{ExceptionClear}
-use Rattle.jni.specs.Prototype.{ResultKind, NewLocal, NewGlobal, GivesFlag, GivesInt, GivesField, GivesNothing, GivesBuffer}
+use Rattle.jni.specs.Prototype.{ResultKind, NewLocal, NewGlobal, NewWeak, GivesFlag, GivesInt, GivesField, GivesNothing, GivesBuffer}
 use Rattle.semantics.specs.Object.{Reference}
 use Rattle.semantics.specs.World.{Invocation}
-use Rattle.semantics.specs.CallEffects.{CallResult, NoResult, NullResult, ScalarResult, ReferenceResult, FieldResult, BufferResult, with_local}
+use Rattle.semantics.specs.CallEffects.{CallResult, NoResult, NullResult, ScalarResult, ReferenceResult, WeakResult, FieldResult, BufferResult, with_local}
 use Rattle.semantics.specs.CallStep.{blank, filled, put, put_assigned, received}
 use Rattle.semantics.specs.Heap.{Heap}
 use Rattle.semantics.specs.Return.{ending_after, calls_after, fitted, given_back, resumed_in, return_into}
@@ -22,6 +22,7 @@ use Rattle.semantics_safety.specs.Owners.{Owners, is_target, with_result}
 use Rattle.semantics_safety.specs.Stands.{CallerStands, Goes, IsMethodResult, Stands}
 use Rattle.semantics_safety.specs.StepSafe.{has_calls}
 use Rattle.semantics_safety.specs.Wanted.{GoesOn, ResultGoes}
+use Rattle.semantics_safety.specs.WeakNames.{WeakNames}
 use Rattle.semantics_safety.proofs.ClauseLaws.{no_views}
 use Rattle.semantics_safety.proofs.FrameLaws.{HasFrame}
 use Rattle.semantics_safety.proofs.OwnerLaws.{assigned_by, quiet_by}
@@ -48,6 +49,7 @@ fitted_gives NewLocal m (ReferenceResult (Some n)) = ALocal n
 fitted_gives NewLocal m NoResult = Plainly NoLocal
 fitted_gives NewLocal m NullResult = Plainly NoLocal
 fitted_gives NewLocal m (ScalarResult v) = Plainly NoLocal
+fitted_gives NewLocal m (WeakResult r) = Plainly NoLocal
 fitted_gives NewLocal m (FieldResult f) = Plainly NoLocal
 fitted_gives NewLocal m (BufferResult b) = Plainly NoLocal
 fitted_gives GivesInt m (ScalarResult (Int z)) = Plainly (AnInt z)
@@ -55,12 +57,14 @@ fitted_gives GivesInt m (ScalarResult (Word n)) = Plainly (AnInt (pos 0))
 fitted_gives GivesInt m (ScalarResult (Flag b)) = Plainly (AnInt (pos 0))
 fitted_gives GivesInt m (ScalarResult (Truth b)) = Plainly (AnInt (pos 0))
 fitted_gives GivesInt m (ReferenceResult r) = Plainly (AnInt (pos 0))
+fitted_gives GivesInt m (WeakResult r) = Plainly (AnInt (pos 0))
 fitted_gives GivesInt m NoResult = Plainly (AnInt (pos 0))
 fitted_gives GivesInt m NullResult = Plainly (AnInt (pos 0))
 fitted_gives GivesInt m (FieldResult f) = Plainly (AnInt (pos 0))
 fitted_gives GivesInt m (BufferResult b) = Plainly (AnInt (pos 0))
 fitted_gives GivesNothing m given = Plainly NoResultThere
 fitted_gives NewGlobal m given = absurd m
+fitted_gives NewWeak m given = absurd m
 fitted_gives GivesFlag m given = absurd m
 fitted_gives GivesField m given = absurd m
 fitted_gives (GivesBuffer access) m given = absurd m
@@ -71,6 +75,7 @@ back_gives (Some n) NewLocal m given = Plainly NoLocal
 back_gives (Some n) GivesInt m given = Plainly (AnInt (pos 0))
 back_gives (Some n) GivesNothing m given = Plainly NoResultThere
 back_gives (Some n) NewGlobal m given = absurd m
+back_gives (Some n) NewWeak m given = absurd m
 back_gives (Some n) GivesFlag m given = absurd m
 back_gives (Some n) GivesField m given = absurd m
 back_gives (Some n) (GivesBuffer access) m given = absurd m
@@ -78,54 +83,54 @@ back_gives (Some n) (GivesBuffer access) m given = absurd m
 -- ---- into a caller
 
 -- a step that leaves the thread so, with a caller's owners once its result is where it goes
-abbrev pub LandsBack : Target → Owners → Statics → Advance → Type 0
-LandsBack target own ss (Advances s t event) = Goes (with_result target own t.variables) s.statics t t.tasks × ((x : Identifier) (r : StaticReference) → lookup x ss ≡ Some r → (q : StaticReference) × (lookup x s.statics ≡ Some q))
-LandsBack target own ss NoAdvance = ⊥
+abbrev pub LandsBack : WeakNames → Target → Owners → Statics → Advance → Type 0
+LandsBack weak target own ss (Advances s t event) = Goes weak (with_result target own t.variables) s.statics t t.tasks × ((x : Identifier) (r : StaticReference) → lookup x ss ≡ Some r → (q : StaticReference) × (lookup x s.statics ≡ Some q))
+LandsBack weak target own ss NoAdvance = ⊥
 
-module _ (own new : Owners) where
-  back_assigned : (x : Identifier) → ((y : Identifier) → is_target (Assigned x) y ≡ false → new y ≡ own y) → (given : CallResult) (ss : Statics) (s : Shared) (t : Thread) (o : Option Variable) → Lands new ss (put_assigned x given s t o) → LandsBack (Assigned x) own ss (put_assigned x given s t o)
-  back_assigned x left given ss s t (Some v) h = assigned_by 0 ExceptionClear [] 0 own new x left given ss s t (Some v) h
-  back_assigned x left given ss s t None h = assigned_by 0 ExceptionClear [] 0 own new x left given ss s t None h
+module _ (weak : WeakNames) (own new : Owners) where
+  back_assigned : (x : Identifier) → ((y : Identifier) → is_target (Assigned x) y ≡ false → new y ≡ own y) → (given : CallResult) (ss : Statics) (s : Shared) (t : Thread) (o : Option Variable) → Lands weak new ss (put_assigned x given s t o) → LandsBack weak (Assigned x) own ss (put_assigned x given s t o)
+  back_assigned x left given ss s t (Some v) h = assigned_by weak 0 ExceptionClear [] 0 own new x left given ss s t (Some v) h
+  back_assigned x left given ss s t None h = assigned_by weak 0 ExceptionClear [] 0 own new x left given ss s t None h
 
   -- a result that is put into its target
-  put_back : (target : Target) → ((y : Identifier) → is_target target y ≡ false → new y ≡ own y) → (given : CallResult) (ss : Statics) (s : Shared) (t : Thread) → Lands new ss (put target given s t) → LandsBack target own ss (put target given s t)
-  put_back (Declared kind x) left given ss s t h = quiet_by 0 ExceptionClear [] 0 own new (Declared kind x) left ss s (record t { variables = assign x (filled (blank kind (length t.frames)) given) t.variables }) h
+  put_back : (target : Target) → ((y : Identifier) → is_target target y ≡ false → new y ≡ own y) → (given : CallResult) (ss : Statics) (s : Shared) (t : Thread) → Lands weak new ss (put target given s t) → LandsBack weak target own ss (put target given s t)
+  put_back (Declared kind x) left given ss s t h = quiet_by weak 0 ExceptionClear [] 0 own new (Declared kind x) left ss s (record t { variables = assign x (filled (blank kind (length t.frames)) given) t.variables }) h
   put_back (Assigned x) left given ss s t h = back_assigned x left given ss s t (lookup x t.variables) h
-  put_back (Tested a b) left given ss s t h = quiet_by 0 ExceptionClear [] 0 own new (Tested a b) left ss s t h
-  put_back Dropped left given ss s t h = quiet_by 0 ExceptionClear [] 0 own new Dropped left ss s t h
+  put_back (Tested a b) left given ss s t h = quiet_by weak 0 ExceptionClear [] 0 own new (Tested a b) left ss s t h
+  put_back Dropped left given ss s t h = quiet_by weak 0 ExceptionClear [] 0 own new Dropped left ss s t h
 
-module _ (classes : Classes) (in_use : BuffersInUse) (k : ℕ) (s : Shared) (t : Thread) (c : Caller) (callers : List Caller) {own : Owners} (stands : CallerStands s.statics own c) where
+module _ (classes : Classes) (in_use : BuffersInUse) (k : ℕ) (s : Shared) (t : Thread) (c : Caller) (callers : List Caller) {weak : WeakNames} {own : Owners} (stands : CallerStands weak s.statics own c) where
   -- the thread within its caller, its tasks aside
   abbrev within : Thread
   within = record t { callers = callers; variables = c.variables; frames = c.frames }
 
   local_back : (n : ℕ) (frames : List Frame) → c.frames ≡ frames → HasFrame frames → (kind : ResultKind) → kind ≡ NewLocal → ResultGoes c.target kind None (GoesOn c.tasks) stands.point
-      → Lands (with_target c.target stands.point.regions.frames own) s.statics (put c.target (ReferenceResult (Some n)) s (record within { frames = with_local n frames; tasks = Some c.tasks }))
+      → Lands weak (with_target c.target stands.point.regions.frames own) s.statics (put c.target (ReferenceResult (Some n)) s (record within { frames = with_local n frames; tasks = Some c.tasks }))
   local_back n [] e room kind is h = absurd room
   local_back n (frame ∷ below) e room kind is h =
-      local_lands s within c.tasks frame below stands.point (subst (λ (frames : List Frame). Stands own s.statics c.variables frames stands.point) e stands.stands) n c.target None
+      local_lands s within c.tasks frame below stands.point (subst (λ (frames : List Frame). Stands weak own s.statics c.variables frames stands.point) e stands.stands) n c.target None
       (subst (λ (kind : ResultKind). ResultGoes c.target kind None (GoesOn c.tasks) stands.point) is h)
 
-  by_kind : (kind : ResultKind) (given : CallResult) → c.result ≡ kind → Gives kind given → LandsBack c.target own s.statics (put c.target given s (received kind given (resumed_in t c callers)))
+  by_kind : (kind : ResultKind) (given : CallResult) → c.result ≡ kind → Gives kind given → LandsBack weak c.target own s.statics (put c.target given s (received kind given (resumed_in t c callers)))
   by_kind kind given is (Plainly simple) =
       let goes = subst (λ (r : ResultKind). ResultGoes c.target r None (GoesOn c.tasks) stands.point) is stands.goes in
-      subst (λ (u : Thread). LandsBack c.target own s.statics (put c.target given s u)) (sym (received_is (resumed_in t c callers) 0 [] kind given simple))
-      (put_back own own c.target (λ y e. refl) given s.statics s (resumed_in t c callers)
+      subst (λ (u : Thread). LandsBack weak c.target own s.statics (put c.target given s u)) (sym (received_is (resumed_in t c callers) 0 [] kind given simple))
+      (put_back weak own own c.target (λ y e. refl) given s.statics s (resumed_in t c callers)
       (result_lands classes in_use k s within c.tasks stands.point stands.stands c.target kind given None simple goes))
   by_kind kind given is (ALocal n) =
-      put_back own (with_target c.target stands.point.regions.frames own) c.target (λ y e. ap (λ (b : Bool). if b then Some stands.point.regions.frames else own y) e) (ReferenceResult (Some n)) s.statics s _
+      put_back weak own (with_target c.target stands.point.regions.frames own) c.target (λ y e. ap (λ (b : Bool). if b then Some stands.point.regions.frames else own y) e) (ReferenceResult (Some n)) s.statics s _
       (local_back n c.frames refl (has_frame c.frames (stands.room is)) c.result is stands.goes)
 
   -- a caller goes on from its point
-  pub return_lands : (given : CallResult) → Gives c.result given → LandsBack c.target own s.statics (return_into s t given c callers)
+  pub return_lands : (given : CallResult) → Gives c.result given → LandsBack weak c.target own s.statics (return_into s t given c callers)
   return_lands given g = by_kind c.result given refl g
 
 -- callers have no view
-pub callers_viewless : (ss : Statics) (owners : List Owners) (callers : List Caller) → AllZip (CallerStands ss) owners callers → flat_map (λ (c : Caller). objects_viewed c.variables) callers ≡ []
-callers_viewless ss [] [] h = refl
-callers_viewless ss [] (c ∷ callers) h = absurd h
-callers_viewless ss (own ∷ owners) [] h = refl
-callers_viewless ss (own ∷ owners) (c ∷ callers) h =
+pub callers_viewless : (weak : WeakNames) (ss : Statics) (owners : List Owners) (callers : List Caller) → AllZip (CallerStands weak ss) owners callers → flat_map (λ (c : Caller). objects_viewed c.variables) callers ≡ []
+callers_viewless weak ss [] [] h = refl
+callers_viewless weak ss [] (c ∷ callers) h = absurd h
+callers_viewless weak ss (own ∷ owners) [] h = refl
+callers_viewless weak ss (own ∷ owners) (c ∷ callers) h =
     flat_map-cons (λ (c : Caller). objects_viewed c.variables) c callers
     ∙ ap (λ (l : List ℕ). l ++ flat_map (λ (c : Caller). objects_viewed c.variables) callers) (no_views ss c.variables c.frames (h.0).point (h.0).stands (h.0).viewless)
-    ∙ callers_viewless ss owners callers h.1
+    ∙ callers_viewless weak ss owners callers h.1

@@ -13,6 +13,7 @@ use Rattle.semantics_safety.specs.Points.{Point, AreOnce, is_copy, owns, owners}
 use Rattle.semantics_safety.specs.StepSafe.{references_at}
 use Rattle.semantics_safety.specs.Stands.{VariableFits, Shows, Lends, copies, Stands}
 use Rattle.semantics_safety.specs.Wanted.{Holds, IsNew, named}
+use Rattle.semantics_safety.specs.WeakNames.{WeakNames, IsOfKind, AreOfKind}
 use Rattle.semantics_safety.proofs.NameLaws.{one_or_other, front_same, front_other, lookup_same, lookup_other}
 
 pub none_some : {A : Type 0} (o : Option A) (v : A) → o ≡ None → o ≡ Some v → ⊥
@@ -86,15 +87,26 @@ known_held : (p : Point) (y : Identifier) (v : VariableState) (access : Access) 
 known_held p y v access a e (inl h) = inl (e ∙ ap (λ (w : VariableState). Some w) h)
 known_held p y v access a e (inr h) = inr (e ∙ ap (λ (w : VariableState). Some w) h)
 
+-- a new name of this kind
+pub kinds_named : (weak : WeakNames) (x : Identifier) (s : Sort) (names : Scope) → IsOfKind (weak x) s → AreOfKind weak names → AreOfKind weak ((x, s) ∷ names)
+kinds_named weak x s names kind kinds y r h = elim (one_or_other y x) [
+  | inl same ↦
+      let there : sort_in ((x, s) ∷ names) x ≡ Some r = subst (λ (z : Identifier). sort_in ((x, s) ∷ names) z ≡ Some r) same h in
+      let both : Some s ≡ Some r = sym (front_same x s names) ∙ there in
+      let one : s ≡ r = cc in
+      subst (λ (z : Identifier). IsOfKind (weak z) r) (sym same) (subst (IsOfKind (weak x)) one kind)
+  | inr other ↦ kinds y r (sym (front_other x y s names other) ∙ h)
+]
+
 -- a buffer's object is not held by this variable
 abbrev pub IsApart : Point → Variables → Identifier → Type 0
 IsApart p vs x = (y a : Identifier) (access : Access) (n level : ℕ) → Holds p y access a → lookup a vs ≡ Some (LocalRef level (Some n)) → a ≢ x
 
-module _ (ss : Statics) (vs : Variables) (frames : List Frame) (p : Point) {own : Owners} (stands : Stands own ss vs frames p) (x : Identifier) (w : Variable) where
+module _ (ss : Statics) (vs : Variables) (frames : List Frame) (p : Point) {weak : WeakNames} {own : Owners} (stands : Stands weak own ss vs frames p) (x : Identifier) (w : Variable) where
   -- a variable of which nothing is known, and which no buffer is of, is no held buffer
   pub stands_set : (names : Scope) → state_of p.regions x ≡ None → IsApart p vs x → ((u : _) (b : Buffer) → w ≡ Elements u b → b ≡ NoBuffer) → ((y : Identifier) (s : Sort) → sort_in names y ≡ Some s → VariableFits s (lookup y (assign x w vs)) (lookup y ss))
-      → Stands own ss (assign x w vs) frames (record p { names = names })
-  stands_set names none apart plain sorts = record {
+      → AreOfKind weak names → Stands weak own ss (assign x w vs) frames (record p { names = names })
+  stands_set names none apart plain sorts kinds = record {
     sorts = sorts;
     shows = λ y v e.
         let other : y ≢ x = λ same. none_some (state_of p.regions x) v none (subst (λ (z : Identifier). state_of p.regions z ≡ Some v) same e) in
@@ -108,6 +120,8 @@ module _ (ss : Statics) (vs : Variables) (frames : List Frame) (p : Point) {own 
       | inr other ↦ stands.held y u b (sym (lookup_other x y w vs other) ∙ e)
     ];
     once = once_after x w vs stands.once;
+    kinds = kinds;
+    only = stands.only;
     known_once = stands.known_once;
     depth = stands.depth;
     backed = λ level n. let same = owners_elsewhere vs x w level n p.regions.variables none in let enough = stands.backed level n in omega (arith, same, enough);
@@ -141,19 +155,19 @@ module _ (ss : Statics) (vs : Variables) (frames : List Frame) (p : Point) {own 
   ]
 
   -- a new variable
-  pub stands_new : (s : Sort) → IsNew p x → VariableFits s (Some w) (lookup x ss) → ((u : _) (b : Buffer) → w ≡ Elements u b → b ≡ NoBuffer) → Stands own ss (assign x w vs) frames (named p x s)
-  stands_new s new fits plain =
+  pub stands_new : (s : Sort) → IsNew p x → IsOfKind (weak x) s → VariableFits s (Some w) (lookup x ss) → ((u : _) (b : Buffer) → w ≡ Elements u b → b ≡ NoBuffer) → Stands weak own ss (assign x w vs) frames (named p x s)
+  stands_new s new kind fits plain =
       stands_set ((x, s) ∷ p.names) new.unknown
       (λ y a access n level h e same. new.unused y access (subst (Holds p y access) same h))
-      plain (sorts_named s fits)
+      plain (sorts_named s fits) (kinds_named weak x s p.names kind stands.kinds)
 
   -- a variable that is neither reference nor buffer
   pub stands_kept : (s : Sort) (old : Variable) → sort_in p.names x ≡ Some s → lookup x vs ≡ Some old → ((level : ℕ) (r : _) → old ≡ LocalRef level r → ⊥) → ((u : _) (b : Buffer) → old ≡ Elements u b → ⊥) → VariableFits s (Some w) (lookup x ss) → ((u : _) (b : Buffer) → w ≡ Elements u b → b ≡ NoBuffer)
-      → Stands own ss (assign x w vs) frames p
+      → Stands weak own ss (assign x w vs) frames p
   stands_kept s old e was no_ref no_buffer fits plain =
       stands_set p.names (unknown (state_of p.regions x) refl)
       (λ y a access n level h g same. no_ref level (Some n) (let there : lookup x vs ≡ Some (LocalRef level (Some n)) = subst (λ (z : Identifier). lookup z vs ≡ Some (LocalRef level (Some n))) same g in let both : Some old ≡ Some (LocalRef level (Some n)) = sym was ∙ there in cc))
-      plain (sorts_kept s e fits)
+      plain (sorts_kept s e fits) stands.kinds
     where
       shown : (v : VariableState) → Shows vs v (lookup x vs) → ⊥
       shown (ReferenceAt level live) h = no_ref level h.0 (let both : Some old ≡ Some (LocalRef level h.0) = sym was ∙ h.1 in cc)
@@ -175,7 +189,7 @@ owners_same vs us level n ((y, v) ∷ rest) same = counted (Identifier × Variab
     own (BufferIn b) = refl
 
 -- the point after a step that sets one variable
-pub record SetsOne (own new : Owners) (ss : Statics) (vs : Variables) (p : Point) (x : Identifier) (w : Variable) (frames : List Frame) (q : Point) : Type 0 where
+pub record SetsOne (weak : WeakNames) (own new : Owners) (ss : Statics) (vs : Variables) (p : Point) (x : Identifier) (w : Variable) (frames : List Frame) (q : Point) : Type 0 where
   pub elsewhere : (y : Identifier) → y ≢ x → state_of q.regions y ≡ state_of p.regions y
   pub apart : IsApart p vs x
   pub here : (v : VariableState) → state_of q.regions x ≡ Some v → Shows (assign x w vs) v (Some w)
@@ -184,16 +198,17 @@ pub record SetsOne (own new : Owners) (ss : Statics) (vs : Variables) (p : Point
   pub known_once : AreOnce q.regions.variables
   pub depth : length frames ≡ q.regions.frames
   pub backed : (level n : ℕ) → owners q.regions (assign x w vs) level n ≤ copies (references_at level frames) n
+  pub kinds : AreOfKind weak q.names
   -- the owners but this one are as they were
   pub keeps : (y : Identifier) → y ≢ x → new y ≡ own y
   pub owned_here : (level l n : ℕ) → state_of q.regions x ≡ Some (ReferenceAt level true) → w ≡ LocalRef l (Some n) → new x ≡ Some l
 
-module _ (ss : Statics) (vs : Variables) (frames : List Frame) (p : Point) {own : Owners} (stands : Stands own ss vs frames p) (x : Identifier) (w : Variable) where
+module _ (ss : Statics) (vs : Variables) (frames : List Frame) (p : Point) {weak : WeakNames} {own : Owners} (stands : Stands weak own ss vs frames p) (x : Identifier) (w : Variable) where
   held_there : (q : Point) (y : Identifier) (access : Access) (a : Identifier) → state_of q.regions y ≡ state_of p.regions y → Holds p y access a → Holds q y access a
   held_there q y access a e (inl h) = inl (e ∙ h)
   held_there q y access a e (inr h) = inr (e ∙ h)
 
-  pub stands_at : {new : Owners} (after : List Frame) (q : Point) → SetsOne own new ss vs p x w after q → Stands new ss (assign x w vs) after q
+  pub stands_at : {new : Owners} (after : List Frame) (q : Point) → SetsOne weak own new ss vs p x w after q → Stands weak new ss (assign x w vs) after q
   stands_at {new} after q one = record {
     sorts = one.sorts;
     shows = λ y v e. elim (one_or_other y x) [
@@ -213,6 +228,8 @@ module _ (ss : Statics) (vs : Variables) (frames : List Frame) (p : Point) {own 
       | inr other ↦ elim (stands.held y u b (sym (lookup_other x y w vs other) ∙ e)) [ inl none ↦ inl none | inr h ↦ inr (h.0, h.1, held_there q y h.0 h.1 (one.elsewhere y other) h.2) ]
     ];
     once = once_after x w vs stands.once;
+    kinds = one.kinds;
+    only = stands.only;
     known_once = one.known_once;
     depth = one.depth;
     backed = one.backed;

@@ -10,10 +10,11 @@ use Rattle.semantics.specs.Heap.{Heap, numbers_of}
 use Rattle.semantics.specs.Sight.{seen, scalar, variable_is_null, static_is_null, holds_null, elements_of, in_range}
 use Rattle.semantics.specs.Thread.{Frame}
 use Rattle.semantics.specs.Value.{Outcome, Gives, outcome_then}
-use Rattle.semantics.specs.Variable.{Variable, Elements, Buffer, NoBuffer, Copy, View, StaticReference, Empty, Live, Deleted, Variables, Statics}
+use Rattle.semantics.specs.Variable.{Variable, Elements, Buffer, NoBuffer, Copy, View, StaticReference, Empty, Live, Weakly, Cleared, Deleted, Variables, Statics}
 use Rattle.semantics_safety.specs.Owners.{Owners}
 use Rattle.semantics_safety.specs.Points.{Point, IsUsable, NullTestFits, ElementsFit}
 use Rattle.semantics_safety.specs.Stands.{VariableFits, IsOf, Stands}
+use Rattle.semantics_safety.specs.WeakNames.{WeakNames}
 use Rattle.semantics_safety.proofs.Values.{ValueFits}
 use Rattle.semantics_safety.proofs.TermLaws.{Answers, Sees}
 
@@ -26,6 +27,8 @@ number_seen s v g n h = absurd n
 static_seen : (r : StaticReference) → Answers (static_is_null (Some r))
 static_seen Empty = tt
 static_seen (Live n) = tt
+static_seen (Weakly n) = tt
+static_seen Cleared = tt
 static_seen Deleted = tt
 
 buffer_seen : (u : _) (b : Buffer) → Answers (variable_is_null (Elements u b))
@@ -55,7 +58,7 @@ lent_elements : (heap : Heap) (u : _) (critical : Bool) (n : ℕ) (b : Buffer) �
 lent_elements heap u true n b e = subst (λ (c : Buffer). HasElements heap (Some (Elements u c))) (sym e) (numbers_of heap n, refl)
 lent_elements heap u false n b (zs, e) = subst (λ (c : Buffer). HasElements heap (Some (Elements u c))) (sym e) (zs, refl)
 
-module _ (ss : Statics) (vs : Variables) (frames : List Frame) (p : Point) (heap : Heap) {own : Owners} (stands : Stands own ss vs frames p) where
+module _ (ss : Statics) (vs : Variables) (frames : List Frame) (p : Point) (heap : Heap) {weak : WeakNames} {own : Owners} (stands : Stands weak own ss vs frames p) where
   usable_elements : (x : Identifier) → IsUsable p x → HasElements heap (lookup x vs)
   usable_elements x (access, a, known) =
       let shown = stands.shows x _ known in

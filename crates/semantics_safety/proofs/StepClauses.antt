@@ -14,16 +14,19 @@ use Rattle.semantics.specs.Task.{Task, Target, Assigned}
 use Rattle.semantics.specs.Thread.{Thread, Caller, Shared, sight_of, viewed_by, objects_viewed}
 use Rattle.semantics.specs.ThreadStep.{next_effect}
 use Rattle.semantics.specs.Variable.{LocalRef}
+use Rattle.semantics.specs.WeakArguments.{WeakAreTaken}
 use Rattle.semantics_safety.specs.Owners.{Owners, IsOwn}
 use Rattle.semantics_safety.specs.Follows.{Follows}
 use Rattle.semantics_safety.specs.Stands.{Goes}
 use Rattle.semantics_safety.specs.StepSafe.{MayMeetView, MayReturn, IsAlive, came_from, HoldsNoBuffer, SetsWhole}
 use Rattle.semantics_safety.specs.Used.{task_names}
 use Rattle.semantics_safety.specs.Wanted.{GoesOn}
+use Rattle.semantics_safety.specs.WeakNames.{WeakNames}
 use Rattle.semantics_safety.proofs.ClauseLaws.{view_clause, return_clause, reference_clause, owned_clause}
 use Rattle.semantics_safety.proofs.EffectLaws.{effect_follows, call_fits}
 use Rattle.semantics_safety.proofs.LevelLaws.{level_clause}
 use Rattle.semantics_safety.proofs.ReleaseLaws.{release_clause}
+use Rattle.semantics_safety.proofs.WeakLaws.{weak_clause}
 use Rattle.semantics_safety.proofs.WholeLaws.{whole_clause}
 
 no_call : (line : ℕ) (target : Target) (f : JniFunction) (args : List Actual) → NoEffect ≡ Calls line target f args → ⊥
@@ -32,50 +35,50 @@ no_call line target f args e = cc
 no_return : (given : CallResult) → NoEffect ≡ Returns given → ⊥
 no_return given e = cc
 
-module _ (own : Owners) (s : Shared) (t : Thread) where
-  at_return : (given : CallResult) (o : Option (List Task)) → Goes own s.statics t o → next_effect s t o ≡ Returns given → MayReturn t
+module _ (weak : WeakNames) (own : Owners) (s : Shared) (t : Thread) where
+  at_return : (given : CallResult) (o : Option (List Task)) → Goes weak own s.statics t o → next_effect s t o ≡ Returns given → MayReturn t
   at_return given None g e = absurd (no_return given e)
   at_return given (Some []) g e = absurd (g.2)
   at_return given (Some (task ∷ rest)) (p, stands, runs) e =
       return_clause s.statics t.variables t.frames p stands
-      (subst (Follows own (sight_of s t) s.statics t.variables t.frames p rest) e (effect_follows s.heap s.statics t.variables t.frames p stands rest task runs))
+      (subst (Follows weak own (sight_of s t) s.statics t.variables t.frames p rest) e (effect_follows s.heap s.statics t.variables t.frames p stands rest task runs))
 
-  at_release : (o : Option (List Task)) → Goes own s.statics t o → (line : ℕ) (target : Target) (access : Access) (args : List Actual) → next_effect s t o ≡ Calls line target (ReleaseBuffer access) args
+  at_release : (o : Option (List Task)) → Goes weak own s.statics t o → (line : ℕ) (target : Target) (access : Access) (args : List Actual) → next_effect s t o ≡ Calls line target (ReleaseBuffer access) args
       → came_from (lookup (variable_given args 1) t.variables) ≡ Some (object_given args 0)
   at_release None g line target access args e = absurd (no_call line target (ReleaseBuffer access) args e)
   at_release (Some []) g line target access args e = absurd (g.2)
   at_release (Some (task ∷ rest)) (p, stands, runs) line target access args e =
-      let called = subst (Follows own (sight_of s t) s.statics t.variables t.frames p rest) e (effect_follows s.heap s.statics t.variables t.frames p stands rest task runs) in
+      let called = subst (Follows weak own (sight_of s t) s.statics t.variables t.frames p rest) e (effect_follows s.heap s.statics t.variables t.frames p stands rest task runs) in
       subst (λ (l : List Actual). came_from (lookup (variable_given l 1) t.variables) ≡ Some (object_given l 0)) (sym called.1)
       (release_clause s.heap s.statics t.variables t.frames p stands access called.0
       ((call_fits s.heap s.statics t.variables t.frames p stands rest line target (ReleaseBuffer access) called.0 called.3).rules))
 
-  at_level : (o : Option (List Task)) → Goes own s.statics t o → (line : ℕ) (x : Identifier) (f : JniFunction) (args : List Actual) (level : ℕ) (r : Reference)
+  at_level : (o : Option (List Task)) → Goes weak own s.statics t o → (line : ℕ) (x : Identifier) (f : JniFunction) (args : List Actual) (level : ℕ) (r : Reference)
       → next_effect s t o ≡ Calls line (Assigned x) f args → (prototype f).result ≡ NewLocal → lookup x t.variables ≡ Some (LocalRef level r) → level ≡ length (frames_after f t.frames)
   at_level None g line x f args level r e gives there = absurd (no_call line (Assigned x) f args e)
   at_level (Some []) g line x f args level r e gives there = absurd (g.2)
   at_level (Some (task ∷ rest)) (p, stands, runs) line x f args level r e gives there =
-      let called = subst (Follows own (sight_of s t) s.statics t.variables t.frames p rest) e (effect_follows s.heap s.statics t.variables t.frames p stands rest task runs) in
+      let called = subst (Follows weak own (sight_of s t) s.statics t.variables t.frames p rest) e (effect_follows s.heap s.statics t.variables t.frames p stands rest task runs) in
       level_clause s.statics t.variables t.frames p stands (GoesOn rest) x level r there line f called.0 called.3 gives
 
   none_set : (x : Identifier) → SetsWhole x NoEffect → ⊥
   none_set x h = h
 
-  at_whole : (o : Option (List Task)) → Goes own s.statics t o → (x : Identifier) → SetsWhole x (next_effect s t o) → HoldsNoBuffer (lookup x t.variables)
+  at_whole : (o : Option (List Task)) → Goes weak own s.statics t o → (x : Identifier) → SetsWhole x (next_effect s t o) → HoldsNoBuffer (lookup x t.variables)
   at_whole None g x h = absurd (none_set x h)
   at_whole (Some []) g x h = absurd (none_set x h)
   at_whole (Some (task ∷ rest)) (p, stands, runs) x h =
       whole_clause (sight_of s t) s.statics t.variables t.frames p stands rest x (effect_of (sight_of s t) task) h (effect_follows s.heap s.statics t.variables t.frames p stands rest task runs)
 
-  at_effect : (tasks : List Task) → Goes own s.statics t (Some tasks) → next_effect s t (Some tasks) ≢ NoEffect
+  at_effect : (tasks : List Task) → Goes weak own s.statics t (Some tasks) → next_effect s t (Some tasks) ≢ NoEffect
   at_effect [] g e = absurd (g.2)
   at_effect (task ∷ rest) (p, stands, runs) e =
-      absurd (subst (Follows own (sight_of s t) s.statics t.variables t.frames p rest) e (effect_follows s.heap s.statics t.variables t.frames p stands rest task runs))
+      absurd (subst (Follows weak own (sight_of s t) s.statics t.variables t.frames p rest) e (effect_follows s.heap s.statics t.variables t.frames p stands rest task runs))
 
-  module _ (goes : Goes own s.statics t t.tasks) where
+  module _ (goes : Goes weak own s.statics t t.tasks) where
     pub view : flat_map (λ (c : Caller). objects_viewed c.variables) t.callers ≡ [] → (task : Task) (rest : List Task) → t.tasks ≡ Some (task ∷ rest) → viewed_by t ≢ [] → MayMeetView task
     view none_below task rest e held =
-        let g : Goes own s.statics t (Some (task ∷ rest)) = subst (Goes own s.statics t) e goes in
+        let g : Goes weak own s.statics t (Some (task ∷ rest)) = subst (Goes weak own s.statics t) e goes in
         let views : viewed_by t ≡ objects_viewed t.variables = ap (λ (l : List ℕ). l ++ objects_viewed t.variables) none_below in
         view_clause s.statics t.variables t.frames g.0 g.1 task (GoesOn rest) g.2 (λ none. held (views ∙ none))
 
@@ -83,10 +86,13 @@ module _ (own : Owners) (s : Shared) (t : Thread) where
     return given e = at_return given t.tasks goes e
 
     pub references : (task : Task) (rest : List Task) → t.tasks ≡ Some (task ∷ rest) → AllByRecursion (λ x. IsAlive t.frames (lookup x t.variables)) (task_names task)
-    references task rest e = let g : Goes own s.statics t (Some (task ∷ rest)) = subst (Goes own s.statics t) e goes in reference_clause s.statics t.variables t.frames g.0 g.1 task (GoesOn rest) g.2
+    references task rest e = let g : Goes weak own s.statics t (Some (task ∷ rest)) = subst (Goes weak own s.statics t) e goes in reference_clause s.statics t.variables t.frames g.0 g.1 task (GoesOn rest) g.2
 
     pub owned : (task : Task) (rest : List Task) → t.tasks ≡ Some (task ∷ rest) → AllByRecursion (λ x. IsOwn own x (lookup x t.variables)) (task_names task)
-    owned task rest e = let g : Goes own s.statics t (Some (task ∷ rest)) = subst (Goes own s.statics t) e goes in owned_clause s.statics t.variables t.frames g.0 g.1 task (GoesOn rest) g.2
+    owned task rest e = let g : Goes weak own s.statics t (Some (task ∷ rest)) = subst (Goes weak own s.statics t) e goes in owned_clause s.statics t.variables t.frames g.0 g.1 task (GoesOn rest) g.2
+
+    pub taken : (task : Task) (rest : List Task) → t.tasks ≡ Some (task ∷ rest) → WeakAreTaken t.variables s.statics task
+    taken task rest e = let g : Goes weak own s.statics t (Some (task ∷ rest)) = subst (Goes weak own s.statics t) e goes in weak_clause s.statics t.variables t.frames g.0 g.1 task (GoesOn rest) g.2
 
     pub release : (line : ℕ) (target : Target) (access : Access) (args : List Actual) → next_effect s t t.tasks ≡ Calls line target (ReleaseBuffer access) args → came_from (lookup (variable_given args 1) t.variables) ≡ Some (object_given args 0)
     release line target access args e = at_release t.tasks goes line target access args e
@@ -96,7 +102,7 @@ module _ (own : Owners) (s : Shared) (t : Thread) where
 
     pub possible : (tasks : List Task) → t.tasks ≡ Some tasks → next_effect s t t.tasks ≢ NoEffect
     possible tasks e =
-        subst (λ (o : Option (List Task)). next_effect s t o ≢ NoEffect) (sym e) (at_effect tasks (subst (Goes own s.statics t) e goes))
+        subst (λ (o : Option (List Task)). next_effect s t o ≢ NoEffect) (sym e) (at_effect tasks (subst (Goes weak own s.statics t) e goes))
 
     pub declared : (line : ℕ) (x : Identifier) (f : JniFunction) (args : List Actual) (level : ℕ) (r : Reference)
         → next_effect s t t.tasks ≡ Calls line (Assigned x) f args → (prototype f).result ≡ NewLocal → lookup x t.variables ≡ Some (LocalRef level r) → level ≡ length (frames_after f t.frames)

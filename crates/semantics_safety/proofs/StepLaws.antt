@@ -20,24 +20,25 @@ use Rattle.region_rules.specs.RegionStates.{VariableState, Free, Untested, Usabl
 use Rattle.jni.specs.Access.{is_critical}
 use Rattle.semantics_safety.specs.Wanted.{Holds, IsNew, SetsNumber, GoesOn, at, named}
 use Rattle.semantics_safety.specs.Follows.{Follows}
+use Rattle.semantics_safety.specs.WeakNames.{WeakNames, IsOfKind}
 use Rattle.semantics_safety.proofs.NameLaws.{one_or_other, lookup_same, lookup_other, front_same, front_other}
 use Rattle.semantics.specs.Sight.{Sight}
 use Rattle.std.specs.Prelude.{length, filter, ◌&&◌}
-use Rattle.semantics_safety.proofs.SetLaws.{stands_new, stands_kept, none_some, stands_at, owners_same, owners_elsewhere, sorts_named}
+use Rattle.semantics_safety.proofs.SetLaws.{stands_new, stands_kept, none_some, stands_at, owners_same, owners_elsewhere, sorts_named, kinds_named}
 
 -- the thread is at a point from which its tasks go on
-abbrev pub GoesFrom : Owners → Statics → Variables → List Frame → List Task → Type 0
-GoesFrom own ss vs frames tasks = (q : Point) × Stands own ss vs frames q × GoesOn tasks q
+abbrev pub GoesFrom : WeakNames → Owners → Statics → Variables → List Frame → List Task → Type 0
+GoesFrom weak own ss vs frames tasks = (q : Point) × Stands weak own ss vs frames q × GoesOn tasks q
 
 -- a step that leaves the thread so, and the names of the statics as they were
-abbrev pub Lands : Owners → Statics → Advance → Type 0
-Lands own ss (Advances s t event) = Goes own s.statics t t.tasks × ((x : Identifier) (r : StaticReference) → lookup x ss ≡ Some r → (q : StaticReference) × (lookup x s.statics ≡ Some q))
-Lands own ss NoAdvance = ⊥
+abbrev pub Lands : WeakNames → Owners → Statics → Advance → Type 0
+Lands weak own ss (Advances s t event) = Goes weak own s.statics t t.tasks × ((x : Identifier) (r : StaticReference) → lookup x ss ≡ Some r → (q : StaticReference) × (lookup x s.statics ≡ Some q))
+Lands weak own ss NoAdvance = ⊥
 
 pub same_statics : (ss : Statics) (x : Identifier) (r : StaticReference) → lookup x ss ≡ Some r → (q : StaticReference) × (lookup x ss ≡ Some q)
 same_statics ss x r e = (r, e)
 
-module _ (classes : Classes) (in_use : BuffersInUse) (k : ℕ) (s : Shared) (t : Thread) (rest : List Task) (p : Point) {own : Owners} (stands : Stands own s.statics t.variables t.frames p) where
+module _ (classes : Classes) (in_use : BuffersInUse) (k : ℕ) (s : Shared) (t : Thread) (rest : List Task) (p : Point) {weak : WeakNames} {own : Owners} (stands : Stands weak own s.statics t.variables t.frames p) where
   -- ---- numbers
 
   number_old : (sort : Sort) (o : Option Variable) (g : Option StaticReference) → IsNumberSort sort → VariableFits sort o g → (v : Value) × (o ≡ Some (Scalar v))
@@ -52,13 +53,19 @@ module _ (classes : Classes) (in_use : BuffersInUse) (k : ℕ) (s : Shared) (t :
   number_fits (Flag b) g h = (Flag b, refl, refl)
   number_fits (Truth b) g h = absurd h
 
+  number_kind : (b : Bool) (v : Value) → IsNumberSort (value_sort v) → IsOfKind b (value_sort v)
+  number_kind b (Word n) h = tt
+  number_kind b (Int z) h = tt
+  number_kind b (Flag c) h = tt
+  number_kind b (Truth c) h = tt
+
   scalar_no_ref : (v : Value) (level : ℕ) (r : _) → Scalar v ≡ LocalRef level r → ⊥
   scalar_no_ref v level r e = cc
 
   scalar_no_buffer : (v : Value) (u : ElementType) (b : Buffer) → Scalar v ≡ Elements u b → ⊥
   scalar_no_buffer v u b e = cc
 
-  sets_lands : (x : Identifier) (v : Value) → SetsNumber x (value_sort v) (GoesOn rest) p → IsNumberSort (value_sort v) → GoesFrom own s.statics (assign x (Scalar v) t.variables) t.frames rest
+  sets_lands : (x : Identifier) (v : Value) → SetsNumber x (value_sort v) (GoesOn rest) p → IsNumberSort (value_sort v) → GoesFrom weak own s.statics (assign x (Scalar v) t.variables) t.frames rest
   sets_lands x v (inl (e, g)) n =
       let old = number_old (value_sort v) (lookup x t.variables) (lookup x s.statics) n (stands.sorts x (value_sort v) e) in (
         p,
@@ -66,7 +73,7 @@ module _ (classes : Classes) (in_use : BuffersInUse) (k : ℕ) (s : Shared) (t :
         g,
       )
   sets_lands x v (inr (new, g)) n =
-      (named p x (value_sort v), stands_new s.statics t.variables t.frames p stands x (Scalar v) (value_sort v) new (number_fits v (lookup x s.statics) n) (λ u b c. absurd (scalar_no_buffer v u b c)), g)
+      (named p x (value_sort v), stands_new s.statics t.variables t.frames p stands x (Scalar v) (value_sort v) new (number_kind (weak x) v n) (number_fits v (lookup x s.statics) n) (λ u b c. absurd (scalar_no_buffer v u b c)), g)
 
   -- ---- arrays
 
@@ -76,10 +83,10 @@ module _ (classes : Classes) (in_use : BuffersInUse) (k : ℕ) (s : Shared) (t :
   array_no_buffer : (v : ElementType) (zs : List ℤ) (u : ElementType) (b : Buffer) → LocalArray v zs ≡ Elements u b → ⊥
   array_no_buffer v zs u b e = cc
 
-  makes_lands : (u : ElementType) (x : Identifier) (size : ℕ) → IsNew p x → GoesOn rest (named p x (sort.Array u size)) → GoesFrom own s.statics (assign x (LocalArray u (replicate size (pos 0))) t.variables) t.frames rest
+  makes_lands : (u : ElementType) (x : Identifier) (size : ℕ) → IsNew p x → GoesOn rest (named p x (sort.Array u size)) → GoesFrom weak own s.statics (assign x (LocalArray u (replicate size (pos 0))) t.variables) t.frames rest
   makes_lands u x size new g = (
     named p x (sort.Array u size),
-    stands_new s.statics t.variables t.frames p stands x (LocalArray u (replicate size (pos 0))) (sort.Array u size) new (replicate size (pos 0), refl) (λ v b c. absurd (array_no_buffer u (replicate size (pos 0)) v b c)),
+    stands_new s.statics t.variables t.frames p stands x (LocalArray u (replicate size (pos 0))) (sort.Array u size) new tt (replicate size (pos 0), refl) (λ v b c. absurd (array_no_buffer u (replicate size (pos 0)) v b c)),
     g,
   )
 
@@ -115,6 +122,7 @@ module _ (classes : Classes) (in_use : BuffersInUse) (k : ℕ) (s : Shared) (t :
   pub sort_of_buffer : (r : Sort) (o : Option Variable) (g : Option StaticReference) (u : ElementType) (b c : Buffer) → o ≡ Some (Elements u b) → VariableFits r o g → VariableFits r (Some (Elements u c)) g
   sort_of_buffer sort.Ref o g u b c e (level, q, h) = absurd (let d : Some (Elements u b) ≡ Some (LocalRef level q) = sym e ∙ h in cc)
   sort_of_buffer sort.Global o g u b c e (none, h) = absurd (none_some o (Elements u b) none e)
+  sort_of_buffer sort.Weak o g u b c e (none, h) = absurd (none_some o (Elements u b) none e)
   sort_of_buffer sort.FieldId o g u b c e (f, h) = absurd (let d : Some (Elements u b) ≡ Some (FieldHandle f) = sym e ∙ h in cc)
   sort_of_buffer (sort.Buffer v w) o g u b c e (d, h) =
       let both : Some (Elements u b) ≡ Some (Elements v d) = sym e ∙ h in
@@ -129,7 +137,7 @@ module _ (classes : Classes) (in_use : BuffersInUse) (k : ℕ) (s : Shared) (t :
   pub buffer_no_copy : (level n : ℕ) (u : ElementType) (b c : Buffer) (o : Option Variable) → o ≡ Some (Elements u b) → is_copy level n (Some (Elements u c)) ≡ is_copy level n o
   buffer_no_copy level n u b c o e = subst (λ (v : Option Variable). false ≡ is_copy level n v) (sym e) refl
 
-  copy_set : (x : Identifier) (u : ElementType) (n : ℕ) (zs ys : List ℤ) → lookup x t.variables ≡ Some (Elements u (Copy n zs)) → Stands own s.statics (assign x (Elements u (Copy n ys)) t.variables) t.frames p
+  copy_set : (x : Identifier) (u : ElementType) (n : ℕ) (zs ys : List ℤ) → lookup x t.variables ≡ Some (Elements u (Copy n zs)) → Stands weak own s.statics (assign x (Elements u (Copy n ys)) t.variables) t.frames p
   copy_set x u n zs ys e = stands_at s.statics t.variables t.frames p stands x (Elements u (Copy n ys)) t.frames p (record {
     elsewhere = λ y other. refl;
     apart = λ y a access m level h at_a. apart_buffer x u (Copy n zs) e a m level at_a;
@@ -143,6 +151,7 @@ module _ (classes : Classes) (in_use : BuffersInUse) (k : ℕ) (s : Shared) (t :
       | inr other ↦ subst (λ (o : Option Variable). VariableFits r o (lookup y s.statics)) (sym (lookup_other x y (Elements u (Copy n ys)) t.variables other)) (stands.sorts y r h)
     ];
     held = λ v b h. elim (stands.held x u (Copy n zs) e) [ inl none ↦ absurd (copy_is n zs none) | inr k ↦ inr k ];
+    kinds = stands.kinds;
     known_once = stands.known_once;
     depth = stands.depth;
     backed = λ level m.
@@ -187,13 +196,13 @@ module _ (classes : Classes) (in_use : BuffersInUse) (k : ℕ) (s : Shared) (t :
   array_sort x (sort.Buffer v w) o g u zs ys fit e (b, h) = absurd (let c : Some (Elements v b) ≡ Some (LocalArray u zs) = sym h ∙ e in cc)
   array_sort x r o g u zs ys fit e h = absurd fit
 
-  array_set : (x : Identifier) (u : ElementType) (zs ys : List ℤ) (r : Option Sort) → sort_in p.names x ≡ r → ElementsFit p x r → lookup x t.variables ≡ Some (LocalArray u zs) → Stands own s.statics (assign x (LocalArray u ys) t.variables) t.frames p
+  array_set : (x : Identifier) (u : ElementType) (zs ys : List ℤ) (r : Option Sort) → sort_in p.names x ≡ r → ElementsFit p x r → lookup x t.variables ≡ Some (LocalArray u zs) → Stands weak own s.statics (assign x (LocalArray u ys) t.variables) t.frames p
   array_set x u zs ys None e fit at_x = absurd fit
   array_set x u zs ys (Some r) e fit at_x =
       stands_kept s.statics t.variables t.frames p stands x (LocalArray u ys) r (LocalArray u zs) e at_x (array_no_ref u zs) (array_no_buffer u zs)
       (array_sort x r (lookup x t.variables) (lookup x s.statics) u zs ys fit at_x (stands.sorts x r e)) (λ v b c. absurd (array_no_buffer u ys v b c))
 
-  element_lands : (x : Identifier) (i : ℕ) (z : ℤ) (o : Option Variable) → lookup x t.variables ≡ o → Store o → ElementsFit p x (sort_in p.names x) → GoesOn rest p → Lands own s.statics (set_element s (with_tasks t rest) x i z o)
+  element_lands : (x : Identifier) (i : ℕ) (z : ℤ) (o : Option Variable) → lookup x t.variables ≡ o → Store o → ElementsFit p x (sort_in p.names x) → GoesOn rest p → Lands weak own s.statics (set_element s (with_tasks t rest) x i z o)
   element_lands x i z o e (InArray u zs) fit g = ((p, array_set x u zs (slice_set zs i (convert u z)) (sort_in p.names x) refl fit e, g), same_statics s.statics)
   element_lands x i z o e (InCopy u n zs) fit g = ((p, copy_set x u n zs (slice_set zs i (convert u z)) e, g), same_statics s.statics)
   element_lands x i z o e (InView u n) fit g = ((p, stands, g), same_statics s.statics)
@@ -218,7 +227,7 @@ module _ (classes : Classes) (in_use : BuffersInUse) (k : ℕ) (s : Shared) (t :
   null_owns x level l n (BufferIn b) = refl
 
   -- a new reference that is NULL
-  pub null_declared : (x : Identifier) → IsNew p x → Stands own s.statics (assign x (LocalRef (length t.frames) None) t.variables) t.frames (at (named p x sort.Ref) (with_new p.regions x (ReferenceAt p.regions.frames true)))
+  pub null_declared : (x : Identifier) → IsNew p x → Stands weak own s.statics (assign x (LocalRef (length t.frames) None) t.variables) t.frames (at (named p x sort.Ref) (with_new p.regions x (ReferenceAt p.regions.frames true)))
   null_declared x new = stands_at s.statics t.variables t.frames p stands x (LocalRef (length t.frames) None) t.frames _ (record {
     elsewhere = λ y other. front_other x y (ReferenceAt p.regions.frames true) p.regions.variables other;
     apart = λ y a access m level h at_a same. new.unused y access (subst (Holds p y access) same h);
@@ -229,6 +238,7 @@ module _ (classes : Classes) (in_use : BuffersInUse) (k : ℕ) (s : Shared) (t :
         (None, ap (λ (n : ℕ). Some (LocalRef n None)) stands.depth);
     sorts = sorts_named s.statics t.variables t.frames p stands x (LocalRef (length t.frames) None) sort.Ref (length t.frames, None, refl);
     held = λ u b e. absurd (ref_no_buffer (length t.frames) None u b e);
+    kinds = kinds_named weak x sort.Ref p.names tt stands.kinds;
     known_once = (new.unknown, stands.known_once);
     depth = stands.depth;
     backed = λ level n.
@@ -252,7 +262,7 @@ module _ (classes : Classes) (in_use : BuffersInUse) (k : ℕ) (s : Shared) (t :
   IsPlain (Returns given) = ⊥
   IsPlain e = Unit {0}
 
-  pub plain_lands : (sight : Sight) (e : Effect) → IsPlain e → Goes own s.statics t t.tasks → Follows own sight s.statics t.variables t.frames p rest e → Lands own s.statics (after_effect classes in_use k s t rest e)
+  pub plain_lands : (sight : Sight) (e : Effect) → IsPlain e → Goes weak own s.statics t t.tasks → Follows weak own sight s.statics t.variables t.frames p rest e → Lands weak own s.statics (after_effect classes in_use k s t rest e)
   plain_lands sight (Becomes tasks) plain whole (q, there, g) = ((q, there, g), same_statics s.statics)
   plain_lands sight (Sets x v) plain whole h = (sets_lands x v h.0 h.1, same_statics s.statics)
   plain_lands sight (SetsNull target) plain whole h = absurd plain

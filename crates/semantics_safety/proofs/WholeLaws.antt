@@ -6,7 +6,7 @@ use Rattle.std.proofs.lemmas.Slice.Eq.{bytes_eq-Decides}
 use Rattle.base.specs.Bytes.{Identifier, lookup}
 use Rattle.syntax.specs.Tree as tree
 use Rattle.jni.specs.JniFunction.{JniFunction, GetBuffer, ReleaseBuffer, DeleteLocalRef, PopLocalFrame, prototype}
-use Rattle.jni.specs.Prototype.{ResultKind, NewLocal, NewGlobal, GivesFlag, GivesInt, GivesField, GivesNothing, GivesBuffer, IsCopy}
+use Rattle.jni.specs.Prototype.{ResultKind, NewLocal, NewGlobal, NewWeak, GivesFlag, GivesInt, GivesField, GivesNothing, GivesBuffer, IsCopy}
 use Rattle.region_rules.specs.RegionStates.{RegionState, Free, BufferIn, state_of, get_of, after_call, after_pop}
 use Rattle.type_rules.specs.Sorts.{Sort, sort_in}
 use Rattle.type_rules.specs.Sorts as sort
@@ -24,6 +24,7 @@ use Rattle.semantics_safety.specs.Points.{Point, value_sort, OperandFits, Operan
 use Rattle.semantics_safety.specs.Stands.{VariableFits, Stands}
 use Rattle.semantics_safety.specs.StepSafe.{HoldsNoBuffer, IsTold, SetsWhole}
 use Rattle.semantics_safety.specs.Wanted.{IsNew, at, DeclaresNull, AssignsNull, SetsNumber, SetsNullThere, DeclaresResult, AssignsResult, ResultGoes, CallFits, Runs, GoesOn, call_seen, operand_argument}
+use Rattle.semantics_safety.specs.WeakNames.{WeakNames}
 use Rattle.semantics_safety.proofs.PoppedLaws.{stands_popped}
 use Rattle.semantics_safety.proofs.QuietLaws.{free_call}
 use Rattle.semantics_safety.proofs.SetLaws.{none_some}
@@ -49,7 +50,7 @@ number_holds sort.Jint o g n (v, e, f) = scalar_holds o v e
 number_holds sort.Flag o g n (v, e, f) = scalar_holds o v e
 number_holds s o g n h = absurd n
 
-module _ (ss : Statics) (vs : Variables) (frames : List Frame) (p : Point) {own : Owners} (stands : Stands own ss vs frames p) where
+module _ (ss : Statics) (vs : Variables) (frames : List Frame) (p : Point) {weak : WeakNames} {own : Owners} (stands : Stands weak own ss vs frames p) where
   abbrev Nothing : Identifier → Type 0
   Nothing x = HoldsNoBuffer (lookup x vs)
 
@@ -76,6 +77,9 @@ module _ (ss : Statics) (vs : Variables) (frames : List Frame) (p : Point) {own 
   static_there : (x : Identifier) → sort_in p.names x ≡ Some sort.Global → Nothing x
   static_there x e = none_holds (lookup x vs) (stands.sorts x sort.Global e).0
 
+  weak_there : (x : Identifier) → sort_in p.names x ≡ Some sort.Weak → Nothing x
+  weak_there x e = none_holds (lookup x vs) (stands.sorts x sort.Weak e).0
+
   field_there : (x : Identifier) → sort_in p.names x ≡ Some sort.FieldId → Nothing x
   field_there x e = let h = stands.sorts x sort.FieldId e in field_holds (lookup x vs) h.0 h.1
 
@@ -90,6 +94,7 @@ module _ (ss : Statics) (vs : Variables) (frames : List Frame) (p : Point) {own 
   null_assigned : (o : Option Sort) (x : Identifier) (k : Point → Type 0) → sort_in p.names x ≡ o → AssignsNull p o x k → Nothing x
   null_assigned (Some sort.Ref) x k e h = reference_there x e
   null_assigned (Some sort.Global) x k e h = static_there x e
+  null_assigned (Some sort.Weak) x k e h = weak_there x e
   null_assigned (Some sort.FieldId) x k e h = field_there x e
   null_assigned o x k e h = absurd h
 
@@ -114,6 +119,7 @@ module _ (ss : Statics) (vs : Variables) (frames : List Frame) (p : Point) {own 
   result_assigned (Some sort.Flag) x GivesFlag get k e h = sorted_holds x sort.Flag tt e
   result_assigned (Some sort.Ref) x NewLocal get k e h = reference_there x e
   result_assigned (Some sort.Global) x NewGlobal get k e h = static_there x e
+  result_assigned (Some sort.Weak) x NewWeak get k e h = weak_there x e
   result_assigned (Some sort.FieldId) x GivesField get k e h = field_there x e
   result_assigned (Some (sort.Buffer t w)) x (GivesBuffer access) get k e h = free_holds x h.0
   result_assigned o x result get k e h = absurd h
@@ -139,13 +145,14 @@ no_result q (Assigned y) get k x is h = by_sort (sort_in q.names y) h
     by_sort (Some sort.Flag) h = h
     by_sort (Some sort.Ref) h = h
     by_sort (Some sort.Global) h = h
+    by_sort (Some sort.Weak) h = h
     by_sort (Some sort.FieldId) h = h
     by_sort (Some (sort.Buffer t w)) h = h
     by_sort (Some s) h = h
 no_result q (Tested a b) get k x is h = h
 no_result q Dropped get k x is h = let no : false ≡ true = is in cc
 
-module _ (ss : Statics) (vs : Variables) (frames : List Frame) (p : Point) {own : Owners} (stands : Stands own ss vs frames p) (k : Point → Type 0) where
+module _ (ss : Statics) (vs : Variables) (frames : List Frame) (p : Point) {weak : WeakNames} {own : Owners} (stands : Stands weak own ss vs frames p) (k : Point → Type 0) where
   abbrev Goes : Target → JniFunction → List Operand → Type 0
   Goes target f operands = ResultGoes target (prototype f).result (get_of (call_seen f operands)) k (at p (after_call p.regions (call_seen f operands)))
 
@@ -184,12 +191,12 @@ module _ (ss : Statics) (vs : Variables) (frames : List Frame) (p : Point) {own 
 
 -- ---- effects
 
-module _ (sight : Sight) (ss : Statics) (vs : Variables) (frames : List Frame) (p : Point) {own : Owners} (stands : Stands own ss vs frames p) (rest : List Task) where
+module _ (sight : Sight) (ss : Statics) (vs : Variables) (frames : List Frame) (p : Point) {weak : WeakNames} {own : Owners} (stands : Stands weak own ss vs frames p) (rest : List Task) where
   number_set : (x : Identifier) (v : Value) → SetsNumber x (value_sort v) (GoesOn rest) p → IsNumberSort (value_sort v) → HoldsNoBuffer (lookup x vs)
   number_set x v (inl h) n = sorted_holds ss vs frames p stands x (value_sort v) n h.0
   number_set x v (inr h) n = new_holds ss vs frames p stands x h.0
 
-  pub whole_clause : (x : Identifier) (e : Effect) → SetsWhole x e → Follows own sight ss vs frames p rest e → HoldsNoBuffer (lookup x vs)
+  pub whole_clause : (x : Identifier) (e : Effect) → SetsWhole x e → Follows weak own sight ss vs frames p rest e → HoldsNoBuffer (lookup x vs)
   whole_clause x (Sets y v) is h = subst (λ (z : Identifier). HoldsNoBuffer (lookup z vs)) is (number_set y v h.0 h.1)
   whole_clause x (SetsNull target) is h = null_holds ss vs frames p stands target (GoesOn rest) x is h
   whole_clause x (MakesArray t y size) is h = subst (λ (z : Identifier). HoldsNoBuffer (lookup z vs)) is (new_holds ss vs frames p stands y h.0)

@@ -12,17 +12,18 @@ use Rattle.semantics_safety.specs.Owners.{Owners}
 use Rattle.semantics_safety.specs.Points.{Point, value_sort, ElementsFit}
 use Rattle.semantics_safety.specs.Wanted.{IsNew, named, SetsNumber, SetsNullThere, HasNoView, MayReturnFrom, GoesOn, Runs}
 use Rattle.semantics_safety.specs.Stands.{Stands}
+use Rattle.semantics_safety.specs.WeakNames.{WeakNames}
 
 -- an effect at a point where the thread is, with these tasks left after it
-abbrev pub Follows : Owners → Sight → Statics → Variables → List Frame → Point → List Task → Effect → Type 0
-Follows own sight ss vs frames p rest (Becomes tasks) = (q : Point) × Stands own ss vs frames q × GoesOn (tasks ++ rest) q
-Follows own sight ss vs frames p rest (Sets x v) = SetsNumber x (value_sort v) (GoesOn rest) p × IsNumberSort (value_sort v)
-Follows own sight ss vs frames p rest (SetsNull target) = SetsNullThere p target (GoesOn rest)
-Follows own sight ss vs frames p rest (SetsElement x i z) = ElementsFit p x (sort_in p.names x) × GoesOn rest p
-Follows own sight ss vs frames p rest (MakesArray t x size) = IsNew p x × GoesOn rest (named p x (Array t size))
-Follows own sight ss vs frames p rest (Prints z) = HasNoView p × GoesOn rest p
-Follows own sight ss vs frames p rest (Calls line target f args) =
+abbrev pub Follows : WeakNames → Owners → Sight → Statics → Variables → List Frame → Point → List Task → Effect → Type 0
+Follows weak own sight ss vs frames p rest (Becomes tasks) = (q : Point) × Stands weak own ss vs frames q × GoesOn (tasks ++ rest) q
+Follows weak own sight ss vs frames p rest (Sets x v) = SetsNumber x (value_sort v) (GoesOn rest) p × IsNumberSort (value_sort v)
+Follows weak own sight ss vs frames p rest (SetsNull target) = SetsNullThere p target (GoesOn rest)
+Follows weak own sight ss vs frames p rest (SetsElement x i z) = ElementsFit p x (sort_in p.names x) × GoesOn rest p
+Follows weak own sight ss vs frames p rest (MakesArray t x size) = IsNew p x × GoesOn rest (named p x (Array t size))
+Follows weak own sight ss vs frames p rest (Prints z) = HasNoView p × GoesOn rest p
+Follows weak own sight ss vs frames p rest (Calls line target f args) =
     (operands : List Operand) × (args ≡ actuals sight f operands) × IsTrue (is_ready operands) × Runs (Invoke line target f operands) (GoesOn rest) p
-Follows own sight ss vs frames p rest (Returns given) = MayReturnFrom p
-Follows own sight ss vs frames p rest (TrapsAt trap line) = Unit {0}
-Follows own sight ss vs frames p rest NoEffect = ⊥
+Follows weak own sight ss vs frames p rest (Returns given) = MayReturnFrom p
+Follows weak own sight ss vs frames p rest (TrapsAt trap line) = Unit {0}
+Follows weak own sight ss vs frames p rest NoEffect = ⊥

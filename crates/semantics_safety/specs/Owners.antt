@@ -6,11 +6,9 @@ use Rattle.base.specs.Bytes.{Identifier, lookup}
 use Rattle.syntax.specs.Tree.{SourceUnit}
 use Rattle.class_rules.specs.Class.{Classes}
 use Rattle.jni.specs.JniFunction.{JniFunction, DeleteLocalRef, PopLocalFrame}
-use Rattle.semantics.specs.declared.journal.Entry.{Entry}
-use Rattle.semantics.specs.declared.journal.Entry.TheVariants.{Step}
 use Rattle.semantics.specs.Arguments.{Actual, variable_given}
 use Rattle.semantics.specs.Effect.{Effect, Calls, Returns}
-use Rattle.semantics.specs.Journal.{Journal}
+use Rattle.semantics.specs.Journal.{Entry, Step, Clearing, Journal}
 use Rattle.semantics.specs.Start.{start}
 use Rattle.semantics.specs.State.{State, thread_at, in_use}
 use Rattle.semantics.specs.Step.{world_step}
@@ -124,12 +122,13 @@ after_turn unit classes s owners k refused (Some t) = with_owners owners k
 -- after an entry
 abbrev pub after_entry : SourceUnit → Classes → State → AllOwners → Entry → AllOwners
 after_entry unit classes s owners (Step k refused) = after_turn unit classes s owners k refused (thread_at s k)
+after_entry unit classes s owners (Clearing names) = owners
 
 -- after entries, from a state on; none is after one that isn't possible
 abbrev pub owners_from : SourceUnit → World → Option State → AllOwners → Journal → AllOwners
 owners_from unit w s owners [] = owners
 owners_from unit w None owners (e ∷ rest) = owners
-owners_from unit w (Some s) owners (e ∷ rest) = owners_from unit w (world_step unit w.classes s e) (after_entry unit w.classes s owners e) rest
+owners_from unit w (Some s) owners (e ∷ rest) = owners_from unit w (world_step unit w s e) (after_entry unit w.classes s owners e) rest
 
 -- after a journal
 abbrev pub owners_after : SourceUnit → World → Journal → AllOwners

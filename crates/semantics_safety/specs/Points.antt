@@ -4,8 +4,8 @@ use Rattle.base.specs.Bytes.{Identifier, ByName, lookup}
 use Rattle.syntax.specs.Tree as tree
 use Rattle.syntax.specs.Tree.{PrefixOp, LogicalNot, Complement, ToWord, ToInt, Argument}
 use Rattle.jni.specs.Access.{Access}
-use Rattle.jni.specs.Prototype.{ParameterKind, FieldID, IntNumber, TextBytes, LocalVariable, StaticVariable, ArrayVariable, BufferVariable, Mode, IsCopy}
-use Rattle.type_rules.specs.Sorts.{Sort, Word, Jint, Flag, Truth, Ref, Global, FieldId, Buffer, Array, Scope, OperatorGroup, Logic, Equality, Order, OnWords, group, sort_in}
+use Rattle.jni.specs.Prototype.{ParameterKind, FieldID, IntNumber, TextBytes, AnyReference, LocalVariable, StaticVariable, WeakVariable, ArrayVariable, BufferVariable, Mode, IsCopy}
+use Rattle.type_rules.specs.Sorts.{Sort, Word, Jint, Flag, Truth, Ref, Global, Weak, FieldId, Buffer, Array, Scope, OperatorGroup, Logic, Equality, Order, OnWords, group, sort_in}
 use Rattle.type_rules.specs.Sorts as sort
 use Rattle.type_rules.specs.SortGroups.{IsIndexSort, IsNumberSort, OperatorFits}
 use Rattle.region_rules.specs.RegionStates.{RegionState, VariableState, ReferenceAt, BufferIn, Usable, state_of}
@@ -56,6 +56,11 @@ ReferenceFits p x (Some Ref) = IsLive p x
 ReferenceFits p x (Some Global) = Unit {0}
 ReferenceFits p x s = ⊥
 
+-- the same, or a weak static
+abbrev pub AnyReferenceFits : Point → Identifier → Option Sort → Type 0
+AnyReferenceFits p x (Some Weak) = Unit {0}
+AnyReferenceFits p x s = ReferenceFits p x s
+
 -- ---- expressions
 
 -- the sort of a value
@@ -95,6 +100,12 @@ ReferenceArgumentFits p (tree.Value (tree.Named tree.Null)) = Unit {0}
 ReferenceArgumentFits p (tree.Value (tree.Variable x)) = ReferenceFits p x (sort_in p.names x)
 ReferenceArgumentFits p a = ⊥
 
+-- the same where it may be a weak static too
+abbrev pub AnyReferenceArgumentFits : Point → Argument → Type 0
+AnyReferenceArgumentFits p (tree.Value (tree.Named tree.Null)) = Unit {0}
+AnyReferenceArgumentFits p (tree.Value (tree.Variable x)) = AnyReferenceFits p x (sort_in p.names x)
+AnyReferenceArgumentFits p a = ⊥
+
 -- a bare name of which this holds
 abbrev pub NameFits : (Identifier → Type 0) → Argument → Type 0
 NameFits ok (tree.Value (tree.Variable x)) = ok x
@@ -129,6 +140,8 @@ GivenFits p IntNumber a = ⊥
 GivenFits p TextBytes a = TextFits a
 GivenFits p LocalVariable a = NameFits (IsLive p) a
 GivenFits p StaticVariable a = NameFits (λ x. sort_in p.names x ≡ Some Global) a
+GivenFits p WeakVariable a = NameFits (λ x. sort_in p.names x ≡ Some Weak) a
+GivenFits p AnyReference a = AnyReferenceArgumentFits p a
 GivenFits p FieldID a = FieldArgumentFits p a
 GivenFits p (ArrayVariable t) a = NameFits (λ x. (size : ℕ) × (sort_in p.names x ≡ Some (Array t size))) a
 GivenFits p (BufferVariable access) a = NameFits (IsUsable p) a

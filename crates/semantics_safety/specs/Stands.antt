@@ -7,7 +7,7 @@ use Rattle.syntax.specs.Tree.{SourceUnit}
 use Rattle.class_rules.specs.Class.{Classes}
 use Rattle.class_rules.specs.Fields.{FieldId}
 use Rattle.jni.specs.Access.{Access, is_critical}
-use Rattle.type_rules.specs.Sorts.{Sort, Truth, Ref, Global, Buffer, Array, sort_in}
+use Rattle.type_rules.specs.Sorts.{Sort, Truth, Ref, Global, Weak, Buffer, Array, sort_in}
 use Rattle.type_rules.specs.Sorts as sort
 use Rattle.jni.specs.Prototype.{ResultKind, NewLocal, GivesInt, GivesNothing}
 use Rattle.semantics.specs.Checks.{is_full}
@@ -23,6 +23,7 @@ use Rattle.semantics_safety.specs.Owners.{Owners, ThreadOwners}
 use Rattle.semantics_safety.specs.Points.{Point, AreOnce, value_sort, owners}
 use Rattle.semantics_safety.specs.StepSafe.{references_at, has_calls}
 use Rattle.semantics_safety.specs.Wanted.{Holds, HasNoView, ResultGoes, GoesOn}
+use Rattle.semantics_safety.specs.WeakNames.{WeakNames, AreOfKind, HoldWeakly, weak_names}
 
 -- ---- sorts
 
@@ -30,6 +31,7 @@ use Rattle.semantics_safety.specs.Wanted.{Holds, HasNoView, ResultGoes, GoesOn}
 abbrev pub VariableFits : Sort → Option Variable → Option StaticReference → Type 0
 VariableFits Ref v g = (level : ℕ) × (r : Reference) × (v ≡ Some (LocalRef level r))
 VariableFits Global v g = (v ≡ None) × ((r : StaticReference) × (g ≡ Some r))
+VariableFits Weak v g = (v ≡ None) × ((r : StaticReference) × (g ≡ Some r))
 VariableFits sort.FieldId v g = (f : Option FieldId) × (v ≡ Some (FieldHandle f))
 VariableFits (Buffer t writable) v g = (b : Buffer_) × (v ≡ Some (Elements t b))
 VariableFits (Array t size) v g = (zs : List ℤ) × (v ≡ Some (LocalArray t zs))
@@ -71,8 +73,8 @@ abbrev pub IsOwned : Owners → Variables → Point → Type 0
 IsOwned own vs p = (x : Identifier) (level l n : ℕ) → state_of p.regions x ≡ Some (ReferenceAt level true)
     → lookup x vs ≡ Some (LocalRef l (Some n)) → own x ≡ Some l
 
--- the thread is at this point
-pub record Stands (own : Owners) (statics : Statics) (vs : Variables) (frames : List Frame) (p : Point) : Type 0 where
+-- the thread is at this point, where these names are those of weak statics
+pub record Stands (weak : WeakNames) (own : Owners) (statics : Statics) (vs : Variables) (frames : List Frame) (p : Point) : Type 0 where
   pub sorts : (x : Identifier) (s : Sort) → sort_in p.names x ≡ Some s → VariableFits s (lookup x vs) (lookup x statics)
   pub shows : (x : Identifier) (v : VariableState) → state_of p.regions x ≡ Some v → Shows vs v (lookup x vs)
   -- no other buffer is held
@@ -85,11 +87,14 @@ pub record Stands (own : Owners) (statics : Statics) (vs : Variables) (frames : 
   pub backed : (level n : ℕ) → owners p.regions vs level n ≤ copies (references_at level frames) n
   -- and is its variable's own
   pub owned : IsOwned own vs p
+  -- statics are weak as their sorts say, and only weak ones hold weak references
+  pub kinds : AreOfKind weak p.names
+  pub only : HoldWeakly weak statics
 
 -- how the thread goes on: from its entry, or from a point that it is at
-abbrev pub Goes : Owners → Statics → Thread → Option (List Task) → Type 0
-Goes own statics t None = (t.variables ≡ []) × (is_unfinished t.ending ≡ true → IsTrue (has_calls t.calls))
-Goes own statics t (Some tasks) = (p : Point) × Stands own statics t.variables t.frames p × GoesOn tasks p
+abbrev pub Goes : WeakNames → Owners → Statics → Thread → Option (List Task) → Type 0
+Goes weak own statics t None = (t.variables ≡ []) × (is_unfinished t.ending ≡ true → IsTrue (has_calls t.calls)) × HoldWeakly weak statics
+Goes weak own statics t (Some tasks) = (p : Point) × Stands weak own statics t.variables t.frames p × GoesOn tasks p
 
 -- what a function of a unit gives
 abbrev pub IsMethodResult : ResultKind → Type 0
@@ -99,9 +104,9 @@ IsMethodResult GivesNothing = Unit {0}
 IsMethodResult kind = ⊥
 
 -- a caller goes on from a point once the result is where it goes; a reference has room in its current frame
-pub record CallerStands (statics : Statics) (own : Owners) (c : Caller) : Type 0 where
+pub record CallerStands (weak : WeakNames) (statics : Statics) (own : Owners) (c : Caller) : Type 0 where
   pub point : Point
-  pub stands : Stands own statics c.variables c.frames point
+  pub stands : Stands weak own statics c.variables c.frames point
   pub method : IsMethodResult c.result
   pub goes : ResultGoes c.target c.result None (GoesOn c.tasks) point
   pub room : c.result ≡ NewLocal → is_full (slice_get c.frames 0) ≡ false
@@ -109,6 +114,6 @@ pub record CallerStands (statics : Statics) (own : Owners) (c : Caller) : Type 0
 
 -- what holds of a thread before each step
 pub record IsSound (unit : SourceUnit) (classes : Classes) (own : ThreadOwners) (statics : Statics) (t : Thread) : Type 0 where
-  pub goes : Goes own.current statics t t.tasks
-  pub callers : AllZip (CallerStands statics) own.callers t.callers
+  pub goes : Goes (weak_names unit) own.current statics t t.tasks
+  pub callers : AllZip (CallerStands (weak_names unit) statics) own.callers t.callers
   pub loads : IsTrue (list_all (call_loads unit classes) t.calls)

@@ -7,7 +7,6 @@ use Rattle.syntax.specs.Tree.{SourceUnit}
 use Rattle.jni.specs.JniFunction.{JniFunction, GetBuffer, ReleaseBuffer, prototype}
 use Rattle.jni.specs.Prototype.{NewLocal}
 use Rattle.type_rules.specs.SortRules.{IsSorted}
-use Rattle.semantics.specs.declared.journal.Entry.TheVariants.{Step}
 use Rattle.semantics.specs.Journal.{Journal}
 use Rattle.semantics.specs.World.{Invocation, World}
 use Rattle.semantics.specs.Arguments.{Actual, object_given, variable_given, address_given}
@@ -20,11 +19,12 @@ use Rattle.region_rules.specs.RegionRules.{is_critical_call}
 use Rattle.region_rules.specs.Regions.{HasRegions}
 use Rattle.semantics.specs.Run.{replay}
 use Rattle.semantics.specs.State.{State, thread_at}
-use Rattle.semantics.specs.Step.{can_step, world_step}
+use Rattle.semantics.specs.Step.{can_step, turn_step}
 use Rattle.semantics.specs.Task.{Task, Assigned, Invoke, Print}
 use Rattle.semantics.specs.Thread.{Thread, Frame, viewed_by}
 use Rattle.semantics.specs.ThreadStep.{next_effect}
 use Rattle.semantics.specs.Variable.{Variable, LocalRef, Elements, Buffer, NoBuffer, Copy, View}
+use Rattle.semantics.specs.WeakArguments.{WeakAreTaken}
 use Rattle.semantics_safety.specs.Owners.{Owners, IsOwn, is_target, owners_after}
 use Rattle.semantics_safety.specs.Used.{task_names}
 
@@ -117,10 +117,12 @@ pub record StepSafe (unit : SourceUnit) (w : World) (s : State) (own : Owners) (
       → lookup x t.variables ≡ Some (LocalRef level r) → level ≡ length (frames_after f t.frames)
   -- a variable that it sets as a whole is no buffer that holds something, so that no copy is lost and no view
   pub free : (x : Identifier) → SetsWhole x (next_effect s.shared t t.tasks) → HoldsNoBuffer (lookup x t.variables)
+  -- a weak reference is an argument of the four functions alone that take any reference or a weak one, and make no object
+  pub weak : (task : Task) (rest : List Task) → t.tasks ≡ Some (task ∷ rest) → WeakAreTaken t.variables s.shared.statics task
   -- in a call, the next step has an effect
   pub possible : (tasks : List Task) → t.tasks ≡ Some tasks → next_effect s.shared t t.tasks ≢ NoEffect
   -- if it isn't ended, blocked or stopped, it can step
-  pub progress : can_step w.classes s k ≡ true → (next : State) × (world_step unit w.classes s (Step k false) ≡ Some next)
+  pub progress : can_step w.classes s k ≡ true → (next : State) × (turn_step unit w.classes s k false ≡ Some next)
 
 -- each thread has a call to make
 abbrev pub has_calls : List Invocation → Bool

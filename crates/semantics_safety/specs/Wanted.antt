@@ -5,8 +5,8 @@ use Rattle.syntax.specs.Tree as tree
 use Rattle.syntax.specs.Tree.{Stmt, If, IfElse, While, Block, End, Next, Argument, Expr, TestExpr, TestCall}
 use Rattle.jni.specs.Access.{Access, is_critical}
 use Rattle.jni.specs.JniFunction.{JniFunction, GetBuffer, ReleaseBuffer, DeleteLocalRef, PushLocalFrame, PopLocalFrame, prototype}
-use Rattle.jni.specs.Prototype.{ResultKind, NewLocal, NewGlobal, GivesFlag, GivesInt, GivesField, GivesBuffer}
-use Rattle.type_rules.specs.Sorts.{Sort, Jint, Flag, Truth, Ref, Global, Buffer, Array, sort_in, is_buffer_for}
+use Rattle.jni.specs.Prototype.{ResultKind, NewLocal, NewGlobal, NewWeak, GivesFlag, GivesInt, GivesField, GivesBuffer}
+use Rattle.type_rules.specs.Sorts.{Sort, Jint, Flag, Truth, Ref, Global, Weak, Buffer, Array, sort_in, is_buffer_for}
 use Rattle.type_rules.specs.Sorts as sort
 use Rattle.type_rules.specs.SortGroups.{IsIndexSort, IsNumberSort}
 use Rattle.region_rules.specs.RegionRules.{is_critical_call}
@@ -101,6 +101,7 @@ revived (BufferIn b) = BufferIn b
 abbrev pub AssignsNull : Point → Option Sort → Identifier → (Point → Type 0) → Type 0
 AssignsNull p (Some Ref) x k = MaySet p x × k (at p (with_changed p.regions x revived))
 AssignsNull p (Some Global) x k = k p
+AssignsNull p (Some Weak) x k = k p
 AssignsNull p (Some sort.FieldId) x k = k p
 AssignsNull p s x k = ⊥
 
@@ -127,6 +128,7 @@ AssignsResult p (Some Jint) x GivesInt get k = k p
 AssignsResult p (Some Flag) x GivesFlag get k = k p
 AssignsResult p (Some Ref) x NewLocal get k = MaySet p x × k (at p (with_changed p.regions x revived))
 AssignsResult p (Some Global) x NewGlobal get k = k p
+AssignsResult p (Some Weak) x NewWeak get k = k p
 AssignsResult p (Some sort.FieldId) x GivesField get k = k p
 AssignsResult p (Some (Buffer t writable)) x (GivesBuffer access) get k =
     (state_of p.regions x ≡ Some (BufferIn Free)) × (is_buffer_for access (Some (Buffer t writable)) ≡ true)
@@ -136,6 +138,7 @@ AssignsResult p s x result get k = ⊥
 -- a call whose result is dropped gives no buffer and no global reference
 abbrev pub MayDrop : ResultKind → Type 0
 MayDrop NewGlobal = ⊥
+MayDrop NewWeak = ⊥
 MayDrop (GivesBuffer access) = ⊥
 MayDrop result = Unit {0}
 

@@ -12,21 +12,22 @@ use Rattle.class_rules.specs.BuiltIns.{class_class, string_class, number_array}
 use Rattle.class_rules.specs.Class.{Classes, class_kind, is_object_array}
 use Rattle.class_rules.specs.Fields.{FieldId}
 use Rattle.jni.specs.JniFunction.{JniFunction, prototype, is_allowed_pending}
-use Rattle.jni.specs.Prototype.{ParameterKind, Nullable, NonNull, ClassObject, AnyArray, ObjectArray, StringObject, NumberArray, LocalVariable, StaticVariable, FieldID, IntNumber, TextBytes, ArrayVariable, BufferVariable, Mode, IsCopy}
+use Rattle.jni.specs.Prototype.{ParameterKind, Nullable, NonNull, AnyReference, ClassObject, AnyArray, ObjectArray, StringObject, NumberArray, LocalVariable, StaticVariable, WeakVariable, FieldID, IntNumber, TextBytes, ArrayVariable, BufferVariable, Mode, IsCopy}
 use Rattle.type_rules.specs.Sorts as sort
 use Rattle.type_rules.specs.Sorts.{Sort, sort_in}
 use Rattle.semantics.specs.Arguments.{Actual, ReferenceActual, FieldActual, look_up, reference_in_actual, name_or_zero, field_in_actual, text_in_actual, variable_in_actual}
 use Rattle.semantics.specs.CallTable.{go_together}
 use Rattle.semantics.specs.Checks.{call_trap, first_trap, is_deleted, is_missing, is_misfit, lacks_room, frames_after}
 use Rattle.semantics.specs.Heap.{Heap, class_of}
-use Rattle.semantics.specs.Sight.{Sight, seen, held_field}
+use Rattle.semantics.specs.Sight.{Sight, seen, held_field, held_reference}
 use Rattle.semantics.specs.Task.{Operand, Given}
 use Rattle.semantics.specs.Thread.{Thread, Frame}
 use Rattle.semantics.specs.Value.{Trap, ExceptionPending, DeletedReference, NullReference, WrongObject, NoCapacity}
-use Rattle.semantics.specs.Variable.{Variable, FieldHandle, Scalar, LocalRef, Elements, LocalArray, StaticReference, Empty, Live, Deleted, Variables, Statics}
+use Rattle.semantics.specs.Variable.{Variable, FieldHandle, Scalar, LocalRef, Elements, LocalArray, StaticReference, Empty, Live, Deleted, Variables, Statics, Weakly, Cleared}
 use Rattle.semantics_safety.specs.Owners.{Owners}
 use Rattle.semantics_safety.specs.Points.{Point, OperandFits, OperandsFit}
 use Rattle.semantics_safety.specs.Stands.{Stands}
+use Rattle.semantics_safety.specs.WeakNames.{WeakNames}
 use Rattle.world_values.specs.DeclaredFields.{IsDeclared}
 use Rattle.semantics_typing.specs.Objects.{IsTypedVariable, AreTypedVariables}
 use Rattle.semantics_typing.specs.Texts.{IsText}
@@ -101,19 +102,41 @@ true_if : (b : Bool) → not b ≡ false → b ≡ true
 true_if true h = refl
 true_if false h = absurd (cc)
 
+-- what an argument can be
+abbrev IsArgument : StaticReference → Type 0
+IsArgument (Weakly n) = ⊥
+IsArgument Cleared = ⊥
+IsArgument r = Unit {0}
+
+held_argument : (o : Option Variable) (s : Option StaticReference) → IsArgument (held_reference o s)
+held_argument (Some (LocalRef level None)) s = tt
+held_argument (Some (LocalRef level (Some n))) s = tt
+held_argument (Some (Scalar v)) s = tt
+held_argument (Some (FieldHandle f)) s = tt
+held_argument (Some (Elements t b)) s = tt
+held_argument (Some (LocalArray t zs)) s = tt
+held_argument None (Some Empty) = tt
+held_argument None (Some (Live n)) = tt
+held_argument None (Some (Weakly n)) = tt
+held_argument None (Some Cleared) = tt
+held_argument None (Some Deleted) = tt
+held_argument None None = tt
+
 module _ (classes : Classes) (heap : Heap) (vs : Variables) where
-  object_known : (kind : ParameterKind) → IsObjectKind kind → (x : Identifier) (r : StaticReference) → is_deleted (ReferenceActual x r) ≡ false → is_missing (kind, ReferenceActual x r) ≡ false → is_misfit classes heap (kind, ReferenceActual x r) ≡ false
+  object_known : (kind : ParameterKind) → IsObjectKind kind → (x : Identifier) (r : StaticReference) → IsArgument r → is_deleted (ReferenceActual x r) ≡ false → is_missing (kind, ReferenceActual x r) ≡ false → is_misfit classes heap (kind, ReferenceActual x r) ≡ false
       → IsKnownAs classes heap vs kind (Some (ReferenceActual x r))
-  object_known kind of x Deleted d m f = absurd (cc)
-  object_known ClassObject of x Empty d m f = absurd (cc)
-  object_known ObjectArray of x Empty d m f = absurd (cc)
-  object_known StringObject of x Empty d m f = absurd (cc)
-  object_known (NumberArray t) of x Empty d m f = absurd (cc)
-  object_known ClassObject of x (Live n) d m f = equal_if (class_of heap n) class_class f
-  object_known ObjectArray of x (Live n) d m f = true_if (is_object_array (class_kind classes (class_of heap n))) f
-  object_known StringObject of x (Live n) d m f = equal_if (class_of heap n) string_class f
-  object_known (NumberArray t) of x (Live n) d m f = equal_if (class_of heap n) (number_array t) f
-  object_known kind of x r d m f = absurd of
+  object_known kind of x Deleted arg d m f = absurd (cc)
+  object_known ClassObject of x Empty arg d m f = absurd (cc)
+  object_known ObjectArray of x Empty arg d m f = absurd (cc)
+  object_known StringObject of x Empty arg d m f = absurd (cc)
+  object_known (NumberArray t) of x Empty arg d m f = absurd (cc)
+  object_known ClassObject of x (Live n) arg d m f = equal_if (class_of heap n) class_class f
+  object_known ObjectArray of x (Live n) arg d m f = true_if (is_object_array (class_kind classes (class_of heap n))) f
+  object_known StringObject of x (Live n) arg d m f = equal_if (class_of heap n) string_class f
+  object_known (NumberArray t) of x (Live n) arg d m f = equal_if (class_of heap n) (number_array t) f
+  object_known kind of x (Weakly n) arg d m f = absurd arg
+  object_known kind of x Cleared arg d m f = absurd arg
+  object_known kind of x r arg d m f = absurd of
 
   field_known : (o : Option FieldId) → is_missing (FieldID, FieldActual o) ≡ false → ((f : FieldId) → o ≡ Some f → IsDeclared classes f) → IsKnownAs classes heap vs FieldID (Some (FieldActual o))
   field_known None m h = absurd (cc)
@@ -142,7 +165,7 @@ known_at classes heap vs (c ∷ kinds) (a ∷ args) (suc i) kind h e = known_at 
 
 -- ---- all arguments
 
-module _ (classes : Classes) (heap : Heap) (ss : Statics) (vs : Variables) (frames : List Frame) (p : Point) {own : Owners} (stands : Stands own ss vs frames p) (typed : AreTypedVariables classes heap vs) where
+module _ (classes : Classes) (heap : Heap) (ss : Statics) (vs : Variables) (frames : List Frame) (p : Point) {weak : WeakNames} {own : Owners} (stands : Stands weak own ss vs frames p) (typed : AreTypedVariables classes heap vs) where
   abbrev sight : Sight
   sight = seen vs ss heap
 
@@ -159,17 +182,17 @@ module _ (classes : Classes) (heap : Heap) (ss : Statics) (vs : Variables) (fram
   held_declared (Some (LocalArray t zs)) h f e = absurd (cc)
 
   one_known : (kind : ParameterKind) (o : Operand) → OperandFits p kind o → HasActualText (look_up sight (kind, o)) → is_deleted (look_up sight (kind, o)) ≡ false → is_missing (kind, look_up sight (kind, o)) ≡ false → is_misfit classes heap (kind, look_up sight (kind, o)) ≡ false → Known kind (look_up sight (kind, o))
-  one_known ClassObject (Given (tree.Value (tree.Named tree.Null))) fit text d m f = object_known classes heap vs ClassObject tt [] Empty d m f
-  one_known ClassObject (Given (tree.Value (tree.Variable x))) fit text d m f = object_known classes heap vs ClassObject tt x (sight.reference x) d m f
+  one_known ClassObject (Given (tree.Value (tree.Named tree.Null))) fit text d m f = object_known classes heap vs ClassObject tt [] Empty tt d m f
+  one_known ClassObject (Given (tree.Value (tree.Variable x))) fit text d m f = object_known classes heap vs ClassObject tt x (sight.reference x) (held_argument (lookup x vs) (lookup x ss)) d m f
   one_known ClassObject o fit text d m f = absurd fit
-  one_known ObjectArray (Given (tree.Value (tree.Named tree.Null))) fit text d m f = object_known classes heap vs ObjectArray tt [] Empty d m f
-  one_known ObjectArray (Given (tree.Value (tree.Variable x))) fit text d m f = object_known classes heap vs ObjectArray tt x (sight.reference x) d m f
+  one_known ObjectArray (Given (tree.Value (tree.Named tree.Null))) fit text d m f = object_known classes heap vs ObjectArray tt [] Empty tt d m f
+  one_known ObjectArray (Given (tree.Value (tree.Variable x))) fit text d m f = object_known classes heap vs ObjectArray tt x (sight.reference x) (held_argument (lookup x vs) (lookup x ss)) d m f
   one_known ObjectArray o fit text d m f = absurd fit
-  one_known StringObject (Given (tree.Value (tree.Named tree.Null))) fit text d m f = object_known classes heap vs StringObject tt [] Empty d m f
-  one_known StringObject (Given (tree.Value (tree.Variable x))) fit text d m f = object_known classes heap vs StringObject tt x (sight.reference x) d m f
+  one_known StringObject (Given (tree.Value (tree.Named tree.Null))) fit text d m f = object_known classes heap vs StringObject tt [] Empty tt d m f
+  one_known StringObject (Given (tree.Value (tree.Variable x))) fit text d m f = object_known classes heap vs StringObject tt x (sight.reference x) (held_argument (lookup x vs) (lookup x ss)) d m f
   one_known StringObject o fit text d m f = absurd fit
-  one_known (NumberArray t) (Given (tree.Value (tree.Named tree.Null))) fit text d m f = object_known classes heap vs (NumberArray t) tt [] Empty d m f
-  one_known (NumberArray t) (Given (tree.Value (tree.Variable x))) fit text d m f = object_known classes heap vs (NumberArray t) tt x (sight.reference x) d m f
+  one_known (NumberArray t) (Given (tree.Value (tree.Named tree.Null))) fit text d m f = object_known classes heap vs (NumberArray t) tt [] Empty tt d m f
+  one_known (NumberArray t) (Given (tree.Value (tree.Variable x))) fit text d m f = object_known classes heap vs (NumberArray t) tt x (sight.reference x) (held_argument (lookup x vs) (lookup x ss)) d m f
   one_known (NumberArray t) o fit text d m f = absurd fit
   one_known FieldID (Given (tree.Value (tree.Named c))) fit text d m f = field_known classes heap vs None m (λ g e. absurd (cc))
   one_known FieldID (Given (tree.Value (tree.Variable x))) fit text d m f = field_known classes heap vs (held_field (lookup x vs)) m (held_declared (lookup x vs) (λ v e. variable_typed classes heap x vs v typed e))
@@ -181,6 +204,8 @@ module _ (classes : Classes) (heap : Heap) (ss : Statics) (vs : Variables) (fram
   one_known AnyArray o fit text d m f = tt
   one_known LocalVariable o fit text d m f = tt
   one_known StaticVariable o fit text d m f = tt
+  one_known WeakVariable o fit text d m f = tt
+  one_known AnyReference o fit text d m f = tt
   one_known IntNumber o fit text d m f = tt
   one_known TextBytes o fit text d m f = text
   one_known (BufferVariable access) o fit text d m f = tt

@@ -20,13 +20,13 @@ use Rattle.jni.specs.JniFunction.{JniFunction, prototype}
 use Rattle.jni.specs.Prototype.{ParameterKind, ClassObject, ObjectArray, StringObject, NumberArray, FieldID, TextBytes, ArrayVariable}
 use Rattle.type_rules.specs.Sorts.{Buffer, is_buffer_for}
 use Rattle.semantics.specs.Arguments.{Actual, ReleaseMode, CopyBackAndFree, CopyBack, FreeUncopied, number_given, reference_given, object_given, text_given, field_given, variable_given, mode_given}
-use Rattle.semantics.specs.CallEffects.{CallResult, NoResult, ScalarResult, ReferenceResult, FieldResult, BufferResult, CallEffect, Throws, Halts, Leaves, with_capacity, frames_effect, ensure_effect, push_effect, delete_local_effect, delete_global_effect, heap_effect, new_effect, found_class_effect, found_field_effect, new_array_effect, string_object, at_index, at_region, overwritten, local_array, begun_with, get_region_effect, set_region_effect, store_effect, copy_effect, view_effect, copied_elements, freed, with_freed, release_effect, with_message, throw_new_effect, enter_effect, exit_effect}
+use Rattle.semantics.specs.CallEffects.{CallResult, NoResult, ScalarResult, ReferenceResult, FieldResult, BufferResult, CallEffect, Throws, Halts, Leaves, with_capacity, frames_effect, ensure_effect, push_effect, delete_local_effect, delete_global_effect, delete_weak_effect, heap_effect, new_effect, found_class_effect, found_field_effect, new_array_effect, string_object, at_index, at_region, overwritten, local_array, begun_with, get_region_effect, set_region_effect, store_effect, copy_effect, view_effect, copied_elements, freed, with_freed, release_effect, with_message, throw_new_effect, enter_effect, exit_effect}
 use Rattle.semantics.specs.CallTable.{go_together, call_effect}
 use Rattle.semantics.specs.Heap.{Heap, object_at, class_of, values_of, next_name, with_value_at, with_numbers, numbers_of, field_place, static_place, is_instance, fits_class, holds_number, fits_type}
 use Rattle.semantics.specs.Object.{ObjectValue, Number, Refers, Reference, Object}
 use Rattle.semantics.specs.Thread.{Thread, Shared, Frame, Monitor, BuffersInUse, capacities, monitor_of}
 use Rattle.semantics.specs.Value.{Int, convert, OutOfRange}
-use Rattle.semantics.specs.Variable.{Variable, Scalar, LocalRef, FieldHandle, Elements, LocalArray, NoBuffer, Copy, View, Variables, change}
+use Rattle.semantics.specs.Variable.{Variable, Scalar, LocalRef, FieldHandle, Elements, LocalArray, NoBuffer, Copy, View, Variables, change, StaticReference, Empty, Live, Weakly, Cleared, Deleted}
 use Rattle.semantics.specs.Variable as variable
 use Rattle.semantics.specs.World.{fresh_object}
 use Rattle.world_values.specs.WorldRules.{is_in_range}
@@ -199,9 +199,21 @@ module _ (classes : Classes) (well : DeclaresWell classes) (g : IsGrown classes)
   delete_local_fits o None = still _ _ vars tt
   delete_local_fits o (Some n) = still _ _ vars tt
 
-  delete_global_fits : (x : Identifier) (r : Reference) → Fits (delete_global_effect s t x r)
+  delete_global_fits : (x : Identifier) (r : Option StaticReference) → Fits (delete_global_effect s t x r)
   delete_global_fits x None = still _ _ vars tt
-  delete_global_fits x (Some n) = still _ _ vars tt
+  delete_global_fits x (Some Empty) = still _ _ vars tt
+  delete_global_fits x (Some (Live n)) = still _ _ vars tt
+  delete_global_fits x (Some (Weakly n)) = still _ _ vars tt
+  delete_global_fits x (Some Cleared) = still _ _ vars tt
+  delete_global_fits x (Some Deleted) = still _ _ vars tt
+
+  delete_weak_fits : (x : Identifier) (r : Option StaticReference) → Fits (delete_weak_effect s t x r)
+  delete_weak_fits x None = still _ _ vars tt
+  delete_weak_fits x (Some Empty) = still _ _ vars tt
+  delete_weak_fits x (Some (Live n)) = still _ _ vars tt
+  delete_weak_fits x (Some (Weakly n)) = still _ _ vars tt
+  delete_weak_fits x (Some Cleared) = still _ _ vars tt
+  delete_weak_fits x (Some Deleted) = still _ _ vars tt
 
   enter_fits : (n : ℕ) (m : Option Monitor) → Fits (enter_effect k s t n m)
   enter_fits n None = still _ _ vars tt
@@ -539,7 +551,8 @@ module _ (classes : Classes) (well : DeclaresWell classes) (g : IsGrown classes)
     effect_fits jni.FindClass h together ready = class_fits (class_named classes (text_given args 0))
     effect_fits jni.AllocObject h together ready = alloc h together
     effect_fits jni.DeleteLocalRef h together ready = delete_local_fits (lookup (variable_given args 0) t.variables) (reference_given args 0)
-    effect_fits jni.DeleteGlobalRef h together ready = delete_global_fits (variable_given args 0) (reference_given args 0)
+    effect_fits jni.DeleteGlobalRef h together ready = delete_global_fits (variable_given args 0) (lookup (variable_given args 0) s.statics)
+    effect_fits jni.DeleteWeakGlobalRef h together ready = delete_weak_fits (variable_given args 0) (lookup (variable_given args 0) s.statics)
     effect_fits jni.EnsureLocalCapacity h together ready = ensure_fits (number_given args 0)
     effect_fits jni.PushLocalFrame h together ready = push_fits (number_given args 0)
     effect_fits jni.GetFieldID h together ready = field_fits (find_field classes (object_given args 0) (text_given args 1) (text_given args 2)) (λ f e. found_field classes (object_given args 0) (text_given args 1) (text_given args 2) f e)

@@ -6,9 +6,9 @@ use Rattle.base.specs.Bytes.{Identifier, lookup}
 use Rattle.base.specs.Element.{ElementType}
 use Rattle.class_rules.specs.Class.{Classes}
 use Rattle.jni.specs.JniFunction.{JniFunction, prototype}
-use Rattle.jni.specs.Prototype.{ResultKind, NewLocal, NewGlobal, GivesFlag, GivesInt, GivesField, GivesNothing, GivesBuffer}
+use Rattle.jni.specs.Prototype.{ResultKind, NewLocal, NewGlobal, NewWeak, GivesFlag, GivesInt, GivesField, GivesNothing, GivesBuffer}
 use Rattle.semantics.specs.Arguments.{Actual, address_given}
-use Rattle.semantics.specs.CallEffects.{CallResult, NoResult, NullResult, ScalarResult, ReferenceResult, FieldResult, BufferResult, CallEffect, Throws, Halts, Leaves, out_of_memory}
+use Rattle.semantics.specs.CallEffects.{CallResult, NoResult, NullResult, ScalarResult, ReferenceResult, WeakResult, FieldResult, BufferResult, CallEffect, Throws, Halts, Leaves, out_of_memory}
 use Rattle.semantics.specs.CallStep.{blank, filled, is_zero, put, put_assigned, tell_copy, failure, element_type, target_element, resumed, completed, after_call, after_refusal}
 use Rattle.semantics.specs.Effect.{tasks_after}
 use Rattle.semantics.specs.Heap.{Heap, next_name}
@@ -112,6 +112,7 @@ told_typed classes heap (Some y) NoResult vs h = h
 told_typed classes heap (Some y) NullResult vs h = h
 told_typed classes heap (Some y) (ScalarResult v) vs h = h
 told_typed classes heap (Some y) (ReferenceResult r) vs h = h
+told_typed classes heap (Some y) (WeakResult r) vs h = h
 told_typed classes heap (Some y) (FieldResult f) vs h = h
 
 element_found : (o : Option Variable) (v : Variable) → o ≡ Some v → ElementIs (element_type o) v
@@ -156,12 +157,14 @@ module _ (classes : Classes) (in_use : BuffersInUse) (k : ℕ) (s : Shared) (t :
   told_target (Declared kind x) y NullResult heap vs r = λ n. tt
   told_target (Declared kind x) y (ScalarResult v) heap vs r = λ n. tt
   told_target (Declared kind x) y (ReferenceResult q) heap vs r = λ n. tt
+  told_target (Declared kind x) y (WeakResult q) heap vs r = λ n. tt
   told_target (Declared kind x) y (FieldResult g) heap vs r = λ n. tt
   told_target (Assigned x) y (BufferResult b) heap vs r = λ v e. element_told x y b t.variables v (subst (λ (l : Variables). lookup x (tell_copy y (BufferResult b) l) ≡ Some v) r.1 e)
   told_target (Assigned x) y NoResult heap vs r = λ v e. tt
   told_target (Assigned x) y NullResult heap vs r = λ v e. tt
   told_target (Assigned x) y (ScalarResult w) heap vs r = λ v e. tt
   told_target (Assigned x) y (ReferenceResult q) heap vs r = λ v e. tt
+  told_target (Assigned x) y (WeakResult q) heap vs r = λ v e. tt
   told_target (Assigned x) y (FieldResult g) heap vs r = λ v e. tt
   told_target (Tested a b) y given heap vs r = tt
   told_target Dropped y given heap vs r = tt
@@ -176,6 +179,7 @@ module _ (classes : Classes) (in_use : BuffersInUse) (k : ℕ) (s : Shared) (t :
   failure_fits : (kind : ResultKind) (heap : Heap) → ResultFits classes u t.variables heap t.variables (failure kind)
   failure_fits NewLocal heap = tt
   failure_fits NewGlobal heap = tt
+  failure_fits NewWeak heap = tt
   failure_fits GivesFlag heap = tt
   failure_fits GivesInt heap = tt
   failure_fits GivesField heap = tt

@@ -7,23 +7,23 @@ use Rattle.class_rules.specs.Class.{Classes}
 use Rattle.syntax.specs.Tree.{SourceUnit}
 use Rattle.region_rules.specs.Regions.{HasRegions}
 use Rattle.type_rules.specs.SortRules.{IsSorted}
-use Rattle.semantics.specs.declared.journal.Entry.{Entry}
-use Rattle.semantics.specs.declared.journal.Entry.TheVariants.{Step}
 use Rattle.semantics.specs.Heap.{Heap}
-use Rattle.semantics.specs.Journal.{Journal}
+use Rattle.semantics.specs.Journal.{Entry, Step, Clearing, Journal}
 use Rattle.semantics.specs.Load.{Loads}
 use Rattle.semantics.specs.Run.{replay, replay_from}
 use Rattle.semantics.specs.Start.{waiting_thread, start}
 use Rattle.semantics.specs.State.{State, thread_at, set_thread, in_use, with_event, advanced}
-use Rattle.semantics.specs.Step.{can_step, step_of, world_step}
+use Rattle.semantics.specs.Step.{can_step, step_of, turn_step, clearing_step, world_step}
 use Rattle.semantics.specs.Thread.{Caller, Thread, Event, Quiet, PrintedNumber, Trapped, Advance, Advances, NoAdvance}
 use Rattle.semantics.specs.ThreadStep.{thread_step}
+use Rattle.semantics.specs.WeakReferences.{may_clear, with_cleared}
 use Rattle.semantics.specs.World.{Invocation, World}
 use Rattle.semantics.specs.Variable.{Variables}
 use Rattle.semantics_safety.proofs.CallersKept.{LeavesCallers, callers_left}
 use Rattle.semantics.proofs.RunLaws.{replay_more}
 use Rattle.semantics_safety.specs.Owners.{owners_after}
 use Rattle.semantics_safety.specs.StepSafe.{has_calls, HasCalls}
+use Rattle.semantics_safety.specs.WeakNames.{weak_names}
 use Rattle.semantics_safety.proofs.FunctionGives.{unit_is_sound}
 use Rattle.world_values.specs.SoundWorlds.{has_call, IsSound}
 use Rattle.semantics_typing.specs.Law.{RunsTyped, AcceptedIsTyped}
@@ -137,7 +137,7 @@ module _ (unit : SourceUnit) (w : World) (sorted : IsSorted unit) (regions : Has
         advance_next w.classes s k (thread_step unit w.classes (in_use s) k s.shared t refused) next h
         (step_fits unit w.classes sound.declares sound.grown (in_use s) k s.shared t h.typed.heap
         typed.0
-        (thread_in (λ (t : Thread). TasksHaveTexts t.tasks) s k t h.texts there) below all (owners_after unit w journal k).current
+        (thread_in (λ (t : Thread). TasksHaveTexts t.tasks) s k t h.texts there) below all (weak_names unit) (owners_after unit w journal k).current
         stands.goes refused)
         (callers_left (CallerFits w.classes s.shared.heap) unit w.classes (in_use s) k s.shared t below refused) e
 
@@ -145,18 +145,34 @@ module _ (unit : SourceUnit) (w : World) (sorted : IsSorted unit) (regions : Has
     can_next true e = thread_next (thread_at s k) refl e
     can_next false e = absurd (cc)
 
-  step_next : (journal : Journal) (s : State) → replay unit w journal ≡ Some s → IsRunning w.classes s → (e : Entry) (next : State) → world_step unit w.classes s e ≡ Some next → IsNext w.classes s next
-  unfolding world_step
-  step_next journal s replayed h (Step k refused) next e = can_next journal s replayed h k refused next (can_step w.classes s k) e
+  turn_next : (journal : Journal) (s : State) → replay unit w journal ≡ Some s → IsRunning w.classes s → (k : ℕ) (refused : Bool) (next : State) → turn_step unit w.classes s k refused ≡ Some next → IsNext w.classes s next
+  unfolding turn_step
+  turn_next journal s replayed h k refused next e = can_next journal s replayed h k refused next (can_step w.classes s k) e
+
+  -- a clearing leaves the objects and the variables as they were
+  left_running : (s : State) → IsRunning w.classes s → (names : List ℕ) → IsNext w.classes s (with_cleared names s)
+  left_running s h names = record { running = record { typed = record { heap = h.typed.heap; variables = h.typed.variables }; texts = h.texts; below = h.below }; shapes = λ n o at. (o, at, refl, refl) }
+
+  clearing_next : (s : State) → IsRunning w.classes s → (names : List ℕ) (next : State) → clearing_step w s names ≡ Some next → IsNext w.classes s next
+  unfolding clearing_step
+  clearing_next s h names next e = by_test (may_clear w s names) e
+    where
+      by_test : (b : Bool) → (if b then Some (with_cleared names s) else None) ≡ Some next → IsNext w.classes s next
+      by_test true g = let same : with_cleared names s ≡ next = cc in subst (IsNext w.classes s) same (left_running s h names)
+      by_test false g = absurd (cc)
+
+  step_next : (journal : Journal) (s : State) → replay unit w journal ≡ Some s → IsRunning w.classes s → (e : Entry) (next : State) → world_step unit w s e ≡ Some next → IsNext w.classes s next
+  step_next journal s replayed h (Step k refused) next e = turn_next journal s replayed h k refused next e
+  step_next journal s replayed h (Clearing names) next e = clearing_next s h names next e
 
   -- ---- journals
 
   from : (before rest : Journal) (s end : State) → replay unit w before ≡ Some s → IsRunning w.classes s → replay_from unit w s rest ≡ Some end → IsRunning w.classes end
   from before [] s end replayed h e = let same : s ≡ end = cc in subst (IsRunning w.classes) same h
   from before (entry ∷ rest) s end replayed h e =
-      by_step (world_step unit w.classes s entry) refl (λ next is r. from (before ++ entry ∷ []) rest next end (replay_more unit w before entry s next replayed is) r) e
+      by_step (world_step unit w s entry) refl (λ next is r. from (before ++ entry ∷ []) rest next end (replay_more unit w before entry s next replayed is) r) e
     where
-      by_step : (o : Option State) → world_step unit w.classes s entry ≡ o → ((next : State) → world_step unit w.classes s entry ≡ Some next → IsRunning w.classes next → replay_from unit w next rest ≡ Some end → IsRunning w.classes end)
+      by_step : (o : Option State) → world_step unit w s entry ≡ o → ((next : State) → world_step unit w s entry ≡ Some next → IsRunning w.classes next → replay_from unit w next rest ≡ Some end → IsRunning w.classes end)
           → option_and_then (λ next. replay_from unit w next rest) o ≡ Some end → IsRunning w.classes end
       by_step None is later g = absurd (cc)
       by_step (Some next) is later g = later next is ((step_next before s replayed h entry next is).running) g

@@ -14,12 +14,12 @@ use Rattle.class_rules.specs.Class.{Classes}
 use Rattle.class_rules.specs.Grown.{IsGrown}
 use Rattle.jni.specs.Access.{Access, ElementsCopy, ArrayView, CharsCopy, CharsView}
 use Rattle.jni.specs.JniFunction.{JniFunction, GetBuffer, ReleaseBuffer, PushLocalFrame, prototype}
-use Rattle.jni.specs.Prototype.{ResultKind, NewLocal, NewGlobal, GivesFlag, GivesInt, GivesField, GivesNothing, GivesBuffer}
+use Rattle.jni.specs.Prototype.{ResultKind, NewLocal, NewGlobal, NewWeak, GivesFlag, GivesInt, GivesField, GivesNothing, GivesBuffer}
 use Rattle.type_rules.specs.Sorts.{Sort, Buffer, is_buffer_for, sort_in}
 use Rattle.type_rules.specs.Sorts as sort
 use Rattle.semantics.specs.Activation.{function_at, class_of_function, parameter_variables, entered, entered_function, enter, entry_advance}
 use Rattle.semantics.specs.Arguments.{Actual, ReferenceActual, actuals, object_given, variable_given, reference_in_actual, name_or_zero}
-use Rattle.semantics.specs.CallEffects.{CallResult, NoResult, NullResult, ScalarResult, ReferenceResult, FieldResult, BufferResult}
+use Rattle.semantics.specs.CallEffects.{CallResult, NoResult, NullResult, ScalarResult, ReferenceResult, WeakResult, FieldResult, BufferResult}
 use Rattle.semantics.specs.CallStep.{blank, put, received, element_type, target_element, trap_of_call, checked, makes_objects, effect_of_call, call_step}
 use Rattle.semantics.specs.CallTable.{call_effect}
 use Rattle.semantics.specs.Effect.{Effect, Becomes, Sets, SetsNull, SetsElement, MakesArray, Prints, Calls, Returns, TrapsAt, NoEffect, effect_of}
@@ -39,6 +39,7 @@ use Rattle.semantics_safety.specs.Follows.{Follows}
 use Rattle.semantics_safety.specs.Owners.{Owners}
 use Rattle.semantics_safety.specs.Points.{Point}
 use Rattle.semantics_safety.specs.Stands.{Stands, Goes}
+use Rattle.semantics_safety.specs.WeakNames.{WeakNames}
 use Rattle.semantics_safety.specs.Wanted.{CallFits, CallKeeps, DeclaresResult, AssignsResult, Runs, GoesOn, operand_argument}
 use Rattle.semantics_safety.proofs.EffectLaws.{effect_follows, call_fits}
 use Rattle.semantics_typing.specs.Objects.{PlaceFits, type_at, AreTypedObjects, AreInRange, HasNumbers, IsTypedVariable, AreTypedVariables}
@@ -55,7 +56,7 @@ use Rattle.semantics_typing.proofs.Writes.{keeps_place}
 
 -- ---- what is known of calls that get and release buffers
 
-module _ (heap : Heap) (ss : Statics) (vs : Variables) (frames : List Frame) (p : Point) {own : Owners} (stands : Stands own ss vs frames p) (k : Point → Type 0) where
+module _ (heap : Heap) (ss : Statics) (vs : Variables) (frames : List Frame) (p : Point) {weak : WeakNames} {own : Owners} (stands : Stands weak own ss vs frames p) (k : Point → Type 0) where
   abbrev sight : Sight
   sight = seen vs ss heap
 
@@ -115,6 +116,7 @@ IsPlainResult given = Unit {0}
 nothing_plain : (kind : ResultKind) → IsPlainResult (nothing_of kind)
 nothing_plain NewLocal = tt
 nothing_plain NewGlobal = tt
+nothing_plain NewWeak = tt
 nothing_plain GivesFlag = tt
 nothing_plain GivesInt = tt
 nothing_plain GivesField = tt
@@ -126,6 +128,7 @@ fitted_plain NewLocal (ReferenceResult r) = tt
 fitted_plain NewLocal NoResult = tt
 fitted_plain NewLocal NullResult = tt
 fitted_plain NewLocal (ScalarResult v) = tt
+fitted_plain NewLocal (WeakResult r) = tt
 fitted_plain NewLocal (FieldResult f) = tt
 fitted_plain NewLocal (BufferResult b) = tt
 fitted_plain GivesInt (ScalarResult (value.Int z)) = tt
@@ -135,9 +138,11 @@ fitted_plain GivesInt (ScalarResult (value.Truth b)) = tt
 fitted_plain GivesInt NoResult = tt
 fitted_plain GivesInt NullResult = tt
 fitted_plain GivesInt (ReferenceResult r) = tt
+fitted_plain GivesInt (WeakResult r) = tt
 fitted_plain GivesInt (FieldResult f) = tt
 fitted_plain GivesInt (BufferResult b) = tt
 fitted_plain NewGlobal given = tt
+fitted_plain NewWeak given = tt
 fitted_plain GivesFlag given = tt
 fitted_plain GivesField given = tt
 fitted_plain GivesNothing given = tt
@@ -152,6 +157,7 @@ plain_fits classes heap before vs NoResult h = tt
 plain_fits classes heap before vs NullResult h = tt
 plain_fits classes heap before vs (ScalarResult v) h = tt
 plain_fits classes heap before vs (ReferenceResult r) h = tt
+plain_fits classes heap before vs (WeakResult r) h = tt
 plain_fits classes heap before vs (FieldResult f) h = absurd h
 plain_fits classes heap before vs (BufferResult b) h = absurd h
 
@@ -160,6 +166,7 @@ plain_element v NoResult h = tt
 plain_element v NullResult h = tt
 plain_element v (ScalarResult w) h = tt
 plain_element v (ReferenceResult r) h = tt
+plain_element v (WeakResult r) h = tt
 plain_element v (FieldResult f) h = absurd h
 plain_element v (BufferResult b) h = absurd h
 
@@ -176,6 +183,7 @@ received_variables NewLocal (ReferenceResult (Some n)) u = (refl, refl)
 received_variables NewLocal NoResult u = (refl, refl)
 received_variables NewLocal NullResult u = (refl, refl)
 received_variables NewLocal (ScalarResult v) u = (refl, refl)
+received_variables NewLocal (WeakResult r) u = (refl, refl)
 received_variables NewLocal (FieldResult f) u = (refl, refl)
 received_variables NewLocal (BufferResult b) u = (refl, refl)
 received_variables kind given u = (refl, refl)
@@ -196,7 +204,7 @@ module _ (unit : SourceUnit) (classes : Classes) (well : DeclaresWell classes) (
     call_checked line target f args (Some trap) e h = tt
     call_checked line target f args None e h = h e
 
-    call_fitting : (line : ℕ) (target : Target) (f : JniFunction) (args : List Actual) → AllByRecursion HasActualText args → TargetHasTexts target → (p : Point) {own : Owners} (stands : Stands own s.statics t.variables t.frames p)
+    call_fitting : (line : ℕ) (target : Target) (f : JniFunction) (args : List Actual) → AllByRecursion HasActualText args → TargetHasTexts target → (p : Point) {weak : WeakNames} {own : Owners} (stands : Stands weak own s.statics t.variables t.frames p)
         → (operands : List Operand) → args ≡ actuals (sight_of s t) f operands → Runs (Invoke line target f operands) (GoesOn rest) p → Fits (call_step classes in_use k s t line target f args rest false)
     call_fitting line target f args arg_texts target_texts p stands operands is runs =
         after_fits classes in_use k s t typed vars line target f args rest texts target_texts own_texts (effect_of_call classes in_use k s t line target f args rest)
@@ -263,7 +271,7 @@ module _ (unit : SourceUnit) (classes : Classes) (well : DeclaresWell classes) (
 
     -- ---- effects
 
-    effect_step : (p : Point) {own : Owners} (stands : Stands own s.statics t.variables t.frames p) (e : Effect) → EffectHasTexts e → Follows own (sight_of s t) s.statics t.variables t.frames p rest e → Fits (after_effect classes in_use k s t rest e)
+    effect_step : (p : Point) {weak : WeakNames} {own : Owners} (stands : Stands weak own s.statics t.variables t.frames p) (e : Effect) → EffectHasTexts e → Follows weak own (sight_of s t) s.statics t.variables t.frames p rest e → Fits (after_effect classes in_use k s t rest e)
     effect_step p stands (Becomes tasks) h f = (same, vars, all_append TaskHasTexts tasks rest h texts)
     effect_step p stands (Sets x v) h f = (same, assign_typed classes s.heap x (Scalar v) t.variables vars tt, texts)
     effect_step p stands (SetsNull target) h f = null_target target
@@ -308,13 +316,13 @@ module _ (unit : SourceUnit) (classes : Classes) (well : DeclaresWell classes) (
 
   -- ---- a thread's step
 
-  within_fits : HasTexts unit → (own : Owners) (refused : Bool) (o : Option (List Task)) → TasksHaveTexts o → Goes own s.statics t o → Fits (step_within unit classes in_use k s t refused o)
-  within_fits all own true None texts goes = tt
-  within_fits all own false None texts goes = entry_fits all t.calls
-  within_fits all own refused (Some []) texts goes = absurd (goes.2)
-  within_fits all own false (Some (task ∷ rest)) texts (p, stands, runs) =
+  within_fits : HasTexts unit → (weak : WeakNames) (own : Owners) (refused : Bool) (o : Option (List Task)) → TasksHaveTexts o → Goes weak own s.statics t o → Fits (step_within unit classes in_use k s t refused o)
+  within_fits all weak own true None texts goes = tt
+  within_fits all weak own false None texts goes = entry_fits all t.calls
+  within_fits all weak own refused (Some []) texts goes = absurd (goes.2)
+  within_fits all weak own false (Some (task ∷ rest)) texts (p, stands, runs) =
       effect_step rest texts.1 p stands (effect_of (sight_of s t) task) (effect_texts (sight_of s t) task texts.0) (effect_follows s.heap s.statics t.variables t.frames p stands rest task runs)
-  within_fits all own true (Some (task ∷ rest)) texts (p, stands, runs) = refused_step rest texts.1 (effect_of (sight_of s t) task) (effect_texts (sight_of s t) task texts.0)
+  within_fits all weak own true (Some (task ∷ rest)) texts (p, stands, runs) = refused_step rest texts.1 (effect_of (sight_of s t) task) (effect_texts (sight_of s t) task texts.0)
 
-  pub step_fits : HasTexts unit → (own : Owners) → Goes own s.statics t t.tasks → (refused : Bool) → Fits (thread_step unit classes in_use k s t refused)
-  step_fits all own goes refused = within_fits all own refused t.tasks own_texts goes
+  pub step_fits : HasTexts unit → (weak : WeakNames) (own : Owners) → Goes weak own s.statics t t.tasks → (refused : Bool) → Fits (thread_step unit classes in_use k s t refused)
+  step_fits all weak own goes refused = within_fits all weak own refused t.tasks own_texts goes

@@ -3,8 +3,7 @@ use Rattle.std.specs.Prelude.{◌≡◌, Some}
 use Rattle.syntax.specs.Tree.{SourceUnit}
 use Rattle.region_rules.specs.Regions.{HasRegions}
 use Rattle.type_rules.specs.SortRules.{IsSorted}
-use Rattle.semantics.specs.declared.journal.Entry.{Entry}
-use Rattle.semantics.specs.Journal.{Journal}
+use Rattle.semantics.specs.Journal.{Entry, Journal}
 use Rattle.semantics.specs.Load.{Loads}
 use Rattle.semantics.specs.Run.{replay}
 use Rattle.semantics.specs.State.{State}
@@ -18,7 +17,7 @@ use Rattle.semantics_typing.specs.Texts.{HasTexts}
 pub record RunsTyped (unit : SourceUnit) (w : World) : Type 0 where
   pub typed : (journal : Journal) (s : State) → replay unit w journal ≡ Some s → IsTyped w.classes s
   pub shapes : (journal : Journal) (s next : State) (e : Entry) → replay unit w journal ≡ Some s
-      → world_step unit w.classes s e ≡ Some next → ShapesStay s.shared.heap next.shared.heap
+      → world_step unit w s e ≡ Some next → ShapesStay s.shared.heap next.shared.heap
 
 -- an accepted unit's runs are typed, in each world that goes with it; its texts are of bytes, as in memory
 abbrev pub AcceptedIsTyped : Type 0

@@ -1,0 +1,155 @@
+-- At its point a thread names a weak reference in a call of the functions alone that take one.
+use Rattle.std.proofs.Common.{◌≡◌, ◌≢◌, inl, inr, ℕ, Bool, true, false, List, [], ◌∷◌, Option, Some, None, refl, sym, ◌∙◌}
+use Rattle.std.specs.List.{list_any, AllByRecursion}
+use Rattle.base.specs.Bytes.{Identifier, lookup}
+use Rattle.jni.specs.Access.{ElementsCopy, ArrayView, CharsCopy, CharsView}
+use Rattle.jni.specs.JniFunction.{JniFunction, NewLocalRef, NewGlobalRef, IsSameObject, DeleteWeakGlobalRef, GetBuffer, ReleaseBuffer, prototype}
+use Rattle.jni.specs.Prototype.{ParameterKind, FieldID, IntNumber, TextBytes, AnyReference, LocalVariable, StaticVariable, WeakVariable, ArrayVariable, BufferVariable, Mode, IsCopy}
+use Rattle.type_rules.specs.Sorts.{Sort, sort_in}
+use Rattle.type_rules.specs.Sorts as sort
+use Rattle.semantics.specs.Task.{Task, Invoke, Target, Declared, Assigned, Tested, Dropped, Operand, NumberOperand, Given}
+use Rattle.semantics.specs.Thread.{Frame}
+use Rattle.semantics.specs.Variable.{Variable, LocalRef, FieldHandle, Elements, LocalArray, Weakly, Variables, Statics}
+use Rattle.semantics.specs.WeakArguments.{takes_weak, NamesNoWeak, WeakAreTaken}
+use Rattle.syntax.specs.Tree as tree
+use Rattle.syntax.specs.Tree.{Argument}
+use Rattle.semantics_safety.specs.Owners.{Owners}
+use Rattle.semantics_safety.specs.Points.{Point, IsLive, IsUsable, ReferenceFits, ReferenceArgumentFits, NameFits, FieldArgumentFits, ModeFits, CopyFits, TextFits, GivenFits, OperandFits, OperandsFit}
+use Rattle.semantics_safety.specs.Stands.{Stands}
+use Rattle.semantics_safety.specs.Wanted.{CallFits, Runs}
+use Rattle.semantics_safety.specs.WeakNames.{WeakNames}
+use Rattle.semantics_safety.proofs.EntryPoints.{or_false}
+use Rattle.semantics_safety.proofs.SetLaws.{none_some}
+
+-- a parameter that may be given a weak reference
+abbrev may_be_weak : ParameterKind → Bool
+may_be_weak AnyReference = true
+may_be_weak WeakVariable = true
+may_be_weak parameter = false
+
+-- the other functions have none
+others_strong : (f : JniFunction) → takes_weak f ≡ false → list_any may_be_weak (prototype f).parameters ≡ false
+others_strong NewLocalRef h = absurd (cc)
+others_strong NewGlobalRef h = absurd (cc)
+others_strong IsSameObject h = absurd (cc)
+others_strong DeleteWeakGlobalRef h = absurd (cc)
+others_strong (GetBuffer (ElementsCopy t)) h = refl
+others_strong (GetBuffer ArrayView) h = refl
+others_strong (GetBuffer CharsCopy) h = refl
+others_strong (GetBuffer CharsView) h = refl
+others_strong (ReleaseBuffer (ElementsCopy t)) h = refl
+others_strong (ReleaseBuffer ArrayView) h = refl
+others_strong (ReleaseBuffer CharsCopy) h = refl
+others_strong (ReleaseBuffer CharsView) h = refl
+others_strong f h = refl
+
+no_kind : true ≡ false → ⊥
+no_kind e = cc
+
+module _ (ss : Statics) (vs : Variables) (frames : List Frame) (p : Point) {weak : WeakNames} {own : Owners} (stands : Stands weak own ss vs frames p) where
+  -- a variable's name, or that of a static that holds no weak reference
+  abbrev IsStrong : Identifier → Type 0
+  IsStrong x = lookup x vs ≡ None → (n : ℕ) → lookup x ss ≢ Some (Weakly n)
+
+  variable_strong : (x : Identifier) (v : Variable) → lookup x vs ≡ Some v → IsStrong x
+  variable_strong x v is none n e = none_some (lookup x vs) v none is
+
+  static_strong : (x : Identifier) → sort_in p.names x ≡ Some sort.Global → IsStrong x
+  static_strong x is none n e = let c : true ≡ false = sym (stands.only x n e) ∙ stands.kinds x sort.Global is in no_kind c
+
+  live_strong : (x : Identifier) → IsLive p x → IsStrong x
+  live_strong x (level, known) = let shown = stands.shows x _ known in variable_strong x (LocalRef level shown.0) shown.1
+
+  usable_strong : (x : Identifier) → IsUsable p x → IsStrong x
+  usable_strong x (access, a, known) = let shown = stands.shows x _ known in variable_strong x (Elements shown.0 shown.1) shown.2
+
+  field_strong : (x : Identifier) → sort_in p.names x ≡ Some sort.FieldId → IsStrong x
+  field_strong x is = let there = stands.sorts x sort.FieldId is in variable_strong x (FieldHandle there.0) there.1
+
+  array_strong : (t : _) (x : Identifier) → (size : ℕ) × (sort_in p.names x ≡ Some (sort.Array t size)) → IsStrong x
+  array_strong t x (size, is) = let there = stands.sorts x (sort.Array t size) is in variable_strong x (LocalArray t there.0) there.1
+
+  reference_strong : (x : Identifier) (o : Option Sort) → sort_in p.names x ≡ o → ReferenceFits p x o → IsStrong x
+  reference_strong x (Some sort.Ref) e h = live_strong x h
+  reference_strong x (Some sort.Global) e h = static_strong x e
+  reference_strong x o e h = absurd h
+
+  -- ---- arguments
+
+  named_strong : (ok : Identifier → Type 0) (a : Argument) → ((x : Identifier) → ok x → IsStrong x) → NameFits ok a → NamesNoWeak vs ss (Given a)
+  named_strong ok (tree.Value (tree.Variable x)) strong h = strong x h
+  named_strong ok a strong h = absurd h
+
+  reference_argument_strong : (a : Argument) → ReferenceArgumentFits p a → NamesNoWeak vs ss (Given a)
+  reference_argument_strong (tree.Value (tree.Named tree.Null)) h = tt
+  reference_argument_strong (tree.Value (tree.Variable x)) h = reference_strong x (sort_in p.names x) refl h
+  reference_argument_strong a h = absurd h
+
+  field_argument_strong : (a : Argument) → FieldArgumentFits p a → NamesNoWeak vs ss (Given a)
+  field_argument_strong (tree.Value (tree.Named c)) h = tt
+  field_argument_strong (tree.Value (tree.Variable x)) h = field_strong x h
+  field_argument_strong a h = absurd h
+
+  mode_strong : (a : Argument) → ModeFits a → NamesNoWeak vs ss (Given a)
+  mode_strong (tree.Value (tree.Number n unsigned)) h = tt
+  mode_strong (tree.Value (tree.Named c)) h = tt
+  mode_strong a h = absurd h
+
+  copy_strong : (a : Argument) → CopyFits p a → NamesNoWeak vs ss (Given a)
+  copy_strong (tree.Value (tree.Named c)) h = tt
+  copy_strong (tree.AddressOf x) h = tt
+  copy_strong a h = absurd h
+
+  text_strong : (a : Argument) → TextFits a → NamesNoWeak vs ss (Given a)
+  text_strong (tree.Text bytes) h = tt
+  text_strong a h = absurd h
+
+  given_strong : (parameter : ParameterKind) (a : Argument) → may_be_weak parameter ≡ false → GivenFits p parameter a → NamesNoWeak vs ss (Given a)
+  given_strong IntNumber a strong h = absurd h
+  given_strong TextBytes a strong h = text_strong a h
+  given_strong LocalVariable a strong h = named_strong (IsLive p) a live_strong h
+  given_strong StaticVariable a strong h = named_strong (λ x. sort_in p.names x ≡ Some sort.Global) a static_strong h
+  given_strong WeakVariable a strong h = absurd (no_kind strong)
+  given_strong AnyReference a strong h = absurd (no_kind strong)
+  given_strong FieldID a strong h = field_argument_strong a h
+  given_strong (ArrayVariable t) a strong h = named_strong (λ x. (size : ℕ) × (sort_in p.names x ≡ Some (sort.Array t size))) a (array_strong t) h
+  given_strong (BufferVariable access) a strong h = named_strong (IsUsable p) a usable_strong h
+  given_strong Mode a strong h = mode_strong a h
+  given_strong IsCopy a strong h = copy_strong a h
+  given_strong parameter a strong h = reference_argument_strong a h
+
+  operand_strong : (parameter : ParameterKind) (o : Operand) → may_be_weak parameter ≡ false → OperandFits p parameter o → NamesNoWeak vs ss o
+  operand_strong IntNumber (NumberOperand t) strong h = tt
+  operand_strong parameter (NumberOperand t) strong h = tt
+  operand_strong parameter (Given a) strong h = given_strong parameter a strong h
+
+  operands_strong : (parameters : List ParameterKind) (operands : List Operand) → list_any may_be_weak parameters ≡ false
+      → OperandsFit p parameters operands → AllByRecursion (NamesNoWeak vs ss) operands
+  operands_strong [] [] strong h = tt
+  operands_strong [] (o ∷ operands) strong h = absurd h
+  operands_strong (parameter ∷ parameters) [] strong h = absurd h
+  operands_strong (parameter ∷ parameters) (o ∷ operands) strong h =
+      let both = or_false (may_be_weak parameter) (list_any may_be_weak parameters) strong in
+      (operand_strong parameter o both.0 h.0, operands_strong parameters operands both.1 h.1)
+
+  -- ---- a task
+
+  call_taken : (line : ℕ) (target : Target) (f : JniFunction) (operands : List Operand) → CallFits p f operands
+      → WeakAreTaken vs ss (Invoke line target f operands)
+  call_taken line target f operands fits = by_test (takes_weak f) refl
+    where
+      by_test : (b : Bool) → takes_weak f ≡ b → WeakAreTaken vs ss (Invoke line target f operands)
+      by_test true is = inl is
+      by_test false is = inr (operands_strong (prototype f).parameters operands (others_strong f is) fits.sorts)
+
+  invoke_taken : (line : ℕ) (target : Target) (f : JniFunction) (operands : List Operand) (k : Point → Type 0) → Runs (Invoke line target f operands) k p
+      → WeakAreTaken vs ss (Invoke line target f operands)
+  invoke_taken line (Tested a b) f operands k r = call_taken line (Tested a b) f operands r.0
+  invoke_taken line (Declared kind x) f operands k r = call_taken line (Declared kind x) f operands r.0
+  invoke_taken line (Assigned x) f operands k r = call_taken line (Assigned x) f operands r.0
+  invoke_taken line Dropped f operands k r = call_taken line Dropped f operands r.0
+
+  -- a weak reference is named by a call of these functions alone
+  pub weak_clause : (t : Task) (k : Point → Type 0) → Runs t k p → WeakAreTaken vs ss t
+  weak_clause (Invoke line target f operands) k r = invoke_taken line target f operands k r
+  weak_clause t k r = tt
