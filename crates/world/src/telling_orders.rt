@@ -88,6 +88,14 @@ fn line_at(text: &[u8], number: usize) -> Option<&[u8]> {
     None
 }
 
+/// How many words a text may have.
+fn limit_of(order: Order) -> &'static [u8] {
+    match order {
+        Order::Schedule => b"at most 1000000 words in all",
+        Order::Journal => b"at most 1000000 steps, and as many clearings",
+    }
+}
+
 /// What was found on the line of the first fault of a text of words: where each word keeps its own rules, there are too many.
 /// There are no words where memory is refused.
 fn order_detail(alloc: Global, order: Order, text: &[u8], line: usize, threads: u8) -> Detail {
@@ -97,7 +105,7 @@ fn order_detail(alloc: Global, order: Order, text: &[u8], line: usize, threads: 
     };
     match found {
         Ok(Some(detail)) => detail,
-        Ok(None) => Detail::of(b"at most 1000000 in all"),
+        Ok(None) => Detail::of(limit_of(order)),
         Err(_) => Detail::none(),
     }
 }

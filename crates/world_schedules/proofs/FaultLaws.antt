@@ -1,5 +1,5 @@
 -- The fault that is told of lines is their first, whatever the kind of their words.
-use Rattle.std.proofs.Common.{◌≡◌, ℕ, suc, zero, ◌+◌, ◌<◌, ◌≤◌, Bool, true, false, cond, List, [], ◌∷◌, ◌++◌, length, map, Option, Some, None, Result, Ok, Err, refl, sym, ap, ◌∙◌, subst, append_assoc, append-nil, arith, sum_by}
+use Rattle.std.proofs.Common.{◌≡◌, ◌⊎◌, inl, inr, ℕ, suc, zero, ◌+◌, ◌<◌, ◌≤◌, Bool, true, false, cond, List, [], ◌∷◌, ◌++◌, length, map, Option, Some, None, Result, Ok, Err, refl, sym, ap, ◌∙◌, subst, append_assoc, append-nil, arith, sum_by}
 use Rattle.std.specs.Prelude.{◌↔◌, filter, flat_map, ◌==◌, ◌||◌, ◌&&◌, not, nat_le, IsOk}
 use Rattle.std.specs.List.{list_all, Contains}
 use Rattle.std.proofs.lemmas.Bool.{and_from}
@@ -85,25 +85,27 @@ words_in_line line h = ap (filter is_some_byte) (same_parts line h ∙ sym (slic
 -- ---- words of a kind, and how they are read
 
 -- a word of the kind is read so
-pub record IsReadOf {W R : Type 0} (kind : WordKind W) (threads : ℕ) (is_known : R → Bool) (times : R → ℕ) (bytes : List ℕ) (r : R) : Type 0 where
+pub record IsReadOf {W R : Type 0} (kind : WordKind W) (threads : ℕ) (is_known : R → Bool) (times apart : R → ℕ) (bytes : List ℕ) (r : R) : Type 0 where
   pub word : W
   pub text : bytes ≡ kind.text word
   pub formed : kind.is_allowed 8 word ≡ true
   pub known : is_known r ≡ kind.is_allowed threads word
   pub counted : times r ≡ kind.count word
+  pub counted_apart : apart r ≡ kind.apart word
 
 -- the words of the kind that have a form are those that are read
-pub record IsReader {W R : Type 0} (kind : WordKind W) (threads : ℕ) (spelled : List ℕ → Option R) (is_known : R → Bool) (times : R → ℕ) : Type 0 where
-  pub reads : (bytes : List ℕ) (r : R) → spelled bytes ≡ Some r → IsReadOf kind threads is_known times bytes r
-  pub finds : (w : W) → kind.is_allowed 8 w ≡ true → (r : R) × (spelled (kind.text w) ≡ Some r) × (is_known r ≡ kind.is_allowed threads w) × (times r ≡ kind.count w)
+pub record IsReader {W R : Type 0} (kind : WordKind W) (threads : ℕ) (spelled : List ℕ → Option R) (is_known : R → Bool) (times apart : R → ℕ) : Type 0 where
+  pub reads : (bytes : List ℕ) (r : R) → spelled bytes ≡ Some r → IsReadOf kind threads is_known times apart bytes r
+  pub finds : (w : W) → kind.is_allowed 8 w ≡ true → (r : R) × (spelled (kind.text w) ≡ Some r) × (is_known r ≡ kind.is_allowed threads w) × (times r ≡ kind.count w) × (apart r ≡ kind.apart w)
 
 -- words of the kind are read so, of these bytes
-record AreReadOf {W R : Type 0} (kind : WordKind W) (threads : ℕ) (is_known : R → Bool) (times : R → ℕ) (bytes : List (List ℕ)) (rs : List R) : Type 0 where
+record AreReadOf {W R : Type 0} (kind : WordKind W) (threads : ℕ) (is_known : R → Bool) (times apart : R → ℕ) (bytes : List (List ℕ)) (rs : List R) : Type 0 where
   pub words : List W
   pub text : bytes ≡ map kind.text words
   pub formed : list_all (kind.is_allowed 8) words ≡ true
   pub known : list_all is_known rs ≡ list_all (kind.is_allowed threads) words
   pub counted : sum_by times rs ≡ sum_by kind.count words
+  pub counted_apart : sum_by apart rs ≡ sum_by kind.apart words
 
 first_of_list : {X : Type 0} (x : X) (xs : List X) → Contains (x ∷ xs) x
 first_of_list x xs = (0, omega arith, refl)
@@ -158,82 +160,86 @@ failing : {W : Type 0} (text : W → List ℕ) (ws : List W) (test : W → Bool)
 failing text [] test h = absurd (cc)
 failing text (w ∷ ws) test h = failing_first text w ws test (test w) refl h (failing text ws test)
 
-module _ {W R : Type 0} (kind : WordKind W) (threads : ℕ) (spelled : List ℕ → Option R) (is_known : R → Bool) (times : R → ℕ)
-    (reader : IsReader kind threads spelled is_known times) where
+module _ {W R : Type 0} (kind : WordKind W) (threads : ℕ) (spelled : List ℕ → Option R) (is_known : R → Bool) (times apart : R → ℕ)
+    (reader : IsReader kind threads spelled is_known times apart) where
   -- ---- one line
 
   one_read : (b : List ℕ) (bytes : List (List ℕ)) (o : Option R) (rest : Option (List R)) (rs : List R) → spelled b ≡ o → with_word o rest ≡ Some rs
-      → ((others : List R) → rest ≡ Some others → AreReadOf kind threads is_known times bytes others) → AreReadOf kind threads is_known times (b ∷ bytes) rs
+      → ((others : List R) → rest ≡ Some others → AreReadOf kind threads is_known times apart bytes others) → AreReadOf kind threads is_known times apart (b ∷ bytes) rs
   one_read b bytes None rest rs e h more = absurd (cc)
   one_read b bytes (Some r) None rs e h more = absurd (cc)
   one_read b bytes (Some r) (Some others) rs e h more =
       let w = reader.reads b r e in
       let m = more others refl in
       let whole : r ∷ others ≡ rs = cc (h) in
-      subst (AreReadOf kind threads is_known times (b ∷ bytes)) whole (record {
+      subst (AreReadOf kind threads is_known times apart (b ∷ bytes)) whole (record {
         words = w.word ∷ m.words;
         text = ap (λ (x : List ℕ). x ∷ bytes) w.text ∙ ap (λ (xs : List (List ℕ)). kind.text w.word ∷ xs) m.text;
         formed = and_from (kind.is_allowed 8 w.word) (list_all (kind.is_allowed 8) m.words) w.formed m.formed;
         known = ap (λ b. b && list_all is_known others) w.known ∙ ap (λ b. kind.is_allowed threads w.word && b) m.known;
         counted = sum_by-cons times r others ∙ ap (λ n. n + sum_by times others) w.counted ∙ ap (λ n. kind.count w.word + n) m.counted ∙ sym (sum_by-cons kind.count w.word m.words);
+        counted_apart = sum_by-cons apart r others ∙ ap (λ n. n + sum_by apart others) w.counted_apart ∙ ap (λ n. kind.apart w.word + n) m.counted_apart ∙ sym (sum_by-cons kind.apart w.word m.words);
       })
 
-  all_read : (parts : List (List ℕ)) (rs : List R) → formed_words spelled parts ≡ Some rs → AreReadOf kind threads is_known times (filter is_some_byte parts) rs
+  all_read : (parts : List (List ℕ)) (rs : List R) → formed_words spelled parts ≡ Some rs → AreReadOf kind threads is_known times apart (filter is_some_byte parts) rs
   all_read [] rs h =
       let none : [] ≡ rs = cc (h) in
-      subst (AreReadOf kind threads is_known times []) none (record { words = []; text = refl; formed = refl; known = refl; counted = refl })
+      subst (AreReadOf kind threads is_known times apart []) none (record { words = []; text = refl; formed = refl; known = refl; counted = refl; counted_apart = refl })
   all_read ([] ∷ parts) rs h = all_read parts rs h
   all_read ((c ∷ cs) ∷ parts) rs h =
       one_read (c ∷ cs) (filter is_some_byte parts) (spelled (c ∷ cs)) (formed_words spelled parts) rs refl h (all_read parts)
 
   -- a word is read as one thing alone
   known_once : (v w : W) → kind.text v ≡ kind.text w → kind.is_allowed 8 v ≡ true → kind.is_allowed 8 w ≡ true
-      → (kind.is_allowed threads v ≡ kind.is_allowed threads w) × (kind.count v ≡ kind.count w)
+      → (kind.is_allowed threads v ≡ kind.is_allowed threads w) × (kind.count v ≡ kind.count w) × (kind.apart v ≡ kind.apart w)
   known_once v w e a b =
       let f = reader.finds v a in
       let g = reader.finds w b in
       let both : Some f.0 ≡ Some g.0 = sym f.1 ∙ ap spelled e ∙ g.1 in
       let one : f.0 ≡ g.0 = cc (both) in
-      (sym f.2 ∙ ap is_known one ∙ g.2, sym f.3 ∙ ap times one ∙ g.3)
+      (sym f.2 ∙ ap is_known one ∙ g.2, sym f.3 ∙ ap times one ∙ g.3, sym f.4 ∙ ap apart one ∙ g.4)
 
   count_once : (vs ws : List W) → map kind.text vs ≡ map kind.text ws → list_all (kind.is_allowed 8) vs ≡ true → list_all (kind.is_allowed 8) ws ≡ true
-      → sum_by kind.count vs ≡ sum_by kind.count ws
-  count_once [] [] e a b = refl
+      → (sum_by kind.count vs ≡ sum_by kind.count ws) × (sum_by kind.apart vs ≡ sum_by kind.apart ws)
+  count_once [] [] e a b = (refl, refl)
   count_once [] (w ∷ ws) e a b = absurd (cc)
   count_once (v ∷ vs) [] e a b = absurd (cc)
   count_once (v ∷ vs) (w ∷ ws) e a b =
       let p = both_true (kind.is_allowed 8 v) (list_all (kind.is_allowed 8) vs) a in
       let q = both_true (kind.is_allowed 8 w) (list_all (kind.is_allowed 8) ws) b in
       let one = known_once v w (cc) p.0 q.0 in
-      let others = count_once vs ws (cc) p.1 q.1 in
-      sum_by-cons kind.count v vs ∙ ap (λ n. n + sum_by kind.count vs) one.1 ∙ ap (λ n. kind.count w + n) others ∙ sym (sum_by-cons kind.count w ws)
+      let others = count_once vs ws (cc) p.1 q.1 in (
+        sum_by-cons kind.count v vs ∙ ap (λ n. n + sum_by kind.count vs) one.1 ∙ ap (λ n. kind.count w + n) others.0 ∙ sym (sum_by-cons kind.count w ws),
+        sum_by-cons kind.apart v vs ∙ ap (λ n. n + sum_by kind.apart vs) one.2 ∙ ap (λ n. kind.apart w + n) others.1 ∙ sym (sum_by-cons kind.apart w ws),
+      )
 
-  -- these lines have this number of words
-  pub record AreCounted (lines : List (List ℕ)) (count : ℕ) : Type 0 where
+  -- these lines have this number of words, and of others, which are counted apart
+  pub record AreCounted (lines : List (List ℕ)) (count others : ℕ) : Type 0 where
     pub words : List W
     pub text : flat_map words_of lines ≡ map kind.text words
     pub formed : list_all (kind.is_allowed 8) words ≡ true
     pub counted : count ≡ sum_by kind.count words
+    pub counted_apart : others ≡ sum_by kind.apart words
 
   -- and none of them breaks a rule
-  pub record IsUpTo (before : List (List ℕ)) (count : ℕ) : Type 0 where
-    pub words : AreCounted before count
+  pub record IsUpTo (before : List (List ℕ)) (count others : ℕ) : Type 0 where
+    pub words : AreCounted before count others
     pub clean : BreakNoRule kind threads before
 
   -- what is known of the next line by its reading
-  abbrev Outcome : (before : List (List ℕ)) (number count : ℕ) (line : List ℕ) → Result (List R) TextFault → Type 0
-  Outcome before number count line (Ok rs) = IsUpTo (before ++ line ∷ []) (count + sum_by times rs)
-  Outcome before number count line (Err fault) =
+  abbrev Outcome : (before : List (List ℕ)) (number count others : ℕ) (line : List ℕ) → Result (List R) TextFault → Type 0
+  Outcome before number count others line (Ok rs) = IsUpTo (before ++ line ∷ []) (count + sum_by times rs) (others + sum_by apart rs)
+  Outcome before number count others line (Err fault) =
       (fault.line ≡ number) × Breaks kind threads fault.rule before line × ((rule : Rule) → rule_number rule < rule_number fault.rule → Breaks kind threads rule before line → ⊥)
 
   -- a word of which the form is wrong is none of these
-  formless : (bytes : List (List ℕ)) (rs : List R) → AreReadOf kind threads is_known times bytes rs → (b : List ℕ) → Contains bytes b → HasNoForm kind b → ⊥
+  formless : (bytes : List (List ℕ)) (rs : List R) → AreReadOf kind threads is_known times apart bytes rs → (b : List ℕ) → Contains bytes b → HasNoForm kind b → ⊥
   formless bytes rs a b there wrong =
       let w = among kind.text a.words b (subst (λ (bs : List (List ℕ)). Contains bs b) a.text there) in
       wrong w.word (w.passes (kind.is_allowed 8) a.formed) w.is
 
   -- nor is one of a thread that isn't there, where all are known
-  unknown : (bytes : List (List ℕ)) (rs : List R) → AreReadOf kind threads is_known times bytes rs → list_all is_known rs ≡ true → (b : List ℕ) → Contains bytes b → IsUnknown kind threads b → ⊥
+  unknown : (bytes : List (List ℕ)) (rs : List R) → AreReadOf kind threads is_known times apart bytes rs → list_all is_known rs ≡ true → (b : List ℕ) → Contains bytes b → IsUnknown kind threads b → ⊥
   unknown bytes rs a all b there wrong =
       let w = among kind.text a.words b (subst (λ (bs : List (List ℕ)). Contains bs b) a.text there) in
       let same = known_once wrong.0 w.word (wrong.1 ∙ sym w.is) wrong.2 (w.passes (kind.is_allowed 8) a.formed) in
@@ -257,8 +263,8 @@ module _ {W R : Type 0} (kind : WordKind W) (threads : ℕ) (spelled : List ℕ 
       by_place (later rest p) = clean b rest x rule p h
 
   -- the words of one line more
-  with_line : (before : List (List ℕ)) (count : ℕ) (line : List ℕ) (rs : List R) → AreCounted before count → AreReadOf kind threads is_known times (words_of line) rs → AreCounted (before ++ line ∷ []) (count + sum_by times rs)
-  with_line before count line rs u a = record {
+  with_line : (before : List (List ℕ)) (count others : ℕ) (line : List ℕ) (rs : List R) → AreCounted before count others → AreReadOf kind threads is_known times apart (words_of line) rs → AreCounted (before ++ line ∷ []) (count + sum_by times rs) (others + sum_by apart rs)
+  with_line before count others line rs u a = record {
     words = u.words ++ a.words;
     text = flat_map-append words_of before (line ∷ [])
         ∙ ap (λ (bs : List (List ℕ)). bs ++ flat_map words_of (line ∷ [])) u.text
@@ -266,52 +272,67 @@ module _ {W R : Type 0} (kind : WordKind W) (threads : ℕ) (spelled : List ℕ 
         ∙ sym (map-append kind.text u.words a.words);
     formed = list_all-append (kind.is_allowed 8) u.words a.words ∙ and_from (list_all (kind.is_allowed 8) u.words) (list_all (kind.is_allowed 8) a.words) u.formed a.formed;
     counted = ap (λ n. n + sum_by times rs) u.counted ∙ ap (λ n. sum_by kind.count u.words + n) a.counted ∙ sym (sum_by-append kind.count u.words a.words);
+    counted_apart = ap (λ n. n + sum_by apart rs) u.counted_apart ∙ ap (λ n. sum_by kind.apart u.words + n) a.counted_apart ∙ sym (sum_by-append kind.apart u.words a.words);
   }
 
   -- so many words don't pass the limit
-  within_limit : (lines : List (List ℕ)) (count : ℕ) → AreCounted lines count → count ≤ 1000000 → PassLimit kind lines → ⊥
-  within_limit lines count u few h =
-      let same = count_once h.0 u.words (sym h.1 ∙ u.text) h.2 u.formed in
-      omega (arith, same, u.counted, h.3)
+  within_limit : (lines : List (List ℕ)) (count others : ℕ) → AreCounted lines count others → count ≤ 1000000 → others ≤ 1000000 → PassLimit kind lines → ⊥
+  within_limit lines count others u few few_apart h = by_count h.3
+    where
+      same : (sum_by kind.count h.0 ≡ sum_by kind.count u.words) × (sum_by kind.apart h.0 ≡ sum_by kind.apart u.words)
+      same = count_once h.0 u.words (sym h.1 ∙ u.text) h.2 u.formed
 
-  of_formed : (before : List (List ℕ)) (number count : ℕ) (line : List ℕ) (rs : List R) → IsUpTo before count → AreReadOf kind threads is_known times (words_of line) rs
-      → (k m : Bool) → list_all is_known rs ≡ k → nat_le (count + sum_by times rs) 1000000 ≡ m → Outcome before number count line (cond k (cond m (Ok rs) (refused Limit number)) (refused Name number))
-  of_formed before number count line rs u a false m e f =
+      by_count : (1000000 < sum_by kind.count h.0) ⊎ (1000000 < sum_by kind.apart h.0) → ⊥
+      by_count (inl past) = omega (arith, same.0, u.counted, few, past)
+      by_count (inr past) = omega (arith, same.1, u.counted_apart, few_apart, past)
+
+  of_formed : (before : List (List ℕ)) (number count others : ℕ) (line : List ℕ) (rs : List R) → IsUpTo before count others → AreReadOf kind threads is_known times apart (words_of line) rs
+      → (k m n : Bool) → list_all is_known rs ≡ k → nat_le (count + sum_by times rs) 1000000 ≡ m → nat_le (others + sum_by apart rs) 1000000 ≡ n
+      → Outcome before number count others line (cond k (cond (m && n) (Ok rs) (refused Limit number)) (refused Name number))
+  of_formed before number count others line rs u a false m n e f g =
       let w = failing kind.text a.words (kind.is_allowed threads) (sym a.known ∙ e) in
       let there = subst (λ (bs : List (List ℕ)). Contains bs (kind.text w.word)) (sym a.text) w.there in (
         refl,
         (kind.text w.word, there, (w.word, refl, w.passes (kind.is_allowed 8) a.formed, w.fails)),
         none_below 82 before line (λ less h. formless (words_of line) rs a h.0 h.1 h.2) (λ less h. omega (arith, less)) (λ less h. omega (arith, less)),
       )
-  of_formed before number count line rs u a true false e f =
-      let all = with_line before count line rs u.words a in
+  of_formed before number count others line rs u a true false n e f g =
+      let all = with_line before count others line rs u.words a in
       let past : 1000000 < count + sum_by times rs = grind (arith, nat_tests, f) in (
         refl,
-        (all.words, all.text, all.formed, omega (arith, past, all.counted)),
+        (all.words, all.text, all.formed, inl (omega (arith, past, all.counted))),
         none_below 83 before line (λ less h. formless (words_of line) rs a h.0 h.1 h.2) (λ less h. unknown (words_of line) rs a e h.0 h.1 h.2) (λ less h. omega (arith, less)),
       )
-  of_formed before number count line rs u a true true e f =
-      let all = with_line before count line rs u.words a in
+  of_formed before number count others line rs u a true true false e f g =
+      let all = with_line before count others line rs u.words a in
+      let past : 1000000 < others + sum_by apart rs = grind (arith, nat_tests, g) in (
+        refl,
+        (all.words, all.text, all.formed, inr (omega (arith, past, all.counted_apart))),
+        none_below 83 before line (λ less h. formless (words_of line) rs a h.0 h.1 h.2) (λ less h. unknown (words_of line) rs a e h.0 h.1 h.2) (λ less h. omega (arith, less)),
+      )
+  of_formed before number count others line rs u a true true true e f g =
+      let all = with_line before count others line rs u.words a in
       let few : count + sum_by times rs ≤ 1000000 = grind (arith, nat_tests, f) in
+      let few_apart : others + sum_by apart rs ≤ 1000000 = grind (arith, nat_tests, g) in
       record {
         words = all;
         clean = clean_more before line u.clean (λ rule. none_below (rule_number rule + 1) before line (λ less h. formless (words_of line) rs a h.0 h.1 h.2) (λ less h. unknown (words_of line) rs a e h.0 h.1 h.2)
-            (λ less h. within_limit (before ++ line ∷ []) (count + sum_by times rs) all few h) rule (omega arith));
+            (λ less h. within_limit (before ++ line ∷ []) (count + sum_by times rs) (others + sum_by apart rs) all few few_apart h) rule (omega arith));
       }
 
-  of_words : (before : List (List ℕ)) (number count : ℕ) (line : List ℕ) → IsUpTo before count → has_no_feed line ≡ true
-      → (o : Option (List R)) → formed_words spelled (parts_of 32 line) ≡ o → Outcome before number count line (allowed_words is_known times number count o)
+  of_words : (before : List (List ℕ)) (number count others : ℕ) (line : List ℕ) → IsUpTo before count others → has_no_feed line ≡ true
+      → (o : Option (List R)) → formed_words spelled (parts_of 32 line) ≡ o → Outcome before number count others line (allowed_words is_known times apart number count others o)
   unfolding allowed_words
-  of_words before number count line u f None e =
+  of_words before number count others line u f None e =
       let n = none_formed spelled (parts_of 32 line) e in
       let there = subst (λ (bs : List (List ℕ)). Contains bs n.0) (sym (words_in_line line f)) n.1 in (
         refl,
         (n.0, there, λ w a is. let g = reader.finds w a in absurd (cc (g.1, n.2, is))),
         none_below 81 before line (λ less h. omega (arith, less)) (λ less h. omega (arith, less)) (λ less h. omega (arith, less)),
       )
-  of_words before number count line u f (Some rs) e =
-      let a = subst (λ (bs : List (List ℕ)). AreReadOf kind threads is_known times bs rs) (sym (words_in_line line f)) (all_read (parts_of 32 line) rs e) in
-      of_formed before number count line rs u a (list_all is_known rs) (nat_le (count + sum_by times rs) 1000000) refl refl
+  of_words before number count others line u f (Some rs) e =
+      let a = subst (λ (bs : List (List ℕ)). AreReadOf kind threads is_known times apart bs rs) (sym (words_in_line line f)) (all_read (parts_of 32 line) rs e) in
+      of_formed before number count others line rs u a (list_all is_known rs) (nat_le (count + sum_by times rs) 1000000) (nat_le (others + sum_by apart rs) 1000000) refl refl refl
 
   -- ---- all lines
 
@@ -324,31 +345,31 @@ module _ {W R : Type 0} (kind : WordKind W) (threads : ℕ) (spelled : List ℕ 
   and_then lines (Ok x) f h = h
   and_then lines (Err e) f h = h
 
-  after_line : (before lines : List (List ℕ)) (number count : ℕ) (line : List ℕ) → number ≡ length before + 1 → IsUpTo before count → (r : Result (List R) TextFault) → Outcome before number count line r
-      → ((rs : List R) → IsUpTo (before ++ line ∷ []) (count + sum_by times rs) → Verdict ((before ++ line ∷ []) ++ lines) (lines_words spelled is_known times (number + 1) (count + sum_by times rs) lines))
-      → Verdict (before ++ line ∷ lines) (r >>= λ first. lines_words spelled is_known times (number + 1) (count + sum_by times first) lines >>= λ others. Ok (first ++ others))
-  after_line before lines number count line n u (Ok rs) o more =
-      and_then (before ++ line ∷ lines) (lines_words spelled is_known times (number + 1) (count + sum_by times rs) lines) (λ others. rs ++ others)
-      (subst (λ (ls : List (List ℕ)). Verdict ls (lines_words spelled is_known times (number + 1) (count + sum_by times rs) lines)) (append_assoc before (line ∷ []) lines) (more rs o))
-  after_line before lines number count line n u (Err fault) o more =
+  after_line : (before lines : List (List ℕ)) (number count others : ℕ) (line : List ℕ) → number ≡ length before + 1 → IsUpTo before count others → (r : Result (List R) TextFault) → Outcome before number count others line r
+      → ((rs : List R) → IsUpTo (before ++ line ∷ []) (count + sum_by times rs) (others + sum_by apart rs) → Verdict ((before ++ line ∷ []) ++ lines) (lines_words spelled is_known times apart (number + 1) (count + sum_by times rs) (others + sum_by apart rs) lines))
+      → Verdict (before ++ line ∷ lines) (r >>= λ first. lines_words spelled is_known times apart (number + 1) (count + sum_by times first) (others + sum_by apart first) lines >>= λ further. Ok (first ++ further))
+  after_line before lines number count others line n u (Ok rs) o more =
+      and_then (before ++ line ∷ lines) (lines_words spelled is_known times apart (number + 1) (count + sum_by times rs) (others + sum_by apart rs) lines) (λ further. rs ++ further)
+      (subst (λ (ls : List (List ℕ)). Verdict ls (lines_words spelled is_known times apart (number + 1) (count + sum_by times rs) (others + sum_by apart rs) lines)) (append_assoc before (line ∷ []) lines) (more rs o))
+  after_line before lines number count others line n u (Err fault) o more =
       record { before = before; line = line; after = lines; placed = refl; numbered = o.0 ∙ n; broken = o.1; none_before = u.clean; least = o.2 }
 
-  of_lines : (before : List (List ℕ)) (number count : ℕ) (lines : List (List ℕ)) → number ≡ length before + 1 → IsUpTo before count → list_all has_no_feed lines ≡ true
-      → Verdict (before ++ lines) (lines_words spelled is_known times number count lines)
+  of_lines : (before : List (List ℕ)) (number count others : ℕ) (lines : List (List ℕ)) → number ≡ length before + 1 → IsUpTo before count others → list_all has_no_feed lines ≡ true
+      → Verdict (before ++ lines) (lines_words spelled is_known times apart number count others lines)
   unfolding lines_words
-  of_lines before number count [] n u f = subst (BreakNoRule kind threads) (sym (append-nil before)) u.clean
-  of_lines before number count (line ∷ lines) n u f =
+  of_lines before number count others [] n u f = subst (BreakNoRule kind threads) (sym (append-nil before)) u.clean
+  of_lines before number count others (line ∷ lines) n u f =
       let b = both_true (has_no_feed line) (list_all has_no_feed lines) f in
       let next : number + 1 ≡ length (before ++ line ∷ []) + 1 = omega (arith, n, length-append before (line ∷ [])) in
-      after_line before lines number count line n u (line_words spelled is_known times number count line)
-      (of_words before number count line u b.0 (formed_words spelled (parts_of 32 line)) refl)
-      (λ rs v. of_lines (before ++ line ∷ []) (number + 1) (count + sum_by times rs) lines next v b.1)
+      after_line before lines number count others line n u (line_words spelled is_known times apart number count others line)
+      (of_words before number count others line u b.0 (formed_words spelled (parts_of 32 line)) refl)
+      (λ rs v. of_lines (before ++ line ∷ []) (number + 1) (count + sum_by times rs) (others + sum_by apart rs) lines next v b.1)
 
-  pub of_text : (text : List ℕ) → Verdict (lines_of text) (text_words spelled is_known times text)
+  pub of_text : (text : List ℕ) → Verdict (lines_of text) (text_words spelled is_known times apart text)
   of_text text =
-      let none : IsUpTo [] 0 = record { words = record { words = []; text = refl; formed = refl; counted = refl }; clean = λ b a x rule e h. no_line b a x e } in
-      subst (λ (ls : List (List ℕ)). Verdict ls (text_words spelled is_known times text)) (slice_split-split_at (λ b. b == 10) text)
-      (of_lines [] 1 0 (parts_of 10 text) refl none (ap (list_all has_no_feed) (slice_split-split_at (λ b. b == 10) text) ∙ lines_have_no_feed text))
+      let none : IsUpTo [] 0 0 = record { words = record { words = []; text = refl; formed = refl; counted = refl; counted_apart = refl }; clean = λ b a x rule e h. no_line b a x e } in
+      subst (λ (ls : List (List ℕ)). Verdict ls (text_words spelled is_known times apart text)) (slice_split-split_at (λ b. b == 10) text)
+      (of_lines [] 1 0 0 (parts_of 10 text) refl none (ap (list_all has_no_feed) (slice_split-split_at (λ b. b == 10) text) ∙ lines_have_no_feed text))
     where
       no_line : (b a : List (List ℕ)) (x : List ℕ) → [] ≡ b ++ x ∷ a → ⊥
       no_line [] a x e = absurd (cc)

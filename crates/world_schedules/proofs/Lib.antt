@@ -1,12 +1,13 @@
 pub mod PartLemmas
 pub mod WordLemmas
 pub mod LineLemmas
-pub mod JournalLemmas
 pub mod WordLaws
 pub mod FaultLaws
 pub mod ScheduleLaws
-pub mod JournalLaws
 pub mod MeantSchedules
+pub mod NameLemmas
+pub mod JournalLemmas
+pub mod JournalLaws
 pub mod MeantJournals
 pub mod FirstSchedules
 pub mod FirstJournals

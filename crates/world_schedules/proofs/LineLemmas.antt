@@ -11,7 +11,7 @@ use Rattle.world_schedules.specs.ReadingWords.{line_words, lines_words}
 abbrev pub after_lines : {W : Type 0} → List W → Result (List W) TextFault → Result (List W) TextFault
 after_lines front read = read >>= λ words. Ok (front ++ words)
 
-regroup : {W : Type 0} (front first : List W) (read : Result (List W) TextFault) → after_lines front (read >>= λ others. Ok (first ++ others)) ≡ after_lines (front ++ first) read
+regroup : {W : Type 0} (front first : List W) (read : Result (List W) TextFault) → after_lines front (read >>= λ further. Ok (first ++ further)) ≡ after_lines (front ++ first) read
 regroup front first (Ok others) = ap Ok (sym (append_assoc front first others))
 regroup front first (Err e) = refl
 
@@ -19,29 +19,29 @@ pub after_nothing : {W : Type 0} (read : Result (List W) TextFault) → after_li
 after_nothing (Ok words) = refl
 after_nothing (Err e) = refl
 
-module _ {W : Type 0} (spelled : List ℕ → Option W) (known : W → Bool) (times : W → ℕ) (number count : ℕ) (line : List ℕ) (left rest : List (List ℕ)) (words : List W) (all : Result (List W) TextFault) (first_is : left ≡ line ∷ rest)
-    (so_far : after_lines words (lines_words spelled known times number count left) ≡ all) where
+module _ {W : Type 0} (spelled : List ℕ → Option W) (known : W → Bool) (times apart : W → ℕ) (number count others : ℕ) (line : List ℕ) (left rest : List (List ℕ)) (words : List W) (all : Result (List W) TextFault) (first_is : left ≡ line ∷ rest)
+    (so_far : after_lines words (lines_words spelled known times apart number count others left) ≡ all) where
   -- the next line has these words
-  pub goes_on : (first : List W) → line_words spelled known times number count line ≡ Ok first → after_lines (words ++ first) (lines_words spelled known times (number + 1) (count + sum_by times first) rest) ≡ all
+  pub goes_on : (first : List W) → line_words spelled known times apart number count others line ≡ Ok first → after_lines (words ++ first) (lines_words spelled known times apart (number + 1) (count + sum_by times first) (others + sum_by apart first) rest) ≡ all
   unfolding lines_words
   goes_on first e =
-      sym (regroup words first (lines_words spelled known times (number + 1) (count + sum_by times first) rest))
-      ∙ ap (λ r. after_lines words (r >>= λ f. lines_words spelled known times (number + 1) (count + sum_by times f) rest >>= λ others. Ok (f ++ others))) (sym e)
-      ∙ ap (λ ls. after_lines words (lines_words spelled known times number count ls)) (sym first_is)
+      sym (regroup words first (lines_words spelled known times apart (number + 1) (count + sum_by times first) (others + sum_by apart first) rest))
+      ∙ ap (λ r. after_lines words (r >>= λ f. lines_words spelled known times apart (number + 1) (count + sum_by times f) (others + sum_by apart f) rest >>= λ further. Ok (f ++ further))) (sym e)
+      ∙ ap (λ ls. after_lines words (lines_words spelled known times apart number count others ls)) (sym first_is)
       ∙ so_far
 
   -- the next line is refused
-  pub stops : (e : ReadError) → Fails e (line_words spelled known times number count line) → Fails e all
+  pub stops : (e : ReadError) → Fails e (line_words spelled known times apart number count others line) → Fails e all
   unfolding lines_words
   stops errors.Memory h = tt
   stops (errors.Fault f) h =
       sym so_far
-      ∙ ap (λ ls. after_lines words (lines_words spelled known times number count ls)) first_is
-      ∙ ap (λ r. after_lines words (r >>= λ f. lines_words spelled known times (number + 1) (count + sum_by times f) rest >>= λ others. Ok (f ++ others))) h
+      ∙ ap (λ ls. after_lines words (lines_words spelled known times apart number count others ls)) first_is
+      ∙ ap (λ r. after_lines words (r >>= λ f. lines_words spelled known times apart (number + 1) (count + sum_by times f) (others + sum_by apart f) rest >>= λ further. Ok (f ++ further))) h
 
 -- no line is left
-pub is_all : {W : Type 0} (spelled : List ℕ → Option W) (known : W → Bool) (times : W → ℕ) (number count : ℕ) (left : List (List ℕ)) (words : List W) (all : Result (List W) TextFault) → left ≡ []
-    → after_lines words (lines_words spelled known times number count left) ≡ all → all ≡ Ok words
+pub is_all : {W : Type 0} (spelled : List ℕ → Option W) (known : W → Bool) (times apart : W → ℕ) (number count others : ℕ) (left : List (List ℕ)) (words : List W) (all : Result (List W) TextFault) → left ≡ []
+    → after_lines words (lines_words spelled known times apart number count others left) ≡ all → all ≡ Ok words
 unfolding lines_words
-is_all spelled known times number count left words all e so_far =
-    sym so_far ∙ ap (λ ls. after_lines words (lines_words spelled known times number count ls)) e ∙ ap Ok (append-nil words)
+is_all spelled known times apart number count others left words all e so_far =
+    sym so_far ∙ ap (λ ls. after_lines words (lines_words spelled known times apart number count others ls)) e ∙ ap Ok (append-nil words)

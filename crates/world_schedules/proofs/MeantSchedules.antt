@@ -1,5 +1,5 @@
 -- The schedule that a text means is the one that is read.
-use Rattle.std.proofs.Common.{◌≡◌, ℕ, ◌+◌, ◌-◌, ◌^◌, ◌<◌, ◌≤◌, true, false, cond, List, [], ◌∷◌, ◌++◌, length, get_or, map, Option, Some, None, Ok, refl, sym, ap, ◌∙◌, arith}
+use Rattle.std.proofs.Common.{◌≡◌, ℕ, ◌+◌, ◌-◌, ◌^◌, ◌<◌, ◌≤◌, true, false, cond, List, [], ◌∷◌, ◌++◌, length, get_or, map, Option, Some, None, Ok, refl, sym, ap, ◌∙◌, arith, sum_by}
 use Rattle.std.specs.Prelude.{flat_map, ◌==◌, ◌&&◌, nat_le, codes, decimal}
 use Rattle.std.specs.Option.{option_and_then}
 use Rattle.std.specs.List.{list_all}
@@ -10,6 +10,7 @@ use Rattle.std.proofs.lemmas.Bool.{and_from}
 use Rattle.std.proofs.lemmas.Bool.Decides.{nat_tests}
 use Rattle.std.proofs.lemmas.Fmt.{decimal_digit, decimal_nonempty, digits_decimal, digits_value-decimal, first_decimal}
 use Rattle.std.proofs.lemmas.List.Concat.{flat_map-cons}
+use Rattle.std.proofs.lemmas.List.Sums.{sum_by-cons}
 use Rattle.std.proofs.lemmas.Str.Parse.{numerals_by_value, tells_all_ascii_digits}
 use Rattle.semantics.specs.declared.schedule.ScheduleWord.{ScheduleWord}
 use Rattle.semantics.specs.declared.schedule.ScheduleWord.TheVariants.{Turn, Collect}
@@ -131,6 +132,14 @@ words_are_read threads (w ∷ ws) most c =
           ∙ sym (flat_map-cons words_meant w ws);
     }
 
+-- none is counted apart
+none_apart : (rs : List Repetition) → 0 + sum_by (λ (r : Repetition). 0) rs ≤ 1000000
+none_apart rs = let zero : sum_by (λ (r : Repetition). 0) rs ≡ 0 = no_sum rs in omega (arith, zero)
+  where
+    no_sum : (qs : List Repetition) → sum_by (λ (r : Repetition). 0) qs ≡ 0
+    no_sum [] = refl
+    no_sum (q ∷ qs) = let rest = no_sum qs in let sum = sum_by-cons (λ (r : Repetition). 0) q qs in omega (arith, rest, sum)
+
 -- what is meant is read
 pub meant_schedule : (threads : ℕ) (text : List ℕ) (schedule : Schedule) → threads ≤ 8 → IsScheduleText threads text schedule → schedule_of text threads ≡ Ok schedule
 meant_schedule threads text schedule most h =
@@ -140,5 +149,5 @@ meant_schedule threads text schedule most h =
     formed_words-filter repetition_of (all_parts text)
     ∙ ap (formed_words repetition_of) (sym (words_of-parts text) ∙ h.spelled)
     ∙ r.formed in
-    let read = words_read repetition_of (λ (r : Repetition). is_known_turn threads r.word) (λ (r : Repetition). r.times) 1 0 (parts_of 10 text) (map repetition_for h.words) (record { formed = formed; all_known = r.known; few = omega (arith, length-repeated (map repetition_for h.words), ap length whole, h.few) }) in
+    let read = words_read repetition_of (λ (r : Repetition). is_known_turn threads r.word) (λ (r : Repetition). r.times) (λ (r : Repetition). 0) 1 0 0 (parts_of 10 text) (map repetition_for h.words) (record { formed = formed; all_known = r.known; few = omega (arith, length-repeated (map repetition_for h.words), ap length whole, h.few); few_others = none_apart (map repetition_for h.words) }) in
     ap (λ x. x >>= λ repetitions. Ok (flat_map repeated_words repetitions)) read ∙ ap (λ (l : List ScheduleWord). Ok l) whole

@@ -165,8 +165,8 @@ length-repeated (r ∷ rs) =
 -- what is read is meant
 pub schedule_is_meant : (threads : ℕ) (text : List ℕ) (schedule : List ScheduleWord) → schedule_of text threads ≡ Ok schedule → IsScheduleText threads text schedule
 schedule_is_meant threads text schedule h =
-    let a = and_then_ok (text_words repetition_of (λ r. is_known_turn threads r.word) (λ r. r.times) text) (λ repetitions. Ok (flat_map repeated_words repetitions)) schedule h in
-    let ws = are_words repetition_of (λ r. is_known_turn threads r.word) (λ r. r.times) 1 0 (parts_of 10 text) a.0 (omega arith) a.1 in
+    let a = and_then_ok (text_words repetition_of (λ r. is_known_turn threads r.word) (λ r. r.times) (λ r. 0) text) (λ repetitions. Ok (flat_map repeated_words repetitions)) schedule h in
+    let ws = are_words repetition_of (λ r. is_known_turn threads r.word) (λ r. r.times) (λ r. 0) 1 0 0 (parts_of 10 text) a.0 (omega arith) (omega arith) a.1 in
     let rs = repetitions_read (all_parts text) a.0 ws.formed in
     let same : flat_map repeated_words a.0 ≡ schedule = cc (a.2) in
     record {

@@ -128,60 +128,69 @@ guarded : {A : Type 0} (b : Bool) (x y : A) (r : Result A TextFault) (f : TextFa
 guarded true x y r f h = (refl, h)
 guarded false x y r f h = absurd (cc)
 
-module _ {W : Type 0} (known : W → Bool) (times : W → ℕ) (number count : ℕ) where
-  allowed_ok : (o : Option (List W)) (ws : List W) → allowed_words known times number count o ≡ Ok ws → (o ≡ Some ws) × (list_all known ws ≡ true) × (count + sum_by times ws ≤ 1000000)
+module _ {W : Type 0} (known : W → Bool) (times apart : W → ℕ) (number count others : ℕ) where
+  allowed_ok : (o : Option (List W)) (ws : List W) → allowed_words known times apart number count others o ≡ Ok ws → (o ≡ Some ws) × (list_all known ws ≡ true) × (count + sum_by times ws ≤ 1000000) × (others + sum_by apart ws ≤ 1000000)
   unfolding allowed_words
   allowed_ok None ws h = absurd (cc)
   allowed_ok (Some x) ws h =
-      let g = guarded (list_all known x) x ws (cond (nat_le (count + sum_by times x) 1000000) (Ok x) (refused Limit number)) (record { rule = Name; line = number }) h in
-      let k = guarded (nat_le (count + sum_by times x) 1000000) x ws (Ok x) (record { rule = Limit; line = number }) g.1 in
+      let g = guarded (list_all known x) x ws (cond (nat_le (count + sum_by times x) 1000000 && nat_le (others + sum_by apart x) 1000000) (Ok x) (refused Limit number)) (record { rule = Name; line = number }) h in
+      let k = guarded (nat_le (count + sum_by times x) 1000000 && nat_le (others + sum_by apart x) 1000000) x ws (Ok x) (record { rule = Limit; line = number }) g.1 in
+      let both = both_true (nat_le (count + sum_by times x) 1000000) (nat_le (others + sum_by apart x) 1000000) k.0 in
       let same : x ≡ ws = cc (k.1) in
-      let few : count + sum_by times x ≤ 1000000 = grind (arith, nat_tests, k.0) in
-      (ap (λ (l : List W). Some l) same, subst (λ (l : List W). list_all known l ≡ true) same g.0, subst (λ (l : List W). count + sum_by times l ≤ 1000000) same few)
+      let few : count + sum_by times x ≤ 1000000 = grind (arith, nat_tests, both.0) in
+      let few_others : others + sum_by apart x ≤ 1000000 = grind (arith, nat_tests, both.1) in
+      (ap (λ (l : List W). Some l) same, subst (λ (l : List W). list_all known l ≡ true) same g.0, subst (λ (l : List W). count + sum_by times l ≤ 1000000) same few, subst (λ (l : List W). others + sum_by apart l ≤ 1000000) same few_others)
 
-  ok_allowed : (o : Option (List W)) (ws : List W) → o ≡ Some ws → list_all known ws ≡ true → count + sum_by times ws ≤ 1000000 → allowed_words known times number count o ≡ Ok ws
+  ok_allowed : (o : Option (List W)) (ws : List W) → o ≡ Some ws → list_all known ws ≡ true → count + sum_by times ws ≤ 1000000 → others + sum_by apart ws ≤ 1000000 → allowed_words known times apart number count others o ≡ Ok ws
   unfolding allowed_words
-  ok_allowed o ws e k f = let n : nat_le (count + sum_by times ws) 1000000 ≡ true = grind (arith, nat_tests, f) in ap (allowed_words known times number count) e ∙ rw (k, n) refl
+  ok_allowed o ws e k f g =
+      let n : nat_le (count + sum_by times ws) 1000000 ≡ true = grind (arith, nat_tests, f) in
+      let m : nat_le (others + sum_by apart ws) 1000000 ≡ true = grind (arith, nat_tests, g) in
+      ap (allowed_words known times apart number count others) e ∙ rw (k, n, m) refl
 
--- what was read of these lines, after this number of words
-pub record AreWords {W : Type 0} (spelled : List ℕ → Option W) (known : W → Bool) (times : W → ℕ) (count : ℕ) (lines : List (List ℕ)) (ws : List W) : Type 0 where
+-- what was read of these lines, after this number of words, and of those that are counted apart
+pub record AreWords {W : Type 0} (spelled : List ℕ → Option W) (known : W → Bool) (times apart : W → ℕ) (count others : ℕ) (lines : List (List ℕ)) (ws : List W) : Type 0 where
   pub formed : formed_words spelled (flat_map (parts_of 32) lines) ≡ Some ws
   pub all_known : list_all known ws ≡ true
   pub few : count + sum_by times ws ≤ 1000000
+  pub few_others : others + sum_by apart ws ≤ 1000000
 
-module _ {W : Type 0} (spelled : List ℕ → Option W) (known : W → Bool) (times : W → ℕ) where
+module _ {W : Type 0} (spelled : List ℕ → Option W) (known : W → Bool) (times apart : W → ℕ) where
   formed_line : (line : List ℕ) (lines : List (List ℕ)) → formed_words spelled (flat_map (parts_of 32) (line ∷ lines)) ≡ both_formed (formed_words spelled (parts_of 32 line)) (formed_words spelled (flat_map (parts_of 32) lines))
   formed_line line lines = ap (formed_words spelled) (flat_map-cons (parts_of 32) line lines) ∙ formed-append spelled (parts_of 32 line) (flat_map (parts_of 32) lines)
 
-  pub are_words : (number count : ℕ) (lines : List (List ℕ)) (ws : List W) → count ≤ 1000000 → lines_words spelled known times number count lines ≡ Ok ws → AreWords spelled known times count lines ws
+  pub are_words : (number count others : ℕ) (lines : List (List ℕ)) (ws : List W) → count ≤ 1000000 → others ≤ 1000000 → lines_words spelled known times apart number count others lines ≡ Ok ws → AreWords spelled known times apart count others lines ws
   unfolding lines_words
-  are_words number count [] ws c h = let none : [] ≡ ws = cc in subst (AreWords spelled known times count []) none (record { formed = refl; all_known = refl; few = omega (arith, c) })
-  are_words number count (line ∷ lines) ws c h =
-      let a = and_then_ok (line_words spelled known times number count line) (λ first. lines_words spelled known times (number + 1) (count + sum_by times first) lines >>= λ others. Ok (first ++ others)) ws h in
-      let first = allowed_ok known times number count (formed_words spelled (parts_of 32 line)) a.0 a.1 in
-      let b = and_then_ok (lines_words spelled known times (number + 1) (count + sum_by times a.0) lines) (λ others. Ok (a.0 ++ others)) ws a.2 in
-      let others = are_words (number + 1) (count + sum_by times a.0) lines b.0 first.2 b.1 in
+  are_words number count others [] ws c d h = let none : [] ≡ ws = cc in subst (AreWords spelled known times apart count others []) none (record { formed = refl; all_known = refl; few = omega (arith, c); few_others = omega (arith, d) })
+  are_words number count others (line ∷ lines) ws c d h =
+      let a = and_then_ok (line_words spelled known times apart number count others line) (λ first. lines_words spelled known times apart (number + 1) (count + sum_by times first) (others + sum_by apart first) lines >>= λ further. Ok (first ++ further)) ws h in
+      let first = allowed_ok known times apart number count others (formed_words spelled (parts_of 32 line)) a.0 a.1 in
+      let b = and_then_ok (lines_words spelled known times apart (number + 1) (count + sum_by times a.0) (others + sum_by apart a.0) lines) (λ further. Ok (a.0 ++ further)) ws a.2 in
+      let rest = are_words (number + 1) (count + sum_by times a.0) (others + sum_by apart a.0) lines b.0 first.2 first.3 b.1 in
       let same : a.0 ++ b.0 ≡ ws = cc (b.2) in
-      let few : count + sum_by times (a.0 ++ b.0) ≤ 1000000 = omega (arith, sum_by-append times a.0 b.0, others.few) in
-      subst (AreWords spelled known times count (line ∷ lines)) same (record {
-        formed = formed_line line lines ∙ some_both (formed_words spelled (parts_of 32 line)) (formed_words spelled (flat_map (parts_of 32) lines)) a.0 b.0 first.0 others.formed;
-        all_known = list_all-append known a.0 b.0 ∙ and_from (list_all known a.0) (list_all known b.0) first.1 others.all_known;
+      let few : count + sum_by times (a.0 ++ b.0) ≤ 1000000 = omega (arith, sum_by-append times a.0 b.0, rest.few) in
+      let few_others : others + sum_by apart (a.0 ++ b.0) ≤ 1000000 = omega (arith, sum_by-append apart a.0 b.0, rest.few_others) in
+      subst (AreWords spelled known times apart count others (line ∷ lines)) same (record {
+        formed = formed_line line lines ∙ some_both (formed_words spelled (parts_of 32 line)) (formed_words spelled (flat_map (parts_of 32) lines)) a.0 b.0 first.0 rest.formed;
+        all_known = list_all-append known a.0 b.0 ∙ and_from (list_all known a.0) (list_all known b.0) first.1 rest.all_known;
         few = few;
+        few_others = few_others;
       })
 
-  pub words_read : (number count : ℕ) (lines : List (List ℕ)) (ws : List W) → AreWords spelled known times count lines ws → lines_words spelled known times number count lines ≡ Ok ws
+  pub words_read : (number count others : ℕ) (lines : List (List ℕ)) (ws : List W) → AreWords spelled known times apart count others lines ws → lines_words spelled known times apart number count others lines ≡ Ok ws
   unfolding lines_words
-  words_read number count [] ws h = let none : [] ≡ ws = cc (h.formed) in ap Ok none
-  words_read number count (line ∷ lines) ws h =
+  words_read number count others [] ws h = let none : [] ≡ ws = cc (h.formed) in ap Ok none
+  words_read number count others (line ∷ lines) ws h =
       let t = two_parts (formed_words spelled (parts_of 32 line)) (formed_words spelled (flat_map (parts_of 32) lines)) ws (sym (formed_line line lines) ∙ h.formed) in
       let x = t.0 in
       let y = t.1 in
       let known_both = both_true (list_all known x) (list_all known y) (sym (list_all-append known x y) ∙ ap (list_all known) (sym t.4) ∙ h.all_known) in
       let sums : sum_by times ws ≡ sum_by times x + sum_by times y = ap (sum_by times) t.4 ∙ sum_by-append times x y in
-      let line_is = ok_allowed known times number count (formed_words spelled (parts_of 32 line)) x t.2 known_both.0 (omega (arith, sums, h.few)) in
-      let rest_is = words_read (number + 1) (count + sum_by times x) lines y (record { formed = t.3; all_known = known_both.1; few = omega (arith, sums, h.few) }) in
-      ap (λ r. r >>= λ first. lines_words spelled known times (number + 1) (count + sum_by times first) lines >>= λ others. Ok (first ++ others)) line_is
-      ∙ ap (λ r. r >>= λ others. Ok (x ++ others)) rest_is
+      let aparts : sum_by apart ws ≡ sum_by apart x + sum_by apart y = ap (sum_by apart) t.4 ∙ sum_by-append apart x y in
+      let line_is = ok_allowed known times apart number count others (formed_words spelled (parts_of 32 line)) x t.2 known_both.0 (omega (arith, sums, h.few)) (omega (arith, aparts, h.few_others)) in
+      let rest_is = words_read (number + 1) (count + sum_by times x) (others + sum_by apart x) lines y (record { formed = t.3; all_known = known_both.1; few = omega (arith, sums, h.few); few_others = omega (arith, aparts, h.few_others) }) in
+      ap (λ r. r >>= λ first. lines_words spelled known times apart (number + 1) (count + sum_by times first) (others + sum_by apart first) lines >>= λ further. Ok (first ++ further)) line_is
+      ∙ ap (λ r. r >>= λ further. Ok (x ++ further)) rest_is
       ∙ ap (λ (l : List W). Ok l) (sym t.4)
 
 -- empty parts are no words

@@ -1,9 +1,10 @@
 -- Words that are read one after the other.
-use Rattle.std.proofs.Common.{◌≡◌, ℕ, ◌+◌, ◌-◌, ◌^◌, ◌<◌, ◌≤◌, List, [], ◌∷◌, ◌++◌, length, Option, Some, None, Ok, refl, sym, ap, ◌∙◌, append_assoc, append-nil, arith}
+use Rattle.std.proofs.Common.{◌≡◌, ℕ, ◌+◌, ◌-◌, ◌^◌, ◌<◌, ◌≤◌, List, [], ◌∷◌, ◌++◌, length, Option, Some, None, Result, Ok, refl, sym, ap, ◌∙◌, append_assoc, append-nil, arith}
 use Rattle.std.specs.Option.{option_map}
 use Rattle.std.specs.List.{list_all}
 use Rattle.std.specs.Prelude.{◌==◌, Bool, true, false, nat_le, sum_by, min}
 use Rattle.std.proofs.lemmas.Bool.Decides.{nat_tests}
+use Rattle.world_schedules.specs.declared.fault.TextFault.{TextFault}
 use Rattle.world_schedules.specs.declared.fault.Rule.TheVariants.{Form, Name, Limit}
 use Rattle.world_schedules.specs.Reading.{refused}
 use Rattle.world_schedules.specs.ReadingWords.{formed_words, with_word, allowed_words}
@@ -21,7 +22,7 @@ after_one front w None = refl
 after_one front w (Some ws) = ap Some (sym (append_assoc front (w ∷ []) ws))
 
 module _ {W : Type 0} (spelled : List ℕ → Option W) where
-  formed_part : (part : List ℕ) (parts : List (List ℕ)) → 0 < length part → formed_words spelled (part ∷ parts) ≡ with_word (spelled part) (formed_words spelled parts)
+  pub formed_part : (part : List ℕ) (parts : List (List ℕ)) → 0 < length part → formed_words spelled (part ∷ parts) ≡ with_word (spelled part) (formed_words spelled parts)
   formed_part [] parts h = absurd (omega arith)
   formed_part (b ∷ bs) parts h = refl
 
@@ -66,23 +67,30 @@ stays_within count sum c h = omega arith
 fits_within : (count sum : ℕ) → count + sum ≤ 1000000 → nat_le (count + sum) 1000000 ≡ true
 fits_within count sum h = grind (arith, nat_tests)
 
-module _ {W : Type 0} (known : W → Bool) (times : W → ℕ) (number count : ℕ) (words : List W) where
-  pub refused_form : (all : Option (List W)) → None ≡ all → allowed_words known times number count all ≡ refused Form number
-  unfolding allowed_words
-  refused_form all e = ap (allowed_words known times number count) (sym e)
+module _ {W : Type 0} (known : W → Bool) (times apart : W → ℕ) (number count others : ℕ) (words : List W) where
+  abbrev allowed : Option (List W) → Result (List W) TextFault
+  allowed all = allowed_words known times apart number count others all
 
-  pub refused_name : (all : Option (List W)) → Some words ≡ all → list_all known words ≡ false → allowed_words known times number count all ≡ refused Name number
+  pub refused_form : (all : Option (List W)) → None ≡ all → allowed all ≡ refused Form number
   unfolding allowed_words
-  refused_name all e k = ap (allowed_words known times number count) (sym e) ∙ rw k refl
+  refused_form all e = ap allowed (sym e)
 
-  pub refused_limit : (all : Option (List W)) → Some words ≡ all → list_all known words ≡ true → count ≤ 1000000 → 1000000 - count < min (sum_by times words) (2 ^ 64 - 1)
-      → allowed_words known times number count all ≡ refused Limit number
+  pub refused_name : (all : Option (List W)) → Some words ≡ all → list_all known words ≡ false → allowed all ≡ refused Name number
   unfolding allowed_words
-  refused_limit all e k c h = ap (allowed_words known times number count) (sym e) ∙ rw (k, passes count (sum_by times words) c h) refl
+  refused_name all e k = ap allowed (sym e) ∙ rw k refl
 
-  pub are_allowed : (all : Option (List W)) → Some words ≡ all → list_all known words ≡ true → count + sum_by times words ≤ 1000000 → allowed_words known times number count all ≡ Ok words
+  pub refused_limit : (all : Option (List W)) → Some words ≡ all → list_all known words ≡ true → count ≤ 1000000 → 1000000 - count < min (sum_by times words) (2 ^ 64 - 1) → allowed all ≡ refused Limit number
   unfolding allowed_words
-  are_allowed all e k h = ap (allowed_words known times number count) (sym e) ∙ rw (k, fits_within count (sum_by times words) h) refl
+  refused_limit all e k c h = ap allowed (sym e) ∙ rw (k, passes count (sum_by times words) c h) refl
+
+  pub refused_others : (all : Option (List W)) → Some words ≡ all → list_all known words ≡ true → count + sum_by times words ≤ 1000000 → others ≤ 1000000 → 1000000 - others < min (sum_by apart words) (2 ^ 64 - 1)
+      → allowed all ≡ refused Limit number
+  unfolding allowed_words
+  refused_others all e k w c h = ap allowed (sym e) ∙ rw (k, fits_within count (sum_by times words) w, passes others (sum_by apart words) c h) refl
+
+  pub are_allowed : (all : Option (List W)) → Some words ≡ all → list_all known words ≡ true → count + sum_by times words ≤ 1000000 → others + sum_by apart words ≤ 1000000 → allowed all ≡ Ok words
+  unfolding allowed_words
+  are_allowed all e k h g = ap allowed (sym e) ∙ rw (k, fits_within count (sum_by times words) h, fits_within others (sum_by apart words) g) refl
 
 -- ---- an emptiness test
 

@@ -42,4 +42,4 @@ repeated_words r = replicate r.times r.word
 -- the words of a schedule, in order
 abbrev pub schedule_of : List ℕ → (threads : ℕ) → Result (List ScheduleWord) TextFault
 schedule_of text threads =
-    text_words repetition_of (λ r. is_known_turn threads r.word) (λ r. r.times) text >>= λ repetitions. Ok (flat_map repeated_words repetitions)
+    text_words repetition_of (λ r. is_known_turn threads r.word) (λ r. r.times) (λ r. 0) text >>= λ repetitions. Ok (flat_map repeated_words repetitions)

@@ -5,13 +5,13 @@ ghost use Rattle.world_schedules.specs.Numbers.{natural_of};
 ghost use Rattle.world_schedules.specs.ScheduleText.{IsScheduleText};
 ghost use Rattle.world_schedules.specs.ReadingLaws.{SchedulesAreRead, SchedulesAreRefused, SchedulesAreAccepted};
 ghost use Rattle.world_schedules.specs.Reading.{Gives};
-ghost use Rattle.world_schedules.specs.ReadingSchedules.{named_word, repetition, schedule_of};
+ghost use Rattle.world_schedules.specs.ReadingSchedules.{named_word, repetition, repetition_of, schedule_of};
 
 use crate::fault::ReadError;
 use crate::numbers::natural;
 use crate::words::{MOST_WORDS, Word, read_words};
 use semantics::ScheduleWord;
-use std::alloc::Global;
+use std::alloc::{AllocError, Global};
 use std::marker::Model;
 
 /// A word, and how many times in a row.
@@ -59,12 +59,10 @@ impl Word for Repetition {
 
     ghost times = { λ r. r.times };
 
-    fn read(bytes: &[u8]) -> Option<Repetition> {
-        match bytes {
-            [name] => repeated(word_of(*name)?, 1),
-            [name, b'*', digits @ ..] => counted(*name, digits),
-            _ => None,
-        }
+    ghost apart = { λ _. 0 };
+
+    fn read(_alloc: Global, bytes: &[u8]) -> Result<Option<Repetition>, AllocError> {
+        Ok(repetition_of(bytes))
     }
 
     fn is_known(&self, threads: u8) -> bool {
@@ -76,6 +74,21 @@ impl Word for Repetition {
 
     fn times(&self) -> u32 {
         self.times
+    }
+
+    fn apart(&self) -> u32 {
+        0
+    }
+}
+
+/// The repetition that the bytes spell, if they spell one.
+fn repetition_of(bytes: &[u8]) -> Option<Repetition>
+    ensures { result ≡ repetition_of bytes.now }
+{
+    match bytes {
+        [name] => repeated(word_of(*name)?, 1),
+        [name, b'*', digits @ ..] => counted(*name, digits),
+        _ => None,
     }
 }
 

@@ -13,7 +13,7 @@ use crate::split::Split;
 use base::limits::MOST_ENTRIES;
 use std::alloc::{AllocError, Global};
 
-/// The most words of a text, each as often as it is repeated.
+/// The most words of a text, each as often as it is repeated; and the most of those that are counted apart.
 pub(crate) const MOST_WORDS: u64 = MOST_ENTRIES as u64;
 
 /// A word of a text.
@@ -24,26 +24,31 @@ pub trait Word: Drop {
     ghost known: { ℕ → Self → Bool };
     /// How many words it stands for.
     ghost times: { Self → ℕ };
+    /// How many of those that are counted apart.
+    ghost apart: { Self → ℕ };
 
-    fn read(bytes: &[u8]) -> Option<Self>
-        ensures { result ≡ spelled bytes.now };
+    fn read(alloc: Global, bytes: &[u8]) -> Result<Option<Self>, AllocError>
+        ensures { IfOk result (λ word. word ≡ spelled bytes.now) };
 
     fn is_known(&self, threads: u8) -> bool
         ensures { result ≡ known threads self.now };
 
     fn times(&self) -> u32
         ensures { result ≡ times self.now };
+
+    fn apart(&self) -> u32
+        ensures { result ≡ apart self.now };
 }
 
 /// The words of a line, put into an empty list, or `None` where one of them has no form.
-fn formed<W: Word>(empty: Vec<W>, line: &[u8]) -> Result<Option<Vec<W>>, AllocError>
+fn formed<W: Word>(alloc: Global, empty: Vec<W>, line: &[u8]) -> Result<Option<Vec<W>>, AllocError>
     requires { empty.items ≡ [] }
     ensures { IfOk result (λ words. option_map (λ v. v.items) words ≡ formed_words W.spelled (parts_of 32 line.now)) }
 {
     let mut words = empty;
     for part in Split::new(line, b' ') {
         if !part.is_empty() {
-            match W::read(part) {
+            match W::read(alloc, part)? {
                 Some(word) => words.push(word)?,
                 None => return Ok(None),
             }
@@ -63,6 +68,17 @@ fn total<W: Word>(words: &[W]) -> u64
     total
 }
 
+/// How many of those that are counted apart these stand for, at most `u64::MAX`.
+fn total_apart<W: Word>(words: &[W]) -> u64
+    ensures { result ≡ min (sum_by W.apart words.now) (2 ^ 64 - 1) }
+{
+    let mut total = 0u64;
+    for word in words {
+        total = total.saturating_add(u64::from(word.apart()));
+    }
+    total
+}
+
 /// Whether all words name only what is there.
 fn all_known<W: Word>(words: &[W], threads: u8) -> bool
     ensures { result ≡ list_all (W.known threads) words.now }
@@ -70,20 +86,31 @@ fn all_known<W: Word>(words: &[W], threads: u8) -> bool
     words.iter().all(|word| word.is_known(threads))
 }
 
-/// The words of a line, after this number of words before it, put into an empty list.
+/// How many words there are so far, and how many of those that are counted apart.
+#[derive(Clone, Copy)]
+struct Counts {
+    words: u64,
+    apart: u64,
+}
+
+/// The words of a line, put into an empty list, after those so far.
 fn read_line<W: Word>(
+    alloc: Global,
     empty: Vec<W>,
     line: &[u8],
     number: usize,
     threads: u8,
-    count: u64,
+    so_far: Counts,
 ) -> Result<Vec<W>, ReadError>
     requires empty { empty.items ≡ [] }
-    requires count { count ≤ most_entries }
-    ensures words { Gives (λ v. v.items) result (line_words W.spelled (W.known threads) W.times number count line.now) }
-    ensures within { IfOk result (λ v. count + sum_by W.times v.items ≤ most_entries) }
+    requires words { so_far.words ≤ most_entries }
+    requires apart { so_far.apart ≤ most_entries }
+    ensures words { Gives (λ v. v.items) result
+        (line_words W.spelled (W.known threads) W.times W.apart number so_far.words so_far.apart line.now) }
+    ensures within { IfOk result (λ v. so_far.words + sum_by W.times v.items ≤ most_entries) }
+    ensures within_apart { IfOk result (λ v. so_far.apart + sum_by W.apart v.items ≤ most_entries) }
 {
-    let Some(words) = formed::<W>(empty, line)? else {
+    let Some(words) = formed::<W>(alloc, empty, line)? else {
         let rule = Rule::Form;
         return Err(ReadError::Fault(TextFault { rule, line: number }));
     };
@@ -91,7 +118,11 @@ fn read_line<W: Word>(
         let rule = Rule::Name;
         return Err(ReadError::Fault(TextFault { rule, line: number }));
     }
-    if total(&words) > MOST_WORDS - count {
+    if total(&words) > MOST_WORDS - so_far.words {
+        let rule = Rule::Limit;
+        return Err(ReadError::Fault(TextFault { rule, line: number }));
+    }
+    if total_apart(&words) > MOST_WORDS - so_far.apart {
         let rule = Rule::Limit;
         return Err(ReadError::Fault(TextFault { rule, line: number }));
     }
@@ -100,16 +131,17 @@ fn read_line<W: Word>(
 
 /// All words of a text. The words of each line are gathered in one list, whose memory serves for all lines.
 pub fn read_words<W: Word>(alloc: Global, text: &[u8], threads: u8) -> Result<Vec<W>, ReadError>
-    ensures { Gives (λ v. v.items) result (text_words W.spelled (W.known threads) W.times text.now) }
+    ensures { Gives (λ v. v.items) result (text_words W.spelled (W.known threads) W.times W.apart text.now) }
 {
     let mut words = Vec::new(alloc);
     let mut empty = Vec::new(alloc);
-    let mut count = 0;
+    let mut so_far = Counts { words: 0, apart: 0 };
     let mut number = 0;
     for line in Split::new(text, b'\n') {
         number += 1;
-        let mut more = read_line::<W>(empty, line, number, threads, count)?;
-        count += total(&more);
+        let mut more = read_line::<W>(alloc, empty, line, number, threads, so_far)?;
+        so_far.words += total(&more);
+        so_far.apart += total_apart(&more);
         words.append(&mut more)?;
         empty = more;
     }

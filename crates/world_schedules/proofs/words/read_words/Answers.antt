@@ -13,24 +13,26 @@ pub returns-in_err-more : goal.returns-in_err-more
 returns-in_err-more g c =
     let p = err_from_is_err_and c.from_residual.result c.from_residual.ensures.1 in
     let w = g.W.Word in
-    rw (p.1, p.2) (stops w.spelled (w.known c.args.threads) w.times (c.loop-line.number + 1) c.loop-line.count c.in-Some.line.now (parts_left c.loop-line.line-iterator) (parts_left c.next.new.self) c.loop-line.words.items
-    (text_words w.spelled (w.known c.args.threads) w.times c.args.text.now) c.in-Some.ensures.steps c.loop-line.invariant.words c.in_err-more.field-0.0 c.in_err-more.ensures.words)
+    rw (p.1, p.2) (stops w.spelled (w.known c.args.threads) w.times w.apart (c.loop-line.number + 1) c.loop-line.so_far.words c.loop-line.so_far.apart c.in-Some.line.now (parts_left c.loop-line.line-iterator) (parts_left c.next.new.self) c.loop-line.words.items
+    (text_words w.spelled (w.known c.args.threads) w.times w.apart c.args.text.now) c.in-Some.ensures.steps c.loop-line.invariant.words c.in_err-more.field-0.0 c.in_err-more.ensures.words)
 
 pub loop-line-preserved : goal.loop-line-preserved
 loop-line-preserved g c =
     let w = g.W.Word in
     let first = c.in_ok-more.more.items in
-    let sum : c.total-count.result ≡ sum_by w.times first = omega (arith, c.total-count.ensures, ap (sum_by w.times) c.deref.ensures.value, c.in_ok-more.ensures.within) in
+    let sum : c.total.result ≡ sum_by w.times first = omega (arith, c.total.ensures, ap (sum_by w.times) c.deref.ensures.value, c.in_ok-more.ensures.within) in
+    let apart : c.total_apart.result ≡ sum_by w.apart first = omega (arith, c.total_apart.ensures, ap (sum_by w.apart) c.deref-in-loop-line.ensures.value, c.in_ok-more.ensures.within_apart) in
     record {
-      words = rw (c.in_ok-append.ensures.items, sum) (goes_on w.spelled (w.known c.args.threads) w.times (c.loop-line.number + 1) c.loop-line.count c.in-Some.line.now (parts_left c.loop-line.line-iterator) (parts_left c.next.new.self) c.loop-line.words.items
-          (text_words w.spelled (w.known c.args.threads) w.times c.args.text.now) c.in-Some.ensures.steps c.loop-line.invariant.words first c.in_ok-more.ensures.words);
+      words = rw (c.in_ok-append.ensures.items, sum, apart) (goes_on w.spelled (w.known c.args.threads) w.times w.apart (c.loop-line.number + 1) c.loop-line.so_far.words c.loop-line.so_far.apart c.in-Some.line.now (parts_left c.loop-line.line-iterator) (parts_left c.next.new.self) c.loop-line.words.items
+          (text_words w.spelled (w.known c.args.threads) w.times w.apart c.args.text.now) c.in-Some.ensures.steps c.loop-line.invariant.words first c.in_ok-more.ensures.words);
       empty = c.in_ok-append.ensures.other_items;
-      count = rw sum c.in_ok-more.ensures.within;
+      few = rw sum c.in_ok-more.ensures.within;
+      few_apart = rw apart c.in_ok-more.ensures.within_apart;
       number = omega (arith, c.loop-line.invariant.number, ap length c.in-Some.ensures.steps);
     }
 
 pub returns : goal.returns
 returns g c =
     let w = g.W.Word in
-    is_all w.spelled (w.known c.args.threads) w.times (c.loop-line.number + 1) c.loop-line.count (parts_left c.loop-line.line-iterator) c.loop-line.words.items
-    (text_words w.spelled (w.known c.args.threads) w.times c.args.text.now) c.in-None.ensures.steps.0 c.loop-line.invariant.words
+    is_all w.spelled (w.known c.args.threads) w.times w.apart (c.loop-line.number + 1) c.loop-line.so_far.words c.loop-line.so_far.apart (parts_left c.loop-line.line-iterator) c.loop-line.words.items
+    (text_words w.spelled (w.known c.args.threads) w.times w.apart c.args.text.now) c.in-None.ensures.steps.0 c.loop-line.invariant.words
