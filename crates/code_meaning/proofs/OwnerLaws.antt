@@ -9,7 +9,7 @@ use Rattle.std.proofs.lemmas.Bool.{eqb-true}
 use Rattle.std.proofs.lemmas.Bool.Decides.{not_from_Decides, Decides-eqb}
 use Rattle.std.proofs.lemmas.Slice.Eq.{bytes_eq-Decides}
 use Rattle.base.specs.Bytes.{Identifier, lookup}
-use Rattle.type_rules.specs.Sorts.{Sort, Jint, Ref, Global, FieldId, Buffer, Array}
+use Rattle.type_rules.specs.Sorts.{Sort, Jint, Ref, Global, Weak, FieldId, Buffer, Array}
 use Rattle.type_rules.specs.Sorts as sort
 use Rattle.code.specs.Depth.{Listing}
 use Rattle.code_meaning.specs.Layout.{Slot, Known}
@@ -37,6 +37,12 @@ module _ (visible : Visible) (slots : Slots) (own : Identifier → Option ℕ) (
   slot_shown sort.Truth i kept h = tt
   slot_shown Ref i kept h = record { reference = h.reference; is = h.is; is_null = h.is_null; no_number = h.no_number; kind = h.kind; there = h.there; owner = λ n level is owned. kept refl (λ before was. h.owner n before is was) level owned }
   slot_shown Global i kept h = record {
+    static = h.static;
+    no_variable = record { number = h.no_variable.number; array_type = h.no_variable.array_type; kind = h.no_variable.kind };
+    is_null = h.is_null;
+    reference = h.reference;
+  }
+  slot_shown Weak i kept h = record {
     static = h.static;
     no_variable = record { number = h.no_variable.number; array_type = h.no_variable.array_type; kind = h.no_variable.kind };
     is_null = h.is_null;

@@ -9,7 +9,7 @@ use Rattle.std.proofs.lemmas.Slice.Eq.{bytes_eq-Decides}
 use Rattle.std.proofs.lemmas.Bool.Decides.{not_from_Decides, Decides-eqb}
 use Rattle.base.specs.Bytes.{Identifier, lookup}
 use Rattle.base.specs.Element.{ElementType}
-use Rattle.type_rules.specs.Sorts.{Sort, Jint, Ref, Global, FieldId, Buffer, Array}
+use Rattle.type_rules.specs.Sorts.{Sort, Jint, Ref, Global, Weak, FieldId, Buffer, Array}
 use Rattle.type_rules.specs.Sorts as sort
 use Rattle.type_rules.specs.SortGroups.{IsNumberSort}
 use Rattle.class_rules.specs.Fields as source
@@ -17,7 +17,7 @@ use Rattle.semantics.specs.Object.{Reference}
 use Rattle.semantics.specs.Task.{VariableKind, ScalarKind, ReferenceKind, FieldKind, BufferKind}
 use Rattle.semantics.specs.Value.{Value, Gives, convert}
 use Rattle.semantics.specs.Variable as variable
-use Rattle.semantics.specs.Variable.{NoBuffer, StaticReference, Empty, Statics, assign}
+use Rattle.semantics.specs.Variable.{NoBuffer, StaticReference, Empty, Statics, as_argument, assign}
 use Rattle.code.specs.declared.instr.NullableVariable.{NullableVariable}
 use Rattle.code.specs.declared.instr.NullableVariable.TheVariants as nullable
 use Rattle.code.specs.Depth.{Listing}
@@ -26,7 +26,7 @@ use Rattle.code.proofs.Arrays.{cleared_element, cleared_before, cleared_after}
 use Rattle.code_meaning.specs.Layout.{Slot, Known}
 use Rattle.code_meaning.specs.Coding.{nullable_of}
 use Rattle.code_meaning.specs.Slots.{word_of, ValueHasSort, Visible, IsAsBefore, OthersStay, IsSet, IsNulled, IsReferred, IsFieldSet, IsBufferSet, IsMade, IsElementSet, IsHeld, HasNoVariable, is_empty, nulled_statics, static_index, Slots, ShowsNumber, ShowsElement, ShowsStatic, ShowsSlot, Shows, with_null}
-use Rattle.code_meaning.specs.Fits.{IsPlaceOf, IsBufferSort, IsOwn, IndexWithin}
+use Rattle.code_meaning.specs.Fits.{IsPlaceOf, IsBufferSort, IsOwn, IndexWithin, IsStaticSort}
 use Rattle.code_meaning.specs.Stands.{AreAmong, IsSlotOf}
 use Rattle.code_meaning.proofs.StaticPlaces.{StaticStays, statics_stay, assigned_stays, assigned_place, assigned_held, same_name}
 
@@ -101,14 +101,20 @@ module _ (old new : Visible) (x : Identifier) (slots slots' : Slots) (same : IsA
   number_stays kind i word h = record { value = h.value; is = same.number ∙ h.is; kind = same.kind ∙ h.kind; sort = h.sort; word = word ∙ h.word }
 
   pub slot_stays : (kind : Sort) (i : ℕ) → ((k : ℕ) → IsPlaceOf (record { sort = kind; index = i }) k → slice_get slots'.numbers k ≡ slice_get slots.numbers k) → (kind ≡ Ref → ReferenceStays slots slots' i) → (kind ≡ FieldId → slice_get slots'.fields i ≡ slice_get slots.fields i)
-      → (IsBufferSort kind → slice_get slots'.buffers i ≡ slice_get slots.buffers i) → (kind ≡ Global → StaticStays old.statics new.statics x) → ShowsSlot old x slots (record { sort = kind; index = i }) kind → ShowsSlot new x slots' (record { sort = kind; index = i }) kind
+      → (IsBufferSort kind → slice_get slots'.buffers i ≡ slice_get slots.buffers i) → (IsStaticSort kind → StaticStays old.statics new.statics x) → ShowsSlot old x slots (record { sort = kind; index = i }) kind → ShowsSlot new x slots' (record { sort = kind; index = i }) kind
   slot_stays sort.Word i numbers references fields buffers statics h = number_stays sort.Word i (numbers i (omega arith, omega arith)) h
   slot_stays Jint i numbers references fields buffers statics h = number_stays Jint i (numbers i (omega arith, omega arith)) h
   slot_stays sort.Flag i numbers references fields buffers statics h = number_stays sort.Flag i (numbers i (omega arith, omega arith)) h
   slot_stays sort.Truth i numbers references fields buffers statics h = tt
   slot_stays Ref i numbers references fields buffers statics h = record { reference = h.reference; is = same.reference ∙ h.is; is_null = same.is_null ∙ h.is_null; no_number = same.number ∙ h.no_number; kind = same.kind ∙ h.kind; there = (references refl).0 ∙ h.there; owner = λ n level is own. (references refl).1 ∙ h.owner n level is (sym same.owner ∙ own) }
   slot_stays Global i numbers references fields buffers statics h = record {
-    static = record { place = (statics refl).place ∙ h.static.place; held = h.static.held; there = (statics refl).there ∙ h.static.there };
+    static = record { place = (statics tt).place ∙ h.static.place; held = h.static.held; there = (statics tt).there ∙ h.static.there };
+    no_variable = record { number = same.number ∙ h.no_variable.number; array_type = same.array_type ∙ h.no_variable.array_type; kind = same.kind ∙ h.no_variable.kind };
+    is_null = same.is_null ∙ h.is_null;
+    reference = same.reference ∙ h.reference;
+  }
+  slot_stays Weak i numbers references fields buffers statics h = record {
+    static = record { place = (statics tt).place ∙ h.static.place; held = h.static.held; there = (statics tt).there ∙ h.static.there };
     no_variable = record { number = same.number ∙ h.no_variable.number; array_type = same.array_type ∙ h.no_variable.array_type; kind = same.kind ∙ h.no_variable.kind };
     is_null = same.is_null ∙ h.is_null;
     reference = same.reference ∙ h.reference;
@@ -228,7 +234,7 @@ others_assigned old new x y h is other =
     record { place = ap (static_index y) is ∙ stays.place; there = ap (λ (ss : Statics). lookup y ss) is ∙ stays.there }
 
 -- the static that is assigned shows what it holds then
-static_holds : (old new : Visible) (x : Identifier) (i : ℕ) (h : StaticReference) → ShowsStatic old x i → new.statics ≡ assign x h old.statics → HasNoVariable new x → new.sight.is_null x ≡ Gives (is_empty h) → new.sight.reference x ≡ h → ShowsStatic new x i
+static_holds : (old new : Visible) (x : Identifier) (i : ℕ) (h : StaticReference) → ShowsStatic old x i → new.statics ≡ assign x h old.statics → HasNoVariable new x → new.sight.is_null x ≡ Gives (is_empty h) → new.sight.reference x ≡ as_argument h → ShowsStatic new x i
 static_holds old new x i h shown is none is_null reference =
     record {
       static = record { place = ap (static_index x) is ∙ assigned_place x h i old.statics shown.static.place; held = h; there = ap (λ (ss : Statics). lookup x ss) is ∙ assigned_held x h old.statics };
@@ -245,6 +251,7 @@ no_variable_shown old new x slots h s sort.Flag held shown = absurd (let e : Som
 no_variable_shown old new x slots h s sort.Truth held shown = tt
 no_variable_shown old new x slots h s Ref held shown = absurd (let e : Some ReferenceKind ≡ None = sym shown.kind ∙ held.before.kind in cc)
 no_variable_shown old new x slots h s Global held shown = static_holds old new x s.index h shown held.statics held.after held.is_null held.reference
+no_variable_shown old new x slots h s Weak held shown = static_holds old new x s.index h shown held.statics held.after held.is_null held.reference
 no_variable_shown old new x slots h s FieldId held shown = absurd (let e : Some FieldKind ≡ None = sym shown.kind ∙ held.before.kind in cc)
 no_variable_shown old new x slots h s (Buffer t writable) held shown = absurd (let e : Some (BufferKind t) ≡ None = sym shown.kind ∙ held.before.kind in cc)
 no_variable_shown old new x slots h s (Array t size) held shown = absurd (let e : Some t ≡ None = sym shown.array_type ∙ held.before.array_type in cc)
@@ -274,6 +281,7 @@ static_changes code known old new slots x h shows held = record {
 abbrev pub KindFits : Visible → Identifier → (i : ℕ) → Sort → Option VariableKind → Type 0
 KindFits visible x i Ref kind = kind ≡ Some ReferenceKind
 KindFits visible x i Global kind = (kind ≡ None) × ShowsStatic visible x i
+KindFits visible x i Weak kind = (kind ≡ None) × ShowsStatic visible x i
 KindFits visible x i FieldId kind = kind ≡ Some FieldKind
 KindFits visible x i (Buffer t writable) kind = kind ≡ Some (BufferKind t)
 KindFits visible x i s kind = Unit {0}
@@ -293,6 +301,12 @@ shows_nulled code known old new slots x Global kind i variable shows own same e 
     let assigned : new.statics ≡ assign x Empty old.statics = set.statics ∙ ap (λ (o : Option VariableKind). nulled_statics o x old.statics) e.0 in
     subst (λ v. Shows code ((x, record { sort = Global; index = i }) ∷ known) new (with_null v slots)) is
     (with_changed code known old new slots slots x (record { sort = Global; index = i }) shows own.own set.others (λ y other. others_assigned old new x y Empty assigned other) refl refl refl refl (λ k outside. refl) (λ j other. (refl, refl)) (λ j other. refl) refl (λ j other. refl)
+    (static_holds old new x i Empty e.1 assigned (record { number = set.number; array_type = set.array_type; kind = set.same_kind ∙ e.0 }) set.is_null set.reference))
+shows_nulled code known old new slots x Weak kind i variable shows own same e set =
+    let is : nullable.Static i ≡ variable = cc in
+    let assigned : new.statics ≡ assign x Empty old.statics = set.statics ∙ ap (λ (o : Option VariableKind). nulled_statics o x old.statics) e.0 in
+    subst (λ v. Shows code ((x, record { sort = Weak; index = i }) ∷ known) new (with_null v slots)) is
+    (with_changed code known old new slots slots x (record { sort = Weak; index = i }) shows own.own set.others (λ y other. others_assigned old new x y Empty assigned other) refl refl refl refl (λ k outside. refl) (λ j other. (refl, refl)) (λ j other. refl) refl (λ j other. refl)
     (static_holds old new x i Empty e.1 assigned (record { number = set.number; array_type = set.array_type; kind = set.same_kind ∙ e.0 }) set.is_null set.reference))
 shows_nulled code known old new slots x FieldId kind i variable shows own same e set =
     let is : nullable.FieldId i ≡ variable = cc in

@@ -9,9 +9,11 @@ use Rattle.base.specs.Bytes.{Identifier, lookup}
 use Rattle.semantics.specs.Sight.{scalar, held_reference, holds_null, static_is_null}
 use Rattle.semantics.specs.Thread.{Shared, Thread}
 use Rattle.semantics.specs.Value.{Gives}
-use Rattle.semantics.specs.Variable.{Variable, Scalar, LocalRef, FieldHandle, Elements, LocalArray, StaticReference, Empty, Live, Deleted, Statics, assign}
+use Rattle.semantics.specs.Variable.{Variable, Scalar, LocalRef, FieldHandle, Elements, LocalArray, StaticReference, Empty, Live, Weakly, Cleared, Deleted, Statics, assign}
 use Rattle.code.specs.Depth.{Listing}
+use Rattle.type_rules.specs.Sorts.{Sort, Global, Weak}
 use Rattle.code_meaning.specs.Layout.{Slot, Known}
+use Rattle.code_meaning.specs.Fits.{IsStaticSort}
 use Rattle.code_meaning.specs.Slots.{visible_to, type_of_array, kind_of_variable, HasNoVariable, IsAsBefore, IsHeld, is_empty, static_index, Slots, ShowsSlot, Shows}
 use Rattle.code_meaning.proofs.SlotLaws.{slot_stays, static_changes}
 use Rattle.code_meaning.proofs.StaticPlaces.{assigned_stays, assigned_place, assigned_held, there_at, same_name}
@@ -22,6 +24,8 @@ use Rattle.code_meaning.proofs.StaticPlaces.{assigned_stays, assigned_place, ass
 pub null_of : (h : StaticReference) → static_is_null (Some h) ≡ Gives (is_empty h)
 null_of Empty = refl
 null_of (Live n) = refl
+null_of (Weakly n) = refl
+null_of Cleared = refl
 null_of Deleted = refl
 
 -- a variable hides a static of its name
@@ -74,6 +78,12 @@ module _ (own : Identifier → Option ℕ) (shared : Shared) (t : Thread) (x : I
         others = others_as_before;
       }
 
+  -- no variable has the name of a static
+  no_variable_at : (slots : Slots) (s : Slot) (kind : Sort) → IsStaticSort kind → ShowsSlot (visible_to own shared t) x slots s kind → HasNoVariable (visible_to own shared t) x
+  no_variable_at slots s Global e shown = shown.no_variable
+  no_variable_at slots s Weak e shown = shown.no_variable
+  no_variable_at slots s kind e shown = absurd e
+
   -- a variable is not known as a static
   variable_shown : (v : Variable) → lookup x t.variables ≡ Some v → (slots : Slots) (s : Slot) → ShowsSlot (visible_to own shared t) x slots s s.sort → ShowsSlot (visible_to own after t) x slots s s.sort
   variable_shown v is slots s shown =
@@ -81,8 +91,8 @@ module _ (own : Identifier → Option ℕ) (shared : Shared) (t : Thread) (x : I
       (as_before x (hidden_null (lookup x t.variables) v _ _ is) (ap (λ (o : Option Variable). held_reference o (lookup x after.statics)) is ∙ hidden_reference v _ _ ∙ sym (ap (λ (o : Option Variable). held_reference o (lookup x shared.statics)) is)))
       s.sort s.index (λ k p. refl) (λ e. (refl, refl)) (λ e. refl) (λ e. refl)
       (λ e. absurd (
-      let static = subst (ShowsSlot (visible_to own shared t) x slots s) e shown in
-      no_kind v (ap kind_of_variable (sym is) ∙ static.no_variable.kind) (ap type_of_array (sym is) ∙ static.no_variable.array_type)))
+      let none = no_variable_at slots s s.sort e shown in
+      no_kind v (ap kind_of_variable (sym is) ∙ none.kind) (ap type_of_array (sym is) ∙ none.array_type)))
       shown
 
   -- the slots show each known name still

@@ -6,7 +6,7 @@ use Rattle.base.specs.Bytes.{lookup}
 use Rattle.base.specs.Element.{ElementType, JInt, JShort, JByte, JChar}
 use Rattle.syntax.specs.Tree as tree
 use Rattle.syntax.specs.Tree.{Constant, PrefixOp, LogicalNot, Complement, ToWord, ToInt, BinaryOp, LogicalOr, LogicalAnd, BitOr, BitXor, BitAnd, Equal, NotEqual, Less, LessEqual, Greater, GreaterEqual, ShiftLeft, ShiftRight, Add, Subtract, Multiply, Divide, Remainder, Expr, Argument, RightSide, FromExpr, FromCall, Test, TestExpr, TestCall, Stmt, Block, End, Next, Function}
-use Rattle.type_rules.specs.Sorts.{Sort, Ref, Global, FieldId, Buffer, Array, is_jint}
+use Rattle.type_rules.specs.Sorts.{Sort, Ref, Global, Weak, FieldId, Buffer, Array, is_jint}
 use Rattle.type_rules.specs.SortRules.{variable_sort}
 use Rattle.jni.specs.JniFunction.{JniFunction, prototype, function_named}
 use Rattle.jni.specs.Prototype.{ParameterKind, IntNumber, Mode}
@@ -38,6 +38,7 @@ use Rattle.code_meaning.specs.Layout.{Slot, Known, Layout, new_slot, entry_layou
 abbrev pub nullable_of : Sort → ℕ → Option NullableVariable
 nullable_of Ref i = Some (nullable.Local i)
 nullable_of Global i = Some (nullable.Static i)
+nullable_of Weak i = Some (nullable.Static i)
 nullable_of FieldId i = Some (nullable.FieldId i)
 nullable_of (Buffer t writable) i = Some (nullable.Buffer i)
 nullable_of s i = None
@@ -167,6 +168,7 @@ expr_code known line e = term_code known line (term_of e)
 abbrev pub variable_operand : Sort → ℕ → Operand
 variable_operand Ref i = operand.Local i
 variable_operand Global i = operand.Static i
+variable_operand Weak i = operand.Static i
 variable_operand FieldId i = operand.FieldId i
 variable_operand (Array t size) i = operand.Array (record { start = i; len = size })
 variable_operand (Buffer t writable) i = operand.Buffer i
@@ -220,6 +222,7 @@ arguments_texts arguments = flat_map argument_text arguments
 abbrev pub result_target : Sort → ℕ → Target
 result_target Ref i = target.Local i
 result_target Global i = target.Static i
+result_target Weak i = target.Static i
 result_target FieldId i = target.FieldId i
 result_target (Buffer t writable) i = target.Buffer (element_of t) i
 result_target s i = target.Number i

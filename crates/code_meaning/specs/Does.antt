@@ -8,9 +8,9 @@ use Rattle.base.specs.Element.{ElementType}
 use Rattle.syntax.specs.Tree.{Block}
 use Rattle.jni.specs.Access.{Access}
 use Rattle.jni.specs.JniFunction.{JniFunction, prototype}
-use Rattle.jni.specs.Prototype.{ParameterKind, FieldID, IntNumber, TextBytes, ArrayVariable, BufferVariable, Mode, IsCopy, ResultKind, NewLocal, NewGlobal, GivesInt, GivesField}
+use Rattle.jni.specs.Prototype.{ParameterKind, FieldID, IntNumber, TextBytes, ArrayVariable, BufferVariable, Mode, IsCopy, ResultKind, NewLocal, GivesInt, GivesField}
 use Rattle.type_rules.specs.SortRules.{is_droppable}
-use Rattle.type_rules.specs.Sorts.{Sort, Flag, Ref, Global, FieldId, Buffer}
+use Rattle.type_rules.specs.Sorts.{Sort, Flag, Ref, FieldId, Buffer}
 use Rattle.class_rules.specs.Fields as source
 use Rattle.semantics.specs.Object.{Reference}
 use Rattle.semantics.specs.Arguments.{Actual, ReferenceActual, FieldActual, NumberActual, TextActual, VariableActual, ModeActual, NothingActual, ReleaseMode}
@@ -39,8 +39,8 @@ use Rattle.code.specs.Effect.{truth_word, plain_of}
 use Rattle.code_meaning.specs.Coding.{mode_code, element_of}
 use Rattle.code_meaning.specs.Layout.{Known}
 use Rattle.code_meaning.specs.Slots.{word_of, ValueHasSort, Visible, Slots, Shows, IsSet, IsNulled, IsReferred, IsFieldSet, IsBufferSet, IsMade, IsElementSet, IsHeld, ShowsStatic, elements_in, with_element, slot_elements, holds_null, with_null}
-use Rattle.code_meaning.specs.Stands.{target_name, number_sort, IsBufferResult, StandsFor}
-use Rattle.code_meaning.specs.Fits.{IsReferenceKind, TakesNull, TakesLocal, TakesGlobal, IsArray, HaveOwnSlots}
+use Rattle.code_meaning.specs.Stands.{target_name, number_sort, IsBufferResult, IsStaticResult, StandsFor}
+use Rattle.code_meaning.specs.Fits.{IsReferenceKind, TakesNull, TakesLocal, TakesGlobal, IsStaticIn, IsArray, HaveOwnSlots}
 
 -- the instructions that leave a function
 abbrev pub IsReturn : Instr → Type 0
@@ -223,7 +223,7 @@ module _ (code : Listing) (known : Known) (place : ℕ) (stack : List ℕ) (slot
   IsOperand (operand.Local i) actual =
       (x : Identifier) × (actual ≡ ReferenceActual x (visible.sight.reference x)) × (lookup x known ≡ Some (record { sort = Ref; index = i }))
   IsOperand (operand.Static i) actual =
-      (x : Identifier) × (actual ≡ ReferenceActual x (visible.sight.reference x)) × (lookup x known ≡ Some (record { sort = Global; index = i }))
+      (x : Identifier) × (actual ≡ ReferenceActual x (visible.sight.reference x)) × IsStaticIn known x i
   IsOperand operand.Number actual = (z : ℤ) × (actual ≡ NumberActual z) × FitsSigned w32 z
   IsOperand (operand.FieldId i) actual =
       (x : Identifier) × (actual ≡ FieldActual (visible.sight.field x)) × (lookup x known ≡ Some (record { sort = FieldId; index = i }))
@@ -299,7 +299,7 @@ module _ (code : Listing) (known : Known) (place : ℕ) (stack : List ℕ) (slot
       × GoesInto ScalarKind target (λ x. TakesNumber s i x tasks)
   TakesResult line (destination.Local i) gives target tasks = (gives ≡ NewLocal) × GoesInto ReferenceKind target (λ x. TakesReference i x tasks)
   TakesResult line (destination.FieldId i) gives target tasks = (gives ≡ GivesField) × GoesInto FieldKind target (λ x. TakesField i x tasks)
-  TakesResult line (destination.Static i) gives target tasks = (gives ≡ NewGlobal) × ((x : Identifier) × (target ≡ Assigned x) × TakesStatic i x tasks)
+  TakesResult line (destination.Static i) gives target tasks = IsStaticResult gives × ((x : Identifier) × (target ≡ Assigned x) × TakesStatic i x tasks)
   TakesResult line (destination.Buffer element i) gives target tasks =
       IsBufferResult gives × ((t : ElementType) × (element ≡ element_of t) × GoesInto (BufferKind t) target (λ x. TakesBuffer t i x tasks))
   TakesResult line destination.Test gives target tasks = (gives ≡ GivesInt) × TakesTest line target tasks

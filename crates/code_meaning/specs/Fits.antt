@@ -8,8 +8,8 @@ use Rattle.syntax.specs.Tree as tree
 use Rattle.syntax.specs.Tree.{LogicalNot, Complement, ToWord, ToInt, Expr, Argument, Call, RightSide, FromExpr, FromCall, Test, TestExpr, TestCall, Stmt, Block, End, Next, Function}
 use Rattle.jni.specs.Access.{Access}
 use Rattle.jni.specs.JniFunction.{JniFunction, function_named, prototype}
-use Rattle.jni.specs.Prototype.{ParameterKind, Nullable, NonNull, ClassObject, AnyArray, ObjectArray, StringObject, NumberArray, LocalVariable, StaticVariable, FieldID, IntNumber, TextBytes, ArrayVariable, BufferVariable, Mode, IsCopy, ResultKind, NewLocal, NewGlobal, GivesFlag, GivesInt, GivesField, GivesBuffer, GivesNothing}
-use Rattle.type_rules.specs.Sorts.{Sort, Word, Jint, Flag, Truth, Ref, Global, FieldId, Buffer, Array, OperatorGroup, Logic, Equality, Order, OnWords, group, is_buffer_for}
+use Rattle.jni.specs.Prototype.{ParameterKind, Nullable, NonNull, AnyReference, ClassObject, AnyArray, ObjectArray, StringObject, NumberArray, LocalVariable, StaticVariable, WeakVariable, FieldID, IntNumber, TextBytes, ArrayVariable, BufferVariable, Mode, IsCopy, ResultKind, NewLocal, NewGlobal, NewWeak, GivesFlag, GivesInt, GivesField, GivesBuffer, GivesNothing}
+use Rattle.type_rules.specs.Sorts.{Sort, Word, Jint, Flag, Truth, Ref, Global, Weak, FieldId, Buffer, Array, OperatorGroup, Logic, Equality, Order, OnWords, group, is_buffer_for}
 use Rattle.type_rules.specs.SortRules.{variable_sort, is_droppable, is_mode}
 use Rattle.type_rules.specs.SortGroups.{IsIndexSort, IsNumberSort, OperatorFits}
 use Rattle.code.specs.declared.slots.SlotCounts.{SlotCounts}
@@ -94,6 +94,7 @@ abbrev pub IndexWithin : SlotCounts → Sort → ℕ → Type 0
 IndexWithin slots Truth i = ⊥
 IndexWithin slots Ref i = i < slots.references
 IndexWithin slots Global i = i < slots.statics
+IndexWithin slots Weak i = i < slots.statics
 IndexWithin slots FieldId i = i < slots.field_ids
 IndexWithin slots (Buffer t writable) i = i < slots.buffers
 IndexWithin slots (Array t size) i = (0 < size) × (size ≤ most_elements) × (i + size ≤ slots.numbers)
@@ -128,9 +129,19 @@ pub record IsLaidOut (known : Known) (slots : SlotCounts) : Type 0 where
   pub within : (x : Identifier) (s : Slot) → lookup x known ≡ Some s → IndexWithin slots s.sort s.index
   pub own : HaveOwnSlots known
 
+-- the sorts of statics
+abbrev pub IsStaticSort : Sort → Type 0
+IsStaticSort Global = Unit {0}
+IsStaticSort Weak = Unit {0}
+IsStaticSort s = ⊥
+
+-- a known name is that of the static of this place
+abbrev pub IsStaticIn : Known → Identifier → ℕ → Type 0
+IsStaticIn known x i = (s : Sort) × IsStaticSort s × (lookup x known ≡ Some (record { sort = s; index = i }))
+
 -- slots of statics alone, counted from 0
 abbrev pub AreStatics : Known → Type 0
-AreStatics statics = (x : Identifier) (s : Slot) → lookup x statics ≡ Some s → (s.sort ≡ Global) × (s.index < length statics)
+AreStatics statics = (x : Identifier) (s : Slot) → lookup x statics ≡ Some s → IsStaticSort s.sort × (s.index < length statics)
 
 -- as many of each kind at least
 pub record HasRoomFor (slots taken : SlotCounts) : Type 0 where
@@ -153,10 +164,17 @@ ReferenceFits known (tree.Named tree.Null) = Unit {0}
 ReferenceFits known (tree.Variable x) = (s : Slot) × (lookup x known ≡ Some s) × ((s.sort ≡ Ref) ⊎ (s.sort ≡ Global))
 ReferenceFits known e = ⊥
 
+-- the same, or the name of a weak static
+abbrev pub AnyReferenceFits : Known → Expr → Type 0
+AnyReferenceFits known (tree.Named tree.Null) = Unit {0}
+AnyReferenceFits known (tree.Variable x) = (s : Slot) × (lookup x known ≡ Some s) × ((s.sort ≡ Ref) ⊎ IsStaticSort s.sort)
+AnyReferenceFits known e = ⊥
+
 -- a parameter that is a reference
 abbrev pub IsReferenceKind : ParameterKind → Type 0
 IsReferenceKind Nullable = Unit {0}
 IsReferenceKind NonNull = Unit {0}
+IsReferenceKind AnyReference = Unit {0}
 IsReferenceKind ClassObject = Unit {0}
 IsReferenceKind AnyArray = Unit {0}
 IsReferenceKind ObjectArray = Unit {0}
@@ -164,6 +182,7 @@ IsReferenceKind StringObject = Unit {0}
 IsReferenceKind (NumberArray t) = Unit {0}
 IsReferenceKind LocalVariable = Unit {0}
 IsReferenceKind StaticVariable = Unit {0}
+IsReferenceKind WeakVariable = Unit {0}
 IsReferenceKind p = ⊥
 
 -- a parameter that `NULL` may stand for
@@ -172,11 +191,13 @@ TakesNull FieldID = Unit {0}
 TakesNull IsCopy = Unit {0}
 TakesNull LocalVariable = ⊥
 TakesNull StaticVariable = ⊥
+TakesNull WeakVariable = ⊥
 TakesNull p = IsReferenceKind p
 
 -- a parameter that a local reference may stand for
 abbrev pub TakesLocal : ParameterKind → Type 0
 TakesLocal StaticVariable = ⊥
+TakesLocal WeakVariable = ⊥
 TakesLocal p = IsReferenceKind p
 
 -- a parameter that a static may stand for
@@ -210,6 +231,8 @@ ArgumentFits known (BufferVariable access) (tree.Value e) = BufferFits known acc
 ArgumentFits known Mode (tree.Value e) = IsTrue (is_mode (tree.Value e))
 ArgumentFits known LocalVariable (tree.Value e) = NameFits known Ref e
 ArgumentFits known StaticVariable (tree.Value e) = NameFits known Global e
+ArgumentFits known WeakVariable (tree.Value e) = NameFits known Weak e
+ArgumentFits known AnyReference (tree.Value e) = AnyReferenceFits known e
 ArgumentFits known IsCopy (tree.Value e) = e ≡ tree.Named tree.Null
 ArgumentFits known IsCopy (tree.AddressOf x) = IsVariable known x Flag
 ArgumentFits known p (tree.Value e) = ReferenceFits known e
@@ -236,6 +259,7 @@ ResultFits s GivesInt = s ≡ Jint
 ResultFits s GivesFlag = s ≡ Flag
 ResultFits s NewLocal = s ≡ Ref
 ResultFits s NewGlobal = s ≡ Global
+ResultFits s NewWeak = s ≡ Weak
 ResultFits s GivesField = s ≡ FieldId
 ResultFits s (GivesBuffer access) = IsTrue (is_buffer_for access (Some s))
 ResultFits s GivesNothing = ⊥

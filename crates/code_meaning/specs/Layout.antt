@@ -4,8 +4,8 @@ use Rattle.base.specs.Bytes.{Identifier, ByName}
 use Rattle.base.specs.Element.{JChar}
 use Rattle.syntax.specs.Tree as tree
 use Rattle.syntax.specs.Tree.{Stmt, Block, End, Next, Parameter, ParameterType, IntParameter, ReferenceParameter, Function, Static}
-use Rattle.type_rules.specs.Sorts.{Sort, Word, Jint, Flag, Ref, Global, FieldId, Buffer, Array}
-use Rattle.type_rules.specs.SortRules.{variable_sort}
+use Rattle.type_rules.specs.Sorts.{Sort, Word, Jint, Flag, Ref, Global, Weak, FieldId, Buffer, Array}
+use Rattle.type_rules.specs.SortRules.{variable_sort, static_sort}
 use Rattle.code.specs.declared.slots.SlotCounts.{SlotCounts}
 
 -- ---- slots
@@ -36,6 +36,7 @@ width s = 0
 abbrev pub next_index : Sort → SlotCounts → ℕ
 next_index Ref slots = slots.references
 next_index Global slots = slots.statics
+next_index Weak slots = slots.statics
 next_index FieldId slots = slots.field_ids
 next_index (Buffer t writable) slots = slots.buffers
 next_index s slots = slots.numbers
@@ -44,6 +45,7 @@ next_index s slots = slots.numbers
 abbrev pub slots_after : Sort → SlotCounts → SlotCounts
 slots_after Ref slots = record slots { references = slots.references + 1 }
 slots_after Global slots = record slots { statics = slots.statics + 1 }
+slots_after Weak slots = record slots { statics = slots.statics + 1 }
 slots_after FieldId slots = record slots { field_ids = slots.field_ids + 1 }
 slots_after (Buffer t writable) slots = record slots { buffers = slots.buffers + 1 }
 slots_after s slots = record slots { numbers = slots.numbers + width s }
@@ -60,7 +62,7 @@ with_name x s l = record { known = (x, new_slot s l) ∷ l.known; slots = slots_
 
 -- the statics so far, with one more
 abbrev pub with_static : Static → Known → Known
-with_static s statics = (s.name, record { sort = Global; index = length statics }) ∷ statics
+with_static s statics = (s.name, record { sort = static_sort s.type; index = length statics }) ∷ statics
 
 -- the slot of a parameter, where this number of slots is taken
 abbrev pub parameter_slot : ParameterType → (numbers references : ℕ) → Slot

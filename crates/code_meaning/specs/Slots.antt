@@ -7,7 +7,7 @@ use Rattle.base.specs.Limits.{most_elements}
 use Rattle.base.specs.Bytes.{Identifier, lookup}
 use Rattle.base.specs.Element.{ElementType}
 use Rattle.syntax.specs.Tree.{ParameterType, IntParameter, ReferenceParameter, Parameter}
-use Rattle.type_rules.specs.Sorts.{Sort, Jint, Ref, Global, FieldId, Buffer, Array}
+use Rattle.type_rules.specs.Sorts.{Sort, Jint, Ref, Global, Weak, FieldId, Buffer, Array}
 use Rattle.type_rules.specs.Sorts as sort
 use Rattle.class_rules.specs.Fields as source
 use Rattle.semantics.specs.Heap.{numbers_of}
@@ -17,7 +17,7 @@ use Rattle.semantics.specs.Task.{VariableKind, ScalarKind, ReferenceKind, FieldK
 use Rattle.semantics.specs.Thread.{Shared, Thread, sight_of}
 use Rattle.semantics.specs.Value.{Value, Word, Int, Flag, Truth, OutOfRange, Outcome, Gives, Traps, Stuck, convert}
 use Rattle.semantics.specs.Variable as variable
-use Rattle.semantics.specs.Variable.{Variable, Scalar, LocalRef, FieldHandle, Elements, LocalArray, NoBuffer, Copy, View, StaticReference, Empty, Live, Deleted, Statics, as_static, assign}
+use Rattle.semantics.specs.Variable.{Variable, Scalar, LocalRef, FieldHandle, Elements, LocalArray, NoBuffer, Copy, View, StaticReference, Empty, Live, Weakly, Cleared, Deleted, Statics, as_static, as_argument, assign}
 use Rattle.code.specs.declared.instr.NullableVariable.{NullableVariable}
 use Rattle.code.specs.declared.instr.NullableVariable.TheVariants as nullable
 use Rattle.code.specs.Depth.{Listing}
@@ -133,10 +133,12 @@ pub record IsReferred (old : Visible) (x : Identifier) (r : Reference) (new : Vi
   pub statics : new.statics ≡ old.statics
   pub others : OthersStay old new x
 
--- whether a static holds NULL; one that is deleted doesn't
+-- whether a static holds NULL; one that is deleted doesn't, nor one that was cleared
 abbrev pub is_empty : StaticReference → Bool
 is_empty Empty = true
 is_empty (Live n) = false
+is_empty (Weakly n) = false
+is_empty Cleared = false
 is_empty Deleted = false
 
 -- no variable has this name
@@ -150,7 +152,7 @@ pub record IsHeld (old : Visible) (x : Identifier) (h : StaticReference) (new : 
   pub before : HasNoVariable old x
   pub after : HasNoVariable new x
   pub is_null : new.sight.is_null x ≡ Gives (is_empty h)
-  pub reference : new.sight.reference x ≡ h
+  pub reference : new.sight.reference x ≡ as_argument h
   pub statics : new.statics ≡ assign x h old.statics
   pub others : OthersStay old new x
 
@@ -261,7 +263,7 @@ pub record ShowsStatic (visible : Visible) (x : Identifier) (i : ℕ) : Type 0 w
   pub static : IsStaticAt visible.statics x i
   pub no_variable : HasNoVariable visible x
   pub is_null : visible.sight.is_null x ≡ Gives (is_empty static.held)
-  pub reference : visible.sight.reference x ≡ static.held
+  pub reference : visible.sight.reference x ≡ as_argument static.held
 
 -- what a buffer holds is in its slot
 pub record ShowsBuffer (visible : Visible) (x : Identifier) (buffers : List variable.Buffer) (t : ElementType) (i : ℕ) : Type 0 where
@@ -279,6 +281,7 @@ ShowsSlot visible x slots s sort.Flag = ShowsNumber visible x slots.numbers s
 ShowsSlot visible x slots s sort.Truth = Unit {0}
 ShowsSlot visible x slots s Ref = ShowsReference visible x slots s.index
 ShowsSlot visible x slots s Global = ShowsStatic visible x s.index
+ShowsSlot visible x slots s Weak = ShowsStatic visible x s.index
 ShowsSlot visible x slots s FieldId = ShowsField visible x slots.fields s.index
 ShowsSlot visible x slots s (Buffer t writable) = ShowsBuffer visible x slots.buffers t s.index
 ShowsSlot visible x slots s (Array t size) = ShowsArray visible x slots.numbers t size s.index

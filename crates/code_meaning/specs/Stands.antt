@@ -7,8 +7,8 @@ use Rattle.syntax.specs.Tree as tree
 use Rattle.syntax.specs.Tree.{BitOr, Expr, Stmt, Block, End, Next}
 use Rattle.jni.specs.Access.{Access}
 use Rattle.jni.specs.JniFunction.{JniFunction, prototype}
-use Rattle.jni.specs.Prototype.{ParameterKind, FieldID, IntNumber, TextBytes, ArrayVariable, BufferVariable, Mode, IsCopy, ResultKind, NewLocal, NewGlobal, GivesFlag, GivesInt, GivesField, GivesBuffer}
-use Rattle.type_rules.specs.Sorts.{Sort, Jint, Ref, Global, FieldId, Buffer, Array}
+use Rattle.jni.specs.Prototype.{ParameterKind, FieldID, IntNumber, TextBytes, ArrayVariable, BufferVariable, Mode, IsCopy, ResultKind, NewLocal, NewGlobal, NewWeak, GivesFlag, GivesInt, GivesField, GivesBuffer}
+use Rattle.type_rules.specs.Sorts.{Sort, Jint, Ref, FieldId, Buffer, Array}
 use Rattle.type_rules.specs.Sorts as sort
 use Rattle.type_rules.specs.SortRules.{is_droppable}
 use Rattle.type_rules.specs.SortGroups.{IsIndexSort, IsNumberSort}
@@ -34,7 +34,7 @@ use Rattle.code.specs.Depth.{Listing}
 use Rattle.code.specs.Effect.{truth_word}
 use Rattle.code_meaning.specs.Layout.{Slot, Known, Layout, block_layout}
 use Rattle.code_meaning.specs.Coding.{mode_code, nullable_of, element_of, write_code, term_code, expr_code, ways_code, turn_code, block_code}
-use Rattle.code_meaning.specs.Fits.{TakesNull, TakesLocal, TakesGlobal, IsArray, HasElements, TermHasSort, IsUntouched, NumberFits, IndexWithin, IsOwn, HaveOwnSlots, IsLaidOut, HasRoomFor, BlockFits}
+use Rattle.code_meaning.specs.Fits.{TakesNull, TakesLocal, TakesGlobal, IsStaticIn, IsArray, HasElements, TermHasSort, IsUntouched, NumberFits, IndexWithin, IsOwn, HaveOwnSlots, IsLaidOut, HasRoomFor, BlockFits}
 use Rattle.code_meaning.specs.Slots.{word_of}
 
 -- ---- terms
@@ -242,7 +242,7 @@ OperandStands known operand.Null (p, given) = NullStands p given
 OperandStands known (operand.Local i) (p, given) =
     (x : Identifier) × TakesLocal p × (given ≡ Given (tree.Value (tree.Variable x))) × (lookup x known ≡ Some (record { sort = Ref; index = i }))
 OperandStands known (operand.Static i) (p, given) =
-    (x : Identifier) × TakesGlobal p × (given ≡ Given (tree.Value (tree.Variable x))) × (lookup x known ≡ Some (record { sort = Global; index = i }))
+    (x : Identifier) × TakesGlobal p × (given ≡ Given (tree.Value (tree.Variable x))) × IsStaticIn known x i
 OperandStands known operand.Number (p, given) = NumberIsUnderWay known p given
 OperandStands known (operand.FieldId i) (p, given) =
     (x : Identifier) × (p ≡ FieldID) × (given ≡ Given (tree.Value (tree.Variable x))) × (lookup x known ≡ Some (record { sort = FieldId; index = i }))
@@ -310,11 +310,17 @@ number_sort GivesInt = Some Jint
 number_sort GivesFlag = Some sort.Flag
 number_sort kind = None
 
+-- what a function gives goes into a static
+abbrev pub IsStaticResult : ResultKind → Type 0
+IsStaticResult NewGlobal = Unit {0}
+IsStaticResult NewWeak = Unit {0}
+IsStaticResult gives = ⊥
+
 -- a static that is known takes it, and then this comes
 pub record StaticStands (known : Known) (after : After) (place : ℕ) (i : ℕ) (target : Target) : Type 0 where
   pub name : Identifier
   pub is : target ≡ Assigned name
-  pub there : lookup name known ≡ Some (record { sort = Global; index = i })
+  pub there : IsStaticIn known name i
   pub further : ComesAfter after place known
 
 -- it is the test of an `if`, which is there with either truth on the stack
@@ -342,7 +348,7 @@ TargetStands code known after place line (destination.Local i) gives target = (g
     × ResultGoes code known after place (record { sort = Ref; index = i }) ReferenceKind target
 TargetStands code known after place line (destination.FieldId i) gives target = (gives ≡ GivesField)
     × ResultGoes code known after place (record { sort = FieldId; index = i }) FieldKind target
-TargetStands code known after place line (destination.Static i) gives target = (gives ≡ NewGlobal) × StaticStands known after place i target
+TargetStands code known after place line (destination.Static i) gives target = IsStaticResult gives × StaticStands known after place i target
 TargetStands code known after place line (destination.Buffer element i) gives target = IsBufferResult gives × BufferGoes code known after place element i target
 TargetStands code known after place line destination.Test gives target = (gives ≡ GivesInt) × TestStands code known after place line target
 TargetStands code known after place line destination.Dropped gives target = (target ≡ Dropped) × (is_droppable gives ≡ true) × after place known

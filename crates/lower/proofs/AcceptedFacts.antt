@@ -7,13 +7,13 @@ use Rattle.base.specs.Bytes.{Identifier, lookup}
 use Rattle.syntax.specs.Limits.{numbers_in_range, block_height, block_well_formed, IsTree}
 use Rattle.syntax.specs.Parts.{functions_of, statements_of, own_expressions, parameter_names}
 use Rattle.syntax.specs.Tree.{ParameterType, IntParameter, ReferenceParameter, Parameter, Function, Void, Item, StaticItem, FunctionItem, SourceUnit}
-use Rattle.type_rules.specs.Sorts.{Sort, Jint, Ref, Global, Scope}
-use Rattle.type_rules.specs.SortRules.{IsSorted, Place, StaticForm, HeadForm, has_name, parameter_sort, places_of, function_places, item_places}
+use Rattle.type_rules.specs.Sorts.{Sort, Jint, Ref, Global, Weak, Scope}
+use Rattle.type_rules.specs.SortRules.{IsSorted, Place, StaticForm, HeadForm, has_name, parameter_sort, places_of, function_places, item_places, static_sort}
 use Rattle.code.specs.declared.instr.Instr.TheVariants as instr
 use Rattle.region_rules.specs.Regions.{AcceptedFunction, HasRegions}
 use Rattle.code_meaning.specs.Layout.{Slot, Known, with_static, parameter_slot, parameter_slots, numbers_after, references_after, entry_layout}
 use Rattle.code_meaning.specs.Coding.{block_code, function_code}
-use Rattle.code_meaning.specs.Fits.{AreStatics, FunctionFits}
+use Rattle.code_meaning.specs.Fits.{AreStatics, FunctionFits, IsStaticSort}
 use Rattle.code_meaning.specs.Length.{function_steps}
 use Rattle.code_meaning.specs.Stands.{block_returns}
 use Rattle.code_meaning.proofs.SlotLaws.{first_or_after}
@@ -61,6 +61,7 @@ abbrev IsEntrySort : Sort → Type 0
 IsEntrySort Jint = Unit {0}
 IsEntrySort Ref = Unit {0}
 IsEntrySort Global = Unit {0}
+IsEntrySort Weak = Unit {0}
 IsEntrySort s = ⊥
 
 abbrev HaveEntrySorts : Known → Type 0
@@ -74,8 +75,13 @@ parameter_entry_sort : (type : ParameterType) (n r : ℕ) → IsEntrySort (param
 parameter_entry_sort IntParameter n r = tt
 parameter_entry_sort (ReferenceParameter t) n r = tt
 
+static_entry_sort : (s : Sort) → IsStaticSort s → IsEntrySort s
+static_entry_sort Global h = tt
+static_entry_sort Weak h = tt
+static_entry_sort s h = absurd h
+
 parameter_sorts : (ps : List Parameter) (n r : ℕ) (statics : Known) → AreStatics statics → HaveEntrySorts (parameter_slots ps n r ++ statics)
-parameter_sorts [] n r statics h x s at = subst IsEntrySort (sym (h x s at).0) tt
+parameter_sorts [] n r statics h x s at = static_entry_sort s.sort (h x s at).0
 parameter_sorts (p ∷ ps) n r statics h x s at =
     let further_n = numbers_after p.type n in
     let further_r = references_after p.type r in
@@ -141,7 +147,7 @@ all_fit (StaticItem s ∷ items) names statics known taken sorted h =
     let place : Place = record { line = s.line; known = scope_of statics; taken = names; returns = Void; form = StaticForm s } in
     let further = item_places (s.name ∷ names) (scope_of (with_static s statics)) items in (
       taken s.name (static_kept s.line (scope_of statics) names Void s (first_unbroken place further sorted)),
-      all_fit items (s.name ∷ names) (with_static s statics) (one_static_more s statics known) (taken_first names statics s.name (record { sort = Global; index = length statics }) taken) (rest_unbroken place further sorted)
+      all_fit items (s.name ∷ names) (with_static s statics) (one_static_more s statics known) (taken_first names statics s.name (record { sort = static_sort s.type; index = length statics }) taken) (rest_unbroken place further sorted)
           (record { numbers = h.numbers; formed = h.formed; low = h.low; regions = h.regions }),
     )
 all_fit (FunctionItem f ∷ items) names statics known taken sorted h =

@@ -11,8 +11,8 @@ use Rattle.syntax.specs.Tree as tree
 use Rattle.syntax.specs.Tree.{Expr, Argument, RightSide, FromExpr, FromCall, Test, TestExpr, TestCall, Stmt, Block, End, Next, VariableType, BitOr, Call}
 use Rattle.jni.specs.Access.{Access, ElementsCopy, ArrayView, CharsCopy, CharsView}
 use Rattle.jni.specs.JniFunction.{function_named, prototype}
-use Rattle.jni.specs.Prototype.{ParameterKind, LocalVariable, StaticVariable, FieldID, IntNumber, TextBytes, ArrayVariable, BufferVariable, Mode, IsCopy, ResultKind, NewLocal, NewGlobal, GivesFlag, GivesInt, GivesField, GivesBuffer, GivesNothing}
-use Rattle.type_rules.specs.Sorts.{Sort, Jint, Ref, Global, FieldId, Buffer, Array, is_buffer_for}
+use Rattle.jni.specs.Prototype.{ParameterKind, LocalVariable, StaticVariable, FieldID, IntNumber, TextBytes, ArrayVariable, BufferVariable, Mode, IsCopy, ResultKind, NewLocal, NewGlobal, GivesFlag, GivesInt, GivesField, GivesBuffer, GivesNothing, AnyReference, WeakVariable, NewWeak}
+use Rattle.type_rules.specs.Sorts.{Sort, Jint, Ref, Global, Weak, FieldId, Buffer, Array, is_buffer_for}
 use Rattle.type_rules.specs.Sorts as sort
 use Rattle.type_rules.specs.SortRules.{variable_sort}
 use Rattle.type_rules.specs.SortGroups.{IsNumberSort}
@@ -29,7 +29,7 @@ use Rattle.semantics.specs.Term.{Term, Done, Read, Binary, term_of}
 use Rattle.semantics.specs.Task.{Task, SetScalar, Branch, ReturnValue, Target, Declared, Assigned, Tested, Dropped, VariableKind, ScalarKind, ReferenceKind, FieldKind, BufferKind, kind_of, set_task, invocation, call_task, right_side_task, if_task, task_of, tasks_of, operand, Given, Operand}
 use Rattle.code_meaning.specs.Layout.{Slot, Known, Layout, new_slot, closed, layout_after, block_layout}
 use Rattle.code_meaning.specs.Coding.{nullable_of, store_of, write_code, of_slot, operand_of, address_operand, term_code, expr_code, value_code, right_code, assign_code, returned_code, return_code, ways_code, turn_code, loop_code, if_code, stmt_code, block_code, named_call_code, operand_code, argument_code, arguments_code, argument_text, arguments_texts, result_target}
-use Rattle.code_meaning.specs.Fits.{HasElements, IsUntouched, NumberFits, IndexWithin, IsLaidOut, HaveOwnSlots, HasRoomFor, IsVariable, TakesLocal, TakesGlobal, NameFits, ArrayFits, BufferFits, ArgumentFits, ValueFits, RightFits, TestFits, ReturnFits, StmtFits, BlockFits, CallFits, ReferenceFits, FieldFits, ResultFits}
+use Rattle.code_meaning.specs.Fits.{HasElements, IsUntouched, NumberFits, IndexWithin, IsLaidOut, HaveOwnSlots, HasRoomFor, IsVariable, TakesLocal, TakesGlobal, NameFits, ArrayFits, BufferFits, ArgumentFits, ValueFits, RightFits, TestFits, ReturnFits, StmtFits, BlockFits, CallFits, ReferenceFits, FieldFits, ResultFits, AnyReferenceFits, IsStaticSort, IsStaticIn}
 use Rattle.code_meaning.specs.Stands.{held, IsBegun, IsUnderWay, HasAt, AreAmong, IsSlotOf, kind_of_sort, GoesTo, ResultStands, ResultGoes, StaticStands, TargetStands, operand_text, operands_texts, target_name, BlockStands, TasksStand, OperandStands, AreUntouched, operand_rest, operands_rest}
 use Rattle.code_meaning.proofs.SlotLaws.{known_among, known_again, all_among}
 use Rattle.lower.proofs.CodePlaces.{has_front, has_back}
@@ -102,6 +102,7 @@ module _ (code : Listing) (known : Known) (line place : ℕ) (tail : List Task) 
   value_set target x sort.Truth i e names fits name goes at own among further = absurd fits
   value_set target x Ref i e names fits name goes at own among further = null_set target x (record { sort = Ref; index = i }) e (nullable.Local i) names fits refl name goes at own among further
   value_set target x Global i e names fits name goes at own among further = null_set target x (record { sort = Global; index = i }) e (nullable.Static i) names fits refl name goes at own among further
+  value_set target x Weak i e names fits name goes at own among further = null_set target x (record { sort = Weak; index = i }) e (nullable.Static i) names fits refl name goes at own among further
   value_set target x FieldId i e names fits name goes at own among further = null_set target x (record { sort = FieldId; index = i }) e (nullable.FieldId i) names fits refl name goes at own among further
   value_set target x (Buffer t w) i e names fits name goes at own among further = null_set target x (record { sort = Buffer t w; index = i }) e (nullable.Buffer i) names fits refl name goes at own among further
   value_set target x (Array t n) i e names fits name goes at own among further = absurd fits
@@ -110,12 +111,21 @@ module _ (code : Listing) (known : Known) (line place : ℕ) (tail : List Task) 
   local_stands : (p : ParameterKind) (x : Identifier) (i : ℕ) → TakesLocal p → lookup x known ≡ Some (record { sort = Ref; index = i }) → OperandStands known (operand_of (lookup x known)) (p, Given (tree.Value (tree.Variable x)))
   local_stands p x i kind there = subst (λ o. OperandStands known (operand_of o) (p, Given (tree.Value (tree.Variable x)))) (sym there) (x, kind, refl, there)
 
-  static_stands : (p : ParameterKind) (x : Identifier) (i : ℕ) → TakesGlobal p → lookup x known ≡ Some (record { sort = Global; index = i }) → OperandStands known (operand_of (lookup x known)) (p, Given (tree.Value (tree.Variable x)))
-  static_stands p x i kind there = subst (λ o. OperandStands known (operand_of o) (p, Given (tree.Value (tree.Variable x)))) (sym there) (x, kind, refl, there)
+  static_stands : (p : ParameterKind) (x : Identifier) (s : Sort) (i : ℕ) → IsStaticSort s → TakesGlobal p → lookup x known ≡ Some (record { sort = s; index = i }) → OperandStands known (operand_of (lookup x known)) (p, Given (tree.Value (tree.Variable x)))
+  static_stands p x Global i is kind there = subst (λ o. OperandStands known (operand_of o) (p, Given (tree.Value (tree.Variable x)))) (sym there) (x, kind, refl, (Global, tt, there))
+  static_stands p x Weak i is kind there = subst (λ o. OperandStands known (operand_of o) (p, Given (tree.Value (tree.Variable x)))) (sym there) (x, kind, refl, (Weak, tt, there))
+  static_stands p x s i is kind there = absurd is
 
   reference_stands : (p : ParameterKind) (x : Identifier) (s : Slot) → TakesLocal p → TakesGlobal p → lookup x known ≡ Some s → ((s.sort ≡ Ref) ⊎ (s.sort ≡ Global)) → OperandStands known (operand_of (lookup x known)) (p, Given (tree.Value (tree.Variable x)))
   reference_stands p x s local global found (inl e) = local_stands p x s.index local (found ∙ ap (λ (r : Sort). Some (record { sort = r; index = s.index })) e)
-  reference_stands p x s local global found (inr e) = static_stands p x s.index global (found ∙ ap (λ (r : Sort). Some (record { sort = r; index = s.index })) e)
+  reference_stands p x s local global found (inr e) = static_stands p x Global s.index tt global (found ∙ ap (λ (r : Sort). Some (record { sort = r; index = s.index })) e)
+
+  -- a reference of any kind is found there too
+  any_found : (e : Expr) → AnyReferenceFits known e → OperandStands known (operand_code known (AnyReference, tree.Value e)) (AnyReference, operand (AnyReference, tree.Value e))
+  any_found (tree.Named tree.Null) h = record { kind = tt; is = refl }
+  any_found (tree.Variable x) (s, found, inl e) = local_stands AnyReference x s.index tt (found ∙ ap (λ (r : Sort). Some (record { sort = r; index = s.index })) e)
+  any_found (tree.Variable x) (s, found, inr is) = static_stands AnyReference x s.sort s.index is tt found
+  any_found e h = absurd h
 
   reference_found : (p : ParameterKind) (e : Expr) → TakesLocal p → TakesGlobal p → ReferenceFits known e → OperandStands known (operand_code known (p, tree.Value e)) (p, operand (p, tree.Value e))
   reference_found IntNumber e local global h = absurd local
@@ -123,6 +133,7 @@ module _ (code : Listing) (known : Known) (line place : ℕ) (tail : List Task) 
   reference_found Mode e local global h = absurd local
   reference_found IsCopy e local global h = absurd local
   reference_found StaticVariable e local global h = absurd local
+  reference_found WeakVariable e local global h = absurd local
   reference_found LocalVariable e local global h = absurd global
   reference_found p (tree.Named tree.Null) local global h = record { kind = local; is = refl }
   reference_found p (tree.Variable x) local global h = reference_stands p x h.0 local global h.1 h.2
@@ -133,8 +144,12 @@ module _ (code : Listing) (known : Known) (line place : ℕ) (tail : List Task) 
   local_found e h = absurd h
 
   static_found : (e : Expr) → NameFits known Global e → OperandStands known (operand_code known (StaticVariable, tree.Value e)) (StaticVariable, Given (tree.Value e))
-  static_found (tree.Variable x) h = static_stands StaticVariable x h.0 tt h.1
+  static_found (tree.Variable x) h = static_stands StaticVariable x Global h.0 tt tt h.1
   static_found e h = absurd h
+
+  weak_found : (e : Expr) → NameFits known Weak e → OperandStands known (operand_code known (WeakVariable, tree.Value e)) (WeakVariable, Given (tree.Value e))
+  weak_found (tree.Variable x) h = static_stands WeakVariable x Weak h.0 tt tt h.1
+  weak_found e h = absurd h
 
   number_found : (e : Expr) → NumberFits known (term_of e) Jint → OperandStands known (operand_code known (IntNumber, tree.Value e)) (IntNumber, operand (IntNumber, tree.Value e))
   number_found e h = record { kind = refl; term = term_of e; is = refl; sort = h.sort }
@@ -172,6 +187,8 @@ module _ (code : Listing) (known : Known) (line place : ℕ) (tail : List Task) 
   argument_found IsCopy (tree.AddressOf x) h = address_found x h
   argument_found LocalVariable (tree.Value e) h = local_found e h
   argument_found StaticVariable (tree.Value e) h = static_found e h
+  argument_found WeakVariable (tree.Value e) h = weak_found e h
+  argument_found AnyReference (tree.Value e) h = any_found e h
   argument_found p (tree.Value e) h = reference_found p e tt tt h
   argument_found p a h = absurd h
 
@@ -267,15 +284,17 @@ module _ (code : Listing) (known : Known) (line place : ℕ) (tail : List Task) 
   result_goes p kind s target x is name goes stands = absurd goes
 
   -- a static that is known takes it
-  static_goes : (p i : ℕ) (target : Target) (x : Identifier) → target_name target ≡ Some x → GoesTo known (record { sort = Global; index = i }) target → ResultStands code known (λ q names. TasksStand code names q [] tail) p (record { sort = Global; index = i }) x
+  static_goes : (p i : ℕ) (k : Sort) (target : Target) (x : Identifier) → IsStaticSort k → target_name target ≡ Some x → GoesTo known (record { sort = k; index = i }) target → ResultStands code known (λ q names. TasksStand code names q [] tail) p (record { sort = k; index = i }) x
       → StaticStands known (λ q names. TasksStand code names q [] tail) p i target
-  static_goes p i (Declared kind y) x name goes stands = absurd (cc)
-  static_goes p i (Assigned y) x name goes stands =
+  static_goes p i Global (Declared kind y) x is name goes stands = absurd (cc)
+  static_goes p i Weak (Declared kind y) x is name goes stands = absurd (cc)
+  static_goes p i k (Declared kind y) x is name goes stands = absurd is
+  static_goes p i k (Assigned y) x is name goes stands =
       let same : y ≡ x = cc in
-      let slot : Slot = record { sort = Global; index = i } in
+      let slot : Slot = record { sort = k; index = i } in
       let found = subst (λ (z : Identifier). lookup z known ≡ Some slot) same goes in
-      record { name = y; is = refl; there = goes; further = (stands.further.0, λ z t at. known_again x slot known found z t (stands.further.1 z t at), stands.further.2) }
-  static_goes p i target x name goes stands = absurd goes
+      record { name = y; is = refl; there = (k, is, goes); further = (stands.further.0, λ z t at. known_again x slot known found z t (stands.further.1 z t at), stands.further.2) }
+  static_goes p i k target x is name goes stands = absurd goes
 
   -- the slot is one of what the function gives
   abbrev ResultComes : (p i : ℕ) → ResultKind → Target → Identifier → Sort → Type 0
@@ -287,7 +306,8 @@ module _ (code : Listing) (known : Known) (line place : ℕ) (tail : List Task) 
   result_comes p i GivesInt target x s name e = subst (ResultComes p i GivesInt target x) (sym e) (λ goes stands. (Jint, refl, result_goes p ScalarKind (record { sort = Jint; index = i }) target x refl name goes stands))
   result_comes p i GivesFlag target x s name e = subst (ResultComes p i GivesFlag target x) (sym e) (λ goes stands. (sort.Flag, refl, result_goes p ScalarKind (record { sort = sort.Flag; index = i }) target x refl name goes stands))
   result_comes p i NewLocal target x s name e = subst (ResultComes p i NewLocal target x) (sym e) (λ goes stands. (refl, result_goes p ReferenceKind (record { sort = Ref; index = i }) target x refl name goes stands))
-  result_comes p i NewGlobal target x s name e = subst (ResultComes p i NewGlobal target x) (sym e) (λ goes stands. (refl, static_goes p i target x name goes stands))
+  result_comes p i NewGlobal target x s name e = subst (ResultComes p i NewGlobal target x) (sym e) (λ goes stands. (tt, static_goes p i Global target x tt name goes stands))
+  result_comes p i NewWeak target x s name e = subst (ResultComes p i NewWeak target x) (sym e) (λ goes stands. (tt, static_goes p i Weak target x tt name goes stands))
   result_comes p i GivesField target x s name e = subst (ResultComes p i GivesField target x) (sym e) (λ goes stands. (refl, result_goes p FieldKind (record { sort = FieldId; index = i }) target x refl name goes stands))
   result_comes p i (GivesBuffer access) target x s name e =
       let is = buffer_sort access s e in
@@ -349,6 +369,7 @@ jint_given GivesInt e = refl
 jint_given GivesFlag e = absurd (let c : Jint ≡ sort.Flag = e in cc)
 jint_given NewLocal e = absurd (let c : Jint ≡ Ref = e in cc)
 jint_given NewGlobal e = absurd (let c : Jint ≡ Global = e in cc)
+jint_given NewWeak e = absurd (let c : Jint ≡ Weak = e in cc)
 jint_given GivesField e = absurd (let c : Jint ≡ FieldId = e in cc)
 jint_given (GivesBuffer access) e = absurd (let is = buffer_sort access Jint e in let c : Jint ≡ Buffer is.0 is.1 = is.2 in cc)
 jint_given GivesNothing e = absurd e

@@ -11,8 +11,8 @@ use Rattle.base.specs.Element.{ElementType}
 use Rattle.syntax.specs.Tree as tree
 use Rattle.syntax.specs.Tree.{Expr}
 use Rattle.jni.specs.JniFunction.{JniFunction, prototype}
-use Rattle.jni.specs.Prototype.{ParameterKind, LocalVariable, StaticVariable, FieldID, ArrayVariable, BufferVariable, Mode, IsCopy, IntNumber, ResultKind, GivesInt, GivesFlag}
-use Rattle.type_rules.specs.Sorts.{Sort, Jint, Ref, Global, FieldId, Buffer, Array}
+use Rattle.jni.specs.Prototype.{ParameterKind, LocalVariable, StaticVariable, FieldID, ArrayVariable, BufferVariable, Mode, IsCopy, IntNumber, ResultKind, GivesInt, GivesFlag, WeakVariable}
+use Rattle.type_rules.specs.Sorts.{Sort, Jint, Ref, Global, Weak, FieldId, Buffer, Array}
 use Rattle.type_rules.specs.Sorts as sort
 use Rattle.type_rules.specs.SortGroups.{IsNumberSort}
 use Rattle.code.specs.declared.instr.Operand.{Operand as Where}
@@ -31,8 +31,8 @@ use Rattle.semantics.specs.Term.{Term, Done, reduce}
 use Rattle.semantics.specs.Value.{Word, Int, Flag, Truth, Gives, Outcome, Traps, Stuck, outcome_map}
 use Rattle.code_meaning.specs.Layout.{Slot, Known}
 use Rattle.code_meaning.specs.Coding.{term_code}
-use Rattle.code_meaning.specs.Slots.{word_of, Visible, Slots, Shows, SeesBuffers}
-use Rattle.code_meaning.specs.Fits.{IsReferenceKind, TakesNull, TakesLocal, TakesGlobal, TermHasSort}
+use Rattle.code_meaning.specs.Slots.{word_of, Visible, Slots, Shows, SeesBuffers, ShowsStatic, ShowsSlot}
+use Rattle.code_meaning.specs.Fits.{IsReferenceKind, TakesNull, TakesLocal, TakesGlobal, TermHasSort, IsStaticIn, IsStaticSort}
 use Rattle.code_meaning.specs.Stands.{held, IsBegun, HasAt, operand_text, operands_texts, ResultStands, ResultGoes, StaticStands, TestStands, number_sort, OperandStands, TargetStands, InvokeStands, TasksStand, task_returns, operands_rest, operand_held, operands_held, AreUntouched, AreBegun}
 use Rattle.code_meaning.specs.Does.{IsOperand, TakesNumber, TakesReference, TakesField, TakesStatic, TakesBuffer, TakesTest, GoesInto, TakesResult, DoesEffect, word_given, words_given, text_given, texts_given, OperandFits, IsVariableKind, ActualFits}
 use Rattle.code_meaning.proofs.SlotLaws.{fewer_shown, number_below, shows_set, shows_referred, shows_field_set, shows_buffer_set, static_changes}
@@ -154,6 +154,7 @@ goes_on_inside line f task Stuck = refl
 
 local_kind : (p : ParameterKind) → TakesLocal p → IsReferenceKind p
 local_kind StaticVariable h = absurd h
+local_kind WeakVariable h = absurd h
 local_kind p h = h
 
 global_kind : (p : ParameterKind) → TakesGlobal p → IsReferenceKind p
@@ -266,6 +267,15 @@ module _ (code : Listing) (known : Known) (place : ℕ) (stack : List ℕ) (slot
   is_number_sort GivesFlag s e = subst IsNumberSort (let same : sort.Flag ≡ s = cc in same) tt
   is_number_sort gives s e = absurd (cc)
 
+  -- a static is shown, whatever its sort
+  shown_static : (x : Identifier) (i : ℕ) → IsStaticIn known x i → ShowsStatic visible x i
+  shown_static x i (s, is, there) = by_sort s is (shows.each x (record { sort = s; index = i }) there)
+    where
+      by_sort : (s : Sort) → IsStaticSort s → ShowsSlot visible x slots (record { sort = s; index = i }) s → ShowsStatic visible x i
+      by_sort Global is shown = shown
+      by_sort Weak is shown = shown
+      by_sort s is shown = absurd is
+
   -- a static holds it
   takes_static : (line : ℕ) (f : JniFunction) (operands : List Operand) (i : ℕ) (target : Target) (rest : List Task) → IsTrue (list_any task_returns (Invoke line target f operands ∷ rest)) → StaticStands known (λ p names. TasksStand code names p [] rest) (place + 1) i target
       → (x : Identifier) × (target ≡ Assigned x) × TakesStatic code known place stack slots visible i x rest
@@ -273,7 +283,7 @@ module _ (code : Listing) (known : Known) (place : ℕ) (stack : List ℕ) (slot
     h.name,
     h.is,
     record {
-      static = shows.each h.name (record { sort = Global; index = i }) h.there;
+      static = shown_static h.name i h.there;
       names = h.further.0;
       shows = λ held new set. fewer_shown code h.further.0 known new slots h.further.1 (static_changes code known visible new slots h.name held shows set);
       stands = record { stand = h.further.2; returns = subst (λ (t : Target). IsTrue (list_any task_returns (Invoke line t f operands ∷ rest))) h.is returns };
@@ -351,6 +361,7 @@ module _ (code : Listing) (known : Known) (place : ℕ) (stack : List ℕ) (slot
   null_found IsCopy given is kind = found_as operand.Null IsCopy given (Given (tree.Value (tree.Named tree.Null))) NothingActual is refl (inr (inr refl)) refl refl refl
   null_found LocalVariable given is kind = absurd kind
   null_found StaticVariable given is kind = absurd kind
+  null_found WeakVariable given is kind = absurd kind
   null_found p given is kind = found_as operand.Null p given (Given (tree.Value (tree.Named tree.Null))) (ReferenceActual [] Empty) is (looked_up p (tree.Named tree.Null) kind) (inl ([], refl)) kind refl refl
 
   -- the argument of a parameter of a known kind

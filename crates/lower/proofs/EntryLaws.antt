@@ -7,7 +7,7 @@ use Rattle.std.proofs.lemmas.List.{length-replicate}
 use Rattle.std.proofs.lemmas.Option.{slice_get_within}
 use Rattle.base.specs.Bytes.{Identifier, lookup}
 use Rattle.syntax.specs.Tree.{Parameter, ParameterType, IntParameter, ReferenceParameter, Function}
-use Rattle.type_rules.specs.Sorts.{Sort, Jint, Ref, Global}
+use Rattle.type_rules.specs.Sorts.{Sort, Jint, Ref, Global, Weak}
 use Rattle.semantics.specs.Object.{ObjectValue, Number, Refers, Reference}
 use Rattle.semantics.specs.World.{Invocation}
 use Rattle.semantics.specs.Activation.{entered, parameter_variables}
@@ -18,8 +18,8 @@ use Rattle.semantics.specs.Variable.{Variable, Scalar, LocalRef, StaticReference
 use Rattle.code.specs.Depth.{Listing}
 use Rattle.code.proofs.Arrays.{get_replicate}
 use Rattle.code_meaning.specs.Layout.{Slot, Known, parameter_slot, parameter_slots, numbers_after, references_after, numbers_of, references_of, entry_names, entry_layout}
-use Rattle.code_meaning.specs.Slots.{visible_to, type_of_array, kind_of_variable, Slots, ShowsSlot, Shows, ArgumentFits, ArgumentsFit, argument_word, argument_reference, EntrySlots, AreShared, AreOfLowest}
-use Rattle.code_meaning.specs.Fits.{AreStatics}
+use Rattle.code_meaning.specs.Slots.{visible_to, type_of_array, kind_of_variable, Slots, ShowsSlot, Shows, ArgumentFits, ArgumentsFit, argument_word, argument_reference, EntrySlots, AreShared, AreOfLowest, ShowsStatic}
+use Rattle.code_meaning.specs.Fits.{AreStatics, IsStaticSort}
 use Rattle.code_meaning.proofs.StaticLaws.{null_of}
 use Rattle.lower.proofs.CodePlaces.{get-append_seam}
 
@@ -164,13 +164,17 @@ module _ (statics : Known) (f : Function) (code : Listing) (known : AreStatics s
   static_shown x s none at =
       let variable = entry_none x none in
       let held = there x s at in
-      let is : s.sort ≡ Global = (known x s at).0 in
-      subst (λ (k : Sort). ShowsSlot (visible_to own shared (entered thread calls f class arguments)) x slots s k) (sym is) (record {
+      by_sort s.sort (known x s at).0 (record {
         static = held;
         no_variable = record { number = ap scalar variable; array_type = ap type_of_array variable; kind = ap kind_of_variable variable };
         is_null = ap (λ (v : Option Variable). holds_null v (lookup x shared.statics)) variable ∙ ap (λ (v : Option StaticReference). holds_null None v) held.there ∙ null_of held.held;
         reference = ap (λ (v : Option Variable). held_reference v (lookup x shared.statics)) variable ∙ ap (λ (v : Option StaticReference). held_reference None v) held.there;
       })
+    where
+      by_sort : (k : Sort) → IsStaticSort k → ShowsStatic (visible_to own shared (entered thread calls f class arguments)) x s.index → ShowsSlot (visible_to own shared (entered thread calls f class arguments)) x slots s k
+      by_sort Global is shown = shown
+      by_sort Weak is shown = shown
+      by_sort k is shown = absurd is
 
   either_shown : (x : Identifier) (s : Slot) → (lookup x (entry_names f) ≡ Some s) ⊎ ((lookup x (entry_names f) ≡ None) × (lookup x statics ≡ Some s)) → ShowsSlot (visible_to own shared (entered thread calls f class arguments)) x slots s s.sort
   either_shown x s (inl h) = found_shown x s (entry_found x s h)

@@ -1,11 +1,12 @@
 -- Each name at the entry of a function has slots of its own.
+use Rattle.type_rules.specs.SortRules.{static_sort}
 use Rattle.std.proofs.Common.{◌≡◌, ◌≢◌, ℕ, ◌<◌, ◌≤◌, ◌⊎◌, inl, inr, List, [], ◌∷◌, length, Some, None, refl, sym, ap, ◌∙◌, subst, arith}
 use Rattle.base.specs.Bytes.{Identifier, lookup}
-use Rattle.syntax.specs.Tree.{ParameterType, IntParameter, ReferenceParameter, Parameter, Function, Static}
-use Rattle.type_rules.specs.Sorts.{Sort, Jint, Ref, Global, FieldId}
+use Rattle.syntax.specs.Tree.{ParameterType, IntParameter, ReferenceParameter, Parameter, Function, Static, StaticType, ReferenceStatic, WeakStatic}
+use Rattle.type_rules.specs.Sorts.{Sort, Jint, Ref, Global, Weak, FieldId}
 use Rattle.code.specs.declared.slots.SlotCounts.{SlotCounts}
 use Rattle.code_meaning.specs.Layout.{Slot, Known, with_static, parameter_slot, parameter_slots, numbers_after, references_after, numbers_of, references_of, entry_names, entry_layout}
-use Rattle.code_meaning.specs.Fits.{IndexWithin, AreApart, IsOwn, IsLaidOut, AreStatics}
+use Rattle.code_meaning.specs.Fits.{IndexWithin, AreApart, IsOwn, IsLaidOut, AreStatics, IsStaticSort}
 use Rattle.code_meaning.proofs.SlotLaws.{first_or_after}
 use Rattle.lower.proofs.EntryLaws.{in_both}
 
@@ -14,10 +15,15 @@ use Rattle.lower.proofs.EntryLaws.{in_both}
 pub no_statics : AreStatics []
 no_statics x s at = absurd (let e = at in cc)
 
+-- each type of a static is of such a sort
+static_type_sort : (t : StaticType) → IsStaticSort (static_sort t)
+static_type_sort (ReferenceStatic type) = tt
+static_type_sort WeakStatic = tt
+
 pub one_static_more : (s : Static) (statics : Known) → AreStatics statics → AreStatics (with_static s statics)
 one_static_more s statics h x slot at =
-    first_or_after s.name x (record { sort = Global; index = length statics }) slot statics ((slot.sort ≡ Global) × (slot.index < length (with_static s statics)))
-    (λ same is. subst (λ (t : Slot). (t.sort ≡ Global) × (t.index < length (with_static s statics))) is (refl, omega arith))
+    first_or_after s.name x (record { sort = static_sort s.type; index = length statics }) slot statics (IsStaticSort slot.sort × (slot.index < length (with_static s statics)))
+    (λ same is. subst (λ (t : Slot). IsStaticSort t.sort × (t.index < length (with_static s statics))) is (static_type_sort s.type, omega arith))
     (λ other found. let k = h x slot found in (k.0, omega (arith, k.1))) at
 
 -- ---- parameters
@@ -62,9 +68,6 @@ jint_at s e = ap (λ (k : Sort). record { sort = k; index = s.index }) e
 ref_at : (s : Slot) → s.sort ≡ Ref → s ≡ record { sort = Ref; index = s.index }
 ref_at s e = ap (λ (k : Sort). record { sort = k; index = s.index }) e
 
-global_at : (s : Slot) → s.sort ≡ Global → s ≡ record { sort = Global; index = s.index }
-global_at s e = ap (λ (k : Sort). record { sort = k; index = s.index }) e
-
 apart_numbers : (i j : ℕ) → i ≢ j → AreApart (record { sort = Jint; index = i }) (record { sort = Jint; index = j })
 apart_numbers i j other = record { numbers = λ k p q. other (omega (arith, p.0, p.1, q.0, q.1)); references = λ e e' same. absurd (let c : Jint ≡ Ref = e in cc); fields = λ e e' same. absurd (let c : Jint ≡ FieldId = e in cc); buffers = λ b b' same. absurd b }
 
@@ -74,8 +77,10 @@ apart_references i j other = record { numbers = λ k p q. absurd (omega (arith, 
 apart_number_reference : (i j : ℕ) → AreApart (record { sort = Jint; index = i }) (record { sort = Ref; index = j })
 apart_number_reference i j = record { numbers = λ k p q. absurd (omega (arith, q.0, q.1)); references = λ e e' same. absurd (let c : Jint ≡ Ref = e in cc); fields = λ e e' same. absurd (let c : Jint ≡ FieldId = e in cc); buffers = λ b b' same. absurd b }
 
-apart_static : (s : Slot) (i : ℕ) → AreApart s (record { sort = Global; index = i })
-apart_static s i = record { numbers = λ k p q. absurd (omega (arith, q.0, q.1)); references = λ e e' same. absurd (let c : Global ≡ Ref = e' in cc); fields = λ e e' same. absurd (let c : Global ≡ FieldId = e' in cc); buffers = λ b b' same. absurd b' }
+apart_static : (s : Slot) (k : Sort) (i : ℕ) → IsStaticSort k → AreApart s (record { sort = k; index = i })
+apart_static s Global i h = record { numbers = λ k p q. absurd (omega (arith, q.0, q.1)); references = λ e e' same. absurd (let c : Global ≡ Ref = e' in cc); fields = λ e e' same. absurd (let c : Global ≡ FieldId = e' in cc); buffers = λ b b' same. absurd b' }
+apart_static s Weak i h = record { numbers = λ k p q. absurd (omega (arith, q.0, q.1)); references = λ e e' same. absurd (let c : Weak ≡ Ref = e' in cc); fields = λ e e' same. absurd (let c : Weak ≡ FieldId = e' in cc); buffers = λ b b' same. absurd b' }
+apart_static s k i h = absurd h
 
 pub apart_back : (s t : Slot) → AreApart s t → AreApart t s
 apart_back s t h = record { numbers = λ k p q. h.numbers k q p; references = λ e e' same. h.references e' e (sym same); fields = λ e e' same. h.fields e' e (sym same); buffers = λ b b' same. h.buffers b' b (sym same) }
@@ -131,11 +136,16 @@ between_within : (n r n' r' : ℕ) (c : SlotCounts) (s : Slot) → n' ≤ c.numb
 between_within n r n' r' c s h k (inl b) = subst (λ (t : Sort). IndexWithin c t s.index) (sym b.0) (omega (arith, b.2, h))
 between_within n r n' r' c s h k (inr b) = subst (λ (t : Sort). IndexWithin c t s.index) (sym b.0) (omega (arith, b.2, k))
 
-static_within : (statics : Known) (c : SlotCounts) (s : Slot) → length statics ≤ c.statics → (s.sort ≡ Global) × (s.index < length statics) → IndexWithin c s.sort s.index
-static_within statics c s h k = subst (λ (t : Sort). IndexWithin c t s.index) (sym k.0) (omega (arith, k.1, h))
+static_within : (statics : Known) (c : SlotCounts) (s : Slot) → length statics ≤ c.statics → IsStaticSort s.sort × (s.index < length statics) → IndexWithin c s.sort s.index
+static_within statics c s h k = by_sort s.sort k.0 (omega (arith, k.1, h))
+  where
+    by_sort : (t : Sort) → IsStaticSort t → s.index < c.statics → IndexWithin c t s.index
+    by_sort Global is low = low
+    by_sort Weak is low = low
+    by_sort t is low = absurd is
 
-static_apart : (statics : Known) (s t : Slot) → (t.sort ≡ Global) × (t.index < length statics) → AreApart s t
-static_apart statics s t h = subst (AreApart s) (sym (global_at t h.0)) (apart_static s t.index)
+static_apart : (statics : Known) (s t : Slot) → IsStaticSort t.sort × (t.index < length statics) → AreApart s t
+static_apart statics s t h = apart_static s t.sort t.index h.0
 
 module _ (statics : Known) (f : Function) (known : AreStatics statics) where
   one_within : (x : Identifier) (s : Slot) → (lookup x (entry_names f) ≡ Some s) ⊎ ((lookup x (entry_names f) ≡ None) × (lookup x statics ≡ Some s)) → IndexWithin (entry_layout statics f).slots s.sort s.index

@@ -4,7 +4,7 @@ use Rattle.base.specs.Bytes.{Identifier, lookup}
 use Rattle.base.specs.Element.{JChar}
 use Rattle.syntax.specs.Tree as tree
 use Rattle.syntax.specs.Tree.{Stmt, Block, End, Next}
-use Rattle.type_rules.specs.Sorts.{Sort, Word, Jint, Flag, Truth, Ref, Global, FieldId, Buffer, Array}
+use Rattle.type_rules.specs.Sorts.{Sort, Word, Jint, Flag, Truth, Ref, Global, Weak, FieldId, Buffer, Array}
 use Rattle.type_rules.specs.SortRules.{variable_sort}
 use Rattle.code.specs.declared.slots.SlotCounts.{SlotCounts}
 use Rattle.code.specs.Depth.{Listing}
@@ -42,6 +42,7 @@ slots_grow Flag c = record { numbers = omega arith; references = omega arith; st
 slots_grow Truth c = record { numbers = omega arith; references = omega arith; statics = omega arith; field_ids = omega arith; buffers = omega arith }
 slots_grow Ref c = record { numbers = omega arith; references = omega arith; statics = omega arith; field_ids = omega arith; buffers = omega arith }
 slots_grow Global c = record { numbers = omega arith; references = omega arith; statics = omega arith; field_ids = omega arith; buffers = omega arith }
+slots_grow Weak c = record { numbers = omega arith; references = omega arith; statics = omega arith; field_ids = omega arith; buffers = omega arith }
 slots_grow FieldId c = record { numbers = omega arith; references = omega arith; statics = omega arith; field_ids = omega arith; buffers = omega arith }
 slots_grow (Buffer t w) c = record { numbers = omega arith; references = omega arith; statics = omega arith; field_ids = omega arith; buffers = omega arith }
 slots_grow (Array t n) c = record { numbers = omega arith; references = omega arith; statics = omega arith; field_ids = omega arith; buffers = omega arith }
@@ -88,6 +89,7 @@ index_more a b Flag i h k = omega (arith, h.numbers, k)
 index_more a b Truth i h k = absurd k
 index_more a b Ref i h k = omega (arith, h.references, k)
 index_more a b Global i h k = omega (arith, h.statics, k)
+index_more a b Weak i h k = omega (arith, h.statics, k)
 index_more a b FieldId i h k = omega (arith, h.field_ids, k)
 index_more a b (Buffer t w) i h k = omega (arith, h.buffers, k)
 index_more a b (Array t n) i h k = (k.0, k.1, omega (arith, h.numbers, k.2))
@@ -110,6 +112,7 @@ new_within Flag c h = omega arith
 new_within Truth c h = absurd h
 new_within Ref c h = omega arith
 new_within Global c h = omega arith
+new_within Weak c h = omega arith
 new_within FieldId c h = omega arith
 new_within (Buffer t w) c h = omega arith
 new_within (Array t n) c h = (h.0, h.1, omega arith)
@@ -121,6 +124,7 @@ new_above Flag c k h = h.0
 new_above Truth c k h = h.0
 new_above Ref c k h = absurd (omega (arith, h.0, h.1))
 new_above Global c k h = absurd (omega (arith, h.0, h.1))
+new_above Weak c k h = absurd (omega (arith, h.0, h.1))
 new_above FieldId c k h = absurd (omega (arith, h.0, h.1))
 new_above (Buffer t w) c k h = absurd (omega (arith, h.0, h.1))
 new_above (Array t n) c k h = h.0
@@ -132,6 +136,7 @@ place_below Flag i c k w h = omega (arith, w, h.0, h.1)
 place_below Truth i c k w h = absurd w
 place_below Ref i c k w h = absurd (omega (arith, h.0, h.1))
 place_below Global i c k w h = absurd (omega (arith, h.0, h.1))
+place_below Weak i c k w h = absurd (omega (arith, h.0, h.1))
 place_below FieldId i c k w h = absurd (omega (arith, h.0, h.1))
 place_below (Buffer t wr) i c k w h = absurd (omega (arith, h.0, h.1))
 place_below (Array t n) i c k w h = omega (arith, w.2, h.0, h.1)

@@ -10,7 +10,7 @@ use Rattle.syntax.specs.Tree.{ResultType, Void, IntResult, ReferenceResult, Logi
 use Rattle.base.specs.Element.{JChar}
 use Rattle.jni.specs.JniFunction.{function_named, prototype}
 use Rattle.jni.specs.Prototype.{ParameterKind, IntNumber}
-use Rattle.type_rules.specs.Sorts.{Sort, Jint, Ref, Global, FieldId, Buffer, Array, constant_sort, sort_in, sort_of, is_ref, is_null, name_sort}
+use Rattle.type_rules.specs.Sorts.{Sort, Jint, Ref, Global, Weak, FieldId, Buffer, Array, constant_sort, sort_in, sort_of, is_ref, is_null, name_sort}
 use Rattle.type_rules.specs.Sorts as sort
 use Rattle.type_rules.specs.SortRules.{variable_sort, return_fits, places_within, places_of}
 use Rattle.code.specs.declared.instr.Target.{Target}
@@ -154,6 +154,7 @@ value_length known line Jint i e h = number_set known line (record { sort = Jint
 value_length known line sort.Flag i e h = number_set known line (record { sort = sort.Flag; index = i }) e sort.Flag h
 value_length known line Ref i e h = null_set known line (record { sort = Ref; index = i }) e refl h
 value_length known line Global i e h = null_set known line (record { sort = Global; index = i }) e refl h
+value_length known line Weak i e h = null_set known line (record { sort = Weak; index = i }) e refl h
 value_length known line FieldId i e h = null_set known line (record { sort = FieldId; index = i }) e refl h
 value_length known line (Buffer t w) i e h = null_set known line (record { sort = Buffer t w; index = i }) e refl h
 value_length known line s i e h = absurd h

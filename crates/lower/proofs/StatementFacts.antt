@@ -11,14 +11,14 @@ use Rattle.syntax.specs.Tree as tree
 use Rattle.syntax.specs.Tree.{ResultType, Void, IntResult, ReferenceResult, Expr, Argument, Call, RightSide, FromExpr, FromCall, Test, TestExpr, TestCall}
 use Rattle.jni.specs.Access.{Access, ElementsCopy, ArrayView, CharsCopy, CharsView}
 use Rattle.jni.specs.JniFunction.{JniFunction, PushLocalFrame, function_named, prototype}
-use Rattle.jni.specs.Prototype.{ParameterKind, Nullable, NonNull, ClassObject, AnyArray, ObjectArray, StringObject, NumberArray, LocalVariable, StaticVariable, FieldID, IntNumber, TextBytes, ArrayVariable, BufferVariable, Mode, IsCopy, ResultKind, NewLocal, NewGlobal, GivesFlag, GivesInt, GivesField, GivesBuffer, GivesNothing}
-use Rattle.type_rules.specs.Sorts.{Sort, Word, Jint, Flag, Truth, Ref, Global, FieldId, Buffer, Array, sort_in, sort_of, is_word, is_jint, is_flag, is_truth, is_index, has_elements, is_null, is_ref, is_global, is_field, is_reference, is_array_of, is_buffer_for, name_sort, text_fits, address_fits, argument_fits, arguments_fit, call_arguments_fit}
+use Rattle.jni.specs.Prototype.{ParameterKind, Nullable, NonNull, ClassObject, AnyArray, ObjectArray, StringObject, NumberArray, LocalVariable, StaticVariable, FieldID, IntNumber, TextBytes, ArrayVariable, BufferVariable, Mode, IsCopy, ResultKind, NewLocal, NewGlobal, GivesFlag, GivesInt, GivesField, GivesBuffer, GivesNothing, AnyReference, WeakVariable, NewWeak}
+use Rattle.type_rules.specs.Sorts.{Sort, Word, Jint, Flag, Truth, Ref, Global, Weak, FieldId, Buffer, Array, sort_in, sort_of, is_word, is_jint, is_flag, is_truth, is_index, has_elements, is_null, is_ref, is_global, is_field, is_reference, is_array_of, is_buffer_for, name_sort, text_fits, address_fits, argument_fits, arguments_fit, call_arguments_fit, is_weak, is_any_reference}
 use Rattle.type_rules.specs.SortRules.{result_fits, is_push, call_fits, may_be_tested, value_sets, right_side_sets, buffer_begins, test_fits, return_fits, has_wrong_count, has_wrong_mode, is_mode, is_mode_parameter, modes_fit, copies_reference}
 use Rattle.type_rules.specs.SortGroups.{IsIndexSort}
 use Rattle.semantics.specs.Term as term
 use Rattle.semantics.specs.Term.{Term, Read, term_of}
 use Rattle.code_meaning.specs.Layout.{Slot, Known}
-use Rattle.code_meaning.specs.Fits.{IsVariable, HasElements, NumberFits, TakesLocal, TakesGlobal, NameFits, ReferenceFits, FieldFits, ArrayFits, BufferFits, ArgumentFits, CallFits, ResultFits, CallGives, ValueFits, RightFits, TestFits, ReturnFits}
+use Rattle.code_meaning.specs.Fits.{IsVariable, HasElements, NumberFits, TakesLocal, TakesGlobal, NameFits, ReferenceFits, FieldFits, ArrayFits, BufferFits, ArgumentFits, CallFits, ResultFits, CallGives, ValueFits, RightFits, TestFits, ReturnFits, AnyReferenceFits, IsStaticSort}
 use Rattle.type_rules.proofs.SortCases.{indexed, index_is_value}
 use Rattle.lower.proofs.SortFacts.{scope_of, slot_of_name, HasNoTruth, IsFine, elements, number_fits}
 use Rattle.lower.proofs.Tests.{and_left, and_right, not_false}
@@ -49,6 +49,10 @@ global_is : (o : Option Sort) → is_global o ≡ true → o ≡ Some Global
 global_is (Some Global) h = refl
 global_is o h = absurd (cc)
 
+weak_is : (o : Option Sort) → is_weak o ≡ true → o ≡ Some Weak
+weak_is (Some Weak) h = refl
+weak_is o h = absurd (cc)
+
 field_is : (o : Option Sort) → is_field o ≡ true → o ≡ Some FieldId
 field_is (Some FieldId) h = refl
 field_is o h = absurd (cc)
@@ -57,6 +61,12 @@ reference_is : (o : Option Sort) → is_reference o ≡ true → (s : Sort) × (
 reference_is (Some Ref) h = (Ref, refl, inl refl)
 reference_is (Some Global) h = (Global, refl, inr refl)
 reference_is o h = absurd (cc)
+
+any_reference_is : (o : Option Sort) → is_any_reference o ≡ true → (s : Sort) × (o ≡ Some s) × ((s ≡ Ref) ⊎ IsStaticSort s)
+any_reference_is (Some Ref) h = (Ref, refl, inl refl)
+any_reference_is (Some Global) h = (Global, refl, inr tt)
+any_reference_is (Some Weak) h = (Weak, refl, inr tt)
+any_reference_is o h = absurd (cc)
 
 same_types : (t u : ElementType) → same_element t u ≡ true → u ≡ t
 same_types JInt JInt h = refl
@@ -147,16 +157,31 @@ module _ (known : Known) where
       (record { sort = r.0; index = at.0 }, at.1, r.2)
   reference_fits e h = absurd (cc)
 
-  value_is_reference : (p : ParameterKind) (e : Expr) → TakesLocal p → TakesGlobal p → argument_fits (scope_of known) p (tree.Value e) ≡ true → ReferenceFits known e
-  value_is_reference Nullable e local global h = reference_fits e h
-  value_is_reference NonNull e local global h = reference_fits e h
-  value_is_reference ClassObject e local global h = reference_fits e h
-  value_is_reference AnyArray e local global h = reference_fits e h
-  value_is_reference ObjectArray e local global h = reference_fits e h
-  value_is_reference StringObject e local global h = reference_fits e h
-  value_is_reference (NumberArray t) e local global h = reference_fits e h
-  value_is_reference StaticVariable e local global h = absurd local
-  value_is_reference p e local global h = absurd global
+  any_reference_fits : (e : Expr) → (is_null e || is_any_reference (name_sort (scope_of known) e)) ≡ true → AnyReferenceFits known e
+  any_reference_fits (tree.Named tree.Null) h = tt
+  any_reference_fits (tree.Variable x) h =
+      let r = any_reference_is (sort_in (scope_of known) x) h in
+      let at = slot_of_name x known r.0 r.1 in
+      (record { sort = r.0; index = at.0 }, at.1, r.2)
+  any_reference_fits e h = absurd (cc)
+
+  -- a parameter that takes no weak reference
+  abbrev TakesNoWeak : ParameterKind → Type 0
+  TakesNoWeak AnyReference = ⊥
+  TakesNoWeak p = Unit {0}
+
+  value_is_reference : (p : ParameterKind) (e : Expr) → TakesLocal p → TakesGlobal p → TakesNoWeak p → argument_fits (scope_of known) p (tree.Value e) ≡ true → ReferenceFits known e
+  value_is_reference Nullable e local global plain h = reference_fits e h
+  value_is_reference NonNull e local global plain h = reference_fits e h
+  value_is_reference ClassObject e local global plain h = reference_fits e h
+  value_is_reference AnyArray e local global plain h = reference_fits e h
+  value_is_reference ObjectArray e local global plain h = reference_fits e h
+  value_is_reference StringObject e local global plain h = reference_fits e h
+  value_is_reference (NumberArray t) e local global plain h = reference_fits e h
+  value_is_reference StaticVariable e local global plain h = absurd local
+  value_is_reference WeakVariable e local global plain h = absurd local
+  value_is_reference AnyReference e local global plain h = absurd plain
+  value_is_reference p e local global plain h = absurd global
 
   name_fits : (s : Sort) (e : Expr) → name_sort (scope_of known) e ≡ Some s → NameFits known s e
   name_fits s (tree.Variable x) h = slot_of_name x known s h
@@ -209,7 +234,9 @@ module _ (known : Known) where
     value_kept IsCopy e fine h mode = null_is e h
     value_kept LocalVariable e fine h mode = name_fits Ref e (ref_is (name_sort (scope_of known) e) h)
     value_kept StaticVariable e fine h mode = name_fits Global e (global_is (name_sort (scope_of known) e) h)
-    value_kept p e fine h mode = value_is_reference p e tt tt h
+    value_kept WeakVariable e fine h mode = name_fits Weak e (weak_is (name_sort (scope_of known) e) h)
+    value_kept AnyReference e fine h mode = any_reference_fits e h
+    value_kept p e fine h mode = value_is_reference p e tt tt tt h
 
     one_fits : (p : ParameterKind) (a : Argument) → AreFine (argument_expressions a) → argument_fits (scope_of known) p a ≡ true → ModeIsKept p a → ArgumentFits known p a
     one_fits p (tree.Value e) fine h mode = value_kept p e fine.0 h mode
@@ -251,6 +278,8 @@ module _ (known : Known) where
     result_sort o NewLocal h = (Ref, ref_is o h, refl)
     result_sort (Some Global) NewGlobal h = (Global, refl, refl)
     result_sort o NewGlobal h = absurd (cc)
+    result_sort (Some Weak) NewWeak h = (Weak, refl, refl)
+    result_sort o NewWeak h = absurd (cc)
     result_sort o GivesField h = (FieldId, field_is o h, refl)
     result_sort o (GivesBuffer access) h = let s = some_buffer access o h in (s.0, s.1, subst (λ (p : Option Sort). is_buffer_for access p ≡ true) s.1 h)
     result_sort o GivesNothing h = absurd (cc)
@@ -279,6 +308,7 @@ module _ (known : Known) where
     value_fits Flag e fine h k = number_fits known e Flag no_truth fine (flag_is (sort_of (scope_of known) e) h) tt
     value_fits Ref e fine h k = null_is e (or_only (is_null e) (is_some (name_sort (scope_of known) e)) h k)
     value_fits Global e fine h k = null_is e h
+    value_fits Weak e fine h k = null_is e h
     value_fits FieldId e fine h k = null_is e h
     value_fits s e fine h k = absurd (cc)
 

@@ -7,7 +7,7 @@ use Rattle.std.proofs.Math.Facts.{to_z-of_z}
 use Rattle.std.proofs.lemmas.List.{append-nil}
 use Rattle.std.proofs.lemmas.Bool.{lt-ltb, le-leb}
 use Rattle.base.specs.Bytes.{Identifier}
-use Rattle.type_rules.specs.Sorts.{Sort, Jint, Ref, Global, FieldId, Buffer, Array}
+use Rattle.type_rules.specs.Sorts.{Sort, Jint, Ref, Global, Weak, FieldId, Buffer, Array}
 use Rattle.type_rules.specs.Sorts as sort
 use Rattle.code.specs.declared.instr.NullableVariable.{NullableVariable}
 use Rattle.code.specs.declared.instr.NullableVariable.TheVariants as nullable
@@ -156,6 +156,7 @@ module _ (code : Listing) (known : Known) (place : ℕ) (stack : List ℕ) (slot
   shown_null : (x : Identifier) (s : Slot) (kind : Sort) (variable : NullableVariable) → nullable_of kind s.index ≡ Some variable → ShowsSlot visible x slots s kind → (null : Bool) × (visible.sight.is_null x ≡ Gives null)
   shown_null x s Ref variable e h = (is_none h.reference, h.is_null)
   shown_null x s Global variable e h = (is_empty h.static.held, h.is_null)
+  shown_null x s Weak variable e h = (is_empty h.static.held, h.is_null)
   shown_null x s FieldId variable e h = (is_none h.field, h.is_null)
   shown_null x s (Buffer t writable) variable e h = (is_no_buffer h.buffer, h.is_null)
   shown_null x s kind variable e h = absurd (cc)
@@ -177,6 +178,7 @@ module _ (code : Listing) (known : Known) (place : ℕ) (stack : List ℕ) (slot
   declared_kind : (x : Identifier) (i : ℕ) (s : Sort) (kind : VariableKind) → kind_of_sort s ≡ Some kind → KindFits visible x i s (Some kind)
   declared_kind x i Ref kind h = sym h
   declared_kind x i Global kind h = absurd (cc)
+  declared_kind x i Weak kind h = absurd (cc)
   declared_kind x i FieldId kind h = sym h
   declared_kind x i (Buffer t writable) kind h = sym h
   declared_kind x i s kind h = tt
@@ -184,6 +186,7 @@ module _ (code : Listing) (known : Known) (place : ℕ) (stack : List ℕ) (slot
   shown_kind : (x : Identifier) (s : Slot) (t : Sort) → ShowsSlot visible x slots s t → KindFits visible x s.index t (visible.kind x)
   shown_kind x s Ref h = h.kind
   shown_kind x s Global h = (h.no_variable.kind, h)
+  shown_kind x s Weak h = (h.no_variable.kind, h)
   shown_kind x s FieldId h = h.kind
   shown_kind x s (Buffer t writable) h = h.kind
   shown_kind x s t h = tt
@@ -197,6 +200,7 @@ module _ (code : Listing) (known : Known) (place : ℕ) (stack : List ℕ) (slot
   stored_in : (s : Sort) (i : ℕ) (name : Identifier) (kind : Option VariableKind) (variable : NullableVariable) → nullable_of s i ≡ Some variable → KindFits visible name i s kind → IsStoredIn code known place stack slots visible variable kind name
   stored_in Ref i name kind variable e h = subst (λ (v : NullableVariable). IsStoredIn code known place stack slots visible v kind name) (let is : nullable.Local i ≡ variable = cc in is) h
   stored_in Global i name kind variable e h = subst (λ (v : NullableVariable). IsStoredIn code known place stack slots visible v kind name) (let is : nullable.Static i ≡ variable = cc in is) h
+  stored_in Weak i name kind variable e h = subst (λ (v : NullableVariable). IsStoredIn code known place stack slots visible v kind name) (let is : nullable.Static i ≡ variable = cc in is) h
   stored_in FieldId i name kind variable e h = subst (λ (v : NullableVariable). IsStoredIn code known place stack slots visible v kind name) (let is : nullable.FieldId i ≡ variable = cc in is) h
   stored_in (Buffer t writable) i name kind variable e h = subst (λ (v : NullableVariable). IsStoredIn code known place stack slots visible v kind name) (let is : nullable.Buffer i ≡ variable = cc in is) (t, h)
   stored_in s i name kind variable e h = absurd (cc)

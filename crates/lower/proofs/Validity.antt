@@ -10,7 +10,7 @@ use Rattle.std.proofs.lemmas.Bool.{lt-ltb, le-leb}
 use Rattle.base.specs.Bytes.{Identifier, lookup}
 use Rattle.syntax.specs.Tree as tree
 use Rattle.syntax.specs.Tree.{PrefixOp, LogicalNot, Complement, ToWord, ToInt, BinaryOp, LogicalOr, LogicalAnd, BitOr, BitXor, BitAnd, Equal, NotEqual, Less, LessEqual, Greater, GreaterEqual, ShiftLeft, ShiftRight, Add, Subtract, Multiply, Divide, Remainder, Expr, Argument, RightSide, FromExpr, FromCall, Test, TestExpr, TestCall, Stmt, Block, End, Next, Call}
-use Rattle.type_rules.specs.Sorts.{Sort, Jint, Ref, Global, FieldId, Buffer, Array}
+use Rattle.type_rules.specs.Sorts.{Sort, Jint, Ref, Global, Weak, FieldId, Buffer, Array}
 use Rattle.type_rules.specs.Sorts as sort
 use Rattle.type_rules.specs.SortRules.{variable_sort}
 use Rattle.base.specs.Element.{JChar}
@@ -144,6 +144,7 @@ taken_slot (Some s) operands = by_sort s.sort s.index
     by_sort : (s : Sort) (i : ℕ) → words_taken (variable_operand s i ∷ operands) ≡ words_taken operands
     by_sort Ref i = refl
     by_sort Global i = refl
+    by_sort Weak i = refl
     by_sort FieldId i = refl
     by_sort (Array t n) i = refl
     by_sort (Buffer t w) i = refl
@@ -217,6 +218,7 @@ value_piece known line sort.Flag i e fits = subst (λ c. IsPiece c 0 0) (sym (va
 value_piece known line sort.Truth i e fits = absurd fits
 value_piece known line Ref i e fits = subst (λ (d : Expr). IsPiece (value_code known line (record { sort = Ref; index = i }) d) 0 0) (sym fits) (piece_one (instr.StoreNull _) 0 0 refl tt)
 value_piece known line Global i e fits = subst (λ (d : Expr). IsPiece (value_code known line (record { sort = Global; index = i }) d) 0 0) (sym fits) (piece_one (instr.StoreNull _) 0 0 refl tt)
+value_piece known line Weak i e fits = subst (λ (d : Expr). IsPiece (value_code known line (record { sort = Weak; index = i }) d) 0 0) (sym fits) (piece_one (instr.StoreNull _) 0 0 refl tt)
 value_piece known line FieldId i e fits = subst (λ (d : Expr). IsPiece (value_code known line (record { sort = FieldId; index = i }) d) 0 0) (sym fits) (piece_one (instr.StoreNull _) 0 0 refl tt)
 value_piece known line (Buffer t w) i e fits = subst (λ (d : Expr). IsPiece (value_code known line (record { sort = Buffer t w; index = i }) d) 0 0) (sym fits) (piece_one (instr.StoreNull _) 0 0 refl tt)
 value_piece known line (Array t n) i e fits = absurd fits
@@ -228,6 +230,7 @@ right_piece known line s (FromCall c) fits = call_piece known line (result_targe
     into_variable : (s : Sort) (i : ℕ) → with_result (result_target s i) 0 ≡ Some 0
     into_variable Ref i = refl
     into_variable Global i = refl
+    into_variable Weak i = refl
     into_variable FieldId i = refl
     into_variable s i = refl
 

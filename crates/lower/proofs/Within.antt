@@ -7,7 +7,7 @@ use Rattle.std.proofs.lemmas.Bool.{lt-ltb, le-leb}
 use Rattle.base.specs.Bytes.{Identifier, lookup}
 use Rattle.syntax.specs.Tree as tree
 use Rattle.syntax.specs.Tree.{BinaryOp, LogicalOr, LogicalAnd, BitOr, BitXor, BitAnd, Equal, NotEqual, Less, LessEqual, Greater, GreaterEqual, ShiftLeft, ShiftRight, Add, Subtract, Multiply, Divide, Remainder, PrefixOp, LogicalNot, Complement, ToWord, ToInt, Expr, Argument, RightSide, FromExpr, FromCall, Test, TestExpr, TestCall, Stmt, Block, End, Next, Call}
-use Rattle.type_rules.specs.Sorts.{Sort, Jint, Ref, Global, FieldId, Buffer, Array}
+use Rattle.type_rules.specs.Sorts.{Sort, Jint, Ref, Global, Weak, FieldId, Buffer, Array}
 use Rattle.type_rules.specs.Sorts as sort
 use Rattle.type_rules.specs.SortRules.{variable_sort}
 use Rattle.type_rules.specs.SortGroups.{IsNumberSort}
@@ -16,7 +16,7 @@ use Rattle.code.specs.declared.instr.Target.{Target}
 use Rattle.code.specs.declared.instr.Target.TheVariants as destination
 use Rattle.jni.specs.Access.{Access}
 use Rattle.jni.specs.JniFunction.{function_named, prototype}
-use Rattle.jni.specs.Prototype.{ParameterKind, LocalVariable, StaticVariable, FieldID, IntNumber, TextBytes, ArrayVariable, BufferVariable, Mode, IsCopy, ResultKind, NewLocal, NewGlobal, GivesFlag, GivesInt, GivesField, GivesBuffer, GivesNothing}
+use Rattle.jni.specs.Prototype.{ParameterKind, LocalVariable, StaticVariable, FieldID, IntNumber, TextBytes, ArrayVariable, BufferVariable, Mode, IsCopy, ResultKind, NewLocal, NewGlobal, GivesFlag, GivesInt, GivesField, GivesBuffer, GivesNothing, AnyReference, WeakVariable, NewWeak}
 use Rattle.code.specs.declared.instr.Instr.{Instr}
 use Rattle.code.specs.declared.instr.Instr.TheVariants as instr
 use Rattle.code.specs.declared.slots.SlotCounts.{SlotCounts}
@@ -25,7 +25,7 @@ use Rattle.semantics.specs.Term as term
 use Rattle.semantics.specs.Term.{Term, Done, Read, IsNull, Prefix, And, Or, Binary, term_of}
 use Rattle.code_meaning.specs.Layout.{Slot, Known, Layout, next_index, slots_after, new_slot, closed, layout_after, block_layout}
 use Rattle.code_meaning.specs.Coding.{nullable_of, test_of, null_code, element_code, write_code, of_slot, load_code, prefix_code, operator_code, is_signed, skip_code, term_code, expr_code, variable_operand, operand_of, address_operand, arguments_texts, result_target, operand_code, named_call_code, value_code, right_code, assign_code, returned_code, return_code, test_code, ways_code, turn_code, if_code, stmt_code, block_code, argument_code, arguments_code}
-use Rattle.code_meaning.specs.Fits.{IsNullable, HasElements, TermHasSort, NumberFits, IndexWithin, IsLaidOut, HasRoomFor, ArgumentFits, ValueFits, RightFits, TestFits, ReturnFits, StmtFits, BlockFits, CallFits, IsReferenceKind, NameFits, ReferenceFits, FieldFits, ArrayFits, BufferFits, ResultFits}
+use Rattle.code_meaning.specs.Fits.{IsNullable, HasElements, TermHasSort, NumberFits, IndexWithin, IsLaidOut, HasRoomFor, ArgumentFits, ValueFits, RightFits, TestFits, ReturnFits, StmtFits, BlockFits, CallFits, IsReferenceKind, NameFits, ReferenceFits, FieldFits, ArrayFits, BufferFits, ResultFits, AnyReferenceFits}
 use Rattle.lower.proofs.Bodies.{value_is, buffer_sort}
 use Rattle.lower.proofs.Layouts.{SizeFits, index_more, room_before, room_at_least, declared_slot, laid_after, laid_more, variable_size, block_grows, stmt_grows}
 
@@ -57,6 +57,7 @@ module _ (slots : SlotCounts) where
   null_within : (equal : Bool) (s : Sort) (i : ℕ) → IsNullable s → IndexWithin slots s i → AllWithin (test_of equal (nullable_of s i))
   null_within equal Ref i n h = rw (lt-ltb i slots.references h) refl
   null_within equal Global i n h = rw (lt-ltb i slots.statics h) refl
+  null_within equal Weak i n h = rw (lt-ltb i slots.statics h) refl
   null_within equal FieldId i n h = rw (lt-ltb i slots.field_ids h) refl
   null_within equal (Buffer t w) i n h = rw (lt-ltb i slots.buffers h) refl
   null_within equal s i n h = absurd n
@@ -136,6 +137,7 @@ module _ (slots : SlotCounts) where
   slot_within sort.Truth i h = refl
   slot_within Ref i h = lt-ltb i slots.references h
   slot_within Global i h = lt-ltb i slots.statics h
+  slot_within Weak i h = lt-ltb i slots.statics h
   slot_within FieldId i h = lt-ltb i slots.field_ids h
   slot_within (Buffer t w) i h = lt-ltb i slots.buffers h
   slot_within (Array t n) i h = rw (lt-ltb 0 n h.0, le-leb n 1024 h.1, le-leb (i + n) slots.numbers h.2) refl
@@ -150,6 +152,11 @@ module _ (slots : SlotCounts) where
   reference_within known p (tree.Named tree.Null) kind all h = refl
   reference_within known p (tree.Variable x) kind all h = name_within known x h.0 all h.1
   reference_within known p e kind all h = absurd h
+
+  any_within : (known : Known) (e : Expr) → AllThere known → AnyReferenceFits known e → operand_within slots (operand_code known (AnyReference, tree.Value e)) ≡ true
+  any_within known (tree.Named tree.Null) all h = refl
+  any_within known (tree.Variable x) all h = name_within known x h.0 all h.1
+  any_within known e all h = absurd h
 
   named_within : (known : Known) (p : ParameterKind) (s : Sort) (e : Expr) → IsReferenceKind p → AllThere known → NameFits known s e → operand_within slots (operand_code known (p, tree.Value e)) ≡ true
   named_within known IntNumber s e kind all h = absurd kind
@@ -182,6 +189,8 @@ module _ (slots : SlotCounts) where
   operand_fits known IsCopy (tree.AddressOf x) all h = ap (λ (o : Option Slot). operand_within slots (address_operand o)) h.1 ∙ lt-ltb h.0 slots.numbers (all x (record { sort = sort.Flag; index = h.0 }) h.1)
   operand_fits known LocalVariable (tree.Value e) all h = named_within known LocalVariable Ref e tt all h
   operand_fits known StaticVariable (tree.Value e) all h = named_within known StaticVariable Global e tt all h
+  operand_fits known WeakVariable (tree.Value e) all h = named_within known WeakVariable Weak e tt all h
+  operand_fits known AnyReference (tree.Value e) all h = any_within known e all h
   operand_fits known p (tree.Value e) all h = reference_within known p e tt all h
   operand_fits known p a all h = absurd h
 
@@ -216,6 +225,7 @@ module _ (slots : SlotCounts) where
   value_within known line sort.Truth i e all there fits = absurd fits
   value_within known line Ref i e all there fits = subst (λ (d : Expr). AllWithin (value_code known line (record { sort = Ref; index = i }) d)) (sym fits) (rw (lt-ltb i slots.references there) refl)
   value_within known line Global i e all there fits = subst (λ (d : Expr). AllWithin (value_code known line (record { sort = Global; index = i }) d)) (sym fits) (rw (lt-ltb i slots.statics there) refl)
+  value_within known line Weak i e all there fits = subst (λ (d : Expr). AllWithin (value_code known line (record { sort = Weak; index = i }) d)) (sym fits) (rw (lt-ltb i slots.statics there) refl)
   value_within known line FieldId i e all there fits = subst (λ (d : Expr). AllWithin (value_code known line (record { sort = FieldId; index = i }) d)) (sym fits) (rw (lt-ltb i slots.field_ids there) refl)
   value_within known line (Buffer t w) i e all there fits = subst (λ (d : Expr). AllWithin (value_code known line (record { sort = Buffer t w; index = i }) d)) (sym fits) (rw (lt-ltb i slots.buffers there) refl)
   value_within known line (Array t n) i e all there fits = absurd fits
@@ -226,6 +236,7 @@ module _ (slots : SlotCounts) where
   target_there GivesFlag s i e there = subst (λ (k : Sort). IndexWithin slots k i → target_within slots (result_target k i) ≡ true) (sym e) (λ h. lt-ltb i slots.numbers h) there
   target_there NewLocal s i e there = subst (λ (k : Sort). IndexWithin slots k i → target_within slots (result_target k i) ≡ true) (sym e) (λ h. lt-ltb i slots.references h) there
   target_there NewGlobal s i e there = subst (λ (k : Sort). IndexWithin slots k i → target_within slots (result_target k i) ≡ true) (sym e) (λ h. lt-ltb i slots.statics h) there
+  target_there NewWeak s i e there = subst (λ (k : Sort). IndexWithin slots k i → target_within slots (result_target k i) ≡ true) (sym e) (λ h. lt-ltb i slots.statics h) there
   target_there GivesField s i e there = subst (λ (k : Sort). IndexWithin slots k i → target_within slots (result_target k i) ≡ true) (sym e) (λ h. lt-ltb i slots.field_ids h) there
   target_there (GivesBuffer access) s i e there =
       let is = buffer_sort access s e in

@@ -13,7 +13,7 @@ use code::slots::SlotCounts;
 use std::alloc::{AllocError, Global};
 use std::marker::Model;
 use syntax::{Function, Name, Parameter, Static};
-use type_rules::{Known, Sort, parameter_sort};
+use type_rules::{Known, Sort, parameter_sort, static_sort};
 
 /// A name's sort and where its value is, counted among the slots of its kind; the elements of an array begin there.
 #[derive(Clone, Copy)]
@@ -62,7 +62,7 @@ impl<'a> Names<'a> {
         ensures { OnOk result (self.new.known ≡ with_static (static_tree named.now) self.old.known) }
     {
         let index = counted(self.len())?;
-        let sort = Sort::Global;
+        let sort = static_sort(named.kind);
         self.known.declare(&named.name, Slot { sort, index })
     }
 
@@ -122,7 +122,7 @@ impl<'a> Names<'a> {
     {
         let index = match sort {
             Sort::Ref => self.slots.references,
-            Sort::Global => self.slots.statics,
+            Sort::Global | Sort::Weak => self.slots.statics,
             Sort::FieldId => self.slots.field_ids,
             Sort::Buffer(..) => self.slots.buffers,
             Sort::Word | Sort::Jint | Sort::Flag | Sort::Truth | Sort::Array(..) => {
@@ -182,7 +182,7 @@ fn slots_after(slots: SlotCounts, sort: Sort) -> Result<SlotCounts, AllocError>
     let mut after = slots;
     match sort {
         Sort::Ref => after.references = more(slots.references, 1)?,
-        Sort::Global => after.statics = more(slots.statics, 1)?,
+        Sort::Global | Sort::Weak => after.statics = more(slots.statics, 1)?,
         Sort::FieldId => after.field_ids = more(slots.field_ids, 1)?,
         Sort::Buffer(..) => after.buffers = more(slots.buffers, 1)?,
         Sort::Word | Sort::Jint | Sort::Flag => after.numbers = more(slots.numbers, 1)?,

@@ -299,7 +299,7 @@ fn result_target(slot: Slot) -> Target
 {
     match slot.sort {
         Sort::Ref => Target::Local(slot.index),
-        Sort::Global => Target::Static(slot.index),
+        Sort::Global | Sort::Weak => Target::Static(slot.index),
         Sort::FieldId => Target::FieldId(slot.index),
         Sort::Buffer(element, _) => Target::Buffer(element, slot.index),
         _ => Target::Number(slot.index),
@@ -539,7 +539,7 @@ fn variable_operand(sort: Sort, index: u32) -> Operand
 {
     match sort {
         Sort::Ref => Operand::Local(index),
-        Sort::Global => Operand::Static(index),
+        Sort::Global | Sort::Weak => Operand::Static(index),
         Sort::FieldId => Operand::FieldId(index),
         Sort::Array(_, len) => Operand::Array(LocalArray { start: index, len }),
         Sort::Buffer(..) => Operand::Buffer(index),
