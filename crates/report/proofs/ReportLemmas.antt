@@ -1,19 +1,25 @@
 -- The parts of a report's text.
-use Rattle.std.proofs.Common.{◌≡◌, ℕ, ◌+◌, ◌<◌, ◌≤◌, List, [], ◌++◌, length, get_or, drop, map, Result, Ok, Err, refl, sym, ap, ◌∙◌, append-nil, arith}
-use Rattle.std.specs.Prelude.{OnOk, OnErr}
+use Rattle.std.proofs.Common.{◌≡◌, ℕ, ◌+◌, ◌<◌, ◌≤◌, List, [], ◌∷◌, ◌++◌, length, get_or, drop, map, Result, Ok, Err, refl, sym, ap, subst, ◌∙◌, append_assoc, append-nil, arith}
+use Rattle.std.specs.Prelude.{OnOk, OnErr, codes, decimal}
 use Rattle.std.specs.List.{flat_map, enumerate_from}
 use Rattle.std.specs.Io.KnownBytes.{Keeps}
 use Rattle.std.proofs.KnownBytes.{Appends-kept}
+use Rattle.std.proofs.lemmas.List.Concat.{flat_map-cons}
 use Rattle.std.proofs.lemmas.List.{get_or-map, length-map}
 use Rattle.std.proofs.lemmas.List.FromFn.{length-enumerate_from, get_or-enumerate_from}
 use Rattle.semantics.specs.declared.printed.Printed.{Printed}
 use Rattle.report.specs.declared.thread_status.ThreadStatus.{ThreadStatus}
+use Rattle.semantics.specs.declared.object_id.ObjectId.{ObjectId}
+use Rattle.semantics.specs.Journal.{Clearing}
+use Rattle.semantics.specs.JournalText.{entry_text, numbers_text}
+use Rattle.semantics.specs.Views.{names_of}
+use Rattle.report.specs.RunText.{further_text}
 use Rattle.semantics.specs.Report.{ShownRow}
 use Rattle.report.specs.ReportText.{thread_line, printed_line, report_text}
 use Rattle.report.specs.Shown.{row_lines, report_with}
 use Rattle.report.specs.ThreadStatus.{standing_view}
 use Rattle.sinks.specs.Sink.{Written, AppendsText, Writes}
-use Rattle.sinks.proofs.Puts.{flat_map-at, flat_map-past}
+use Rattle.sinks.proofs.Puts.{flat_map-at, flat_map-past, Writes-then}
 
 -- threads with their numbers
 abbrev pub numbered : List ThreadStatus → List (ℕ × Rattle.semantics.specs.Report.ThreadStanding)
@@ -56,3 +62,39 @@ Writes-flushed a b c (Err e) text p k s f = record {
   bytes = Appends-kept a.bytes b.bytes c.bytes text p.bytes k;
   failures = f ∙ ap (λ (n : ℕ). n + 1) p.failures;
 }
+
+-- ---- clearings
+
+comma : (l : List ℕ) → codes "," ++ l ≡ 44 ∷ l
+comma [] = refl
+comma (b ∷ l) = refl
+
+tilde : (l : List ℕ) → codes " " ++ codes "~" ++ l ≡ codes " ~" ++ l
+tilde [] = refl
+tilde (b ∷ l) = refl
+
+numbers_are : (n : ObjectId) (more : List ObjectId) → numbers_text (names_of (n ∷ more)) ≡ decimal n.number ++ further_text more
+numbers_are n [] = sym (append-nil (decimal n.number))
+numbers_are n (m ∷ more) =
+    ap (λ (l : List ℕ). decimal n.number ++ 44 ∷ l) (numbers_are m more)
+    ∙ ap (λ (l : List ℕ). decimal n.number ++ l) (sym (comma (decimal m.number ++ further_text more)))
+    ∙ ap (λ (l : List ℕ). decimal n.number ++ l) (sym (append_assoc (codes ",") (decimal m.number) (further_text more)))
+    ∙ ap (λ (l : List ℕ). decimal n.number ++ l) (sym (flat_map-cons (λ (k : ObjectId). codes "," ++ decimal k.number) m more))
+
+-- the word of a clearing is its first number and those further
+pub clearing_is : (names : List ObjectId) (n : ObjectId) (more : List ObjectId) → names ≡ n ∷ more
+    → (codes " ~" ++ decimal n.number) ++ further_text more ≡ codes " " ++ entry_text (Clearing (names_of names))
+clearing_is names n more is =
+    append_assoc (codes " ~") (decimal n.number) (further_text more)
+    ∙ ap (λ (l : List ℕ). codes " ~" ++ l) (sym (numbers_are n more))
+    ∙ sym (tilde (numbers_text (names_of (n ∷ more))))
+    ∙ ap (λ (l : List ObjectId). codes " " ++ entry_text (Clearing (names_of l))) (sym is)
+
+-- one that clears nothing has no number
+pub no_clearing_is : (names : List ObjectId) → length names ≡ 0 → codes " ~" ≡ codes " " ++ entry_text (Clearing (names_of names))
+no_clearing_is [] h = refl
+no_clearing_is (n ∷ names) h = absurd (omega (arith, h))
+
+-- one text after the other, where the second call failed or not
+pub Writes-both : {T E : Type 0} (a b c : Written) (r : Result T E) (x y text : List ℕ) → AppendsText a b x → Writes b c r y → x ++ y ≡ text → Writes a c r text
+Writes-both a b c r x y text p q is = subst (Writes a c r) is (Writes-then a b c r x y p q)

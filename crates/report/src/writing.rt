@@ -5,16 +5,19 @@ ghost use Rattle.arrayvec.specs.ArrayVec.{array_vec_len};
 ghost use Rattle.sinks.specs.Sink.{CanFail, Writes};
 ghost use Rattle.report.specs.ReportText.{report_text};
 ghost use Rattle.report.specs.Shown.{report_with};
+ghost use Rattle.report.specs.RunText.{further_text, Gathers};
 ghost use Rattle.semantics.specs.JournalText.{entry_text, journal_line};
+ghost use Rattle.semantics.specs.Journal.{Step, Clearing};
 ghost use Rattle.semantics.specs.JournalText.{spelled_entries};
+ghost use Rattle.semantics.specs.Views.{names_of};
 
 use crate::rows::Rows;
 use crate::text::put_each;
 use crate::thread_status::{ThreadStatus, put_standings};
 use arrayvec::ArrayVec;
 use itoa::Buffer;
-use semantics::{Entry, Printed};
-use sinks::{Sink, SinkFailed, put_all};
+use semantics::{Entry, EntryKind, ObjectId, Printed};
+use sinks::{Sink, SinkFailed, put_all, put_pieces};
 
 /// Appends a number in decimal.
 #[tactic(auto, using(std::proofs::lemmas::Fmt::decimal_digit))]
@@ -35,12 +38,11 @@ fn push_number(text: &mut ArrayVec<u8, 4096>, number: u8)
     }
 }
 
-/// Appends the word of an entry, after a space.
-fn push_entry(text: &mut ArrayVec<u8, 4096>, entry: Entry)
+/// Appends the word of a step, after a space.
+fn push_step(text: &mut ArrayVec<u8, 4096>, thread: u8, refused: bool)
     requires { array_vec_len text.old + 5 ≤ 4096 }
-    ensures { text.new.items ≡ text.old.items ++ (codes " " ++ entry_text entry) }
+    ensures { text.new.items ≡ text.old.items ++ (codes " " ++ entry_text (Step thread refused)) }
 {
-    let Entry::Step { thread, refused } = entry;
     text.push(b' ');
     push_number(text, thread);
     if refused {
@@ -48,7 +50,65 @@ fn push_entry(text: &mut ArrayVec<u8, 4096>, entry: Entry)
     }
 }
 
-/// Puts the words of the entries, each after a space. They are gathered, and put 4,096 bytes or a few fewer at a time.
+/// Puts the number of a name after these bytes.
+fn put_name<S: Sink>(sink: &mut S, before: &[u8], name: ObjectId) -> Result<(), SinkFailed>
+    requires { CanFail (S.written sink.old) }
+    ensures { Writes (S.written sink.old) (S.written sink.new) result (before.now ++ decimal name.number) }
+{
+    let mut digits = Buffer::new();
+    let digits = digits.format(name.number);
+    put_pieces(sink, &[before, digits.as_bytes()])
+}
+
+/// Puts the numbers of these names, each after a comma.
+fn put_further<S: Sink>(sink: &mut S, names: &[ObjectId]) -> Result<(), SinkFailed>
+    requires { CanFail (S.written sink.old) }
+    ensures { Writes (S.written sink.old) (S.written sink.new) result (further_text names.now) }
+{
+    for name in names {
+        put_name(sink, b",", *name)?;
+    }
+    Ok(())
+}
+
+/// Puts the word of a clearing of weak references to these objects, after a space.
+fn put_clearing<S: Sink>(sink: &mut S, names: &[ObjectId]) -> Result<(), SinkFailed>
+    requires { CanFail (S.written sink.old) }
+    ensures { Writes (S.written sink.old) (S.written sink.new) result (codes " " ++ entry_text (Clearing (names_of names.now))) }
+{
+    match names.split_first() {
+        Some((first, further)) => {
+            put_name(sink, b" ~", *first)?;
+            put_further(sink, further)
+        }
+        None => put_all(sink, b" ~"),
+    }
+}
+
+/// Puts the word of an entry after a space: a step's is gathered, and a clearing's put after what was gathered.
+fn put_entry<S: Sink>(
+    sink: &mut S,
+    text: &mut ArrayVec<u8, 4096>,
+    entry: &Entry,
+) -> Result<(), SinkFailed>
+    requires can_fail { CanFail (S.written sink.old) }
+    requires room { array_vec_len text.old + 5 ≤ 4096 }
+    ensures { Gathers (S.written sink.old) (S.written sink.new) result text.old.items text.new.items (codes " " ++ entry_text entry.now) }
+{
+    match entry.kind() {
+        EntryKind::Step { thread, refused } => {
+            push_step(text, *thread, *refused);
+            Ok(())
+        }
+        EntryKind::Clearing(names) => {
+            put_all(sink, text.as_slice())?;
+            text.clear();
+            put_clearing(sink, names)
+        }
+    }
+}
+
+/// Puts the words of the entries, each after a space. Those of steps are gathered, and put 4,096 bytes or a few fewer at a time.
 fn put_entries<S: Sink>(sink: &mut S, entries: &[Entry]) -> Result<(), SinkFailed>
     requires { CanFail (S.written sink.old) }
     ensures { Writes (S.written sink.old) (S.written sink.new) result (spelled_entries entries.now) }
@@ -59,7 +119,7 @@ fn put_entries<S: Sink>(sink: &mut S, entries: &[Entry]) -> Result<(), SinkFaile
             put_all(sink, text.as_slice())?;
             text.clear();
         }
-        push_entry(&mut text, *entry);
+        put_entry(sink, &mut text, entry)?;
     }
     put_all(sink, text.as_slice())
 }

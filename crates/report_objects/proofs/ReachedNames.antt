@@ -8,7 +8,7 @@ use Rattle.semantics.specs.Object.{Object, ObjectValue, Number, Refers}
 use Rattle.semantics.specs.Report.{ShownRow}
 use Rattle.semantics.specs.ReportOf.{report, row, shown, shown_row}
 use Rattle.std.specs.Option.{option_map_or}
-use Rattle.semantics.specs.Reachable.{from_one, IsName, roots, references_of, Reachable, FromRoot, FromObject}
+use Rattle.semantics.specs.Reachable.{from_one, IsName, roots, references_of, Reachable, Reached, FromRoot, FromObject}
 use Rattle.semantics.specs.State.{State}
 use Rattle.semantics.specs.World.{World}
 use Rattle.semantics.proofs.ReachableLemmas.{In, contains_in, to_contains, in_head, in_tail, in_cases}
@@ -17,7 +17,7 @@ use Rattle.semantics.proofs.ShownRows.{from_one-contains}
 use Rattle.reachability.specs.Reach.{IsReached, IsClosed}
 use Rattle.reachability.specs.Reach.IsReached.{Root, Referred}
 use Rattle.reachability.specs.Marks.{is_marked, AreReached}
-use Rattle.report_objects.specs.Names.{IsWithin, within, references_in, AreRoots}
+use Rattle.report_objects.specs.Names.{IsWithin, within, references_in, AreRoots, MarksReached}
 use Rattle.report_objects.specs.Rows.{marked_rows, AreReported}
 use Rattle.report_objects.proofs.MarkedRoots.{within_yes, from_within, from_one-within}
 use Rattle.report_objects.proofs.PassingNames.{shown_are, shown_reachable}
@@ -80,6 +80,25 @@ is_within heap n c = from_one-within (length heap) n (contains_in (from_one (len
 -- what is in an object of a name
 values_at : (heap other : Heap) (n : ℕ) → object_at heap n ≡ object_at other n → values_of heap n ≡ values_of other n
 values_at heap other n e = ap (λ (o : Option Object). option_map_or (λ (x : Object). x.values) o []) e
+
+-- what is reached from some names in a heap, in the graph of names and without it
+module _ (heap : Heap) (from : List ℕ) (marks : List Bool) (are : AreRoots (length heap) (Contains from) marks) where
+  abbrev Marked : ℕ → Type 0
+  Marked n = IsReached (references_in heap) (λ r. is_marked marks r ≡ true) n
+
+  from_marked : (n : ℕ) → Marked n → Reached heap from n
+  from_marked n (Root p m) = let r = are.sound p m in FromRoot p (is_name heap p r.0) r.1
+  from_marked n (Referred p q k c) =
+      let t = from_target (length heap) (values_of heap p) q c.0 c.1 c.2 in
+      FromObject p q (from_marked p k) (is_name heap q t.1) (to_contains (references_of heap p) q t.0)
+
+  to_marked : (n : ℕ) → Reached heap from n → Marked n
+  to_marked n (FromRoot p a c) = Root p (are.complete p (is_within heap p a) c)
+  to_marked n (FromObject m q r a c) =
+      Referred m q (to_marked m r) (to_target (length heap) (values_of heap m) q (is_within heap q a) (contains_in (references_of heap m) q c))
+
+  pub marks_reached : (after : List Bool) → AreReached (references_in heap) marks after → MarksReached heap from after
+  marks_reached after h = record { sound = λ n m. from_marked n (h.sound n m); complete = λ n r. h.complete n (to_marked n r) }
 
 -- A state's objects that can be reached are those of a heap with as many.
 module _ (w : World) (s : State) (objects : Heap) (count : length s.shared.heap ≡ length objects) (same : (n : ℕ) → Reachable w s n → object_at s.shared.heap n ≡ object_at objects n) (marks : List Bool) (are : AreRoots (length objects) (Contains (roots w s)) marks) where

@@ -3,7 +3,7 @@ use Rattle.std.specs.Prelude.{◌≡◌, ℕ, ◌+◌, nat_lt, nat_le, ◌&&◌,
 use Rattle.class_rules.specs.Class.{Classes}
 use Rattle.semantics.specs.Heap.{Heap, object_at, reference_in, values_of}
 use Rattle.semantics.specs.Object.{Reference, ObjectValue}
-use Rattle.semantics.specs.Reachable.{from_one, roots, Reachable}
+use Rattle.semantics.specs.Reachable.{from_one, roots, Reachable, Reached}
 use Rattle.semantics.specs.State.{State}
 pub use Rattle.semantics.specs.Views.{IsWithin}
 use Rattle.semantics.specs.World.{World}
@@ -34,3 +34,8 @@ pub record AreRoots (count : ℕ) (IsRoot : ℕ → Type 0) (marks : List Bool) 
   pub counted : length marks ≡ count + 1
   pub sound : (n : ℕ) → is_marked marks n ≡ true → IsWithin count n × IsRoot n
   pub complete : (n : ℕ) → IsWithin count n → IsRoot n → is_marked marks n ≡ true
+
+-- of a heap just the objects that are reached from these are marked
+pub record MarksReached (heap : Heap) (from : List ℕ) (marks : List Bool) : Type 0 where
+  pub sound : (n : ℕ) → is_marked marks n ≡ true → Reached heap from n
+  pub complete : (n : ℕ) → Reached heap from n → is_marked marks n ≡ true

@@ -7,6 +7,6 @@ mod row;
 mod rows;
 mod standing;
 
-pub use rows::{ReachedRows, reached_rows};
+pub use rows::{ReachedRows, reached_marks, reached_rows};
 pub use semantics::Objects;
 pub use standing::standing_of;

@@ -1,9 +1,11 @@
 //! The rows.
 
-ghost use Rattle.std.specs.Prelude.{◌≡◌, ◌+◌, ◌<◌, length, IfOk};
+ghost use Rattle.std.specs.Prelude.{◌≡◌, ◌+◌, ◌<◌, ◌++◌, length, IfOk};
 ghost use Rattle.report.specs.Shown.{row_lines};
 ghost use Rattle.sinks.specs.Sink.{CanFail, Writes};
+ghost use Rattle.semantics.specs.Reachable.{from_one};
 ghost use Rattle.semantics.specs.Views.{names_of};
+ghost use Rattle.report_objects.specs.Names.{MarksReached};
 ghost use Rattle.report_objects.specs.Rows.{marked_rows, AreReported};
 
 use crate::names::Names;
@@ -79,6 +81,23 @@ pub fn reached_rows<'a, O: Objects>(
         first: classes.len() + 2,
         end: count + 1,
     })
+}
+
+/// Of each object whether it is reached from the objects made at load, which have the first names, and from these, by its name. A
+/// name of no object is no root.
+///
+/// Its time is proportional to the number of objects and the values of those that are reached.
+pub fn reached_marks<O: Objects>(
+    alloc: Global,
+    objects: &O,
+    loaded: usize,
+    names: &[ObjectId],
+) -> Result<Vec<bool>, AllocError>
+    ensures { IfOk result (λ marks. MarksReached (O.heap objects.now) (from_one loaded ++ names_of names.now) marks.items) }
+{
+    let roots = marked_roots(alloc, objects.len(), loaded, names)?;
+    let reached = roots.close(&Names { objects })?;
+    Ok(reached)
 }
 
 /// Puts the rows of the marked objects.

@@ -1,22 +1,33 @@
 use Rattle.std.proofs.Common.{◌≡◌, ℕ, ◌+◌, ◌<◌, ◌≤◌, List, [], ◌++◌, length, get_or, drop, Result, Ok, Err, refl, sym, ap, subst, ◌∙◌, append_assoc}
 use Rattle.std.specs.Prelude.{codes}
 use Rattle.std.proofs.lemmas.Result.{err_from_is_err_and}
-use Rattle.semantics.specs.declared.journal.Entry.{Entry}
+use Rattle.semantics.specs.Journal.{Entry}
 use Rattle.semantics.specs.JournalText.{entry_text}
 use Rattle.semantics.specs.JournalText.{spelled_entries}
-use Rattle.sinks.specs.Sink.{Written, AppendsText, Writes}
+use Rattle.report.specs.RunText.{IsGathered}
+use Rattle.sinks.specs.Sink.{Written, AppendsText, StopsWithin, Writes}
 use Rattle.sinks.proofs.Puts.{PutSoFar, goes_on, is_all, stops, flat_map-at, flat_map-past}
 use Rattle.report.proofs.writing.put_entries.Goals as goal
 use Rattle.report.proofs.writing.put_entries.Goals.{then-remaining_capacity-lt5+in_ok-put_all, else-remaining_capacity-lt5}
 
 -- one entry more was gathered
-gathers : (old now : Written) (entries : List Entry) (i : ℕ) (d : Entry) (text next : List ℕ) → i < length entries → PutSoFar old now (spelled_entries entries) (text ++ spelled_entries (drop i entries))
-    → next ≡ text ++ (codes " " ++ entry_text (get_or entries i d)) → PutSoFar old now (spelled_entries entries) (next ++ spelled_entries (drop (i + 1) entries))
-gathers old now entries i d text next h s e =
+gathers : (old now after : Written) (entries : List Entry) (i : ℕ) (d : Entry) (text next : List ℕ) → i < length entries → PutSoFar old now (spelled_entries entries) (text ++ spelled_entries (drop i entries))
+    → IsGathered now after text next (codes " " ++ entry_text (get_or entries i d)) → PutSoFar old after (spelled_entries entries) (next ++ spelled_entries (drop (i + 1) entries))
+gathers old now after entries i d text next h s e =
     let word : List ℕ = codes " " ++ entry_text (get_or entries i d) in
     let rest : List ℕ = spelled_entries (drop (i + 1) entries) in
     let at : spelled_entries (drop i entries) ≡ word ++ rest = flat_map-at (λ x. codes " " ++ entry_text x) entries i d h in
-    subst (PutSoFar old now (spelled_entries entries)) (ap (λ (r : List ℕ). text ++ r) at ∙ sym (append_assoc text word rest) ∙ ap (λ (t : List ℕ). t ++ rest) (sym e)) s
+    goes_on old now after (spelled_entries entries) (text ++ spelled_entries (drop i entries)) e.part (next ++ rest) s
+    (ap (λ (r : List ℕ). text ++ r) at ∙ sym (append_assoc text word rest) ∙ ap (λ (t : List ℕ). t ++ rest) (sym e.rest) ∙ append_assoc e.part next rest) e.put
+
+-- the sink failed on the way to it
+gathers_not : (old now after : Written) (entries : List Entry) (i : ℕ) (d : Entry) (text : List ℕ) → i < length entries → PutSoFar old now (spelled_entries entries) (text ++ spelled_entries (drop i entries))
+    → StopsWithin now after (text ++ (codes " " ++ entry_text (get_or entries i d))) → StopsWithin old after (spelled_entries entries)
+gathers_not old now after entries i d text h s p =
+    let word : List ℕ = codes " " ++ entry_text (get_or entries i d) in
+    let rest : List ℕ = spelled_entries (drop (i + 1) entries) in
+    let at : spelled_entries (drop i entries) ≡ word ++ rest = flat_map-at (λ x. codes " " ++ entry_text x) entries i d h in
+    stops old now after (spelled_entries entries) (text ++ spelled_entries (drop i entries)) (text ++ word) rest s (ap (λ (r : List ℕ). text ++ r) at ∙ sym (append_assoc text word rest)) p
 
 -- what was gathered was put
 put_on : (old now next : Written) (all text rest empty : List ℕ) → PutSoFar old now all (text ++ rest) → AppendsText now next text → empty ≡ [] → PutSoFar old next all (empty ++ rest)
@@ -37,6 +48,7 @@ returns-in_err-put_all g c =
     let p = err_from_is_err_and c.from_residual.result c.from_residual.ensures.1 in
     rw p.1 (stops _ _ _ _ _ c.loop-entry.text.items (spelled_entries (drop c.loop-entry.entry-index c.args.entries.now)) c.loop-entry.invariant refl (rw c.as_slice.ensures.value at c.in_err-put_all.ensures))
 
+-- what was put by then, before the entry
 pub loop-entry-preserved : goal.loop-entry-preserved
 loop-entry-preserved g c =
     let w = g.S.Sink.written in
@@ -48,7 +60,21 @@ loop-entry-preserved g c =
           c.loop-entry.invariant (rw v.as_slice.ensures.value at v.in_ok-put_all.ensures) v.clear.ensures)
       | else-remaining_capacity-lt5 v ↦ rw (v.sink-is, v.text-is) c.loop-entry.invariant
     ] in
-    gathers (w c.args.sink.now) (w c.if-remaining_capacity-lt5.sink) c.args.entries.now c.loop-entry.entry-index _ c.if-remaining_capacity-lt5.text.items c.push_entry.new.text.items c.loop-entry-test.true so_far c.push_entry.ensures
+    gathers (w c.args.sink.now) (w c.if-remaining_capacity-lt5.sink) (w c.put_entry.new.sink) c.args.entries.now c.loop-entry.entry-index c.entry-item.result c.if-remaining_capacity-lt5.text.items c.put_entry.new.text.items c.loop-entry-test.true so_far (rw c.entry-item.is at c.in_ok-put_entry.ensures)
+
+pub returns-in_err-put_entry : goal.returns-in_err-put_entry
+returns-in_err-put_entry g c =
+    let w = g.S.Sink.written in
+    let p = err_from_is_err_and c.from_residual-in_err-put_entry.result c.from_residual-in_err-put_entry.ensures.1 in
+    let rest : List ℕ = spelled_entries (drop c.loop-entry.entry-index c.args.entries.now) in
+    let so_far : PutSoFar (w c.args.sink.now) (w c.if-remaining_capacity-lt5.sink) (spelled_entries c.args.entries.now) (c.if-remaining_capacity-lt5.text.items ++ rest) =
+    elim c.if-remaining_capacity-lt5.branch [
+      | then-remaining_capacity-lt5+in_ok-put_all v ↦
+          rw (v.sink-is, v.text-is) (put_on (w c.args.sink.now) (w c.loop-entry.sink) (w v.put_all.new.sink) (spelled_entries c.args.entries.now) c.loop-entry.text.items rest v.clear.new.self.items
+          c.loop-entry.invariant (rw v.as_slice.ensures.value at v.in_ok-put_all.ensures) v.clear.ensures)
+      | else-remaining_capacity-lt5 v ↦ rw (v.sink-is, v.text-is) c.loop-entry.invariant
+    ] in
+    rw p.1 (gathers_not (w c.args.sink.now) (w c.if-remaining_capacity-lt5.sink) (w c.put_entry.new.sink) c.args.entries.now c.loop-entry.entry-index c.entry-item.result c.if-remaining_capacity-lt5.text.items c.loop-entry-test.true so_far (rw c.entry-item.is at c.in_err-put_entry.ensures))
 
 pub returns : goal.returns
 returns g c =

@@ -2,7 +2,7 @@ use Rattle.std.proofs.Common.{◌++◌, List, ℕ}
 use Rattle.std.specs.Prelude.{codes}
 use Rattle.std.specs.List.{flat_map}
 use Rattle.std.proofs.lemmas.Result.{err_from_is_err_and}
-use Rattle.semantics.specs.declared.journal.Entry.{Entry}
+use Rattle.semantics.specs.Journal.{Entry}
 use Rattle.semantics.specs.JournalText.{entry_text, journal_line}
 use Rattle.sinks.proofs.Puts.{Writes-then, StopsWithin-more, StopsWithin-then}
 use Rattle.report.proofs.writing.write_journal.Goals as goal
