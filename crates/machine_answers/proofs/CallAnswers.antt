@@ -1,7 +1,7 @@
 -- What the machine works out of calls is what the source's calls do.
 use Rattle.std.proofs.Common.{◌≡◌, ℕ, List, Option, None}
 use Rattle.code.specs.Call.{Call}
-use Rattle.jni.specs.JniFunction.{GetBuffer, ReleaseBuffer, JniFunction, FindClass, AllocObject, NewLocalRef, NewGlobalRef, DeleteLocalRef, DeleteGlobalRef, IsSameObject, EnsureLocalCapacity, PushLocalFrame, PopLocalFrame, GetFieldID, GetStaticFieldID, GetArrayLength, NewArray, NewObjectArray, GetObjectArrayElement, SetObjectArrayElement, NewStringUTF, GetStringLength, Throw, ThrowNew, ExceptionOccurred, ExceptionCheck, ExceptionClear, FatalError, GetSuperclass, GetObjectClass, IsInstanceOf, IsAssignableFrom, GetField, SetField, GetObjectField, SetObjectField, GetStaticField, SetStaticField, GetStaticObjectField, SetStaticObjectField, MonitorEnter, MonitorExit, GetArrayRegion, SetArrayRegion, GetStringRegion}
+use Rattle.jni.specs.JniFunction.{GetBuffer, ReleaseBuffer, JniFunction, FindClass, AllocObject, NewLocalRef, NewGlobalRef, NewWeakGlobalRef, DeleteLocalRef, DeleteGlobalRef, DeleteWeakGlobalRef, IsSameObject, EnsureLocalCapacity, PushLocalFrame, PopLocalFrame, GetFieldID, GetStaticFieldID, GetArrayLength, NewArray, NewObjectArray, GetObjectArrayElement, SetObjectArrayElement, NewStringUTF, GetStringLength, Throw, ThrowNew, ExceptionOccurred, ExceptionCheck, ExceptionClear, FatalError, GetSuperclass, GetObjectClass, IsInstanceOf, IsAssignableFrom, GetField, SetField, GetObjectField, SetObjectField, GetStaticField, SetStaticField, GetStaticObjectField, SetStaticObjectField, MonitorEnter, MonitorExit, GetArrayRegion, SetArrayRegion, GetStringRegion}
 use Rattle.semantics.specs.Arguments.{Actual}
 use Rattle.semantics.specs.CallStep.{trap_of_call}
 use Rattle.semantics.specs.Task.{Target}
@@ -14,7 +14,7 @@ use Rattle.machine_answers.specs.declared.answer.Answer.{Answer}
 use Rattle.machine_scenes.specs.declared.store.Store.{Store}
 use Rattle.machine_scenes.specs.declared.activation.Activation.{Activation}
 use Rattle.machine_answers.proofs.TwoCalls.{TwoCalls, Asked, Works, Does}
-use Rattle.machine_answers.proofs.ReferenceAnswers.{answers_find, answers_superclass, answers_class, answers_instance, answers_assignable, answers_alloc, answers_new_local, answers_new_global, HasKey, answers_delete, IsHeld, answers_delete_global, answers_same, answers_ensure, answers_push, answers_pop}
+use Rattle.machine_answers.proofs.ReferenceAnswers.{answers_find, answers_superclass, answers_class, answers_instance, answers_assignable, answers_alloc, answers_new_local, answers_new_global, HasKey, answers_delete, IsHeld, answers_delete_global, answers_new_weak, answers_delete_weak, answers_same, answers_ensure, answers_push, answers_pop}
 use Rattle.machine_answers.proofs.FieldAnswers.{answers_field, answers_static, answers_get, answers_set, answers_get_object, answers_set_object, answers_get_static, answers_set_static, answers_get_static_object, answers_set_static_object}
 use Rattle.machine_answers.proofs.ArrayAnswers.{answers_length, answers_string_length, answers_new_array, answers_new_object_array, answers_element, answers_store, answers_string}
 use Rattle.machine_answers.proofs.RegionAnswers.{answers_get_region, answers_string_region, answers_set_region}
@@ -35,6 +35,8 @@ module _ (p : Lowered) (w : World) (store : Store) (pending : Option ℕ) (activ
   answers IsAssignableFrom h free answer is keyed held = answers_assignable both h answer is
   answers NewGlobalRef h free answer is keyed held = answers_new_global both h answer is
   answers DeleteGlobalRef h free answer is keyed held = answers_delete_global both held h answer is
+  answers NewWeakGlobalRef h free answer is keyed held = answers_new_weak both h answer is
+  answers DeleteWeakGlobalRef h free answer is keyed held = answers_delete_weak both held h answer is
   answers NewLocalRef h free answer is keyed held = answers_new_local both h answer is
   answers IsSameObject h free answer is keyed held = answers_same both h answer is
   answers EnsureLocalCapacity h free answer is keyed held = answers_ensure both h answer is

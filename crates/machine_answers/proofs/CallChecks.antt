@@ -10,10 +10,10 @@ use Rattle.class_rules.specs.Fields.{FieldId}
 use Rattle.classes.specs.declared.class.FieldHandle.{FieldHandle}
 use Rattle.code.specs.declared.instr.Operand.{Operand}
 use Rattle.code.specs.declared.instr.Operand.TheVariants as operand
-use Rattle.heap.specs.Heap.{Space}
+use Rattle.heap.specs.Heap.{Space, name_at}
 use Rattle.jni.specs.Access.{ArrayView}
 use Rattle.jni.specs.JniFunction.{JniFunction, is_allowed_pending, AllocObject, GetField, SetField, GetStaticField, SetStaticField, GetObjectField, SetObjectField, GetStaticObjectField, SetStaticObjectField, prototype, NewObjectArray, GetBuffer, Throw, ThrowNew}
-use Rattle.jni.specs.Prototype.{ParameterKind, Nullable, LocalVariable, StaticVariable, IsCopy, ClassObject, NumberArray, AnyArray, ObjectArray, StringObject, ResultKind, NewLocal}
+use Rattle.jni.specs.Prototype.{ParameterKind, Nullable, AnyReference, LocalVariable, StaticVariable, WeakVariable, IsCopy, ClassObject, NumberArray, AnyArray, ObjectArray, StringObject, ResultKind, NewLocal}
 use Rattle.semantics.specs.CallTable.{go_together}
 use Rattle.semantics.specs.Arguments.{Actual, ReferenceActual, FieldActual, NumberActual, TextActual, VariableActual, ModeActual, NothingActual, ReleaseMode, reference_given, reference_in_actual, name_or_zero, field_given, field_in_actual}
 use Rattle.semantics.specs.CallStep.{trap_of_call, target_element}
@@ -23,13 +23,13 @@ use Rattle.semantics.specs.Object.{Reference}
 use Rattle.semantics.specs.Task.{Target}
 use Rattle.semantics.specs.Thread.{Frame, Shared, Thread}
 use Rattle.semantics.specs.Value.{NullReference, ExceptionPending, WrongObject, DeletedReference, NoCapacity}
-use Rattle.semantics.specs.Variable.{StaticReference, Empty, Live, Deleted, as_static}
+use Rattle.semantics.specs.Variable.{StaticReference, Empty, Live, Weakly, Cleared, Deleted, as_static}
 use Rattle.code_meaning.specs.Does.{ActualFits}
 use Rattle.machine_scenes.specs.declared.buffer.Buffer.{Buffer}
 use Rattle.monitors.specs.declared.monitors.Monitor.{Monitor}
 use Rattle.machine_scenes.specs.FieldIds.{FieldAgrees}
 use Rattle.machine_scenes.specs.StoreAgrees.{HeldAgrees}
-use Rattle.machine_scenes.specs.Statics.{References, held_address, holds_deleted, holds_null, static_at}
+use Rattle.machine_scenes.specs.Statics.{References, held_address, held_argument, holds_deleted, holds_null, static_at}
 use Rattle.machine_scenes.specs.declared.references.Held.{Held}
 use Rattle.machine_scenes.specs.declared.references.Held.TheVariants as held
 use Rattle.class_queries.specs.Kinds.{class_misfits}
@@ -37,6 +37,38 @@ use Rattle.machine_answers.specs.Checked.{gives_deleted, gives_null, may_be_null
 use Rattle.machine_scenes.specs.Given.{IsGiven, ReferenceIsGiven, class_of_given, class_there, field_at, field_there, fits_there, name_there, no_field, operand_at, operand_of}
 use Rattle.machine_scenes.specs.HeapAgrees.{ReferenceAgrees, BlocksAgree}
 use Rattle.machine_scenes.proofs.ObjectsAtAddresses.{is_object}
+
+-- ---- statics as arguments
+
+-- what a static holds, and what the source's argument is, by cases
+module _ (space : Space) (P : Held → StaticReference → Type 0) (none : P held.Empty Empty) (strong : (a n : ℕ) → name_at space a ≡ Some n → P (held.At a) (Live n)) (weak : (a n : ℕ) → name_at space a ≡ Some n → P (held.Weakly a) (Live n))
+    (cleared : P held.Cleared Empty) (deleted : P held.Deleted Deleted) where
+  pub by_argument : (h : Held) (r : StaticReference) → HeldAgrees space (held_argument h) r → P h r
+  by_argument held.Empty Empty e = none
+  by_argument held.Empty (Live n) e = absurd e
+  by_argument held.Empty (Weakly n) e = absurd e
+  by_argument held.Empty Cleared e = absurd e
+  by_argument held.Empty Deleted e = absurd e
+  by_argument (held.At a) Empty e = absurd e
+  by_argument (held.At a) (Live n) e = strong a n e
+  by_argument (held.At a) (Weakly n) e = absurd e
+  by_argument (held.At a) Cleared e = absurd e
+  by_argument (held.At a) Deleted e = absurd e
+  by_argument (held.Weakly a) Empty e = absurd e
+  by_argument (held.Weakly a) (Live n) e = weak a n e
+  by_argument (held.Weakly a) (Weakly n) e = absurd e
+  by_argument (held.Weakly a) Cleared e = absurd e
+  by_argument (held.Weakly a) Deleted e = absurd e
+  by_argument held.Cleared Empty e = cleared
+  by_argument held.Cleared (Live n) e = absurd e
+  by_argument held.Cleared (Weakly n) e = absurd e
+  by_argument held.Cleared Cleared e = absurd e
+  by_argument held.Cleared Deleted e = absurd e
+  by_argument held.Deleted Empty e = absurd e
+  by_argument held.Deleted (Live n) e = absurd e
+  by_argument held.Deleted (Weakly n) e = absurd e
+  by_argument held.Deleted Cleared e = absurd e
+  by_argument held.Deleted Deleted e = deleted
 
 -- ---- NULL
 
@@ -49,8 +81,10 @@ is_null_actual a = false
 
 missing_is : (p : ParameterKind) (a : Actual) → ActualFits p a → is_missing (p, a) ≡ (not (may_be_null p) && is_null_actual a)
 missing_is Nullable a fits = refl
+missing_is AnyReference a fits = refl
 missing_is LocalVariable a fits = refl
 missing_is StaticVariable a fits = refl
+missing_is WeakVariable a fits = refl
 missing_is IsCopy (ReferenceActual x Empty) fits = absurd fits
 missing_is IsCopy (FieldActual None) fits = absurd (cc)
 missing_is IsCopy a fits = refl
@@ -66,16 +100,8 @@ module _ (classes : Classes) (space : Space) (references : References) (fields :
   null_reference x (Some a) None h = absurd h
   null_reference x (Some a) (Some n) h = refl
 
-  null_static : (x : Identifier) (h : Held) (r : StaticReference) → HeldAgrees space h r → is_null_actual (ReferenceActual x r) ≡ holds_null h
-  null_static x held.Empty Empty e = refl
-  null_static x held.Empty (Live n) e = absurd e
-  null_static x held.Empty Deleted e = absurd e
-  null_static x (held.At a) Empty e = absurd e
-  null_static x (held.At a) (Live n) e = refl
-  null_static x (held.At a) Deleted e = absurd e
-  null_static x held.Deleted Empty e = absurd e
-  null_static x held.Deleted (Live n) e = absurd e
-  null_static x held.Deleted Deleted e = refl
+  null_static : (x : Identifier) (h : Held) (r : StaticReference) → HeldAgrees space (held_argument h) r → is_null_actual (ReferenceActual x r) ≡ holds_null h
+  null_static x = by_argument space (λ h r. is_null_actual (ReferenceActual x r) ≡ holds_null h) refl (λ a n e. refl) (λ a n e. refl) refl refl
 
   null_field : (o : Option FieldHandle) (q : Option FieldId) → FieldAgrees classes o q → is_null_actual (FieldActual q) ≡ is_none o
   null_field None None h = refl
@@ -113,16 +139,8 @@ module _ (classes : Classes) (space : Space) (references : References) (fields :
   whole_reference x None = refl
   whole_reference x (Some n) = refl
 
-  deleted_static : (x : Identifier) (h : Held) (r : StaticReference) → HeldAgrees space h r → holds_deleted h ≡ is_deleted (ReferenceActual x r)
-  deleted_static x held.Empty Empty e = refl
-  deleted_static x held.Empty (Live n) e = absurd e
-  deleted_static x held.Empty Deleted e = absurd e
-  deleted_static x (held.At a) Empty e = absurd e
-  deleted_static x (held.At a) (Live n) e = refl
-  deleted_static x (held.At a) Deleted e = absurd e
-  deleted_static x held.Deleted Empty e = absurd e
-  deleted_static x held.Deleted (Live n) e = absurd e
-  deleted_static x held.Deleted Deleted e = refl
+  deleted_static : (x : Identifier) (h : Held) (r : StaticReference) → HeldAgrees space (held_argument h) r → holds_deleted h ≡ is_deleted (ReferenceActual x r)
+  deleted_static x = by_argument space (λ h r. holds_deleted h ≡ is_deleted (ReferenceActual x r)) refl (λ a n e. refl) (λ a n e. refl) refl refl
 
   deleted_is : (o : Operand) (a : Actual) → IsGiven classes space references fields o a → gives_deleted references o ≡ is_deleted a
   deleted_is operand.Number a h = sym (ap is_deleted h.1)
@@ -156,16 +174,8 @@ module _ (classes : Classes) (space : Space) (references : References) (fields :
   one_reference : (o : Operand) (a : Actual) → ReferenceIsGiven space references o a → ReferenceAgrees space (operand_at references o) (reference_in_actual (Some a))
   one_reference o a h = subst (λ q. ReferenceAgrees space (operand_at references o) q) (sym (ap (λ b. reference_in_actual (Some b)) h.is ∙ reference_itself h.name h.reference)) h.agrees
 
-  static_reference : (x : Identifier) (h : Held) (r : StaticReference) → HeldAgrees space h r → ReferenceAgrees space (held_address h) (reference_in_actual (Some (ReferenceActual x r)))
-  static_reference x held.Empty Empty e = tt
-  static_reference x held.Empty (Live n) e = absurd e
-  static_reference x held.Empty Deleted e = absurd e
-  static_reference x (held.At a) Empty e = absurd e
-  static_reference x (held.At a) (Live n) e = e
-  static_reference x (held.At a) Deleted e = absurd e
-  static_reference x held.Deleted Empty e = absurd e
-  static_reference x held.Deleted (Live n) e = absurd e
-  static_reference x held.Deleted Deleted e = tt
+  static_reference : (x : Identifier) (h : Held) (r : StaticReference) → HeldAgrees space (held_argument h) r → ReferenceAgrees space (held_address h) (reference_in_actual (Some (ReferenceActual x r)))
+  static_reference x = by_argument space (λ h r. ReferenceAgrees space (held_address h) (reference_in_actual (Some (ReferenceActual x r)))) tt (λ a n e. e) (λ a n e. e) tt tt
 
   no_reference : (a b : Actual) → a ≡ b → ReferenceAgrees space None (reference_in_actual (Some b)) → ReferenceAgrees space None (reference_in_actual (Some a))
   no_reference a b is h = subst (λ (c : Actual). ReferenceAgrees space None (reference_in_actual (Some c))) (sym is) h
@@ -275,16 +285,9 @@ module _ (classes : Classes) (space : Space) (references : References) (fields :
     deleted_fits ClassObject x = refl
     deleted_fits p x = refl
 
-    static_misfit : (p : ParameterKind) (x : Identifier) (h : Held) (r : StaticReference) → HeldAgrees space h r → misfits classes space p (held_address h) ≡ is_misfit classes heap (p, ReferenceActual x r)
-    static_misfit p x held.Empty Empty e = sym (empty_fits p x)
-    static_misfit p x held.Empty (Live n) e = absurd e
-    static_misfit p x held.Empty Deleted e = absurd e
-    static_misfit p x (held.At a) Empty e = absurd e
-    static_misfit p x (held.At a) (Live n) e = reference_misfit p x (Some a) (Some n) e
-    static_misfit p x (held.At a) Deleted e = absurd e
-    static_misfit p x held.Deleted Empty e = absurd e
-    static_misfit p x held.Deleted (Live n) e = absurd e
-    static_misfit p x held.Deleted Deleted e = sym (deleted_fits p x)
+    static_misfit : (p : ParameterKind) (x : Identifier) (h : Held) (r : StaticReference) → HeldAgrees space (held_argument h) r → misfits classes space p (held_address h) ≡ is_misfit classes heap (p, ReferenceActual x r)
+    static_misfit p x = by_argument space (λ h r. misfits classes space p (held_address h) ≡ is_misfit classes heap (p, ReferenceActual x r)) (sym (empty_fits p x)) (λ a n e. reference_misfit p x (Some a) (Some n) e)
+        (λ a n e. reference_misfit p x (Some a) (Some n) e) (sym (empty_fits p x)) (sym (deleted_fits p x))
 
     given_misfit : (p : ParameterKind) (o : Operand) (a : Actual) → ReferenceIsGiven space references o a → misfits classes space p (operand_at references o) ≡ is_misfit classes heap (p, a)
     given_misfit p o a h = reference_misfit p h.name (operand_at references o) h.reference h.agrees ∙ ap (λ b. is_misfit classes heap (p, b)) (sym h.is)

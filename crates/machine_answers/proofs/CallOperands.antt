@@ -13,7 +13,7 @@ use Rattle.classes.specs.declared.class.FieldHandle.{FieldHandle}
 use Rattle.code.specs.declared.instr.Operand.{Operand}
 use Rattle.code.specs.declared.instr.Operand.TheVariants as operand
 use Rattle.heap.specs.Heap.{Space, IsLaidOut, name_at}
-use Rattle.jni.specs.Prototype.{ParameterKind, StaticVariable, ClassObject, FieldID, IntNumber, NumberArray, TextBytes}
+use Rattle.jni.specs.Prototype.{ParameterKind, StaticVariable, WeakVariable, ClassObject, FieldID, IntNumber, NumberArray, TextBytes}
 use Rattle.semantics.specs.Arguments.{Actual, ReferenceActual, FieldActual, TextActual, VariableActual, ModeActual, NothingActual, reference_given, name_or_zero, text_given, text_in_actual, NumberActual, number_given, number_in_actual}
 use Rattle.semantics.specs.Heap.{Heap, values_of}
 use Rattle.semantics.specs.Object.{Reference}
@@ -177,6 +177,8 @@ module _ (classes : Classes) (space : Space) (references : References) (fields :
   some_held : (x : Held) → holds_deleted x ≡ false → holds_null x ≡ false → (a : ℕ) × (held_address x ≡ Some a)
   some_held held.Empty whole h = absurd (cc)
   some_held (held.At a) whole h = (a, refl)
+  some_held (held.Weakly a) whole h = (a, refl)
+  some_held held.Cleared whole h = absurd (cc)
   some_held held.Deleted whole h = absurd (cc)
 
   object_in : (p : ParameterKind) → IsReferenceKind p → (o : Operand) → OperandFits p o → gives_deleted references o ≡ false → gives_null references fields o ≡ false → (a : ℕ) × (operand_at references o ≡ Some a)
@@ -334,6 +336,22 @@ static_operand (operand.IsCopy i) fits = absurd (cc)
 pub only_static : (operands : List Operand) → AllZip OperandFits (StaticVariable ∷ []) operands → (i : ℕ) × (operand_of operands 0 ≡ operand.Static i)
 only_static [] fits = absurd fits
 only_static (o ∷ operands) fits = static_operand o fits.0
+
+weak_operand : (o : Operand) → OperandFits WeakVariable o → (i : ℕ) × (o ≡ operand.Static i)
+weak_operand (operand.Static i) fits = (i, refl)
+weak_operand operand.Number fits = absurd (cc)
+weak_operand operand.Text fits = absurd (cc)
+weak_operand operand.Null fits = absurd fits
+weak_operand (operand.Local i) fits = absurd fits
+weak_operand (operand.FieldId i) fits = absurd (cc)
+weak_operand (operand.Array array) fits = absurd (let e = fits.1 in cc)
+weak_operand (operand.Buffer i) fits = absurd (let e = fits.1 in cc)
+weak_operand (operand.Mode mode) fits = absurd (cc)
+weak_operand (operand.IsCopy i) fits = absurd (cc)
+
+pub only_weak : (operands : List Operand) → AllZip OperandFits (WeakVariable ∷ []) operands → (i : ℕ) × (operand_of operands 0 ≡ operand.Static i)
+only_weak [] fits = absurd fits
+only_weak (o ∷ operands) fits = weak_operand o fits.0
 
 pub own_making : (classes : Classes) (c : ℕ) → not (has_own_making classes c) ≡ true → c ≡ class_class → ⊥
 own_making classes c h is = clash (not (is_plain (class_kind classes class_class))) (class_class == string_class) (ap (λ (n : ℕ). not (has_own_making classes n)) (sym is) ∙ h)

@@ -19,7 +19,7 @@ use Rattle.semantics.specs.Object.{Reference}
 use Rattle.semantics.specs.Task.{Target}
 use Rattle.semantics.specs.Thread.{Shared, Thread}
 use Rattle.semantics.specs.Value.{NullReference, ExceptionPending, WrongObject, DeletedReference, NoCapacity}
-use Rattle.semantics.specs.Variable.{StaticReference, Empty, Live, Deleted}
+use Rattle.semantics.specs.Variable.{StaticReference}
 use Rattle.semantics.specs.World.{World}
 use Rattle.code_meaning.specs.Lowered.{Lowered}
 use Rattle.machine_scenes.specs.declared.store.Store.{Store}
@@ -27,9 +27,8 @@ use Rattle.machine_scenes.specs.declared.activation.Activation.{Activation}
 use Rattle.machine_scenes.specs.FieldIds.{FieldAgrees}
 use Rattle.machine_scenes.specs.StoreAgrees.{HeldAgrees}
 use Rattle.machine_answers.specs.Asked.{IsAsked, references_of, scene_of}
-use Rattle.machine_scenes.specs.Statics.{References, held_address, static_at}
+use Rattle.machine_scenes.specs.Statics.{References, held_address, held_argument, static_at}
 use Rattle.machine_scenes.specs.declared.references.Held.{Held}
-use Rattle.machine_scenes.specs.declared.references.Held.TheVariants as held
 use Rattle.machine_scenes.specs.Buffers.{Acquired}
 use Rattle.machine_answers.specs.Checked.{element_wanted, fit_together, gives_deleted, some_missing, some_misfit, puts_local, trap_found}
 use Rattle.machine_scenes.specs.Locals.{locals_after}
@@ -79,12 +78,11 @@ module _ (classes : Classes) (space : Space) (references : References) (fields :
   one_address (operand.Local i) a h b e = is_address space (operand_at references (operand.Local i)) h.reference b h.agrees e
   one_address (operand.Static i) a h b e = static_address (static_at references i) h.reference b h.agrees e
     where
-      static_address : (x : Held) (r : StaticReference) (b : ℕ) → HeldAgrees space x r → held_address x ≡ Some b → IsAddress space b
-      static_address held.Empty r b h e = absurd (cc)
-      static_address held.Deleted r b h e = absurd (cc)
-      static_address (held.At a) Empty b h e = absurd h
-      static_address (held.At a) (Live n) b h e = is_address space (Some a) (Some n) b h e
-      static_address (held.At a) Deleted b h e = absurd h
+      static_address : (x : Held) (r : StaticReference) (b : ℕ) → HeldAgrees space (held_argument x) r → held_address x ≡ Some b → IsAddress space b
+      static_address x r b h e =
+          let none : (c : ℕ) → ◌≡◌ {A = Option ℕ} None (Some c) → IsAddress space c = λ c e. absurd (cc) in
+          checks.by_argument space (λ x r. (c : ℕ) → held_address x ≡ Some c → IsAddress space c) none (λ a n e c is. is_address space (Some a) (Some n) c e is)
+          (λ a n e c is. is_address space (Some a) (Some n) c e is) none none x r h b e
 
   one_handle : (o : Operand) (a : Actual) → IsGiven classes space references fields o a → (g : FieldHandle) → field_at fields o ≡ Some g → IsSome (field_of classes g)
   one_handle operand.Number a h g e = absurd (cc)

@@ -1,5 +1,5 @@
 -- What calls of functions of classes, references and frames do.
-use Rattle.std.proofs.Common.{◌≡◌, ℕ, pos, negsuc, ◌<◌, false, not, List, [], Option, Some, None, slice_get, refl, sym, ap, ◌∙◌, subst, arith, ℤ}
+use Rattle.std.proofs.Common.{◌≡◌, ℕ, pos, negsuc, ◌<◌, Bool, true, false, not, List, [], Option, Some, None, slice_get, refl, sym, ap, ◌∙◌, subst, arith, ℤ}
 use Rattle.std.specs.Prelude.{◌==◌, unwrap_or}
 use Rattle.std.specs.Option.{option_map_or}
 use Rattle.std.proofs.lemmas.Bool.Decides.{nat_tests}
@@ -9,10 +9,10 @@ use Rattle.class_rules.proofs.GrownTables.{grown_is_ordered}
 use Rattle.code.specs.Effect.{truth_word}
 use Rattle.code.specs.declared.instr.Operand.{Operand}
 use Rattle.code.specs.declared.instr.Operand.TheVariants as operand
-use Rattle.jni.specs.JniFunction.{JniFunction, FindClass, AllocObject, NewLocalRef, NewGlobalRef, DeleteLocalRef, DeleteGlobalRef, IsSameObject, EnsureLocalCapacity, PushLocalFrame, PopLocalFrame, GetSuperclass, GetObjectClass, IsInstanceOf, IsAssignableFrom}
+use Rattle.jni.specs.JniFunction.{JniFunction, FindClass, AllocObject, NewLocalRef, NewGlobalRef, NewWeakGlobalRef, DeleteLocalRef, DeleteGlobalRef, DeleteWeakGlobalRef, IsSameObject, EnsureLocalCapacity, PushLocalFrame, PopLocalFrame, GetSuperclass, GetObjectClass, IsInstanceOf, IsAssignableFrom}
 use Rattle.jni.specs.Prototype.{NonNull, NewLocal, GivesInt, GivesNothing}
 use Rattle.semantics.specs.Arguments.{variable_given, reference_given, object_given, name_or_zero, text_given, number_given}
-use Rattle.semantics.specs.CallEffects.{delete_global_effect, delete_local_effect, ensure_effect, push_effect, found_class_effect, same_reference, level_of}
+use Rattle.semantics.specs.CallEffects.{delete_global_effect, delete_weak_effect, delete_local_effect, ensure_effect, push_effect, found_class_effect, same_reference, level_of}
 use Rattle.semantics.specs.CallStep.{trap_of_call}
 use Rattle.semantics.specs.CallTable.{call_effect}
 use Rattle.semantics.specs.Heap.{class_of}
@@ -20,19 +20,39 @@ use Rattle.semantics.specs.Object.{Object, Reference}
 use Rattle.semantics.specs.World.{fresh_object}
 use Rattle.world_values.proofs.LoadedWorlds.{class_within as found_within}
 use Rattle.machine_scenes.proofs.KeyLaws.{OwnKey}
-use Rattle.base.specs.Bytes.{lookup}
-use Rattle.semantics.specs.Variable.{Variable}
+use Rattle.base.specs.Bytes.{Identifier, lookup}
+use Rattle.semantics.specs.Variable.{Variable, StaticReference, Empty, Live, Weakly, Cleared, Deleted}
+use Rattle.semantics.specs.Thread.{Shared}
+use Rattle.heap.specs.Heap.{Space}
+use Rattle.code_meaning.specs.Slots.{static_index}
+use Rattle.machine_scenes.specs.Statics.{References, static_at}
+use Rattle.machine_scenes.specs.StoreAgrees.{HeldAgrees}
+use Rattle.machine_scenes.specs.declared.references.Held.{Held}
+use Rattle.machine_scenes.specs.declared.references.Held.TheVariants as held
 use Rattle.machine_answers.specs.declared.answer.Answer.{Answer}
-use Rattle.machine_answers.specs.Answers.{HoldsObject, IsAnswer}
+use Rattle.machine_answers.specs.Answers.{IsAnswer}
 use Rattle.machine_scenes.specs.NewObjects.{IsMakeable}
 use Rattle.machine_scenes.specs.Given.{key_at, operand_of, class_of_given, fits_there}
 use Rattle.machine_scenes.specs.HeapAgrees.{HeapAgrees, ReferenceAgrees}
-use Rattle.machine_answers.specs.WorkedOut.{deletes, deletes_global, frame_for, class_object, found_class, room_for}
+use Rattle.machine_answers.specs.WorkedOut.{deletes, deletes_global, deletes_held, deletes_held_weakly, deletes_weak, frame_for, class_object, found_class, room_for}
 use Rattle.machine_answers.proofs.CallChecks.{class_is, fits_is}
 use Rattle.machine_scenes.proofs.BlocksOfNames.{name_within}
 use Rattle.machine_answers.proofs.CallTraps.{has_passed}
-use Rattle.machine_answers.proofs.CallOperands.{super_known, only_text, only_static, own_making}
+use Rattle.machine_answers.proofs.CallOperands.{super_known, only_text, only_static, only_weak, own_making}
 use Rattle.machine_answers.proofs.TwoCalls.{TwoCalls, references, fields, brought, Asked, Works, Does, at, agrees, name_of, table_of, object_of, built_in_class, object_given_at, number_of, class_given}
+
+-- the static of a name is at this place, where what is held stands for what it holds in the source
+pub record HeldStatic (space : Space) (references : References) (s : Shared) (x : Identifier) (i : ℕ) : Type 0 where
+  pub place : static_index x s.statics ≡ Some i
+  pub reference : StaticReference
+  pub there : lookup x s.statics ≡ Some reference
+  pub agrees : HeldAgrees space (static_at references i) reference
+
+-- a function ends the reference of a static
+abbrev pub deletes_static : JniFunction → Bool
+deletes_static DeleteGlobalRef = true
+deletes_static DeleteWeakGlobalRef = true
+deletes_static f = false
 
 module _ (both : TwoCalls) where
   open both use {p, w, store, pending, activation, call, others, k, shared, s, target, sound, args}
@@ -126,23 +146,87 @@ module _ (both : TwoCalls) where
       by_key (Some key) None own = absurd own
       by_key (Some key) (Some n) own = (refl, (n, level_of variable, own, refl))
 
-  -- what is known of the static whose global reference ends
+  -- what is known of the static whose reference ends
   abbrev pub IsHeld : JniFunction → Type 0
-  IsHeld f = f ≡ DeleteGlobalRef → (i n : ℕ) → operand_of call.operands 0 ≡ operand.Static i → reference_given args 0 ≡ Some n → HoldsObject shared (variable_given args 0) i n
+  IsHeld f = deletes_static f ≡ true → (i : ℕ) → operand_of call.operands 0 ≡ operand.Static i → HeldStatic store.heap (references both) shared (variable_given args 0) i
 
   pub answers_delete_global : IsHeld DeleteGlobalRef → Asked both DeleteGlobalRef → (answer : Answer) → Works both DeleteGlobalRef answer → Does both DeleteGlobalRef answer
   unfolding call_effect
-  answers_delete_global held h answer is =
+  answers_delete_global held_so h answer is =
       subst (λ (x : Answer). Does both DeleteGlobalRef x) (sym is)
       (let static = only_static call.operands h.kinds in
-      subst (λ (o : Operand). IsAnswer w.classes (brought both) store.heap activation.locals GivesNothing shared s (deletes_global (at both 0) o) (delete_global_effect shared s (variable_given args 0) (reference_given args 0))) (sym static.1)
-      (by_reference static.0 (at both 0) (reference_given args 0) (λ n given. held refl static.0 n static.1 given) (agrees both DeleteGlobalRef h 0)))
+      let found = held_so refl static.0 static.1 in
+      subst (λ (o : Operand). IsAnswer w.classes (brought both) store.heap activation.locals GivesNothing shared s (deletes_global (references both) o) (delete_global_effect shared s (variable_given args 0) (lookup (variable_given args 0) shared.statics))) (sym static.1)
+      (subst (λ (q : Option StaticReference). IsAnswer w.classes (brought both) store.heap activation.locals GivesNothing shared s (deletes_held static.0 (static_at (references both) static.0)) (delete_global_effect shared s (variable_given args 0) q)) (sym found.there)
+      (by_held static.0 (static_at (references both) static.0) found.reference found.place found.there found.agrees)))
     where
-      by_reference : (i : ℕ) (o : Option ℕ) (r : Reference) → ((n : ℕ) → r ≡ Some n → HoldsObject shared (variable_given args 0) i n) → ReferenceAgrees store.heap o r → IsAnswer w.classes (brought both) store.heap activation.locals GivesNothing shared s (deletes_global o (operand.Static i)) (delete_global_effect shared s (variable_given args 0) r)
-      by_reference i None None holds agree = (refl, refl, tt)
-      by_reference i None (Some n) holds agree = absurd agree
-      by_reference i (Some a) None holds agree = absurd agree
-      by_reference i (Some a) (Some n) holds agree = (refl, (variable_given args 0, n, holds n refl, refl))
+      by_held : (i : ℕ) (x : Held) (r : StaticReference) → static_index (variable_given args 0) shared.statics ≡ Some i → lookup (variable_given args 0) shared.statics ≡ Some r → HeldAgrees store.heap x r → IsAnswer w.classes (brought both) store.heap activation.locals GivesNothing shared s (deletes_held i x) (delete_global_effect shared s (variable_given args 0) (Some r))
+      by_held i held.Empty Empty place there e = (refl, refl, tt)
+      by_held i held.Empty (Live n) place there e = absurd e
+      by_held i held.Empty (Weakly n) place there e = absurd e
+      by_held i held.Empty Cleared place there e = absurd e
+      by_held i held.Empty Deleted place there e = absurd e
+      by_held i (held.At a) Empty place there e = absurd e
+      by_held i (held.At a) (Live n) place there e = (refl, (variable_given args 0, n, record { place = place; there = there }, refl))
+      by_held i (held.At a) (Weakly n) place there e = absurd e
+      by_held i (held.At a) Cleared place there e = absurd e
+      by_held i (held.At a) Deleted place there e = absurd e
+      by_held i (held.Weakly a) Empty place there e = absurd e
+      by_held i (held.Weakly a) (Live n) place there e = absurd e
+      by_held i (held.Weakly a) (Weakly n) place there e = (refl, refl, tt)
+      by_held i (held.Weakly a) Cleared place there e = absurd e
+      by_held i (held.Weakly a) Deleted place there e = absurd e
+      by_held i held.Cleared Empty place there e = absurd e
+      by_held i held.Cleared (Live n) place there e = absurd e
+      by_held i held.Cleared (Weakly n) place there e = absurd e
+      by_held i held.Cleared Cleared place there e = (refl, refl, tt)
+      by_held i held.Cleared Deleted place there e = absurd e
+      by_held i held.Deleted Empty place there e = absurd e
+      by_held i held.Deleted (Live n) place there e = absurd e
+      by_held i held.Deleted (Weakly n) place there e = absurd e
+      by_held i held.Deleted Cleared place there e = absurd e
+      by_held i held.Deleted Deleted place there e = (refl, refl, tt)
+
+  pub answers_new_weak : Asked both NewWeakGlobalRef → (answer : Answer) → Works both NewWeakGlobalRef answer → Does both NewWeakGlobalRef answer
+  unfolding call_effect
+  answers_new_weak h answer is = subst (λ (x : Answer). Does both NewWeakGlobalRef x) (sym is) (refl, (reference_given args 0, agrees both NewWeakGlobalRef h 0, refl))
+
+  pub answers_delete_weak : IsHeld DeleteWeakGlobalRef → Asked both DeleteWeakGlobalRef → (answer : Answer) → Works both DeleteWeakGlobalRef answer → Does both DeleteWeakGlobalRef answer
+  unfolding call_effect
+  answers_delete_weak held_so h answer is =
+      subst (λ (x : Answer). Does both DeleteWeakGlobalRef x) (sym is)
+      (let static = only_weak call.operands h.kinds in
+      let found = held_so refl static.0 static.1 in
+      subst (λ (o : Operand). IsAnswer w.classes (brought both) store.heap activation.locals GivesNothing shared s (deletes_weak (references both) o) (delete_weak_effect shared s (variable_given args 0) (lookup (variable_given args 0) shared.statics))) (sym static.1)
+      (subst (λ (q : Option StaticReference). IsAnswer w.classes (brought both) store.heap activation.locals GivesNothing shared s (deletes_held_weakly static.0 (static_at (references both) static.0)) (delete_weak_effect shared s (variable_given args 0) q)) (sym found.there)
+      (by_held static.0 (static_at (references both) static.0) found.reference found.place found.there found.agrees)))
+    where
+      by_held : (i : ℕ) (x : Held) (r : StaticReference) → static_index (variable_given args 0) shared.statics ≡ Some i → lookup (variable_given args 0) shared.statics ≡ Some r → HeldAgrees store.heap x r → IsAnswer w.classes (brought both) store.heap activation.locals GivesNothing shared s (deletes_held_weakly i x) (delete_weak_effect shared s (variable_given args 0) (Some r))
+      by_held i held.Empty Empty place there e = (refl, refl, tt)
+      by_held i held.Empty (Live n) place there e = absurd e
+      by_held i held.Empty (Weakly n) place there e = absurd e
+      by_held i held.Empty Cleared place there e = absurd e
+      by_held i held.Empty Deleted place there e = absurd e
+      by_held i (held.At a) Empty place there e = absurd e
+      by_held i (held.At a) (Live n) place there e = (refl, refl, tt)
+      by_held i (held.At a) (Weakly n) place there e = absurd e
+      by_held i (held.At a) Cleared place there e = absurd e
+      by_held i (held.At a) Deleted place there e = absurd e
+      by_held i (held.Weakly a) Empty place there e = absurd e
+      by_held i (held.Weakly a) (Live n) place there e = absurd e
+      by_held i (held.Weakly a) (Weakly n) place there e = (refl, (variable_given args 0, Weakly n, record { place = place; there = there; weak = tt }, refl))
+      by_held i (held.Weakly a) Cleared place there e = absurd e
+      by_held i (held.Weakly a) Deleted place there e = absurd e
+      by_held i held.Cleared Empty place there e = absurd e
+      by_held i held.Cleared (Live n) place there e = absurd e
+      by_held i held.Cleared (Weakly n) place there e = absurd e
+      by_held i held.Cleared Cleared place there e = (refl, (variable_given args 0, Cleared, record { place = place; there = there; weak = tt }, refl))
+      by_held i held.Cleared Deleted place there e = absurd e
+      by_held i held.Deleted Empty place there e = absurd e
+      by_held i held.Deleted (Live n) place there e = absurd e
+      by_held i held.Deleted (Weakly n) place there e = absurd e
+      by_held i held.Deleted Cleared place there e = absurd e
+      by_held i held.Deleted Deleted place there e = (refl, refl, tt)
 
   -- an object has a name, so that its number isn't that of NULL
   has_name : (o : Option ℕ) (n : ℕ) → HeapAgrees store.heap shared.heap → ReferenceAgrees store.heap o (Some n) → 0 < n

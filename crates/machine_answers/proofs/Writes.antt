@@ -30,7 +30,7 @@ use Rattle.machine_scenes.specs.HeapAgrees.{BlockAgrees, BlocksAgree, ValueAgree
 use Rattle.machine_scenes.proofs.BlocksOfNames.{Named, named}
 use Rattle.machine_answers.proofs.SetPlaces.{get_set_same, get_set_other}
 use Rattle.machine_scenes.proofs.Taken.{taken_changed}
-use Rattle.machine_scenes.proofs.Keeping.{none_made, slots_stay, reference_stays, statics_stay}
+use Rattle.machine_scenes.proofs.Keeping.{none_made, slots_stay, reference_stays, statics_stay, weaks_stay}
 
 -- ---- each block is found at its address
 
@@ -206,9 +206,11 @@ module _ (p : Lowered) (w : World) (store : Store) (shared : Shared) (a : ℕ) (
     table = record { counted = h.table.counted; named = λ i x at. stays x (i + 1) (h.table.named i x at) };
     begun = subst (λ (n : ℕ). length (loaded_objects w) ≤ n) (sym count) h.begun;
     births = h.births ∙ sym count;
-    statics = statics_stay store.heap store_then.heap stays (all_held store.globals store.statics.items) shared.statics h.statics;
+    statics = statics_stay store.heap store_then.heap stays (all_held store.globals store.weaks store.statics.items) shared.statics h.statics;
     named = h.named;
     keys = h.keys;
+    weak_keys = h.weak_keys;
+    weaks = weaks_stay store.heap store_then.heap stays store.weaks h.weaks;
     globals = slots_stay store.heap store_then.heap stays store.globals shared.globals h.globals;
     buffers = taken_changed store.heap a (λ (b : Block). record b { values = vs b.values }) store.elements store.views (length shared.heap) (length heap_then) all leaving (λ b. refl) (λ b. refl) count h.buffers;
     monitors = h.monitors;

@@ -9,13 +9,13 @@ use Rattle.class_rules.specs.BuiltIns.{string_class}
 use Rattle.class_rules.specs.Class.{Classes}
 use Rattle.heap.specs.Heap.{Space, name_at, values_at}
 use Rattle.heap.specs.declared.value.Value.{Value}
-use Rattle.jni.specs.Prototype.{ResultKind, NewLocal, NewGlobal, GivesFlag, GivesInt, GivesField, GivesNothing}
-use Rattle.semantics.specs.CallEffects.{CallResult, NoResult, NullResult, ScalarResult, ReferenceResult, FieldResult, CallEffect, copy_effect, view_effect, release_effect, enter_effect, exit_effect, Halts, Leaves, Throws, throw_new_effect, delete_global_effect, frames_effect, refuses_frames, with_capacity, without_local, begun_with, heap_effect, overwritten}
+use Rattle.jni.specs.Prototype.{ResultKind, NewLocal, NewGlobal, GivesFlag, GivesInt, GivesField, GivesNothing, NewWeak}
+use Rattle.semantics.specs.CallEffects.{CallResult, NoResult, NullResult, ScalarResult, ReferenceResult, WeakResult, FieldResult, CallEffect, copy_effect, view_effect, release_effect, enter_effect, exit_effect, Halts, Leaves, Throws, throw_new_effect, delete_global_effect, delete_weak_effect, frames_effect, refuses_frames, with_capacity, without_local, begun_with, heap_effect, overwritten}
 use Rattle.semantics.specs.Heap.{next_name, numbers_of, values_of, with_numbers, with_value_at}
 use Rattle.semantics.specs.Object.{ObjectValue, Number, Reference}
 use Rattle.semantics.specs.Thread.{BuffersInUse, Monitor, Shared, Thread, monitor_of}
 use Rattle.semantics.specs.Value.{Int, Flag}
-use Rattle.semantics.specs.Variable.{Live, change}
+use Rattle.semantics.specs.Variable.{StaticReference, Live, Weakly, Cleared, change}
 use Rattle.semantics.specs.Arguments.{Actual, ReleaseMode, VariableActual}
 use Rattle.code.specs.declared.instr.LocalArray.{LocalArray}
 use Rattle.code.specs.declared.instr.Operand.{Operand}
@@ -68,6 +68,18 @@ is_halt a = false
 pub record HoldsObject (s : Shared) (x : Identifier) (i n : ℕ) : Type 0 where
   pub place : static_index x s.statics ≡ Some i
   pub there : lookup x s.statics ≡ Some (Live n)
+
+-- a static holds a weak global reference, cleared or not
+abbrev pub IsWeak : StaticReference → Type 0
+IsWeak (Weakly n) = Unit {0}
+IsWeak Cleared = Unit {0}
+IsWeak r = ⊥
+
+-- the static at this place holds this weak global reference
+pub record HoldsWeakly (s : Shared) (x : Identifier) (i : ℕ) (r : StaticReference) : Type 0 where
+  pub place : static_index x s.statics ≡ Some i
+  pub there : lookup x s.statics ≡ Some r
+  pub weak : IsWeak r
 
 -- ---- what a call brings
 
@@ -197,7 +209,11 @@ IsAnswer classes brought space locals kind s t (answer.MakesGlobal a) effect =
     (kind ≡ NewGlobal) × ((r : Reference) × ReferenceAgrees space a r
     × (effect ≡ Leaves [] (record s { globals = option_to_list r ++ s.globals }) t (ReferenceResult r)))
 IsAnswer classes brought space locals kind s t (answer.DeletesGlobal i) effect = (kind ≡ GivesNothing)
-    × ((x : Identifier) × (n : ℕ) × HoldsObject s x i n × (effect ≡ delete_global_effect s t x (Some n)))
+    × ((x : Identifier) × (n : ℕ) × HoldsObject s x i n × (effect ≡ delete_global_effect s t x (Some (Live n))))
+IsAnswer classes brought space locals kind s t (answer.MakesWeak a) effect =
+    (kind ≡ NewWeak) × ((r : Reference) × ReferenceAgrees space a r × (effect ≡ Leaves [] s t (WeakResult r)))
+IsAnswer classes brought space locals kind s t (answer.DeletesWeak i) effect = (kind ≡ GivesNothing)
+    × ((x : Identifier) × (r : StaticReference) × HoldsWeakly s x i r × (effect ≡ delete_weak_effect s t x (Some r)))
 IsAnswer classes brought space locals kind s t (answer.AcquiresCopy a) effect = IsBufferResult kind × IsCopyAcquired brought space s t a effect
 IsAnswer classes brought space locals kind s t (answer.AcquiresView a) effect = IsBufferResult kind × IsViewAcquired brought space s t a effect
 IsAnswer classes brought space locals kind s t (answer.Releases r) effect = (kind ≡ GivesNothing) × IsReleased brought space s t r effect

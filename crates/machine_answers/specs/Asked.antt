@@ -35,7 +35,7 @@ references_of store activation =
     record {
       keys = activation.slots.references.items;
       locals = activation.locals;
-      statics = all_held store.globals store.statics.items;
+      statics = all_held store.globals store.weaks store.statics.items;
     }
 
 -- what a call of thread k sees

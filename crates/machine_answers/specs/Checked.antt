@@ -15,7 +15,7 @@ use Rattle.code.specs.declared.instr.Target.TheVariants.{Buffer}
 use Rattle.heap.specs.Heap.{Space}
 use Rattle.jni.specs.Access.{ArrayView}
 use Rattle.jni.specs.JniFunction.{is_allowed_pending, JniFunction, GetBuffer, AllocObject, GetField, SetField, GetStaticField, SetStaticField, GetObjectField, SetObjectField, GetStaticObjectField, SetStaticObjectField, NewObjectArray, Throw, ThrowNew, prototype}
-use Rattle.jni.specs.Prototype.{ParameterKind, Nullable, LocalVariable, StaticVariable, IsCopy, ResultKind, NewLocal}
+use Rattle.jni.specs.Prototype.{ParameterKind, Nullable, AnyReference, LocalVariable, StaticVariable, WeakVariable, IsCopy, ResultKind, NewLocal}
 use Rattle.semantics.specs.Checks.{first_trap}
 use Rattle.semantics.specs.Heap.{holds_number, holds_reference}
 use Rattle.semantics.specs.Value.{Trap, NullReference, ExceptionPending, WrongObject, DeletedReference, NoCapacity}
@@ -44,8 +44,10 @@ gives_deleted references o = false
 -- a parameter may be NULL
 abbrev pub may_be_null : ParameterKind → Bool
 may_be_null Nullable = true
+may_be_null AnyReference = true
 may_be_null LocalVariable = true
 may_be_null StaticVariable = true
+may_be_null WeakVariable = true
 may_be_null IsCopy = true
 may_be_null p = false
 

@@ -20,7 +20,7 @@ use Rattle.heap.specs.Heap.{Space, values_at}
 use Rattle.heap.specs.declared.value.Value.{Value}
 use Rattle.heap.specs.declared.value.Value.TheVariants as value
 use Rattle.jni.specs.Access.{Access, ElementsCopy, is_critical}
-use Rattle.jni.specs.JniFunction.{GetBuffer, ReleaseBuffer, JniFunction, FindClass, GetSuperclass, GetObjectClass, IsInstanceOf, IsAssignableFrom, AllocObject, NewLocalRef, NewGlobalRef, DeleteLocalRef, DeleteGlobalRef, IsSameObject, EnsureLocalCapacity, PushLocalFrame, PopLocalFrame, GetFieldID, GetStaticFieldID, GetField, SetField, GetStaticField, SetStaticField, GetObjectField, SetObjectField, GetStaticObjectField, SetStaticObjectField, GetArrayLength, GetStringLength, NewArray, NewObjectArray, GetObjectArrayElement, SetObjectArrayElement, NewStringUTF, Throw, ThrowNew, ExceptionOccurred, ExceptionCheck, ExceptionClear, FatalError, MonitorEnter, MonitorExit, GetArrayRegion, SetArrayRegion, GetStringRegion}
+use Rattle.jni.specs.JniFunction.{GetBuffer, ReleaseBuffer, JniFunction, FindClass, GetSuperclass, GetObjectClass, IsInstanceOf, IsAssignableFrom, AllocObject, NewLocalRef, NewGlobalRef, NewWeakGlobalRef, DeleteLocalRef, DeleteGlobalRef, DeleteWeakGlobalRef, IsSameObject, EnsureLocalCapacity, PushLocalFrame, PopLocalFrame, GetFieldID, GetStaticFieldID, GetField, SetField, GetStaticField, SetStaticField, GetObjectField, SetObjectField, GetStaticObjectField, SetStaticObjectField, GetArrayLength, GetStringLength, NewArray, NewObjectArray, GetObjectArrayElement, SetObjectArrayElement, NewStringUTF, Throw, ThrowNew, ExceptionOccurred, ExceptionCheck, ExceptionClear, FatalError, MonitorEnter, MonitorExit, GetArrayRegion, SetArrayRegion, GetStringRegion}
 use Rattle.monitors.specs.declared.monitors.Enter.{Enter}
 use Rattle.monitors.specs.declared.monitors.Enter.TheVariants as enter
 use Rattle.monitors.specs.declared.monitors.Exit.{Exit}
@@ -31,12 +31,15 @@ use Rattle.monitors.specs.Monitors.{entering, leaving, monitor_of}
 use Rattle.machine_answers.specs.declared.answer.Given.TheVariants.{Nothing, Number, Reference}
 use Rattle.machine_answers.specs.declared.answer.Given.TheVariants as given
 use Rattle.machine_answers.specs.declared.answer.Answer.{Answer}
-use Rattle.machine_answers.specs.declared.answer.Answer.TheVariants.{Gives, Writes, Makes, Throws, Raises, Pends, Halts, Ensures, Pushes, RefusesFrames, Pops, Deletes, MakesGlobal, DeletesGlobal, CopiesOut, CopiesIn, AcquiresCopy, AcquiresView, Releases, Enters, Exits}
+use Rattle.machine_answers.specs.declared.answer.Answer.TheVariants.{Gives, Writes, Makes, Throws, Raises, Pends, Halts, Ensures, Pushes, RefusesFrames, Pops, Deletes, MakesGlobal, DeletesGlobal, MakesWeak, DeletesWeak, CopiesOut, CopiesIn, AcquiresCopy, AcquiresView, Releases, Enters, Exits}
 use Rattle.machine_scenes.specs.declared.array_region.ArrayRegion.{ArrayRegion}
 use Rattle.machine_scenes.specs.declared.buffer.Buffer.{Buffer}
 use Rattle.machine_scenes.specs.declared.buffer.Buffer.TheVariants as buffer
 use Rattle.machine_scenes.specs.declared.new_object.New.TheVariants.{Fresh, Array, Text}
 use Rattle.machine_scenes.specs.Scenes.{Scene}
+use Rattle.machine_scenes.specs.Statics.{References, static_at}
+use Rattle.machine_scenes.specs.declared.references.Held.{Held}
+use Rattle.machine_scenes.specs.declared.references.Held.TheVariants as held
 use Rattle.semantics.specs.declared.trap.Trap.TheVariants.{Fatal, OutOfRange}
 use Rattle.machine_scenes.specs.Given.{operand_at, key_at, operand_of, field_at, class_of_given, name_there, fits_there, field_there}
 
@@ -75,11 +78,26 @@ abbrev pub deletes : (key : Option ℕ) → Answer
 deletes None = Gives Nothing
 deletes (Some key) = Deletes key
 
--- the global reference of a static ends, for one that isn't NULL
-abbrev pub deletes_global : Option ℕ → Operand → Answer
-deletes_global None o = Gives Nothing
-deletes_global (Some a) (operand.Static i) = DeletesGlobal i
-deletes_global (Some a) o = Gives Nothing
+-- the global reference of a static ends, where it holds one
+abbrev pub deletes_held : ℕ → Held → Answer
+deletes_held i (held.At a) = DeletesGlobal i
+deletes_held i h = Gives Nothing
+
+-- that of an operand's static
+abbrev pub deletes_global : References → Operand → Answer
+deletes_global references (operand.Static i) = deletes_held i (static_at references i)
+deletes_global references o = Gives Nothing
+
+-- the weak global reference of a static ends, cleared or not, where it holds one
+abbrev pub deletes_held_weakly : ℕ → Held → Answer
+deletes_held_weakly i (held.Weakly a) = DeletesWeak i
+deletes_held_weakly i held.Cleared = DeletesWeak i
+deletes_held_weakly i h = Gives Nothing
+
+-- that of an operand's static
+abbrev pub deletes_weak : References → Operand → Answer
+deletes_weak references (operand.Static i) = deletes_held_weakly i (static_at references i)
+deletes_weak references o = Gives Nothing
 
 -- ---- cells
 
@@ -286,7 +304,9 @@ module _ (scene : Scene) (call : Call) where
   worked_out AllocObject = Makes (Fresh (class_id (name_there scene.space (reference 0))))
   worked_out NewLocalRef = Gives (Reference (reference 0))
   worked_out NewGlobalRef = MakesGlobal (reference 0)
-  worked_out DeleteGlobalRef = deletes_global (reference 0) (operand_of call.operands 0)
+  worked_out NewWeakGlobalRef = MakesWeak (reference 0)
+  worked_out DeleteGlobalRef = deletes_global scene.references (operand_of call.operands 0)
+  worked_out DeleteWeakGlobalRef = deletes_weak scene.references (operand_of call.operands 0)
   worked_out DeleteLocalRef = deletes (key_at scene.references (operand_of call.operands 0))
   worked_out IsSameObject = Gives (Number (truth_word (name_there scene.space (reference 0) == name_there scene.space (reference 1))))
   worked_out EnsureLocalCapacity = room_for (stack_number scene.stack)

@@ -14,7 +14,7 @@ ghost use Rattle.machine_answers.specs.Checked.{arguments_fit, element_wanted};
 ghost use Rattle.machine_scenes.specs.Given.{field_there, name_there, AreAddresses, AreHandles, FieldIsThere, ReferenceIsThere};
 ghost use Rattle.machine_scenes.specs.Scenes.{scene_view};
 ghost use Rattle.jni.specs.Subjects.{subject_of};
-ghost use Rattle.machine_answers.specs.WorkedOut.{address_in, class_object, count_there, declaring, deletes, deletes_global, field, found_class, frame_for, handle, held_reference, place, place_of_static, place_there, reference, room_for, top_word, value_there, word_in, writes_there, IsFoundField, IsWorkedOut};
+ghost use Rattle.machine_answers.specs.WorkedOut.{address_in, class_object, count_there, declaring, deletes, deletes_global, deletes_weak, field, found_class, frame_for, handle, held_reference, place, place_of_static, place_there, reference, room_for, top_word, value_there, word_in, writes_there, IsFoundField, IsWorkedOut};
 ghost use Rattle.jni.specs.declared.subject.Subject.TheVariants as subject;
 ghost use Rattle.base.specs.Element.{element_value};
 
@@ -38,6 +38,7 @@ use machine_scenes::new_object::{New, text_at};
 use machine_scenes::operands::{
     class_of_given, declaring, fits_there, handle_at, key_in, name_there, operand_of, reference_at,
 };
+use machine_scenes::references::{Held, References};
 use machine_scenes::scene::Scene;
 use machine_scenes::statics::StaticReference;
 use monitors::Object;
@@ -112,6 +113,10 @@ pub enum Answer {
     MakesGlobal(Option<Addr>),
     /// The global reference of the static of this number ends, and the static is marked.
     DeletesGlobal(u32),
+    /// A weak global reference to the object at this address is made and given, and none for NULL.
+    MakesWeak(Option<Addr>),
+    /// The weak global reference of the static of this number ends, cleared or not, and the static is marked.
+    DeletesWeak(u32),
     /// The thread owns the monitor of this object, or once more, and 0 is given.
     Enters(Object),
     /// The thread owns the monitor of the object of this birth number once less, and 0 is given.
@@ -194,12 +199,15 @@ fn work_out_reference(scene: &Scene<'_>, call: &Call) -> Answer
     match call.function {
         JniFunction::NewLocalRef => Answer::Gives(Given::Reference(argument(scene, call, 0))),
         JniFunction::NewGlobalRef => Answer::MakesGlobal(argument(scene, call, 0)),
+        JniFunction::NewWeakGlobalRef => Answer::MakesWeak(argument(scene, call, 0)),
         JniFunction::DeleteLocalRef => {
             deletes(key_in(&scene.references, operand_of(&call.operands, 0)))
         }
         JniFunction::DeleteGlobalRef => {
-            let first = argument(scene, call, 0);
-            deletes_global(first, operand_of(&call.operands, 0))
+            deletes_global(&scene.references, operand_of(&call.operands, 0))
+        }
+        JniFunction::DeleteWeakGlobalRef => {
+            deletes_weak(&scene.references, operand_of(&call.operands, 0))
         }
         JniFunction::IsSameObject => {
             let first = name_of(scene, call, 0);
@@ -377,12 +385,30 @@ fn deletes(key: Option<Local>) -> Answer
     }
 }
 
-/// The global reference of a static ends, for one that isn't NULL.
-fn deletes_global(reference: Option<Addr>, operand: Operand) -> Answer
-    ensures { result ≡ deletes_global reference operand }
+/// The global reference of a static ends, where it holds one.
+fn deletes_global(references: &References<'_>, operand: Operand) -> Answer
+    ensures { result ≡ deletes_global references.now operand }
 {
-    match (reference, operand) {
-        (Some(_), Operand::Static(slot)) => Answer::DeletesGlobal(slot),
+    match operand {
+        Operand::Static(slot) => match references.held(slot) {
+            Held::At(_) => Answer::DeletesGlobal(slot),
+            Held::Empty | Held::Weakly(_) | Held::Cleared | Held::Deleted => {
+                Answer::Gives(Given::Nothing)
+            }
+        },
+        _ => Answer::Gives(Given::Nothing),
+    }
+}
+
+/// The weak global reference of a static ends, cleared or not, where it holds one.
+fn deletes_weak(references: &References<'_>, operand: Operand) -> Answer
+    ensures { result ≡ deletes_weak references.now operand }
+{
+    match operand {
+        Operand::Static(slot) => match references.held(slot) {
+            Held::Weakly(_) | Held::Cleared => Answer::DeletesWeak(slot),
+            Held::Empty | Held::At(_) | Held::Deleted => Answer::Gives(Given::Nothing),
+        },
         _ => Answer::Gives(Given::Nothing),
     }
 }

@@ -40,7 +40,9 @@ fn gives_null(scene: &Scene<'_>, operand: Operand) -> bool
     match operand {
         Operand::Null => true,
         Operand::Local(_) => reference_in(&scene.references, operand).is_none(),
-        Operand::Static(slot) => matches!(scene.references.held(slot), Held::Empty),
+        Operand::Static(slot) => {
+            matches!(scene.references.held(slot), Held::Empty | Held::Cleared)
+        }
         Operand::FieldId(_) => field_in(scene.fields, operand).is_none(),
         Operand::Number | Operand::Text | Operand::Mode(_) => false,
         Operand::Array(_) | Operand::Buffer(_) | Operand::IsCopy(_) => false,
@@ -73,8 +75,10 @@ fn may_be_null(parameter: ParameterKind) -> bool
     matches!(
         parameter,
         ParameterKind::Nullable
+            | ParameterKind::AnyReference
             | ParameterKind::LocalVariable
             | ParameterKind::StaticVariable
+            | ParameterKind::WeakVariable
             | ParameterKind::IsCopy
     )
 }

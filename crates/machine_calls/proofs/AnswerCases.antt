@@ -1,19 +1,21 @@
 -- Which effects an answer can have.
-use Rattle.std.proofs.Common.{◌≡◌, ℕ, [], ◌∷◌, Some, sym, ap}
+use Rattle.std.proofs.Common.{◌≡◌, ℕ, [], ◌∷◌, Some, refl, sym, ap}
+use Rattle.base.specs.Bytes.{Identifier}
 use Rattle.class_rules.specs.Class.{Classes}
 use Rattle.class_rules.specs.declared.class_id.ClassId.{ClassId}
 use Rattle.heap.specs.Heap.{Space}
 use Rattle.heap.specs.declared.value.Value.{Value}
 use Rattle.jni.specs.Prototype.{ResultKind, NewLocal, GivesNothing}
-use Rattle.semantics.specs.CallEffects.{CallResult, NoResult, NullResult, ScalarResult, ReferenceResult, FieldResult, BufferResult, CallEffect, Throws, Halts, Leaves}
+use Rattle.semantics.specs.CallEffects.{CallResult, NoResult, NullResult, ScalarResult, ReferenceResult, WeakResult, FieldResult, BufferResult, CallEffect, Throws, Halts, Leaves, delete_weak_effect}
 use Rattle.semantics.specs.Heap.{next_name}
 use Rattle.semantics.specs.Thread.{Shared, Thread}
 use Rattle.semantics.specs.Object.{Object}
+use Rattle.semantics.specs.Variable.{StaticReference, Empty, Live, Weakly, Cleared, Deleted, assign}
 use Rattle.machine_answers.specs.declared.answer.Given.{Given}
 use Rattle.machine_answers.specs.declared.answer.Answer.TheVariants as answer
 use Rattle.machine_scenes.specs.declared.new_object.New.{New}
 use Rattle.tables.specs.Locals.{LocalTable}
-use Rattle.machine_answers.specs.Answers.{Brought, GivenAgrees, IsAnswer, WritesAt}
+use Rattle.machine_answers.specs.Answers.{Brought, GivenAgrees, IsAnswer, IsWeak, WritesAt}
 use Rattle.machine_scenes.specs.NewObjects.{Describes, IsMakeable}
 
 module _ (classes : Classes) (brought : Brought) (space : Space) (locals : LocalTable) (kind : ResultKind) (shared : Shared) (s : Thread) where
@@ -44,6 +46,7 @@ module _ (classes : Classes) (brought : Brought) (space : Space) (locals : Local
   writes_it a place v (Leaves [] s' t' NullResult) h = absurd h
   writes_it a place v (Leaves [] s' t' (ScalarResult z)) h = absurd h
   writes_it a place v (Leaves [] s' t' (ReferenceResult r)) h = absurd h
+  writes_it a place v (Leaves [] s' t' (WeakResult r)) h = absurd h
   writes_it a place v (Leaves [] s' t' (FieldResult f)) h = absurd h
   writes_it a place v (Leaves [] s' t' (BufferResult b)) h = absurd h
 
@@ -62,6 +65,7 @@ module _ (classes : Classes) (brought : Brought) (space : Space) (locals : Local
   makes_it new (Leaves (o ∷ []) s' t' NoResult) h = absurd h
   makes_it new (Leaves (o ∷ []) s' t' NullResult) h = absurd h
   makes_it new (Leaves (o ∷ []) s' t' (ScalarResult z)) h = absurd h
+  makes_it new (Leaves (o ∷ []) s' t' (WeakResult r)) h = absurd h
   makes_it new (Leaves (o ∷ []) s' t' (FieldResult f)) h = absurd h
   makes_it new (Leaves (o ∷ []) s' t' (BufferResult b)) h = absurd h
   makes_it new (Leaves (o ∷ []) s' t' (ReferenceResult r)) h = record { object = o; is = (λ i. Leaves (o ∷ []) (h.0 i) (h.1 i) (ReferenceResult (h.3 i))); kind_is = h.2; describes = h.4 }
@@ -75,3 +79,11 @@ module _ (classes : Classes) (brought : Brought) (space : Space) (locals : Local
   throws_it class (Throws c) h = record { is = ap Throws (sym h.0); makeable = h.1 }
   throws_it class (Halts trap) h = absurd h
   throws_it class (Leaves made s' t' c) h = absurd h
+
+-- the weak reference that a static holds is ended, cleared or not
+pub weak_deleted : (s : Shared) (t : Thread) (x : Identifier) (r : StaticReference) → IsWeak r → delete_weak_effect s t x (Some r) ≡ Leaves [] (record s { statics = assign x Deleted s.statics }) t NoResult
+weak_deleted s t x (Weakly n) weak = refl
+weak_deleted s t x Cleared weak = refl
+weak_deleted s t x Empty weak = absurd weak
+weak_deleted s t x (Live n) weak = absurd weak
+weak_deleted s t x Deleted weak = absurd weak

@@ -22,7 +22,7 @@ use Rattle.machine_scenes.specs.Buffers.{Acquired, IsTaken, SameAcquired}
 use Rattle.machine_scenes.specs.HeapAgrees.{BlockAgrees, BlocksAgree, ValueAgrees, ValuesAgree}
 use Rattle.machine_scenes.specs.Statics.{all_held}
 use Rattle.machine_scenes.specs.StoreAgrees.{Keeps, StoreAgrees}
-use Rattle.machine_scenes.proofs.Keeping.{none_made, reference_stays, slots_stay, statics_stay}
+use Rattle.machine_scenes.proofs.Keeping.{none_made, reference_stays, slots_stay, statics_stay, weaks_stay}
 use Rattle.machine_scenes.proofs.Taken.{taken_same}
 
 -- ---- pins
@@ -74,6 +74,8 @@ module _ (p : Lowered) (w : World) (store : Store) (shared : Shared) (all : Acqu
     statics = h.statics;
     named = h.named;
     keys = h.keys;
+    weak_keys = h.weak_keys;
+    weaks = h.weaks;
     globals = h.globals;
     buffers = taken_same store.heap store.elements store.views (length shared.heap) all next same h.buffers;
     monitors = h.monitors;
@@ -92,6 +94,8 @@ module _ (p : Lowered) (w : World) (store : Store) (shared : Shared) (all : Acqu
     statics = h.statics;
     named = h.named;
     keys = h.keys;
+    weak_keys = h.weak_keys;
+    weaks = h.weaks;
     globals = h.globals;
     buffers = taken;
     monitors = h.monitors;
@@ -110,9 +114,11 @@ module _ (p : Lowered) (w : World) (store : Store) (shared : Shared) (all : Acqu
     table = record { counted = h.table.counted; named = λ i x at. names_pinned store.heap a count x (i + 1) (h.table.named i x at) };
     begun = h.begun;
     births = h.births;
-    statics = statics_stay store.heap (with_pins store.heap a count) (names_pinned store.heap a count) (all_held store.globals store.statics.items) shared.statics h.statics;
+    statics = statics_stay store.heap (with_pins store.heap a count) (names_pinned store.heap a count) (all_held store.globals store.weaks store.statics.items) shared.statics h.statics;
     named = h.named;
     keys = h.keys;
+    weak_keys = h.weak_keys;
+    weaks = weaks_stay store.heap (with_pins store.heap a count) (names_pinned store.heap a count) store.weaks h.weaks;
     globals = slots_stay store.heap (with_pins store.heap a count) (names_pinned store.heap a count) store.globals shared.globals h.globals;
     buffers = taken;
     monitors = h.monitors;

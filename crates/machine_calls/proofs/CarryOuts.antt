@@ -10,14 +10,14 @@ use Rattle.machine_scenes.proofs.ObjectExtents.{more_laid, with_both}
 use Rattle.code_meaning.specs.Slots.{static_index}
 use Rattle.semantics.specs.CallEffects.{without_one}
 use Rattle.semantics.specs.Object.{Object, Reference, sizes}
-use Rattle.semantics.specs.Variable.{Empty, Live, Deleted, assign}
+use Rattle.semantics.specs.Variable.{Empty, Live, Weakly, Deleted, assign}
 use Rattle.semantics.specs.Variable as variable
 use Rattle.tables.specs.Globals.{without}
 use Rattle.tables.specs.References.{address_at}
 use Rattle.machine_scenes.specs.Statics.{StaticReference}
 use Rattle.semantics.specs.declared.static_reference.StaticReference.TheVariants as static
-use Rattle.machine_scenes.specs.Statics.{held as held_of, held_at}
-use Rattle.machine_calls.proofs.StaticStores.{fresh_global, keeps_but_statics, live_there, with_deleted, with_global}
+use Rattle.machine_scenes.specs.Statics.{held as held_of, held_at, held_weakly, without_weak}
+use Rattle.machine_calls.proofs.StaticStores.{fresh_global, fresh_weak, keeps_but_statics, live_there, with_deleted, with_global, with_weak, with_weak_deleted}
 use Rattle.std.specs.Prelude.{slice_get, slice_set, nat_le, if◌then◌else◌}
 use Rattle.std.proofs.lemmas.Bool.{le-leb, leb-true}
 use Rattle.std.proofs.lemmas.Option.{slice_get_within}
@@ -25,8 +25,8 @@ use Rattle.class_rules.specs.Class.{Classes}
 use Rattle.class_rules.specs.declared.class_id.ClassId.{ClassId}
 use Rattle.heap.specs.Heap.{Space, left_of, with_value}
 use Rattle.heap.specs.declared.value.Value.{Value}
-use Rattle.jni.specs.Prototype.{ResultKind, NewLocal, NewGlobal, GivesFlag, GivesInt, GivesField, GivesNothing, GivesBuffer}
-use Rattle.semantics.specs.CallEffects.{BufferResult, overwritten, string_object, with_message, frames_effect, without_local, CallResult, Leaves, NoResult, ReferenceResult, ScalarResult, CallEffect, out_of_memory, refuses_frames, with_capacity}
+use Rattle.jni.specs.Prototype.{ResultKind, NewLocal, NewGlobal, NewWeak, GivesFlag, GivesInt, GivesField, GivesNothing, GivesBuffer}
+use Rattle.semantics.specs.CallEffects.{BufferResult, overwritten, string_object, with_message, frames_effect, without_local, CallResult, Leaves, NoResult, ReferenceResult, WeakResult, ScalarResult, CallEffect, out_of_memory, refuses_frames, with_capacity}
 use Rattle.semantics.specs.CallStep.{failure, makes_objects}
 use Rattle.semantics.specs.Heap.{Heap, next_name, numbers_of, with_numbers}
 use Rattle.semantics.specs.Thread as source
@@ -35,6 +35,7 @@ use Rattle.semantics.specs.Value.{Int}
 use Rattle.semantics.specs.World.{World, fresh_object, loaded_objects}
 use Rattle.world_values.proofs.LoadedWorlds.{loaded_error}
 use Rattle.code_meaning.specs.Lowered.{Lowered}
+use Rattle.code_meaning.specs.Stands.{IsStaticResult}
 use Rattle.machine_answers.specs.declared.answer.Answer.{Answer}
 use Rattle.machine_answers.specs.declared.answer.Answer.TheVariants as answer
 use Rattle.machine_answers.specs.declared.answer.Given.{Given}
@@ -44,7 +45,7 @@ use Rattle.machine_scenes.specs.declared.new_object.New.TheVariants.{Exception, 
 use Rattle.machine_scenes.specs.declared.store.Store.{Store}
 use Rattle.machine_scenes.specs.StoreAgrees.{HeldAgrees, StoreAgrees, Keeps}
 use Rattle.machine_answers.specs.Answers.{Brought, GivenAgrees, IsAnswer}
-use Rattle.machine_calls.specs.CarriedOut.{CarriesOut, IsFresh, IsLeft, IsPossible, ResultAgrees, acquired_with, failed, made_by}
+use Rattle.machine_calls.specs.CarriedOut.{CarriesOut, IsForStatic, IsFresh, IsLeft, IsPossible, ResultAgrees, acquired_with, failed, made_by}
 use Rattle.machine_scenes.specs.Buffers.{Acquired, acquired_by, beside, nothing_acquired}
 use Rattle.machine_calls.proofs.BufferStores.{agrees_same}
 use Rattle.machine_scenes.proofs.HeldSums.{beside_nothing, begun_same}
@@ -53,9 +54,9 @@ use Rattle.tables.specs.Locals as tables
 use Rattle.tables.specs.Locals.{Frame, LocalTable, capacities, popped}
 use Rattle.machine_scenes.specs.HeapAgrees.{ReferenceAgrees}
 use Rattle.machine_calls.specs.Made.{HasMade}
-use Rattle.machine_scenes.specs.Statics.{MakesGlobal}
+use Rattle.machine_scenes.specs.Statics.{MakesGlobal, MakesWeak}
 use Rattle.machine_scenes.specs.NewObjects.{Describes, cells_of_new, text_in}
-use Rattle.machine_calls.proofs.AnswerCases.{gives_it, makes_it, throws_it, writes_it}
+use Rattle.machine_calls.proofs.AnswerCases.{gives_it, makes_it, throws_it, weak_deleted, writes_it}
 use Rattle.machine_calls.proofs.CellsMade.{both_sizes, cells_made, described_size, nothing_asked}
 use Rattle.machine_scenes.proofs.HeapLaws.{object_kept}
 use Rattle.machine_scenes.proofs.Keeping.{frames_stay, keeps_same, key_stays, more_made, reference_stays}
@@ -77,7 +78,8 @@ module _ (p : Lowered) (w : World) (space : Space) (before : LocalTable) (kind :
 -- a call that fails gives what it gives in the source
 failed_agrees : (classes : Classes) (store : Store) (k : ℕ) (kind : ResultKind) → ResultAgrees classes store k (failed kind) kind (failure kind)
 failed_agrees classes store k NewLocal = refl
-failed_agrees classes store k NewGlobal = (refl, (None, inr (refl, refl), tt, λ key e. absurd (cc)))
+failed_agrees classes store k NewGlobal = (tt, tt, record { live = λ key e. absurd (cc); weak = λ key e. absurd (cc) })
+failed_agrees classes store k NewWeak = (tt, tt, record { live = λ key e. absurd (cc); weak = λ key e. absurd (cc) })
 failed_agrees classes store k GivesField = refl
 failed_agrees classes store k GivesFlag = refl
 failed_agrees classes store k GivesInt = (refl, record { sfits = omega arith })
@@ -88,6 +90,7 @@ failed_agrees classes store k (GivesBuffer access) = ((access, refl), refl)
 failure_none : (kind : ResultKind) → acquired_with (failure kind) ≡ nothing_acquired
 failure_none NewLocal = refl
 failure_none NewGlobal = refl
+failure_none NewWeak = refl
 failure_none GivesField = refl
 failure_none GivesFlag = refl
 failure_none GivesInt = refl
@@ -102,6 +105,7 @@ result_agrees classes store k kind (given.Reference a) c h = h
 result_agrees classes store k kind (given.FieldId f) c h = h
 result_agrees classes store k NewLocal (given.Global s) c h = absurd h
 result_agrees classes store k NewGlobal (given.Global s) c h = absurd h
+result_agrees classes store k NewWeak (given.Global s) c h = absurd h
 result_agrees classes store k GivesFlag (given.Global s) c h = absurd h
 result_agrees classes store k GivesInt (given.Global s) c h = absurd h
 result_agrees classes store k GivesField (given.Global s) c h = absurd h
@@ -109,6 +113,7 @@ result_agrees classes store k GivesNothing (given.Global s) c h = absurd h
 result_agrees classes store k (GivesBuffer a) (given.Global s) c h = absurd h
 result_agrees classes store k NewLocal (given.Buffer b) c h = absurd h
 result_agrees classes store k NewGlobal (given.Buffer b) c h = absurd h
+result_agrees classes store k NewWeak (given.Buffer b) c h = absurd h
 result_agrees classes store k GivesFlag (given.Buffer b) c h = absurd h
 result_agrees classes store k GivesInt (given.Buffer b) c h = absurd h
 result_agrees classes store k GivesField (given.Buffer b) c h = absurd h
@@ -386,7 +391,7 @@ module _ (p : Lowered) (w : World) (store : Store) (pending : Option ℕ) (local
         pending_agrees = h.pending_agrees;
         frames_agree = h.frames_agree;
         left = λ key n level is left. is;
-        given_agrees = (global, (None, inl refl, subst (λ (x : StaticReference). HeldAgrees store.heap (held_of globals x) Empty) (sym made.1) tt, λ key e. absurd (let clash : static.Empty ≡ static.Live key = sym made.1 ∙ e in cc)));
+        given_agrees = (subst (λ (k : ResultKind). IsForStatic k (ReferenceResult None)) (sym global) tt, subst (λ (x : StaticReference). HeldAgrees store.heap (held_of globals store.weaks x) Empty) (sym made.1) tt, record { live = λ key e. absurd (let clash : static.Empty ≡ static.Live key = sym made.1 ∙ e in cc); weak = λ key e. absurd (let clash : static.Empty ≡ static.Weakly key = sym made.1 ∙ e in cc) });
         still = λ same. refl;
         could_refuse = λ e. absurd (cc);
         room = nothing_asked store.heap;
@@ -400,13 +405,9 @@ module _ (p : Lowered) (w : World) (store : Store) (pending : Option ℕ) (local
         frames_agree = h.frames_agree;
         left = λ key n level is left. is;
         given_agrees = (
-          global,
-          (
-            Some n,
-            inl refl,
-            subst (λ (x : StaticReference). HeldAgrees store.heap (held_of globals x) (Live n)) (sym made.1) (subst (λ (o : Option ℕ). HeldAgrees store.heap (held_at o) (Live n)) (sym made.2.has) agrees),
-            subst (IsFresh (record store { globals = globals })) (sym made.1) (fresh_global p w store shared all h.store_agrees globals made.0 a made.2),
-          ),
+          subst (λ (k : ResultKind). IsForStatic k (ReferenceResult (Some n))) (sym global) tt,
+          subst (λ (x : StaticReference). HeldAgrees store.heap (held_of globals store.weaks x) (Live n)) (sym made.1) (subst (λ (o : Option ℕ). HeldAgrees store.heap (held_at o) (Live n)) (sym made.2.has) agrees),
+          subst (IsFresh (record store { globals = globals })) (sym made.1) (fresh_global p w store shared all h.store_agrees globals made.0 a made.2),
         );
         still = λ same. refl;
         could_refuse = λ e. absurd (cc);
@@ -427,7 +428,7 @@ module _ (p : Lowered) (w : World) (store : Store) (pending : Option ℕ) (local
         frames_agree = h.frames_agree;
         left = λ key n level is left. is;
         given_agrees = subst (λ (k : ResultKind). GivenAgrees w.classes store.heap k given.Nothing NoResult) (sym nothing) tt;
-        still = λ same. absurd (let clash : GivesNothing ≡ NewGlobal = sym nothing ∙ same in cc);
+        still = λ same. absurd (subst IsStaticResult nothing same);
         could_refuse = λ e. absurd (cc);
         room = nothing_asked store.heap;
       })
@@ -439,6 +440,58 @@ module _ (p : Lowered) (w : World) (store : Store) (pending : Option ℕ) (local
       let live = live_there p w store shared all h.store_agrees does.1.0 i does.1.1 does.1.2.place does.1.2.there in
       subst (λ (l : List (Option ℕ)). Carries (answer.DeletesGlobal i) effect false (record store { statics = statics; globals = l }) pending given.Nothing) (sym (gone live.key live.at))
       (deletes_global statics effect does.1.0 i live.key live.address does.1.1 does.0 live.at live.held live.named does.1.2.place does.1.3 marked)
+
+  -- a weak global reference was made, or none for NULL
+  pub makes_weak : (weaks : List (Option (Option ℕ))) (held : StaticReference) (effect : CallEffect) (a : Option ℕ) (r : Reference) → kind ≡ NewWeak → ReferenceAgrees store.heap a r → effect ≡ Leaves [] shared s (WeakResult r) → MakesWeak store.weaks a weaks held
+      → Carries (answer.MakesWeak a) effect false (record store { weaks = weaks }) pending (given.Global held)
+  makes_weak weaks held effect None (Some n) weak agrees is made = absurd agrees
+  makes_weak weaks held effect (Some a) None weak agrees is made = absurd agrees
+  makes_weak weaks held effect None None weak agrees is made =
+      subst (λ (e : CallEffect). Carries (answer.MakesWeak None) e false (record store { weaks = weaks }) pending (given.Global held)) (sym is) (record {
+        store_agrees = agrees_yet (record store { weaks = weaks }) shared (WeakResult None) refl (subst (λ (l : List (Option (Option ℕ))). StoreAgrees p w (record store { weaks = l }) shared all) (sym made.0) h.store_agrees);
+        keeps = subst (Keeps store.heap shared store.heap) (sym (same_heap shared)) (keeps_same store.heap shared);
+        pending_agrees = h.pending_agrees;
+        frames_agree = h.frames_agree;
+        left = λ key n level is left. is;
+        given_agrees = (subst (λ (k : ResultKind). IsForStatic k (WeakResult None)) (sym weak) tt, subst (λ (x : StaticReference). HeldAgrees store.heap (held_of store.globals weaks x) Empty) (sym made.1) tt, record { live = λ key e. absurd (let clash : static.Empty ≡ static.Live key = sym made.1 ∙ e in cc); weak = λ key e. absurd (let clash : static.Empty ≡ static.Weakly key = sym made.1 ∙ e in cc) });
+        still = λ same. refl;
+        could_refuse = λ e. absurd (cc);
+        room = nothing_asked store.heap;
+      })
+  makes_weak weaks held effect (Some a) (Some n) weak agrees is made =
+      subst (λ (e : CallEffect). Carries (answer.MakesWeak (Some a)) e false (record store { weaks = weaks }) pending (given.Global held)) (sym is) (record {
+        store_agrees = agrees_yet (record store { weaks = weaks }) shared (WeakResult (Some n)) refl (with_weak p w store shared all h.store_agrees weaks made.0 a n made.2 agrees);
+        keeps = subst (Keeps store.heap shared store.heap) (sym (same_heap shared)) (keeps_same store.heap shared);
+        pending_agrees = h.pending_agrees;
+        frames_agree = h.frames_agree;
+        left = λ key n level is left. is;
+        given_agrees = (
+          subst (λ (k : ResultKind). IsForStatic k (WeakResult (Some n))) (sym weak) tt,
+          subst (λ (x : StaticReference). HeldAgrees store.heap (held_of store.globals weaks x) (Weakly n)) (sym made.1) (subst (λ (o : Option (Option ℕ)). HeldAgrees store.heap (held_weakly o) (Weakly n)) (sym made.2.has) agrees),
+          subst (IsFresh (record store { weaks = weaks })) (sym made.1) (fresh_weak p w store shared all h.store_agrees weaks made.0 a made.2),
+        );
+        still = λ same. refl;
+        could_refuse = λ e. absurd (cc);
+        room = nothing_asked store.heap;
+      })
+
+  -- the weak reference of a static ended
+  pub deletes_weak : (statics : Vec StaticReference) (weaks : List (Option (Option ℕ))) (i : ℕ) (effect : CallEffect) → Does (answer.DeletesWeak i) effect → statics.items ≡ slice_set store.statics.items i static.Deleted → weaks ≡ without_weak store.weaks (slice_get store.statics.items i)
+      → Carries (answer.DeletesWeak i) effect false (record store { statics = statics; weaks = weaks }) pending given.Nothing
+  deletes_weak statics weaks i effect (nothing, (x, r, holds, is)) marked ended =
+      let marked_store : Store = record store { statics = statics; weaks = weaks } in
+      let after : Shared = record shared { statics = assign x Deleted shared.statics } in
+      subst (λ (e : CallEffect). Carries (answer.DeletesWeak i) e false marked_store pending given.Nothing) (sym (is ∙ weak_deleted shared s x r holds.weak)) (record {
+        store_agrees = agrees_yet marked_store after NoResult refl (with_weak_deleted p w store shared all h.store_agrees statics weaks x i holds.place marked ended);
+        keeps = subst (Keeps store.heap shared store.heap) (sym (same_heap after)) (keeps_but_statics p w store shared all h.store_agrees (assign x Deleted shared.statics) shared.globals (inr (x, Deleted, refl)));
+        pending_agrees = h.pending_agrees;
+        frames_agree = h.frames_agree;
+        left = λ key n level is left. is;
+        given_agrees = subst (λ (k : ResultKind). GivenAgrees w.classes store.heap k given.Nothing NoResult) (sym nothing) tt;
+        still = λ same. absurd (subst IsStaticResult nothing same);
+        could_refuse = λ e. absurd (cc);
+        room = nothing_asked store.heap;
+      })
 
   -- an object was made
   module _ (after : Store) (new : New) (a : ℕ) (made : HasMade w.classes texts store new after a) where

@@ -27,7 +27,7 @@ use Rattle.machine_calls.specs.CarriedOut.{takes_memory, is_of_references, made_
 use Rattle.machine_calls.specs.Made.{cells_of}
 use Rattle.machine_scenes.specs.NewObjects.{IsObject, cells_of_new, text_in, values_of_new}
 use Rattle.machine_calls.proofs.NewValues.{as_many}
-use Rattle.machine_calls.proofs.AnswerCases.{gives_it, makes_it, throws_it, writes_it}
+use Rattle.machine_calls.proofs.AnswerCases.{gives_it, makes_it, throws_it, writes_it, weak_deleted}
 
 -- no object takes no cell
 pub nothing_asked : (space : Space) → sizes [] ≤ left_of space
@@ -103,6 +103,8 @@ module _ (classes : Classes) (brought : Brought) (space : Space) (locals : Local
   cells_made (answer.Deletes key) effect does = ap Cells does.1.3
   cells_made (answer.MakesGlobal a) effect does = ap Cells does.1.2
   cells_made (answer.DeletesGlobal i) effect does = ap Cells does.1.3
+  cells_made (answer.MakesWeak a) effect does = ap Cells does.1.2
+  cells_made (answer.DeletesWeak i) effect does = ap Cells (does.1.3 ∙ weak_deleted shared s does.1.0 does.1.1 does.1.2.weak)
   cells_made (answer.Enters o) effect does = ap Cells does.1.is ∙ of_enter brought.buffers.owner o.name (source.monitor_of shared.monitors o.name)
   cells_made (answer.Exits n) effect does =
       let it = does.1 in
@@ -129,6 +131,8 @@ references_free classes texts (answer.Pops a) h = refl
 references_free classes texts (answer.Deletes key) h = refl
 references_free classes texts (answer.MakesGlobal a) h = refl
 references_free classes texts (answer.DeletesGlobal i) h = refl
+references_free classes texts (answer.MakesWeak a) h = refl
+references_free classes texts (answer.DeletesWeak i) h = refl
 references_free classes texts (answer.Enters o) h = refl
 references_free classes texts (answer.Exits n) h = refl
 

@@ -8,15 +8,15 @@ use Rattle.base.specs.Bytes.{Identifier, lookup}
 use Rattle.heap.specs.Heap.{Space}
 use Rattle.syntax.specs.Tree.{Static}
 use Rattle.semantics.specs.Start.{null_static}
-use Rattle.semantics.specs.Variable.{StaticReference, Empty, Live, Deleted, Statics, assign}
-use Rattle.code_meaning.specs.Slots.{is_empty, static_index}
+use Rattle.semantics.specs.Variable.{StaticReference, Statics, assign}
+use Rattle.code_meaning.specs.Slots.{static_index}
+use Rattle.tables.specs.Keys.{value_at}
 use Rattle.tables.specs.References.{address_at}
 use Rattle.machine_scenes.specs.declared.references.Held.{Held}
-use Rattle.machine_scenes.specs.declared.references.Held.TheVariants as held
 use Rattle.machine_scenes.specs.Statics.{StaticReference as InMemory}
 use Rattle.semantics.specs.declared.static_reference.StaticReference.TheVariants as static
 use Rattle.machine_scenes.specs.StoreAgrees.{HeldAgrees, StaticsAgree}
-use Rattle.machine_scenes.specs.Statics.{HaveKeys, all_held, held as held_of, held_or_null, holds_null}
+use Rattle.machine_scenes.specs.Statics.{HaveKeys, HaveWeakKeys, all_held, held as held_of, held_or_null}
 
 -- ---- places
 
@@ -41,17 +41,6 @@ place_below x ((y, r) ∷ statics) i h =
 -- ---- what is held
 
 module _ (space : Space) where
-  pub null_agrees : (h : Held) (r : StaticReference) → HeldAgrees space h r → holds_null h ≡ is_empty r
-  null_agrees held.Empty Empty e = refl
-  null_agrees held.Empty (Live n) e = absurd e
-  null_agrees held.Empty Deleted e = absurd e
-  null_agrees (held.At a) Empty e = absurd e
-  null_agrees (held.At a) (Live n) e = refl
-  null_agrees (held.At a) Deleted e = absurd e
-  null_agrees held.Deleted Empty e = absurd e
-  null_agrees held.Deleted (Live n) e = absurd e
-  null_agrees held.Deleted Deleted e = refl
-
   pub statics_count : (helds : List Held) (statics : Statics) → StaticsAgree space helds statics → length helds ≡ length statics
   statics_count [] [] h = refl
   statics_count [] (s ∷ statics) h = absurd h
@@ -71,14 +60,6 @@ module _ (space : Space) where
       (λ e j further is.
       subst (λ (n : ℕ). HeldAgrees space (held_or_null (slice_get (k ∷ helds) n)) r) (sym is)
       (static_there x helds statics j r h.1 further (sym (ap (λ (b : Bool). if b then Some q else lookup x statics) e) ∙ at)))
-
-  -- whether it is NULL
-  pub null_at : (helds : List Held) (statics : Statics) (i : ℕ) (null : Bool) → StaticsAgree space helds statics → option_map (λ (s : Identifier × StaticReference). is_empty s.1) (slice_get statics i) ≡ Some null → holds_null (held_or_null (slice_get helds i)) ≡ null
-  null_at [] [] i null h e = absurd (cc)
-  null_at [] (s ∷ statics) i null h e = absurd h
-  null_at (k ∷ helds) [] i null h e = absurd h
-  null_at (k ∷ helds) (s ∷ statics) zero null h e = null_agrees k s.1 h.0 ∙ (let same : is_empty s.1 ≡ null = cc in same)
-  null_at (k ∷ helds) (s ∷ statics) (suc i) null h e = null_at helds statics i null h.1 e
 
   -- the statics with another one
   pub static_put : (x : Identifier) (helds : List Held) (statics : Statics) (i : ℕ) (h : Held) (r : StaticReference) → StaticsAgree space helds statics → static_index x statics ≡ Some i → HeldAgrees space h r → StaticsAgree space (slice_set helds i h) (assign x r statics)
@@ -109,10 +90,10 @@ same_names x r ((y, q) ∷ statics) i place =
 -- ---- the table
 
 -- what is held once a static holds another reference
-pub held_set : (globals : List (Option ℕ)) (statics : List InMemory) (i : ℕ) (s : InMemory) → all_held globals (slice_set statics i s) ≡ slice_set (all_held globals statics) i (held_of globals s)
-held_set globals [] i s = refl
-held_set globals (x ∷ statics) zero s = refl
-held_set globals (x ∷ statics) (suc i) s = ap (λ (l : List Held). held_of globals x ∷ l) (held_set globals statics i s)
+pub held_set : (globals : List (Option ℕ)) (weaks : List (Option (Option ℕ))) (statics : List InMemory) (i : ℕ) (s : InMemory) → all_held globals weaks (slice_set statics i s) ≡ slice_set (all_held globals weaks statics) i (held_of globals weaks s)
+held_set globals weaks [] i s = refl
+held_set globals weaks (x ∷ statics) zero s = refl
+held_set globals weaks (x ∷ statics) (suc i) s = ap (λ (l : List Held). held_of globals weaks x ∷ l) (held_set globals weaks statics i s)
 
 -- one that isn't live has no key
 abbrev pub IsDead : InMemory → Type 0
@@ -148,6 +129,23 @@ keys_put globals statics i s fresh h = record {
     by_place : {P : Type 0} (l : List InMemory) (i j key : ℕ) → slice_get (slice_set l i s) j ≡ Some (static.Live key) → (j ≡ i → s ≡ static.Live key → P) → (slice_get l j ≡ Some (static.Live key) → P) → P
     by_place [] i j key at here elsewhere = elsewhere at
     by_place (x ∷ l) zero zero key at here elsewhere = here refl (let same : s ≡ static.Live key = cc in same)
+    by_place (x ∷ l) zero (suc j) key at here elsewhere = elsewhere at
+    by_place (x ∷ l) (suc i) zero key at here elsewhere = elsewhere at
+    by_place (x ∷ l) (suc i) (suc j) key at here elsewhere = by_place l i j key at (λ e d. here (ap suc e) d) elsewhere
+
+-- the same of the keys of weak references
+pub weak_keys_put : (weaks : List (Option (Option ℕ))) (statics : List InMemory) (i : ℕ) (s : InMemory) → ((key : ℕ) → s ≡ static.Weakly key → IsSome (value_at weaks key) × ((j : ℕ) → slice_get statics j ≡ Some (static.Weakly key) → ⊥)) → HaveWeakKeys weaks statics → HaveWeakKeys weaks (slice_set statics i s)
+weak_keys_put weaks statics i s fresh h = record {
+  live = λ j key at. by_place statics i j key at (λ here e. (fresh key e).0) (λ elsewhere. h.live j key elsewhere);
+  own = λ j k key at also.
+      by_place statics i j key at
+      (λ here e. by_place statics i k key also (λ there d. here ∙ sym there) (λ elsewhere. absurd ((fresh key e).1 k elsewhere)))
+      (λ elsewhere. by_place statics i k key also (λ there d. absurd ((fresh key d).1 j elsewhere)) (λ also_elsewhere. h.own j k key elsewhere also_elsewhere));
+}
+  where
+    by_place : {P : Type 0} (l : List InMemory) (i j key : ℕ) → slice_get (slice_set l i s) j ≡ Some (static.Weakly key) → (j ≡ i → s ≡ static.Weakly key → P) → (slice_get l j ≡ Some (static.Weakly key) → P) → P
+    by_place [] i j key at here elsewhere = elsewhere at
+    by_place (x ∷ l) zero zero key at here elsewhere = here refl (let same : s ≡ static.Weakly key = cc in same)
     by_place (x ∷ l) zero (suc j) key at here elsewhere = elsewhere at
     by_place (x ∷ l) (suc i) zero key at here elsewhere = elsewhere at
     by_place (x ∷ l) (suc i) (suc j) key at here elsewhere = by_place l i j key at (λ e d. here (ap suc e) d) elsewhere
@@ -203,7 +201,7 @@ held_there x ((y, q) ∷ statics) i h =
 -- ---- at the beginning
 
 -- the statics of a unit are NULL
-pub statics_begin : (space : Space) (statics : List Static) → StaticsAgree space (all_held [] (replicate (length statics) static.Empty)) (map null_static statics)
+pub statics_begin : (space : Space) (statics : List Static) → StaticsAgree space (all_held [] [] (replicate (length statics) static.Empty)) (map null_static statics)
 statics_begin space [] = tt
 statics_begin space (g ∷ statics) = (tt, statics_begin space statics)
 
@@ -215,7 +213,15 @@ names_begin (g ∷ statics) = ap (λ (names : List Identifier). g.name ∷ names
 pub no_keys : (globals : List (Option ℕ)) (n : ℕ) → HaveKeys globals (replicate n static.Empty)
 no_keys globals n = record { live = λ i key at. absurd (none n i key at); own = λ i j key at also. absurd (none n i key at) }
   where
-    none : (n i key : ℕ) → slice_get (replicate n static.Empty) i ≡ Some (static.Live key) → ⊥
+    none : (n i key : ℕ) → ◌≡◌ {A = Option InMemory} (slice_get (replicate n static.Empty) i) (Some (static.Live key)) → ⊥
+    none zero i key at = cc
+    none (suc n) zero key at = cc
+    none (suc n) (suc i) key at = none n i key at
+
+pub no_weak_keys : (weaks : List (Option (Option ℕ))) (n : ℕ) → HaveWeakKeys weaks (replicate n static.Empty)
+no_weak_keys weaks n = record { live = λ i key at. absurd (none n i key at); own = λ i j key at also. absurd (none n i key at) }
+  where
+    none : (n i key : ℕ) → ◌≡◌ {A = Option InMemory} (slice_get (replicate n static.Empty) i) (Some (static.Weakly key)) → ⊥
     none zero i key at = cc
     none (suc n) zero key at = cc
     none (suc n) (suc i) key at = none n i key at

@@ -19,8 +19,8 @@ use Rattle.machine_monitors.proofs.Places.{there_stays}
 use Rattle.machine_scenes.specs.declared.store.Store.{Store}
 use Rattle.machine_scenes.specs.HeapAgrees.{SlotsAgree}
 use Rattle.machine_scenes.specs.Buffers.{Acquired}
-use Rattle.machine_scenes.specs.StoreAgrees.{Keeps, StaticsAgree, StoreAgrees}
-use Rattle.machine_scenes.specs.Statics.{HaveKeys, all_held}
+use Rattle.machine_scenes.specs.StoreAgrees.{AreWeaklyThere, Keeps, StaticsAgree, StoreAgrees}
+use Rattle.machine_scenes.specs.Statics.{HaveKeys, HaveWeakKeys, all_held}
 use Rattle.machine_scenes.specs.declared.references.Held.{Held}
 use Rattle.machine_scenes.specs.Statics.{StaticReference}
 use Rattle.machine_scenes.specs.declared.new_object.New.{New}
@@ -28,7 +28,7 @@ use Rattle.machine_scenes.specs.HeapAgrees.{HeapAgrees, IsTable}
 use Rattle.machine_calls.specs.Made.{HasMade, new_block}
 use Rattle.machine_scenes.specs.NewObjects.{Describes, cells_of_new, values_of_new}
 use Rattle.machine_scenes.proofs.HeapLaws.{IsNext, agrees_with_block, name_kept, name_new, object_kept, table_kept}
-use Rattle.machine_scenes.proofs.Keeping.{more_made, slots_stay, statics_stay}
+use Rattle.machine_scenes.proofs.Keeping.{more_made, slots_stay, statics_stay, weaks_stay}
 use Rattle.machine_calls.proofs.NewValues.{as_many, new_agree, same_class}
 use Rattle.machine_scenes.proofs.Taken.{taken_as, taken_push}
 
@@ -65,9 +65,11 @@ module _ (p : Lowered) (w : World) (texts : List (List ℕ)) (store after : Stor
             (subst (λ (l : List ℕ). IsTable (with_block store.heap b) l (length (loaded_objects w))) (sym (ap (λ v. v.items) made.loaded)) (table_kept store.heap b store.loaded.items (length (loaded_objects w)) h.table));
         begun = omega arith;
         births = made.births ∙ omega arith;
-        statics = subst (λ (helds : List Held). StaticsAgree after.heap helds shared.statics) (sym (λ i. all_held (made.globals i) (made.statics i).items)) (statics_stay store.heap after.heap names_stay (all_held store.globals store.statics.items) shared.statics h.statics);
+        statics = subst (λ (helds : List Held). StaticsAgree after.heap helds shared.statics) (sym (λ i. all_held (made.globals i) (made.weaks i) (made.statics i).items)) (statics_stay store.heap after.heap names_stay (all_held store.globals store.weaks store.statics.items) shared.statics h.statics);
         named = h.named;
         keys = subst (λ (globals : List (Option ℕ)). HaveKeys globals after.statics.items) (sym made.globals) (subst (λ (v : Vec StaticReference). HaveKeys store.globals v.items) (sym made.statics) h.keys);
+        weak_keys = subst (λ (weaks : List (Option (Option ℕ))). HaveWeakKeys weaks after.statics.items) (sym made.weaks) (subst (λ (v : Vec StaticReference). HaveWeakKeys store.weaks v.items) (sym made.statics) h.weak_keys);
+        weaks = subst (AreWeaklyThere after.heap) (sym made.weaks) (weaks_stay store.heap after.heap names_stay store.weaks h.weaks);
         globals = subst (λ (globals : List (Option ℕ)). SlotsAgree after.heap globals shared.globals) (sym made.globals) (slots_stay store.heap after.heap names_stay store.globals shared.globals h.globals);
         buffers = taken_as (with_block store.heap b) after.heap store.elements after.elements store.views after.views (length (shared.heap ++ o ∷ [])) all made.heap made.elements made.views
             (taken_push store.heap b store.elements store.views (length shared.heap) (length (shared.heap ++ o ∷ [])) all h.buffers count next.birth refl);

@@ -1,21 +1,21 @@
 -- What carrying out an answer leaves, by the effect of the source's call.
-use Rattle.std.specs.Prelude.{◌≡◌, ◌≢◌, ℕ, ◌-◌, ◌^◌, ◌<◌, ◌≤◌, Bool, true, false, if◌then◌else◌, List, [], ◌∷◌, ◌++◌, length, slice_get, slice_set, ◌⊎◌, IsSome, Option, Some, None}
+use Rattle.std.specs.Prelude.{◌≡◌, ◌≢◌, ℕ, ◌-◌, ◌^◌, ◌<◌, ◌≤◌, Bool, true, false, if◌then◌else◌, List, [], ◌∷◌, ◌++◌, length, slice_get, slice_set, IsSome, Option, Some, None}
 use Rattle.base.specs.Bytes.{Identifier}
 use Rattle.class_rules.specs.Class.{Classes}
 use Rattle.code.specs.declared.instr.Call.{Call}
 use Rattle.code.specs.declared.instr.LocalArray.{LocalArray}
 use Rattle.heap.specs.Heap.{Space, left_of}
-use Rattle.jni.specs.Prototype.{ResultKind, NewLocal, NewGlobal, GivesFlag, GivesInt, GivesField, GivesBuffer}
+use Rattle.jni.specs.Prototype.{ResultKind, NewLocal, NewGlobal, NewWeak, GivesFlag, GivesInt, GivesField, GivesBuffer}
 use Rattle.jni.specs.Table.{result_value}
-use Rattle.semantics.specs.CallEffects.{CallResult, NoResult, NullResult, ReferenceResult, BufferResult, CallEffect, Leaves, Throws, Halts, out_of_memory}
-use Rattle.semantics.specs.CallStep.{failure, makes_objects}
+use Rattle.semantics.specs.CallEffects.{CallResult, NoResult, NullResult, ReferenceResult, WeakResult, BufferResult, CallEffect, Leaves, Throws, Halts, out_of_memory}
+use Rattle.semantics.specs.CallStep.{failure, makes_objects, static_result}
 use Rattle.semantics.specs.Heap.{next_name}
 use Rattle.semantics.specs.Object.{Object, Reference, sizes}
 use Rattle.semantics.specs.Thread as source
 use Rattle.semantics.specs.Thread.{Shared, Thread}
 use Rattle.semantics.specs.World.{World, fresh_object}
 use Rattle.code_meaning.specs.Lowered.{Lowered}
-use Rattle.code_meaning.specs.Stands.{IsBufferResult}
+use Rattle.code_meaning.specs.Stands.{IsBufferResult, IsStaticResult}
 use Rattle.tables.specs.Elements.{OwnedNumbers}
 use Rattle.tables.specs.Keys.{value_at}
 use Rattle.machine_scenes.specs.Buffers.{Acquired, BufferAgrees, acquired_by, acquired_of, beside, gives_up, holding, in_use_of, nothing_acquired}
@@ -25,7 +25,7 @@ use Rattle.machine_scenes.specs.declared.buffer.Buffer.TheVariants as buffer
 use Rattle.machine_answers.specs.declared.answer.Given.{Given}
 use Rattle.machine_answers.specs.declared.answer.Given.TheVariants as given
 use Rattle.machine_scenes.specs.declared.store.Store.{Store}
-use Rattle.semantics.specs.Variable.{Variables, as_static}
+use Rattle.semantics.specs.Variable.{Variables}
 use Rattle.tables.specs.References.{address_at}
 use Rattle.machine_scenes.specs.Statics.{held}
 use Rattle.machine_scenes.specs.Statics.{StaticReference}
@@ -102,10 +102,12 @@ abbrev pub GoesByRoom : (refused : Bool) → (cells : ℕ) → (old new : Space)
 GoesByRoom true cells old new = IsShortOf cells old new
 GoesByRoom false cells old new = cells ≤ left_of old
 
--- a global reference that no static holds, or none
-abbrev pub IsFresh : Store → StaticReference → Type 0
-IsFresh store s = (key : ℕ) → s ≡ static.Live key → IsSome (address_at store.globals key)
-    × ((i : ℕ) → slice_get store.statics.items i ≡ Some (static.Live key) → ⊥)
+-- a global reference, weak or not, that no static holds, or none
+pub record IsFresh (store : Store) (s : StaticReference) : Type 0 where
+  pub live : (key : ℕ) → s ≡ static.Live key → IsSome (address_at store.globals key)
+      × ((i : ℕ) → slice_get store.statics.items i ≡ Some (static.Live key) → ⊥)
+  pub weak : (key : ℕ) → s ≡ static.Weakly key → IsSome (value_at store.weaks key)
+      × ((i : ℕ) → slice_get store.statics.items i ≡ Some (static.Weakly key) → ⊥)
 
 -- what thread k is given is the buffer of a result, or NULL
 abbrev pub BufferIsGiven : Store → (k : ℕ) → Buffer → CallResult → Type 0
@@ -113,12 +115,19 @@ BufferIsGiven store k h (BufferResult b) = BufferAgrees store.heap store.element
 BufferIsGiven store k h NullResult = h ≡ buffer.Null
 BufferIsGiven store k h c = ⊥
 
+-- a function of this kind of result, which goes into a static, gives this
+abbrev pub IsForStatic : ResultKind → CallResult → Type 0
+IsForStatic NewGlobal (ReferenceResult r) = Unit {0}
+IsForStatic NewGlobal NullResult = Unit {0}
+IsForStatic NewWeak (WeakResult r) = Unit {0}
+IsForStatic NewWeak NullResult = Unit {0}
+IsForStatic kind c = ⊥
+
 -- what a function of this kind of result gives to thread k, where that may be a buffer or for a static
 abbrev pub ResultAgrees : Classes → Store → (k : ℕ) → Given → ResultKind → CallResult → Type 0
 ResultAgrees classes store k (given.Buffer h) kind c = IsBufferResult kind × BufferIsGiven store k h c
-ResultAgrees classes store k (given.Global s) kind c = (kind ≡ NewGlobal)
-    × ((r : Reference) × ((c ≡ ReferenceResult r) ⊎ ((c ≡ NullResult) × (r ≡ None)))
-    × HeldAgrees store.heap (held store.globals s) (as_static r) × IsFresh store s)
+ResultAgrees classes store k (given.Global s) kind c = IsForStatic kind c
+    × HeldAgrees store.heap (held store.globals store.weaks s) (static_result c) × IsFresh store s
 ResultAgrees classes store k g kind c = GivenAgrees classes store.heap kind g c
 
 -- the number slots once an answer is carried out
@@ -158,6 +167,8 @@ abbrev pub is_of_references : Answer → Bool
 is_of_references (answer.Deletes key) = true
 is_of_references (answer.MakesGlobal a) = true
 is_of_references (answer.DeletesGlobal slot) = true
+is_of_references (answer.MakesWeak a) = true
+is_of_references (answer.DeletesWeak slot) = true
 is_of_references a = is_of_frames a
 
 -- or to monitors
@@ -197,7 +208,7 @@ pub record CarriesOut (p : Lowered) (w : World) (old : Space) (before : LocalTab
   pub frames_agree : FramesAgree store.heap locals (frames_left refused s effect)
   pub left : (key n level : ℕ) → IsKeyOf old before key n level → IsLeft answer (length before.frames) key level → IsKeyOf store.heap locals key n level
   pub given_agrees : ResultAgrees w.classes store k given kind (result_after kind refused effect)
-  pub still : kind ≡ NewGlobal → (shared_after w.classes refused shared effect).statics ≡ shared.statics
+  pub still : IsStaticResult kind → (shared_after w.classes refused shared effect).statics ≡ shared.statics
   pub could_refuse : refused ≡ true → makes_objects effect ≡ true
   pub room : GoesByRoom refused (sizes (made_by w.classes effect)) old store.heap
 
@@ -205,6 +216,7 @@ pub record CarriesOut (p : Lowered) (w : World) (old : Space) (before : LocalTab
 abbrev pub failed : ResultKind → Given
 failed NewLocal = given.Reference None
 failed NewGlobal = given.Global static.Empty
+failed NewWeak = given.Global static.Empty
 failed GivesField = given.FieldId None
 failed GivesInt = given.Number (2 ^ 32 - 1)
 failed GivesFlag = given.Number 0

@@ -36,6 +36,7 @@ pub record HasMade (classes : Classes) (texts : List (List ℕ)) (before : Store
   pub births : after.births ≡ before.births + 1
   pub statics : after.statics ≡ before.statics
   pub globals : after.globals ≡ before.globals
+  pub weaks : after.weaks ≡ before.weaks
   pub elements : after.elements ≡ before.elements
   pub views : after.views ≡ before.views
   pub monitors : after.monitors ≡ before.monitors

@@ -23,7 +23,9 @@ use machine_answers::copies::{copy_in, copy_out};
 use machine_scenes::activation::Activation;
 use machine_scenes::buffer::Buffer;
 use machine_scenes::new_object::New;
-use machine_scenes::statics::{StaticReference, delete_global, make_global};
+use machine_scenes::statics::{
+    StaticReference, delete_global, delete_weak, make_global, make_weak,
+};
 use machine_scenes::store::Store;
 use std::alloc::AllocError;
 use tables::{Locals, TableFault};
@@ -52,7 +54,7 @@ pub fn has_room(classes: &ClassTable, texts: &[Vec<u8>], heap: &Heap, answer: &A
 /// An object or an exception is refused exactly where it has no room in the heap: then the OutOfMemoryError object is
 /// pending, and the call fails. Local arrays are in the number slots.
 ///
-/// An error says that host memory for a frame, a global reference or a copy of elements was refused; then all is as
+/// An error says that host memory for a frame, a global reference, weak or not, or a copy of elements was refused; then all is as
 /// before.
 pub fn carry_out(
     world: &World,
@@ -306,6 +308,20 @@ fn carry_out_references(
                 refused: false,
             })
         }
+        Answer::MakesWeak(reference) => {
+            let held = make_weak(&mut store.weaks, reference)?;
+            Ok(Carried {
+                given: Given::Global(held),
+                refused: false,
+            })
+        }
+        Answer::DeletesWeak(slot) => {
+            delete_weak(&mut store.statics, &mut store.weaks, slot);
+            Ok(Carried {
+                given: Given::Nothing,
+                refused: false,
+            })
+        }
         _ => carry_out_frames(world, store, pending, locals, answer),
     }
 }
@@ -424,7 +440,7 @@ fn failed(kind: ResultKind) -> Given
 {
     match kind {
         ResultKind::NewLocal => Given::Reference(None),
-        ResultKind::NewGlobal => Given::Global(StaticReference::Empty),
+        ResultKind::NewGlobal | ResultKind::NewWeak => Given::Global(StaticReference::Empty),
         ResultKind::GivesField => Given::FieldId(None),
         ResultKind::GivesInt => Given::Number(u32::MAX),
         ResultKind::GivesFlag => Given::Number(0),

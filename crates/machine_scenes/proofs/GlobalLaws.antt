@@ -185,7 +185,7 @@ no_some None e h = cc
 no_some (Some b) e h = cc
 
 -- A global reference was made.
-module _ (globals globals' : List (Option ℕ)) (key a : ℕ) where
+module _ (globals globals' : List (Option ℕ)) (weaks : List (Option (Option ℕ))) (key a : ℕ) where
   address_kept : (k : ℕ) → Gains globals key a globals' → IsSome (address_at globals k) → address_at globals' k ≡ address_at globals k
   address_kept k put some = put.others k (λ e. no_some (address_at globals k) (ap (address_at globals) e ∙ put.was_free) some)
 
@@ -199,15 +199,17 @@ module _ (globals globals' : List (Option ℕ)) (key a : ℕ) where
     keys_kept = record { live = λ i k at. subst (λ (o : Option ℕ). IsSome o) (sym (address_kept k put (keys.live i k at))) (keys.live i k at); own = keys.own }
 
     -- and hold what they did
-    pub helds_kept : all_held globals' statics ≡ all_held globals statics
+    pub helds_kept : all_held globals' weaks statics ≡ all_held globals weaks statics
     helds_kept = all_kept statics (λ i k at. address_kept k put (keys.live i k at))
       where
-        one_kept : (s : StaticReference) → ((k : ℕ) → s ≡ static.Live k → address_at globals' k ≡ address_at globals k) → held globals' s ≡ held globals s
+        one_kept : (s : StaticReference) → ((k : ℕ) → s ≡ static.Live k → address_at globals' k ≡ address_at globals k) → held globals' weaks s ≡ held globals weaks s
         one_kept static.Empty h = refl
         one_kept (static.Live k) h = ap held_at (h k refl)
+        one_kept (static.Weakly k) h = refl
+        one_kept static.Cleared h = refl
         one_kept static.Deleted h = refl
 
-        all_kept : (l : List StaticReference) → ((i k : ℕ) → slice_get l i ≡ Some (static.Live k) → address_at globals' k ≡ address_at globals k) → all_held globals' l ≡ all_held globals l
+        all_kept : (l : List StaticReference) → ((i k : ℕ) → slice_get l i ≡ Some (static.Live k) → address_at globals' k ≡ address_at globals k) → all_held globals' weaks l ≡ all_held globals weaks l
         all_kept [] h = refl
         all_kept (s ∷ l) h =
             let one = one_kept s (λ k e. h 0 k (ap (λ (t : StaticReference). Some t) e)) in
@@ -215,7 +217,7 @@ module _ (globals globals' : List (Option ℕ)) (key a : ℕ) where
             λ i. one i ∷ further i
 
 -- A global reference ended.
-module _ (globals : List (Option ℕ)) (key : ℕ) where
+module _ (globals : List (Option ℕ)) (weaks : List (Option (Option ℕ))) (key : ℕ) where
   address_elsewhere : (slots : List (Option ℕ)) (place k : ℕ) → (k ≡ place → ⊥) → address_at (slice_set slots place None) k ≡ address_at slots k
   address_elsewhere [] place k other = refl
   address_elsewhere (x ∷ slots) zero zero other = absurd (other refl)
@@ -223,19 +225,21 @@ module _ (globals : List (Option ℕ)) (key : ℕ) where
   address_elsewhere (x ∷ slots) (suc place) zero other = refl
   address_elsewhere (x ∷ slots) (suc place) (suc k) other = address_elsewhere slots place k (λ e. other (ap suc e))
 
-  held_elsewhere : (s : StaticReference) → ((k : ℕ) → s ≡ static.Live k → k ≡ key → ⊥) → held (without globals key) s ≡ held globals s
+  held_elsewhere : (s : StaticReference) → ((k : ℕ) → s ≡ static.Live k → k ≡ key → ⊥) → held (without globals key) weaks s ≡ held globals weaks s
   held_elsewhere static.Empty h = refl
   held_elsewhere (static.Live k) h = ap held_at (address_elsewhere globals key k (h k refl))
+  held_elsewhere (static.Weakly k) h = refl
+  held_elsewhere static.Cleared h = refl
   held_elsewhere static.Deleted h = refl
 
-  all_elsewhere : (l : List StaticReference) → ((i k : ℕ) → slice_get l i ≡ Some (static.Live k) → k ≡ key → ⊥) → all_held (without globals key) l ≡ all_held globals l
+  all_elsewhere : (l : List StaticReference) → ((i k : ℕ) → slice_get l i ≡ Some (static.Live k) → k ≡ key → ⊥) → all_held (without globals key) weaks l ≡ all_held globals weaks l
   all_elsewhere [] h = refl
   all_elsewhere (s ∷ l) h =
       let one = held_elsewhere s (λ k e. h 0 k (ap (λ (t : StaticReference). Some t) e)) in
       let further = all_elsewhere l (λ i k at. h (suc i) k at) in
       λ i. one i ∷ further i
 
-  marked : (l : List StaticReference) (i : ℕ) → ((j k : ℕ) → slice_get l j ≡ Some (static.Live k) → k ≡ key → j ≡ i) → all_held (without globals key) (slice_set l i static.Deleted) ≡ slice_set (all_held globals l) i memory.Deleted
+  marked : (l : List StaticReference) (i : ℕ) → ((j k : ℕ) → slice_get l j ≡ Some (static.Live k) → k ≡ key → j ≡ i) → all_held (without globals key) weaks (slice_set l i static.Deleted) ≡ slice_set (all_held globals weaks l) i memory.Deleted
   marked [] i h = refl
   marked (s ∷ l) zero h = ap (λ (helds : List Held). memory.Deleted ∷ helds) (all_elsewhere l (λ j k at e. let clash : suc j ≡ 0 = h (suc j) k at e in cc))
   marked (s ∷ l) (suc i) h =
@@ -245,7 +249,7 @@ module _ (globals : List (Option ℕ)) (key : ℕ) where
 
   module _ (statics : List StaticReference) (i : ℕ) (at : slice_get statics i ≡ Some (static.Live key)) (keys : HaveKeys globals statics) where
     -- what the statics hold then, of which this one is marked
-    pub helds_marked : all_held (without globals key) (slice_set statics i static.Deleted) ≡ slice_set (all_held globals statics) i memory.Deleted
+    pub helds_marked : all_held (without globals key) weaks (slice_set statics i static.Deleted) ≡ slice_set (all_held globals weaks statics) i memory.Deleted
     helds_marked = marked statics i (λ j k there same. keys.own j i key (there ∙ ap (λ (n : ℕ). Some (static.Live n)) same) at)
 
     deleted_place : (l : List StaticReference) (n j k : ℕ) → slice_get (slice_set l n static.Deleted) j ≡ Some (static.Live k) → (slice_get l j ≡ Some (static.Live k)) × (j ≡ n → ⊥)

@@ -9,14 +9,14 @@ use Rattle.semantics.specs.Heap.{Heap}
 use Rattle.semantics.specs.Object.{Reference, sizes}
 use Rattle.semantics.specs.Thread as source
 use Rattle.semantics.specs.Thread.{Shared}
-use Rattle.semantics.specs.Variable.{StaticReference, Empty, Live, Deleted, Statics}
+use Rattle.semantics.specs.Variable.{StaticReference, Empty, Live, Weakly, Cleared, Deleted, Statics}
 use Rattle.tables.specs.References.{references_in}
 use Rattle.machine_scenes.specs.declared.references.Held.{Held}
 use Rattle.machine_scenes.specs.declared.references.Held.TheVariants as held
 use Rattle.machine_scenes.specs.Locals.{FrameAgrees, FramesAgree, IsKeyOf, KeysAgree}
 use Rattle.tables.specs.Locals.{LocalTable, FrameSlots, by_frame}
 use Rattle.machine_scenes.specs.HeapAgrees.{ReferenceAgrees, NamesAgree, SlotsAgree}
-use Rattle.machine_scenes.specs.StoreAgrees.{HeldAgrees, Keeps, StaticsAgree}
+use Rattle.machine_scenes.specs.StoreAgrees.{AreWeaklyThere, HeldAgrees, Keeps, StaticsAgree}
 use Rattle.machine_scenes.proofs.ObjectExtents.{none_laid}
 
 -- ---- what keeps all
@@ -58,12 +58,28 @@ module _ (space space' : Space) (names : (a n : ℕ) → name_at space a ≡ Som
   held_stays : (h : Held) (r : StaticReference) → HeldAgrees space h r → HeldAgrees space' h r
   held_stays held.Empty Empty e = e
   held_stays held.Empty (Live n) e = e
+  held_stays held.Empty (Weakly n) e = e
+  held_stays held.Empty Cleared e = e
   held_stays held.Empty Deleted e = e
   held_stays (held.At a) Empty e = e
   held_stays (held.At a) (Live n) e = names a n e
+  held_stays (held.At a) (Weakly n) e = e
+  held_stays (held.At a) Cleared e = e
   held_stays (held.At a) Deleted e = e
+  held_stays (held.Weakly a) Empty e = e
+  held_stays (held.Weakly a) (Live n) e = e
+  held_stays (held.Weakly a) (Weakly n) e = names a n e
+  held_stays (held.Weakly a) Cleared e = e
+  held_stays (held.Weakly a) Deleted e = e
+  held_stays held.Cleared Empty e = e
+  held_stays held.Cleared (Live n) e = e
+  held_stays held.Cleared (Weakly n) e = e
+  held_stays held.Cleared Cleared e = e
+  held_stays held.Cleared Deleted e = e
   held_stays held.Deleted Empty e = e
   held_stays held.Deleted (Live n) e = e
+  held_stays held.Deleted (Weakly n) e = e
+  held_stays held.Deleted Cleared e = e
   held_stays held.Deleted Deleted e = e
 
   pub statics_stay : (helds : List Held) (statics : Statics) → StaticsAgree space helds statics → StaticsAgree space' helds statics
@@ -71,6 +87,9 @@ module _ (space space' : Space) (names : (a n : ℕ) → name_at space a ≡ Som
   statics_stay [] (s ∷ statics) h = h
   statics_stay (x ∷ helds) [] h = h
   statics_stay (x ∷ helds) (s ∷ statics) h = (held_stays x s.1 h.0, statics_stay helds statics h.1)
+
+  pub weaks_stay : (weaks : List (Option (Option ℕ))) → AreWeaklyThere space weaks → AreWeaklyThere space' weaks
+  weaks_stay weaks h = λ key a at. let r = h key a at in (r.0, names a r.0 r.1)
 
   pub slots_stay : (slots : List (Option ℕ)) (source_names : List ℕ) → SlotsAgree space slots source_names → SlotsAgree space' slots source_names
   slots_stay slots source_names h = record { names = h.names; agree = names_stay (references_in slots) h.names h.agree; same = h.same }

@@ -13,3 +13,4 @@ pub mod ObjectExtents
 pub mod ObjectsAtAddresses
 pub mod OperandsThere
 pub mod Taken
+pub mod WeakLaws

@@ -20,7 +20,7 @@ use Rattle.machine_scenes.specs.FieldIds.{FieldAgrees}
 use Rattle.machine_scenes.specs.StoreAgrees.{HeldAgrees}
 use Rattle.machine_scenes.specs.HeapAgrees.{ReferenceAgrees}
 use Rattle.machine_scenes.specs.Locals.{address_of}
-use Rattle.machine_scenes.specs.Statics.{References, held_address, static_at}
+use Rattle.machine_scenes.specs.Statics.{References, held_address, held_argument, static_at}
 
 -- what a slot holds; NULL where there is none
 abbrev pub held_in : {A : Type 0} → Option (Option A) → Option A
@@ -50,12 +50,12 @@ pub record ReferenceIsGiven (space : Space) (references : References) (operand :
   pub is : actual ≡ ReferenceActual name (as_static reference)
   pub agrees : ReferenceAgrees space (operand_at references operand) reference
 
--- a static holds what the source's argument does
+-- a static holds what the source's argument is
 pub record StaticIsGiven (space : Space) (references : References) (i : ℕ) (actual : Actual) : Type 0 where
   pub name : Identifier
   pub reference : StaticReference
   pub is : actual ≡ ReferenceActual name reference
-  pub agrees : HeldAgrees space (static_at references i) reference
+  pub agrees : HeldAgrees space (held_argument (static_at references i)) reference
 
 -- an operand gives the field ID that the source's argument is
 pub record FieldIsGiven (classes : Classes) (fields : List (Option FieldHandle)) (operand : Operand) (actual : Actual) : Type 0 where

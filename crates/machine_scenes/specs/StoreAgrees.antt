@@ -1,5 +1,5 @@
 -- How the store stands for what all threads of the source share.
-use Rattle.std.specs.Prelude.{◌≡◌, ℕ, ◌+◌, ◌≤◌, List, [], ◌∷◌, length, map, drop, Some, ◌⊎◌}
+use Rattle.std.specs.Prelude.{◌≡◌, ℕ, ◌+◌, ◌≤◌, List, [], ◌∷◌, length, map, drop, Option, Some, ◌⊎◌}
 use Rattle.base.specs.Bytes.{Identifier}
 use Rattle.syntax.specs.Parts.{statics_of}
 use Rattle.syntax.specs.Tree.{Static}
@@ -10,14 +10,15 @@ use Rattle.semantics.specs.Heap.{Heap, next_name, object_at}
 use Rattle.semantics.specs.Object.{Object, sizes}
 use Rattle.semantics.specs.World.{World, loaded_objects}
 use Rattle.semantics.specs.Thread.{Shared}
-use Rattle.semantics.specs.Variable.{StaticReference, Empty, Live, Deleted, Statics, assign}
+use Rattle.semantics.specs.Variable.{StaticReference, Empty, Live, Weakly, Cleared, Deleted, Statics, assign}
 use Rattle.code_meaning.specs.Lowered.{Lowered}
 use Rattle.machine_scenes.specs.declared.store.Store.{Store}
 use Rattle.machine_monitors.specs.Fit.{AreThere, MonitorsAgree}
 use Rattle.machine_scenes.specs.Buffers.{Acquired, IsTaken}
 use Rattle.machine_scenes.specs.HeapAgrees.{HeapAgrees, IsTable, SlotsAgree}
 use Rattle.machine_scenes.specs.Layouts.{with_objects}
-use Rattle.machine_scenes.specs.Statics.{HaveKeys, all_held}
+use Rattle.machine_scenes.specs.Statics.{HaveKeys, HaveWeakKeys, all_held}
+use Rattle.tables.specs.Keys.{value_at}
 use Rattle.machine_scenes.specs.declared.references.Held.{Held}
 use Rattle.machine_scenes.specs.declared.references.Held.TheVariants as held
 
@@ -27,6 +28,8 @@ use Rattle.machine_scenes.specs.declared.references.Held.TheVariants as held
 abbrev pub HeldAgrees : Space → Held → StaticReference → Type 0
 HeldAgrees space held.Empty Empty = Unit {0}
 HeldAgrees space (held.At a) (Live n) = name_at space a ≡ Some n
+HeldAgrees space (held.Weakly a) (Weakly n) = name_at space a ≡ Some n
+HeldAgrees space held.Cleared Cleared = Unit {0}
 HeldAgrees space held.Deleted Deleted = Unit {0}
 HeldAgrees space h r = ⊥
 
@@ -41,11 +44,15 @@ StaticsAgree space (h ∷ helds) (s ∷ statics) = HeldAgrees space h s.1 × Sta
 abbrev pub AreNamed : Lowered → Shared → Type 0
 AreNamed p shared = map (λ (s : Identifier × StaticReference). s.0) shared.statics ≡ map (λ (g : Static). g.name) (statics_of (unit_tree p.unit))
 
+-- a weak reference that isn't cleared has the address of a block
+abbrev pub AreWeaklyThere : Space → List (Option (Option ℕ)) → Type 0
+AreWeaklyThere space weaks = (key a : ℕ) → value_at weaks key ≡ Some (Some a) → (n : ℕ) × (name_at space a ≡ Some n)
+
 -- ---- what all threads share
 
 -- The store stands for the shared state of the source, where the buffers of all threads take this.
 pub record StoreAgrees (p : Lowered) (w : World) (store : Store) (shared : Shared) (all : Acquired) : Type 0 where
-  -- blocks of objects that can't be reached any more may be gone
+  -- blocks of objects that can't be reached any more may be gone, but those that are held weakly, with all that they lead to, are there
   pub heap : HeapAgrees store.heap shared.heap
   pub laid_out : IsLaidOut store.heap
   pub cells : store.heap.cells ≡ w.cells
@@ -53,9 +60,11 @@ pub record StoreAgrees (p : Lowered) (w : World) (store : Store) (shared : Share
   pub table : IsTable store.heap store.loaded.items (length (loaded_objects w))
   pub begun : length (loaded_objects w) ≤ length shared.heap
   pub births : store.births ≡ length shared.heap
-  pub statics : StaticsAgree store.heap (all_held store.globals store.statics.items) shared.statics
+  pub statics : StaticsAgree store.heap (all_held store.globals store.weaks store.statics.items) shared.statics
   pub named : AreNamed p shared
   pub keys : HaveKeys store.globals store.statics.items
+  pub weak_keys : HaveWeakKeys store.weaks store.statics.items
+  pub weaks : AreWeaklyThere store.heap store.weaks
   pub globals : SlotsAgree store.heap store.globals shared.globals
   pub buffers : IsTaken store.heap store.elements store.views (length shared.heap) all
   pub monitors : MonitorsAgree store.monitors shared.monitors

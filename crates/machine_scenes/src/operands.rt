@@ -30,8 +30,8 @@ pub fn reference_in(references: &References<'_>, operand: Operand) -> Option<Add
     match operand {
         Operand::Local(slot) => references.local(slot),
         Operand::Static(slot) => match references.held(slot) {
-            Held::At(addr) => Some(addr),
-            Held::Empty | Held::Deleted => None,
+            Held::At(addr) | Held::Weakly(addr) => Some(addr),
+            Held::Empty | Held::Cleared | Held::Deleted => None,
         },
         _ => None,
     }

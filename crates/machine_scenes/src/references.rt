@@ -8,13 +8,17 @@ ghost use Rattle.machine_scenes.specs.Statics.{all_held, static_at};
 use crate::statics::StaticReference;
 use heap::Addr;
 use std::marker::Model;
-use tables::{Globals, Local, Locals};
+use tables::{Globals, Local, Locals, Weaks};
 
 /// What a static holds, with the address of its object.
 #[derive(Clone, Copy)]
 pub enum Held {
     Empty,
     At(Addr),
+    /// A weak global reference to the object at this address.
+    Weakly(Addr),
+    /// A weak global reference whose object is gone.
+    Cleared,
     Deleted,
 }
 
@@ -25,6 +29,7 @@ pub struct References<'a> {
     locals: &'a Locals,
     statics: &'a [StaticReference],
     globals: &'a Globals,
+    weaks: &'a Weaks,
 }
 
 /// The key in the slot of a local reference; none for NULL, and where there is no slot.
@@ -52,7 +57,7 @@ impl<'a> Model for References<'a> {
 
     ghost Value = { References };
 
-    ghost view = { λ r. record { keys = r.keys.now; locals = r.locals.now; statics = all_held r.globals.now r.statics.now } };
+    ghost view = { λ r. record { keys = r.keys.now; locals = r.locals.now; statics = all_held r.globals.now r.weaks.now r.statics.now } };
 }
 
 impl<'a> References<'a> {
@@ -62,14 +67,16 @@ impl<'a> References<'a> {
         locals: &'a Locals,
         statics: &'a [StaticReference],
         globals: &'a Globals,
+        weaks: &'a Weaks,
     ) -> References<'a>
-        ensures { result ≡ record { keys = keys.now; locals = locals.now; statics = all_held globals.now statics.now } }
+        ensures { result ≡ record { keys = keys.now; locals = locals.now; statics = all_held globals.now weaks.now statics.now } }
     {
         References {
             keys,
             locals,
             statics,
             globals,
+            weaks,
         }
     }
 
@@ -97,6 +104,12 @@ impl<'a> References<'a> {
                 Ok(addr) => Held::At(addr),
                 Err(_) => Held::Empty,
             },
+            Some(StaticReference::Weakly(key)) => match self.weaks.get(*key) {
+                Ok(Some(addr)) => Held::Weakly(addr),
+                Ok(None) => Held::Cleared,
+                Err(_) => Held::Empty,
+            },
+            Some(StaticReference::Cleared) => Held::Cleared,
             Some(StaticReference::Deleted) => Held::Deleted,
         }
     }

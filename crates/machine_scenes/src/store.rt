@@ -3,7 +3,7 @@
 use crate::statics::StaticReference;
 use heap::{Addr, Heap};
 use monitors::Monitors;
-use tables::{Elements, Globals};
+use tables::{Elements, Globals, Weaks};
 
 /// The objects, and what else all threads share.
 pub struct Store {
@@ -16,6 +16,8 @@ pub struct Store {
     pub statics: Vec<StaticReference>,
     /// The global references, of which a static that is live has one of its own.
     pub globals: Globals,
+    /// The weak global references, of which a static that holds one has one of its own.
+    pub weaks: Weaks,
     /// The copied lists of all threads' buffers, each with its thread's number as its owner.
     pub elements: Elements,
     /// How many buffers of all threads are views, at most 64.
@@ -33,6 +35,7 @@ impl Drop for Store {
             births: _,
             statics,
             globals,
+            weaks,
             elements,
             views: _,
             monitors,
@@ -41,6 +44,7 @@ impl Drop for Store {
         drop(loaded);
         drop(statics);
         drop(globals);
+        drop(weaks);
         drop(elements);
         drop(monitors);
     }

@@ -8,19 +8,19 @@ use Rattle.std.proofs.lemmas.Option.{slice_get_within}
 use Rattle.base.specs.Bytes.{Identifier, lookup}
 use Rattle.base.specs.Element.{ElementType}
 use Rattle.code.specs.declared.instr.LocalArray.{LocalArray as ArraySlots}
-use Rattle.code_meaning.specs.Fits.{IsArray}
+use Rattle.code_meaning.specs.Fits.{IsArray, IsStaticIn, IsStaticSort}
 use Rattle.code_meaning.specs.Layout.{Known}
 use Rattle.semantics.specs.Sight.{elements_of, in_range}
 use Rattle.semantics.specs.Thread as source
 use Rattle.semantics.specs.Thread.{Shared}
 use Rattle.semantics.specs.Value.{Gives, Traps, OutOfRange, outcome_then}
-use Rattle.semantics.specs.Variable.{Variable}
+use Rattle.semantics.specs.Variable.{Variable, StaticReference, Empty, Live, Weakly, Cleared, Deleted, as_argument}
 use Rattle.semantics_safety.specs.Owners.{Owners}
 use Rattle.machine_steps.proofs.Changes.{array_of}
 use Rattle.class_rules.specs.Class.{Classes}
 use Rattle.class_rules.specs.Fields.{FieldId}
 use Rattle.classes.specs.declared.class.FieldHandle.{FieldHandle}
-use Rattle.type_rules.specs.Sorts.{Ref, Global}
+use Rattle.type_rules.specs.Sorts.{Sort, Ref, Global, Weak}
 use Rattle.type_rules.specs.Sorts as sort
 use Rattle.tables.specs.Elements.{OwnedNumbers}
 use Rattle.heap.specs.Heap.{Space}
@@ -31,14 +31,15 @@ use Rattle.semantics.specs.Thread.{Frame}
 use Rattle.code.specs.declared.instr.Operand.{Operand}
 use Rattle.code.specs.declared.instr.Operand.TheVariants as operand
 use Rattle.code.specs.Depth.{Listing, words_taken, with_fewer}
-use Rattle.code_meaning.specs.Slots.{Shows, Slots, Visible, visible_to}
+use Rattle.code_meaning.specs.Slots.{Shows, ShowsStatic, Slots, Visible, visible_to}
 use Rattle.code_meaning.specs.Does.{IsOperand, word_given, words_given}
 use Rattle.code_meaning.specs.Lowered.{Lowered}
 use Rattle.machine_scenes.specs.declared.activation.Activation.{Activation}
 use Rattle.machine_scenes.specs.FieldIds.{FieldAgrees, FieldsAgree}
-use Rattle.machine_scenes.specs.StoreAgrees.{StaticsAgree}
-use Rattle.machine_scenes.specs.Statics.{References}
+use Rattle.machine_scenes.specs.StoreAgrees.{HeldAgrees, StaticsAgree}
+use Rattle.machine_scenes.specs.Statics.{References, held_argument, held_or_null}
 use Rattle.machine_scenes.specs.declared.references.Held.{Held}
+use Rattle.machine_scenes.specs.declared.references.Held.TheVariants as held_by
 use Rattle.machine_calls.proofs.HeldStatics.{static_there}
 use Rattle.machine_scenes.proofs.KeyLaws.{address_there}
 use Rattle.machine_scenes.specs.Given.{HasArray, HasElements, held_in, IsGiven}
@@ -56,6 +57,43 @@ field_there classes (a ∷ handles) (f ∷ fields) zero q h e = let same : f ≡
 field_there classes (a ∷ handles) (f ∷ fields) (suc i) q h e = field_there classes handles fields i q h.1 e
 
 -- ---- operands
+
+-- what a static holds stands for the source's as an argument too
+argument_agrees : (space : Space) (h : Held) (r : StaticReference) → HeldAgrees space h r → HeldAgrees space (held_argument h) (as_argument r)
+argument_agrees space held_by.Empty Empty e = e
+argument_agrees space held_by.Empty (Live n) e = absurd e
+argument_agrees space held_by.Empty (Weakly n) e = absurd e
+argument_agrees space held_by.Empty Cleared e = absurd e
+argument_agrees space held_by.Empty Deleted e = absurd e
+argument_agrees space (held_by.At a) Empty e = absurd e
+argument_agrees space (held_by.At a) (Live n) e = e
+argument_agrees space (held_by.At a) (Weakly n) e = absurd e
+argument_agrees space (held_by.At a) Cleared e = absurd e
+argument_agrees space (held_by.At a) Deleted e = absurd e
+argument_agrees space (held_by.Weakly a) Empty e = absurd e
+argument_agrees space (held_by.Weakly a) (Live n) e = absurd e
+argument_agrees space (held_by.Weakly a) (Weakly n) e = e
+argument_agrees space (held_by.Weakly a) Cleared e = absurd e
+argument_agrees space (held_by.Weakly a) Deleted e = absurd e
+argument_agrees space held_by.Cleared Empty e = absurd e
+argument_agrees space held_by.Cleared (Live n) e = absurd e
+argument_agrees space held_by.Cleared (Weakly n) e = absurd e
+argument_agrees space held_by.Cleared Cleared e = e
+argument_agrees space held_by.Cleared Deleted e = absurd e
+argument_agrees space held_by.Deleted Empty e = absurd e
+argument_agrees space held_by.Deleted (Live n) e = absurd e
+argument_agrees space held_by.Deleted (Weakly n) e = absurd e
+argument_agrees space held_by.Deleted Cleared e = absurd e
+argument_agrees space held_by.Deleted Deleted e = e
+
+-- the static of a known name is shown, weak or not
+pub static_shown : (code : Listing) (known : Known) (visible : Visible) (slots : Slots) → Shows code known visible slots → (x : Identifier) (i : ℕ) → IsStaticIn known x i → ShowsStatic visible x i
+static_shown code known visible slots shows x i (s, of_static, at) = by_sort s of_static at
+  where
+    by_sort : (s : Sort) → IsStaticSort s → lookup x known ≡ Some (record { sort = s; index = i }) → ShowsStatic visible x i
+    by_sort Global of_static at = shows.each x (record { sort = Global; index = i }) at
+    by_sort Weak of_static at = shows.each x (record { sort = Weak; index = i }) at
+    by_sort s of_static at = absurd of_static
 
 -- a slot with a local reference to an object has an owner
 abbrev pub HasOwner : List Reference → (owners : List (Option ℕ)) → Operand → Type 0
@@ -79,12 +117,12 @@ module _ (p : Lowered) (classes : Classes) (space : Space) (copies : List (Optio
         agrees = address_there space call.locals call.slots.references.items r.meant.references r.meant.owners i shown.reference r.holds.keys shown.there (λ n is. owned n (shown.there ∙ ap (λ (q : Reference). Some q) is));
       }
   one_given (operand.Static i) a owned h =
-      let shown = r.shows.each h.0 (record { sort = Global; index = i }) h.2 in
+      let shown = static_shown code r.known visible (slots_of call r.meant) r.shows h.0 i h.2 in
       record {
         name = h.0;
-        reference = shown.static.held;
+        reference = as_argument shown.static.held;
         is = h.1 ∙ ap (ReferenceActual h.0) shown.reference;
-        agrees = static_there space h.0 helds visible.statics i shown.static.held statics shown.static.place shown.static.there;
+        agrees = argument_agrees space (held_or_null (slice_get helds i)) shown.static.held (static_there space h.0 helds visible.statics i shown.static.held statics shown.static.place shown.static.there);
       }
   one_given operand.Number a owned h = h
   one_given (operand.FieldId i) a owned h =

@@ -4,7 +4,7 @@ use Rattle.std.specs.Prelude.{slice_get}
 use Rattle.std.specs.List.{AllZip}
 use Rattle.class_rules.specs.Class.{Classes}
 use Rattle.heap.specs.Heap.{Space}
-use Rattle.jni.specs.JniFunction.{JniFunction, DeleteLocalRef, DeleteGlobalRef, prototype}
+use Rattle.jni.specs.JniFunction.{JniFunction, DeleteLocalRef, prototype}
 use Rattle.jni.specs.Prototype.{ResultKind, NewLocal}
 use Rattle.semantics.specs.Arguments.{Actual, reference_given, variable_given}
 use Rattle.semantics.specs.CallEffects.{level_of}
@@ -31,7 +31,7 @@ use Rattle.code_meaning.specs.Slots.{Visible, visible_to}
 use Rattle.machine_scenes.specs.declared.store.Store.{Store}
 use Rattle.machine_scenes.specs.declared.activation.Activation.{Activation}
 use Rattle.machine_scenes.specs.Locals.{FramesAgree}
-use Rattle.machine_answers.specs.Answers.{HoldsObject}
+use Rattle.machine_answers.proofs.ReferenceAnswers.{HeldStatic, deletes_static}
 use Rattle.machine_answers.specs.Asked.{IsAsked, references_of, scene_of}
 use Rattle.machine_scenes.specs.Statics.{all_held}
 use Rattle.machine_calls.specs.CarriedOut.{IsPossible}
@@ -51,12 +51,12 @@ use Rattle.semantics_safety.specs.Owners.{Owners}
 use Rattle.tables.specs.Locals.{LocalTable}
 use Rattle.machine_scenes.specs.Locals.{locals_after}
 use Rattle.machine_scenes.proofs.LocalFrames.{full_where}
-use Rattle.machine_steps.proofs.StaticArguments.{object_held}
+use Rattle.machine_steps.proofs.StaticArguments.{static_held}
 use Rattle.semantics.specs.Checks.{is_full}
 use Rattle.semantics.specs.ThreadStep.{next_effect}
 use Rattle.machine_calls.proofs.HeldStatics.{place_below}
 use Rattle.std.specs.Prelude.{◌&&◌}
-use Rattle.jni.specs.Prototype.{NewGlobal, GivesFlag, GivesInt, GivesField, GivesNothing, GivesBuffer}
+use Rattle.jni.specs.Prototype.{NewGlobal, NewWeak, GivesFlag, GivesInt, GivesField, GivesNothing, GivesBuffer}
 use Rattle.semantics.specs.Object.{sizes}
 use Rattle.semantics.specs.CallEffects.{Halts}
 use Rattle.semantics.specs.CallStep.{after_call, checked, effect_of_call}
@@ -264,7 +264,7 @@ module _ (p : Lowered) (w : World) (store : Store) (pending : Option ℕ) (call 
       let operands = subst (λ (x : Call). AllZip (IsOperand h.code r.known call.place call.stack (slots_of call r.meant) (visible_to own shared s)) x.operands args) same c.given in
       let goes = subst (λ (x : Call). TakesResult h.code r.known call.place call.stack (slots_of call r.meant) (visible_to own shared s) line x.target (prototype f).result target rest) same c.goes in
       let owned = operands_owned p w.classes store.heap store.elements k call h.code own shared s task rest r line target f args function.operands step (h.steady.owned task rest h.tasks) operands in
-      let given = all_given p w.classes store.heap store.elements k call h.code (visible_to own shared s) s.frames task rest r (all_held store.globals store.statics.items) h.shares.statics function.operands args owned operands in
+      let given = all_given p w.classes store.heap store.elements k call h.code (visible_to own shared s) s.frames task rest r (all_held store.globals store.weaks store.statics.items) h.shares.statics function.operands args owned operands in
       record {
         line = line;
         target = target;
@@ -325,9 +325,10 @@ module _ (p : Lowered) (w : World) (store : Store) (pending : Option ℕ) (call 
       subst (λ (o : Operand). OwnKey store.heap call.locals (key_at (references_of store call) o) (reference_given called.args 0) (level_of (lookup (variable_given called.args 0) s.variables))) (sym d.is)
       (subst (λ (x : Identifier). OwnKey store.heap call.locals (held_in (slice_get call.slots.references.items d.slot)) (reference_given called.args 0) (level_of (lookup x s.variables))) (sym d.variable) d.key)
 
-  -- the static whose global reference ends
-  pub held : called.f ≡ DeleteGlobalRef → (i n : ℕ) → operand_of function.operands 0 ≡ operand.Static i → reference_given called.args 0 ≡ Some n → HoldsObject shared (variable_given called.args 0) i n
-  held deletes i n at given = object_held p w.classes store.heap store.elements k call h.code own shared s task rest r function.operands called.args i n called.operands at given
+  -- the static whose reference ends
+  pub held : deletes_static called.f ≡ true → (i : ℕ) → operand_of function.operands 0 ≡ operand.Static i → HeldStatic store.heap (references_of store call) shared (variable_given called.args 0) i
+  held deletes i at =
+      static_held p w.classes store.heap store.elements k call h.code own shared s task rest r (all_held store.globals store.weaks store.statics.items) h.shares.statics function.operands called.args i called.operands at
 
   -- its slot is there
   pub has_target : HasTarget in_memory.target call
@@ -365,6 +366,7 @@ module _ (p : Lowered) (w : World) (store : Store) (pending : Option ℕ) (call 
         by_kind : (kind : ResultKind) (b : Bool) → kind ≡ NewLocal → (puts_local kind && not b) ≡ false → not b ≡ false
         by_kind NewLocal b local h = h
         by_kind NewGlobal b local h = absurd (cc)
+        by_kind NewWeak b local h = absurd (cc)
         by_kind GivesFlag b local h = absurd (cc)
         by_kind GivesInt b local h = absurd (cc)
         by_kind GivesField b local h = absurd (cc)

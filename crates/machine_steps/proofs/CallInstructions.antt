@@ -8,7 +8,7 @@ use Rattle.heap.specs.Heap.{name_at}
 use Rattle.base.specs.Bytes.{Identifier, lookup}
 use Rattle.base.specs.Element.{ElementType}
 use Rattle.jni.specs.JniFunction.{JniFunction, GetBuffer, prototype}
-use Rattle.jni.specs.Prototype.{ResultKind, NewLocal, NewGlobal, GivesInt, GivesField, GivesNothing, GivesBuffer}
+use Rattle.jni.specs.Prototype.{ResultKind, NewLocal, GivesInt, GivesField, GivesNothing, GivesBuffer}
 use Rattle.semantics.specs.Arguments.{Actual, address_given}
 use Rattle.semantics.specs.CallEffects.{CallEffect, CallResult}
 use Rattle.semantics.specs.CallStep.{call_step, tell_copy, trap_of_call}
@@ -32,7 +32,7 @@ use Rattle.code_meaning.specs.Does.{CallsFunction, TakesBuffer, TakesResult}
 use Rattle.code_meaning.specs.Layout.{Known}
 use Rattle.code_meaning.specs.Lowered.{Lowered}
 use Rattle.code_meaning.specs.Slots.{SeesBuffers, Shows, kind_of_variable, visible_to}
-use Rattle.code_meaning.specs.Stands.{IsBufferResult, StandsFor, number_sort}
+use Rattle.code_meaning.specs.Stands.{IsBufferResult, IsStaticResult, StandsFor, number_sort}
 use Rattle.type_rules.specs.SortRules.{is_droppable}
 use Rattle.code_meaning.proofs.BufferLaws.{sees_buffers}
 use Rattle.tables.specs.Locals.{LocalTable, AreStacked}
@@ -146,7 +146,7 @@ module _ (p : Lowered) (w : World) (store : Store) (pending : Option ℕ) (call 
   no_target (destination.Number i) kind target x nothing goes is = let clash : None ≡ Some goes.0 = sym (ap number_sort nothing) ∙ goes.1 in cc
   no_target (destination.Local i) kind target x nothing goes is = let clash : GivesNothing ≡ NewLocal = sym nothing ∙ goes.0 in cc
   no_target (destination.FieldId i) kind target x nothing goes is = let clash : GivesNothing ≡ GivesField = sym nothing ∙ goes.0 in cc
-  no_target (destination.Static i) kind target x nothing goes is = let clash : GivesNothing ≡ NewGlobal = sym nothing ∙ goes.0 in cc
+  no_target (destination.Static i) kind target x nothing goes is = subst IsStaticResult nothing goes.0
   no_target (destination.Buffer element i) kind target x nothing goes is = let clash : GivesNothing ≡ GivesBuffer goes.0.0 = sym nothing ∙ goes.0.1 in cc
   no_target destination.Test kind target x nothing goes is = let clash : GivesNothing ≡ GivesInt = sym nothing ∙ goes.0 in cc
   no_target destination.Dropped kind target x nothing goes is = let clash : false ≡ true = sym (ap (λ (t : Target). is_target t x) goes.0) ∙ is in cc
@@ -246,7 +246,7 @@ module _ (p : Lowered) (w : World) (store : Store) (pending : Option ℕ) (call 
       nowhere (destination.Number i) kind nothing goes = absurd (let clash : None ≡ Some goes.0 = sym (ap number_sort nothing) ∙ goes.1 in cc)
       nowhere (destination.Local i) kind nothing goes = absurd (let clash : GivesNothing ≡ NewLocal = sym nothing ∙ goes.0 in cc)
       nowhere (destination.FieldId i) kind nothing goes = absurd (let clash : GivesNothing ≡ GivesField = sym nothing ∙ goes.0 in cc)
-      nowhere (destination.Static i) kind nothing goes = absurd (let clash : GivesNothing ≡ NewGlobal = sym nothing ∙ goes.0 in cc)
+      nowhere (destination.Static i) kind nothing goes = absurd (subst IsStaticResult nothing goes.0)
       nowhere (destination.Buffer element i) kind nothing goes = absurd (let clash : GivesNothing ≡ GivesBuffer goes.0.0 = sym nothing ∙ goes.0.1 in cc)
       nowhere destination.Test kind nothing goes = absurd (let clash : GivesNothing ≡ GivesInt = sym nothing ∙ goes.0 in cc)
       nowhere destination.Dropped kind nothing goes = (goes.0, goes.1, subst (λ (names : Known). StandsFor h.code names (call.place + 1) [] rest) (sym left_known) goes.2)
@@ -265,7 +265,7 @@ module _ (p : Lowered) (w : World) (store : Store) (pending : Option ℕ) (call 
       buffer_goes kinds (destination.Number i) kind target b goes = absurd (let clash : None ≡ Some goes.0 = sym (ap number_sort b.1) ∙ goes.1 in cc)
       buffer_goes kinds (destination.Local i) kind target b goes = absurd (let clash : GivesBuffer b.0 ≡ NewLocal = sym b.1 ∙ goes.0 in cc)
       buffer_goes kinds (destination.FieldId i) kind target b goes = absurd (let clash : GivesBuffer b.0 ≡ GivesField = sym b.1 ∙ goes.0 in cc)
-      buffer_goes kinds (destination.Static i) kind target b goes = absurd (let clash : GivesBuffer b.0 ≡ NewGlobal = sym b.1 ∙ goes.0 in cc)
+      buffer_goes kinds (destination.Static i) kind target b goes = absurd (subst IsStaticResult b.1 goes.0)
       buffer_goes kinds (destination.Buffer element i) kind (Declared declared x) b goes = (goes.0, (goes.1.0, goes.1.1, (goes.1.2.0, buffer_takes goes.1.0 i x goes.1.2.1)))
       buffer_goes kinds (destination.Buffer element i) kind (Assigned x) b goes = (goes.0, (goes.1.0, goes.1.1, (kinds x ∙ goes.1.2.0, buffer_takes goes.1.0 i x goes.1.2.1)))
       buffer_goes kinds (destination.Buffer element i) kind (Tested a e) b goes = absurd goes.1.2

@@ -18,7 +18,7 @@ use Rattle.machine_answers.specs.declared.answer.Answer.{Answer}
 use Rattle.machine_answers.specs.declared.answer.Answer.TheVariants as answers
 use Rattle.machine_answers.specs.Answers.{Brought, IsAnswer, is_halt}
 use Rattle.machine_calls.specs.CarriedOut.{frames_left, pending_after, result_after, shared_after, variables_left}
-use Rattle.machine_calls.proofs.AnswerCases.{gives_it, makes_it, writes_it}
+use Rattle.machine_calls.proofs.AnswerCases.{gives_it, makes_it, writes_it, weak_deleted}
 use Rattle.tables.specs.Locals.{LocalTable}
 use Rattle.semantics.specs.CallEffects.{enter_effect, exit_effect, release_effect}
 use Rattle.semantics.specs.Arguments.{ReleaseMode, CopyBackAndFree, CopyBack, FreeUncopied}
@@ -92,6 +92,8 @@ stays_with classes brought space locals kind shared s answer (Halts trap) runs h
     no_halt (answers.Pops a) runs h = let e = h.1.2 in cc
     no_halt (answers.MakesGlobal a) runs h = let e = h.1.2 in cc
     no_halt (answers.DeletesGlobal i) runs h = let e = h.1.3 in cc
+    no_halt (answers.MakesWeak a) runs h = let e = h.1.2 in cc
+    no_halt (answers.DeletesWeak i) runs h = let e = h.1.3 ∙ weak_deleted shared s h.1.0 h.1.1 h.1.2.weak in cc
     no_halt (answers.Deletes key) runs h = let e = h.1.3 in cc
     no_halt answers.RefusesFrames runs h = let e = h.1 in cc
     no_halt (answers.AcquiresCopy a) runs h = let e = h.1.is in cc
@@ -126,6 +128,8 @@ stays_with classes brought space locals kind shared s (answers.Pushes capacity) 
 stays_with classes brought space locals kind shared s (answers.Pops a) (Leaves made s' t' c) runs h = subst (StaysBut s) (sym h.1.2) refl
 stays_with classes brought space locals kind shared s (answers.MakesGlobal a) (Leaves made s' t' c) runs h = subst (StaysBut s) (sym h.1.2) refl
 stays_with classes brought space locals kind shared s (answers.DeletesGlobal i) (Leaves made s' t' c) runs h = subst (StaysBut s) (sym h.1.3) refl
+stays_with classes brought space locals kind shared s (answers.MakesWeak a) (Leaves made s' t' c) runs h = subst (StaysBut s) (sym h.1.2) refl
+stays_with classes brought space locals kind shared s (answers.DeletesWeak i) (Leaves made s' t' c) runs h = subst (StaysBut s) (sym (h.1.3 ∙ weak_deleted shared s h.1.0 h.1.1 h.1.2.weak)) refl
 stays_with classes brought space locals kind shared s (answers.Deletes key) (Leaves made s' t' c) runs h = subst (StaysBut s) (sym h.1.3) refl
 stays_with classes brought space locals kind shared s answers.RefusesFrames (Leaves made s' t' c) runs h = subst (StaysBut s) (sym h.1) refl
 stays_with classes brought space locals kind shared s (answers.AcquiresCopy a) (Leaves made s' t' c) runs h = subst (StaysBut s) (sym h.1.is) refl

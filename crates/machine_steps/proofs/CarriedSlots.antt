@@ -12,10 +12,10 @@ use Rattle.class_rules.specs.Class.{Classes}
 use Rattle.heap.specs.Heap.{Space, values_at}
 use Rattle.heap.specs.declared.value.Value.{Value}
 use Rattle.jni.specs.Access.{Access, ElementsCopy, ArrayView, CharsCopy, CharsView}
-use Rattle.jni.specs.JniFunction.{JniFunction, DeleteGlobalRef, DeleteLocalRef, EnsureLocalCapacity, FindClass, GetArrayRegion, GetBuffer, GetFieldID, GetObjectArrayElement, GetStaticFieldID, GetStringRegion, MonitorEnter, MonitorExit, NewArray, NewObjectArray, PushLocalFrame, ReleaseBuffer, SetArrayRegion, SetField, SetObjectArrayElement, SetObjectField, SetStaticField, SetStaticObjectField, prototype}
+use Rattle.jni.specs.JniFunction.{JniFunction, DeleteGlobalRef, DeleteWeakGlobalRef, DeleteLocalRef, EnsureLocalCapacity, FindClass, GetArrayRegion, GetBuffer, GetFieldID, GetObjectArrayElement, GetStaticFieldID, GetStringRegion, MonitorEnter, MonitorExit, NewArray, NewObjectArray, PushLocalFrame, ReleaseBuffer, SetArrayRegion, SetField, SetObjectArrayElement, SetObjectField, SetStaticField, SetStaticObjectField, prototype}
 use Rattle.jni.specs.Prototype.{ParameterKind, BufferVariable, IsCopy, Mode, ResultKind, GivesNothing, owner}
 use Rattle.semantics.specs.Arguments.{Actual, ReleaseMode, CopyBackAndFree, CopyBack, FreeUncopied, mode_given, object_given, variable_given, variable_in_actual, address_given, address_in_actual}
-use Rattle.semantics.specs.CallEffects.{CallEffect, CallResult, NoResult, NullResult, ScalarResult, ReferenceResult, FieldResult, BufferResult, begun_with, freed, release_effect}
+use Rattle.semantics.specs.CallEffects.{CallEffect, CallResult, NoResult, NullResult, ScalarResult, ReferenceResult, WeakResult, FieldResult, BufferResult, begun_with, freed, release_effect}
 use Rattle.semantics.specs.CallStep.{makes_objects, tell_copy}
 use Rattle.semantics.specs.CallTable.{call_effect}
 use Rattle.semantics.specs.Effect.{effect_of}
@@ -46,6 +46,9 @@ use Rattle.code_meaning.specs.Slots.{Shows, Slots, Visible, held_buffer, visible
 use Rattle.code_meaning.specs.Stands.{IsBufferResult}
 use Rattle.code_meaning.proofs.SlotLaws.{fewer_shown, known_among, shows_buffer_again, shows_set}
 use Rattle.tables.specs.Elements.{OwnedNumbers}
+use Rattle.machine_scenes.specs.declared.references.Held.{Held}
+use Rattle.machine_scenes.specs.declared.references.Held.TheVariants as held_by
+use Rattle.machine_scenes.specs.Statics.{References, static_at}
 use Rattle.machine_scenes.specs.declared.activation.Activation.{Activation}
 use Rattle.machine_answers.specs.declared.answer.Answer.{Answer}
 use Rattle.machine_answers.specs.declared.answer.Answer.TheVariants as answers
@@ -64,7 +67,7 @@ use Rattle.machine_calls.specs.CarriedOut.{LeavesCopy, ResultAgrees, buffers_aft
 use Rattle.machine_answers.specs.Copies.{overlaid, word_of as word_in, words_of}
 use Rattle.machine_scenes.specs.Given.{operand_of}
 use Rattle.machine_scenes.specs.Scenes.{Scene}
-use Rattle.machine_answers.specs.WorkedOut.{IsWorkedOut, buffer_there, copies_in, copies_out, deletes, deletes_global, local_array, mode_of, region, releases, slot_of, stores_there, writes_there}
+use Rattle.machine_answers.specs.WorkedOut.{IsWorkedOut, buffer_there, copies_in, copies_out, deletes, deletes_global, deletes_held, deletes_held_weakly, deletes_weak, local_array, mode_of, region, releases, slot_of, stores_there, writes_there}
 use Rattle.machine_answers.proofs.BufferOperands.{given_buffer, given_mode}
 use Rattle.machine_scenes.proofs.KeyLaws.{set_cases}
 use Rattle.machine_steps.specs.Executes.{in_use_with}
@@ -77,7 +80,7 @@ use Rattle.machine_steps.proofs.Calls.{Ready}
 use Rattle.machine_steps.proofs.Changes.{buffer_by_kind, change_is, is_buffer_set, is_set}
 use Rattle.machine_steps.proofs.CopiedArrays.{AreKept, Copied, Released, array_known, copied_taken, kept_or_copied, meant_after, shows_copied}
 use Rattle.machine_steps.proofs.OwnersLeft.{leaves_owners, left_own}
-use Rattle.machine_steps.proofs.Receives.{IsNoBuffer, no_buffer, nothing_told}
+use Rattle.machine_steps.proofs.Receives.{IsNoBuffer, no_buffer, nothing_told, plain_static}
 use Rattle.machine_steps.proofs.SlotBuffers.{all_put, buffers_nulled}
 use Rattle.machine_steps.proofs.ViewCounts.{views_freed, views_same}
 
@@ -189,7 +192,7 @@ module _ (classes : Classes) (store : Store) (k : ℕ) (kind : ResultKind) where
   what_told (given.Number word) c h = plain_told (given.Number word) c tt (no_buffer classes store.heap kind (given.Number word) c h)
   what_told (given.Reference a) c h = plain_told (given.Reference a) c tt (no_buffer classes store.heap kind (given.Reference a) c h)
   what_told (given.FieldId f) c h = plain_told (given.FieldId f) c tt (no_buffer classes store.heap kind (given.FieldId f) c h)
-  what_told (given.Global s) c h = plain_told (given.Global s) c tt (⊎_elim (λ e. subst IsNoBuffer (sym e) tt) (λ e. subst IsNoBuffer (sym e.0) tt) h.1.1)
+  what_told (given.Global s) c h = plain_told (given.Global s) c tt (plain_static kind c h.0)
   what_told (given.Buffer held.Null) NullResult h = plain_told (given.Buffer held.Null) NullResult tt tt
   what_told (given.Buffer held.Null) (BufferResult NoBuffer) h = inl (record { numbers = untold_numbers (given.Buffer held.Null) tt; variables = no_buffer_told })
   what_told (given.Buffer held.Null) (BufferResult (Copy n zs)) h = absurd h.1
@@ -206,6 +209,7 @@ module _ (classes : Classes) (store : Store) (k : ℕ) (kind : ResultKind) where
   what_told (given.Buffer b) (ScalarResult v) h = absurd h.1
   what_told (given.Buffer b) (ReferenceResult q) h = absurd h.1
   what_told (given.Buffer b) (FieldResult f) h = absurd h.1
+  what_told (given.Buffer b) (WeakResult r) h = absurd h.1
 
 -- a flag is told
 module _ (code : Listing) (known : Known) (own : Owners) (shared : Shared) (s : source.Thread) (slots : Slots) (shows : Shows code known (visible_to own shared s) slots) (owned : HaveOwnSlots known) where
@@ -269,10 +273,22 @@ no_deletion : (o : Option ℕ) → is_release (deletes o) ≡ false
 no_deletion None = refl
 no_deletion (Some key) = refl
 
-no_global_deletion : (q : Option ℕ) (o : Operand) → is_release (deletes_global q o) ≡ false
-no_global_deletion None o = refl
-no_global_deletion (Some a) (operand.Static i) = refl
-no_global_deletion (Some a) o = refl
+no_held_deletion : (i : ℕ) (h : Held) → is_release (deletes_held i h) ≡ false
+no_held_deletion i (held_by.At a) = refl
+no_held_deletion i h = refl
+
+no_global_deletion : (references : References) (o : Operand) → is_release (deletes_global references o) ≡ false
+no_global_deletion references (operand.Static i) = no_held_deletion i (static_at references i)
+no_global_deletion references o = refl
+
+no_weakly_held_deletion : (i : ℕ) (h : Held) → is_release (deletes_held_weakly i h) ≡ false
+no_weakly_held_deletion i (held_by.Weakly a) = refl
+no_weakly_held_deletion i held_by.Cleared = refl
+no_weakly_held_deletion i h = refl
+
+no_weak_deletion : (references : References) (o : Operand) → is_release (deletes_weak references o) ≡ false
+no_weak_deletion references (operand.Static i) = no_weakly_held_deletion i (static_at references i)
+no_weak_deletion references o = refl
 
 no_write : (space : Space) (q : Option ℕ) (place : ℕ) (v : Value) → is_release (writes_there space q place v) ≡ false
 no_write space None place v = refl
@@ -302,7 +318,8 @@ module _ (scene : Scene) (function : Call) (release : Release) where
   -- a function that gives nothing and releases a buffer
   releases_by : (f : JniFunction) → (prototype f).result ≡ GivesNothing → IsWorkedOut scene function f (answers.Releases release) → (access : Access) × (f ≡ ReleaseBuffer access)
   releases_by (ReleaseBuffer access) nothing is = (access, refl)
-  releases_by DeleteGlobalRef nothing is = absurd (other _ is (no_global_deletion _ _))
+  releases_by DeleteGlobalRef nothing is = absurd (other _ is (no_global_deletion scene.references (operand_of function.operands 0)))
+  releases_by DeleteWeakGlobalRef nothing is = absurd (other _ is (no_weak_deletion scene.references (operand_of function.operands 0)))
   releases_by DeleteLocalRef nothing is = absurd (other _ is (no_deletion _))
   releases_by (SetField T) nothing is = absurd (other _ is (no_write scene.space _ _ _))
   releases_by SetObjectField nothing is = absurd (other _ is (no_write scene.space _ _ _))

@@ -41,7 +41,7 @@ use Rattle.machine_calls.specs.CarriedOut.{buffers_after, slots_after, variables
 use Rattle.machine_scenes.specs.declared.buffer.Buffer.{Buffer}
 use Rattle.machine_scenes.specs.declared.buffer.Release.{Release}
 use Rattle.machine_answers.specs.Copies.{overlaid}
-use Rattle.machine_calls.proofs.AnswerCases.{gives_it, makes_it, throws_it, writes_it}
+use Rattle.machine_calls.proofs.AnswerCases.{gives_it, makes_it, throws_it, writes_it, weak_deleted}
 use Rattle.machine_answers.proofs.Overlays.{get_outside, get_within, length_overlaid, overlaid_is}
 use Rattle.machine_steps.proofs.Arguments.{array_held}
 use Rattle.machine_steps.proofs.Changes.{change_is, element_of, found, others}
@@ -207,6 +207,8 @@ module _ (classes : Classes) (brought : Brought) (space : Space) (locals : Local
   kept_or_copied (answers.Deletes key) effect runs h = inl (ap (variables_left false s) h.1.3, λ numbers. refl, λ buffers. refl, λ buffers. refl)
   kept_or_copied (answers.MakesGlobal a) effect runs h = inl (ap (variables_left false s) h.1.2, λ numbers. refl, λ buffers. refl, λ buffers. refl)
   kept_or_copied (answers.DeletesGlobal i) effect runs h = inl (ap (variables_left false s) h.1.3, λ numbers. refl, λ buffers. refl, λ buffers. refl)
+  kept_or_copied (answers.MakesWeak a) effect runs h = inl (ap (variables_left false s) h.1.2, λ numbers. refl, λ buffers. refl, λ buffers. refl)
+  kept_or_copied (answers.DeletesWeak i) effect runs h = inl (ap (variables_left false s) (h.1.3 ∙ weak_deleted shared s h.1.0 h.1.1 h.1.2.weak), λ numbers. refl, λ buffers. refl, λ buffers. refl)
   kept_or_copied (answers.AcquiresCopy a) effect runs h = inl (ap (variables_left false s) h.1.is, λ numbers. refl, λ buffers. refl, λ buffers. refl)
   kept_or_copied (answers.AcquiresView a) effect runs h = inl (ap (variables_left false s) h.1.is, λ numbers. refl, λ buffers. refl, λ buffers. refl)
   kept_or_copied (answers.Enters o) effect runs h = inl (ap (variables_left false s) h.1.is ∙ of_enter brought.buffers.owner o.name (source.monitor_of shared.monitors o.name), λ numbers. refl, λ buffers. refl, λ buffers. refl)

@@ -136,6 +136,8 @@ written_store p w store shared all k key zs place z there h = record {
   statics = h.statics;
   named = h.named;
   keys = h.keys;
+  weak_keys = h.weak_keys;
+  weaks = h.weaks;
   globals = h.globals;
   buffers = record { copied = written_lengths store.elements k key zs there place z ∙ h.buffers.copied; many = h.buffers.many; pins = h.buffers.pins; made = h.buffers.made; there = h.buffers.there };
   monitors = h.monitors;

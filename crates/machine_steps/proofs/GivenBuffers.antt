@@ -10,7 +10,7 @@ use Rattle.class_rules.specs.Class.{Classes}
 use Rattle.heap.specs.Heap.{Space}
 use Rattle.jni.specs.JniFunction.{JniFunction, GetBuffer, prototype}
 use Rattle.jni.specs.Access.{Access}
-use Rattle.jni.specs.Prototype.{ParameterKind, ArrayVariable, BufferVariable, IsCopy, owner, ResultKind, NewLocal, NewGlobal, GivesInt, GivesNothing, GivesBuffer}
+use Rattle.jni.specs.Prototype.{ParameterKind, ArrayVariable, BufferVariable, IsCopy, owner, ResultKind, NewLocal, NewGlobal, NewWeak, GivesInt, GivesNothing, GivesBuffer}
 use Rattle.base.specs.Bytes.{Identifier, lookup}
 use Rattle.semantics.specs.Arguments.{Actual, address_given, address_in_actual}
 use Rattle.semantics.specs.CallEffects.{CallEffect, CallResult, Halts, NoResult, NullResult, BufferResult, Throws, copy_effect, view_effect}
@@ -170,6 +170,8 @@ module _ (classes : Classes) (brought : Brought) (space : Space) (locals : Local
   small_answer (answers.Deletes key) h gave = absurd (let clash : GivesBuffer access ≡ GivesNothing = h.0 in cc)
   small_answer (answers.MakesGlobal a) h gave = absurd (let clash : GivesBuffer access ≡ NewGlobal = h.0 in cc)
   small_answer (answers.DeletesGlobal i) h gave = absurd (let clash : GivesBuffer access ≡ GivesNothing = h.0 in cc)
+  small_answer (answers.MakesWeak a) h gave = absurd (let clash : GivesBuffer access ≡ NewWeak = h.0 in cc)
+  small_answer (answers.DeletesWeak i) h gave = absurd (let clash : GivesBuffer access ≡ GivesNothing = h.0 in cc)
   small_answer (answers.AcquiresCopy a) h gave =
       small_copy h.1.name (numbers_of shared.heap h.1.name) brought.in_use.copied b h.1.words.fit (of_effect (copy_effect brought.in_use shared s h.1.name (numbers_of shared.heap h.1.name)) h.1.is gave)
   small_answer (answers.AcquiresView a) h gave = small_view h.1.name brought.in_use.views b (of_effect (view_effect brought.in_use shared s h.1.name) h.1.is gave)

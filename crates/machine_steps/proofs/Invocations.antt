@@ -14,11 +14,11 @@ use Rattle.class_rules.specs.Fields.{FieldId}
 use Rattle.classes.specs.declared.class.FieldHandle.{FieldHandle as Handle}
 use Rattle.heap.specs.Heap.{Space}
 use Rattle.jni.specs.JniFunction.{JniFunction, prototype}
-use Rattle.jni.specs.Prototype.{ResultKind, NewLocal, NewGlobal, GivesFlag, GivesInt, GivesField, GivesBuffer}
+use Rattle.jni.specs.Prototype.{ResultKind, NewLocal, NewGlobal, NewWeak, GivesFlag, GivesInt, GivesField, GivesNothing, GivesBuffer}
 use Rattle.type_rules.specs.Sorts.{Sort, Jint}
 use Rattle.type_rules.specs.Sorts as sort
 use Rattle.semantics.specs.Arguments.{Actual, address_given}
-use Rattle.semantics.specs.CallEffects.{CallResult, NoResult, NullResult, ScalarResult, ReferenceResult, FieldResult, BufferResult}
+use Rattle.semantics.specs.CallEffects.{CallResult, NoResult, NullResult, ScalarResult, ReferenceResult, WeakResult, FieldResult, BufferResult}
 use Rattle.semantics.specs.CallStep.{blank, filled, is_zero, put, put_assigned, static_result, received, tell_copy}
 use Rattle.semantics.specs.Effect.{tasks_after}
 use Rattle.semantics.specs.Object.{Reference}
@@ -27,7 +27,7 @@ use Rattle.semantics.specs.Task.{Task, Branch, Target, VariableKind, ScalarKind,
 use Rattle.semantics.specs.Thread as source
 use Rattle.semantics.specs.Thread.{Shared}
 use Rattle.semantics.specs.Value.{Value, Word, Int, Flag, Truth}
-use Rattle.semantics.specs.Variable.{Buffer, NoBuffer, StaticReference, Variable, Variables, Scalar, LocalRef, FieldHandle, Elements, LocalArray, as_static, assign}
+use Rattle.semantics.specs.Variable.{Buffer, NoBuffer, StaticReference, Variable, Variables, Scalar, LocalRef, FieldHandle, Elements, LocalArray, assign}
 use Rattle.semantics.specs.World.{World}
 use Rattle.code.specs.Call.{Call}
 use Rattle.code.specs.Depth.{Listing, depth_at, with_fewer, with_result, words_taken}
@@ -38,7 +38,7 @@ use Rattle.code_meaning.specs.Layout.{Known}
 use Rattle.code_meaning.specs.Does.{GoesInto, TakesBuffer, TakesStatic, TakesTest, TakesField, TakesNumber, TakesReference, TakesResult}
 use Rattle.code_meaning.specs.Lowered.{Lowered}
 use Rattle.code_meaning.specs.Slots.{Visible, Shows, Slots, ValueHasSort, kind_of_variable, static_index, type_of_array, visible_to, word_of}
-use Rattle.code_meaning.specs.Stands.{IsBufferResult, StandsFor, number_sort}
+use Rattle.code_meaning.specs.Stands.{IsBufferResult, IsStaticResult, StandsFor, number_sort}
 use Rattle.type_rules.specs.SortRules.{is_droppable}
 use Rattle.base.specs.Element.{ElementType}
 use Rattle.base.specs.declared.element.ElementType.{ElementType as ElementOfCode}
@@ -56,7 +56,7 @@ use Rattle.semantics_safety.specs.Owners.{Owners, is_target, level_held}
 use Rattle.std.specs.Str.{bytes_eq}
 use Rattle.std.proofs.lemmas.Slice.Eq.{bytes_eq-Decides}
 use Rattle.machine_answers.specs.Answers.{GivenAgrees}
-use Rattle.machine_calls.specs.CarriedOut.{IsFresh, ResultAgrees, acquired_with}
+use Rattle.machine_calls.specs.CarriedOut.{IsForStatic, IsFresh, ResultAgrees, acquired_with}
 use Rattle.machine_scenes.specs.Buffers.{Acquired, AreViewed, BufferAgrees, BuffersAgree, acquired_of, beside, nothing_acquired}
 use Rattle.machine_scenes.specs.declared.buffer.Buffer.{Buffer as HeldBuffer}
 use Rattle.machine_scenes.specs.declared.buffer.Buffer.TheVariants as held_as
@@ -66,7 +66,7 @@ use Rattle.machine_scenes.specs.Statics.{StaticReference as InMemory}
 use Rattle.machine_scenes.specs.declared.store.Store.{Store}
 use Rattle.code_meaning.proofs.StaticLaws.{is_held}
 use Rattle.code_meaning.proofs.OwnerLaws.{fewer_owners}
-use Rattle.machine_calls.proofs.HeldStatics.{keys_put}
+use Rattle.machine_calls.proofs.HeldStatics.{keys_put, weak_keys_put}
 use Rattle.machine_calls.proofs.StaticStores.{with_same, with_static}
 use Rattle.machine_scenes.specs.HeapAgrees.{ReferenceAgrees}
 use Rattle.machine_steps.specs.Received.{HasRoom, MakesLocal, Receives, buffers_with, fields_with, numbers_with, stack_with, statics_with}
@@ -77,7 +77,7 @@ use Rattle.machine_steps.proofs.StillShown.{shows_stay}
 use Rattle.machine_scenes.proofs.KeyLaws.{key_put, keys_left, live_there}
 use Rattle.machine_steps.proofs.MadeKeys.{made_left, made_new, room_frame}
 use Rattle.machine_scenes.proofs.LocalFrames.{as_many_frames}
-use Rattle.machine_steps.proofs.Receives.{received_count, IsNoBuffer, field_put, frames_agree, frames_received, no_buffer, received_is}
+use Rattle.machine_steps.proofs.Receives.{received_count, IsNoBuffer, field_put, frames_agree, frames_received, no_buffer, received_is, plain_static}
 use Rattle.machine_steps.proofs.Acquisitions.{assigned_buffer, assigned_nothing, nothing_more, store_taken, taken_by}
 use Rattle.machine_steps.proofs.SlotBuffers.{all_put}
 use Rattle.machine_steps.proofs.ViewCounts.{views_same, views_taken}
@@ -154,6 +154,7 @@ number_given classes space GivesInt (given.Number word) NoResult of h e = absurd
 number_given classes space GivesInt (given.Number word) NullResult of h e = absurd h
 number_given classes space GivesInt (given.Number word) (ReferenceResult r) of h e = absurd h
 number_given classes space GivesInt (given.Number word) (FieldResult f) of h e = absurd h
+number_given classes space GivesInt (given.Number word) (WeakResult r) of h e = absurd h
 number_given classes space GivesInt (given.Number word) (BufferResult b) of h e = absurd h
 number_given classes space GivesInt given.Nothing c of h e = absurd h
 number_given classes space GivesInt (given.Reference a) c of h e = absurd h
@@ -168,6 +169,7 @@ number_given classes space GivesFlag (given.Number word) NoResult of h e = absur
 number_given classes space GivesFlag (given.Number word) NullResult of h e = absurd h
 number_given classes space GivesFlag (given.Number word) (ReferenceResult r) of h e = absurd h
 number_given classes space GivesFlag (given.Number word) (FieldResult f) of h e = absurd h
+number_given classes space GivesFlag (given.Number word) (WeakResult r) of h e = absurd h
 number_given classes space GivesFlag (given.Number word) (BufferResult b) of h e = absurd h
 number_given classes space GivesFlag given.Nothing c of h e = absurd h
 number_given classes space GivesFlag (given.Reference a) c of h e = absurd h
@@ -182,6 +184,7 @@ reference_given classes space (given.Reference a) NullResult h = record { addres
 reference_given classes space (given.Reference a) NoResult h = absurd h
 reference_given classes space (given.Reference a) (ScalarResult v) h = absurd h
 reference_given classes space (given.Reference a) (FieldResult f) h = absurd h
+reference_given classes space (given.Reference a) (WeakResult r) h = absurd h
 reference_given classes space (given.Reference a) (BufferResult b) h = absurd h
 reference_given classes space given.Nothing c h = absurd h
 reference_given classes space (given.Number word) c h = absurd h
@@ -190,6 +193,7 @@ reference_given classes space (given.Global s) c h = absurd h
 reference_given classes space (given.Buffer b) c h = absurd h
 
 field_given : (classes : Classes) (space : Space) (g : Given) (c : CallResult) → GivenAgrees classes space GivesField g c → IsField classes g c
+field_given classes space (given.FieldId a) (WeakResult r) h = absurd h
 field_given classes space (given.FieldId a) (FieldResult f) h = record { handle = a; field = f; same = refl; agrees = h; fills = λ old. refl }
 field_given classes space (given.FieldId a) NullResult h = record { handle = a; field = None; same = refl; agrees = subst (λ (o : Option Handle). FieldAgrees classes o None) (sym h) tt; fills = λ old. refl }
 field_given classes space (given.FieldId a) NoResult h = absurd h
@@ -205,27 +209,49 @@ field_given classes space (given.Buffer b) c h = absurd h
 -- what a static takes
 record IsGlobal (store : Store) (g : Given) (c : CallResult) : Type 0 where
   pub held : InMemory
-  pub reference : Reference
   pub same : g ≡ given.Global held
-  pub gave : static_result c ≡ as_static reference
-  pub agrees : HeldAgrees store.heap (held_of store.globals held) (as_static reference)
+  pub agrees : HeldAgrees store.heap (held_of store.globals store.weaks held) (static_result c)
   pub fresh : IsFresh store held
 
-global_given : (classes : Classes) (store : Store) (k : ℕ) (g : Given) (c : CallResult) → ResultAgrees classes store k g NewGlobal c → IsGlobal store g c
-global_given classes store k (given.Global s) c h = record { held = s; reference = h.1.0; same = refl; gave = ⊎_elim (λ e. ap static_result e) (λ e. ap static_result e.0 ∙ ap as_static (sym e.1)) h.1.1; agrees = h.1.2; fresh = h.1.3 }
-global_given classes store k given.Nothing c h = absurd h
-global_given classes store k (given.Number word) c h = absurd h
-global_given classes store k (given.Reference a) c h = absurd h
-global_given classes store k (given.FieldId f) c h = absurd h
-global_given classes store k (given.Buffer b) c h = absurd (let e = h.0.1 in cc)
+static_given : (classes : Classes) (store : Store) (k : ℕ) (kind : ResultKind) (g : Given) (c : CallResult) → IsStaticResult kind → ResultAgrees classes store k g kind c → IsGlobal store g c
+static_given classes store k NewGlobal (given.Global s) c goes h = record { held = s; same = refl; agrees = h.1; fresh = h.2 }
+static_given classes store k NewGlobal given.Nothing c goes h = absurd h
+static_given classes store k NewGlobal (given.Number word) c goes h = absurd h
+static_given classes store k NewGlobal (given.Reference a) c goes h = absurd h
+static_given classes store k NewGlobal (given.FieldId f) c goes h = absurd h
+static_given classes store k NewGlobal (given.Buffer b) c goes h = absurd (let e = h.0.1 in cc)
+static_given classes store k NewWeak (given.Global s) c goes h = record { held = s; same = refl; agrees = h.1; fresh = h.2 }
+static_given classes store k NewWeak given.Nothing c goes h = absurd h
+static_given classes store k NewWeak (given.Number word) c goes h = absurd h
+static_given classes store k NewWeak (given.Reference a) c goes h = absurd h
+static_given classes store k NewWeak (given.FieldId f) c goes h = absurd h
+static_given classes store k NewWeak (given.Buffer b) c goes h = absurd (let e = h.0.1 in cc)
+static_given classes store k kind g c goes h = absurd goes
+
+-- what is given for a static is of a function whose result goes into one
+for_static : (kind : ResultKind) (c : CallResult) → IsForStatic kind c → IsStaticResult kind
+for_static NewGlobal c h = tt
+for_static NewWeak c h = tt
+for_static NewLocal c h = h
+for_static GivesFlag c h = h
+for_static GivesInt c h = h
+for_static GivesField c h = h
+for_static GivesNothing c h = h
+for_static (GivesBuffer a) c h = h
+
+-- which is no number
+no_number : (kind : ResultKind) (s : Sort) → number_sort kind ≡ Some s → IsStaticResult kind → ⊥
+no_number NewGlobal s is goes = cc
+no_number NewWeak s is goes = cc
+no_number kind s is goes = goes
 
 -- what any other target takes
-other_given : (classes : Classes) (store : Store) (k : ℕ) (kind : ResultKind) (g : Given) (c : CallResult) → (kind ≡ NewGlobal → ⊥) → (IsBufferResult kind → ⊥) → ResultAgrees classes store k g kind c → GivenAgrees classes store.heap kind g c
+other_given : (classes : Classes) (store : Store) (k : ℕ) (kind : ResultKind) (g : Given) (c : CallResult) → (IsStaticResult kind → ⊥) → (IsBufferResult kind → ⊥) → ResultAgrees classes store k g kind c → GivenAgrees classes store.heap kind g c
 other_given classes store k kind given.Nothing c other no_buffer h = h
 other_given classes store k kind (given.Number word) c other no_buffer h = h
 other_given classes store k kind (given.Reference a) c other no_buffer h = h
 other_given classes store k kind (given.FieldId f) c other no_buffer h = h
-other_given classes store k kind (given.Global s) c other no_buffer h = absurd (other h.0)
+other_given classes store k kind (given.Global s) c other no_buffer h = absurd (other (for_static kind c h.0))
 other_given classes store k kind (given.Buffer b) c other no_buffer h = absurd (no_buffer h.0)
 
 -- what is no buffer
@@ -234,7 +260,7 @@ plain_result classes store k kind given.Nothing c other h = no_buffer classes st
 plain_result classes store k kind (given.Number word) c other h = no_buffer classes store.heap kind (given.Number word) c h
 plain_result classes store k kind (given.Reference a) c other h = no_buffer classes store.heap kind (given.Reference a) c h
 plain_result classes store k kind (given.FieldId f) c other h = no_buffer classes store.heap kind (given.FieldId f) c h
-plain_result classes store k kind (given.Global s) c other h = ⊎_elim (λ e. subst IsNoBuffer (sym e) tt) (λ e. subst IsNoBuffer (sym e.0) tt) h.1.1
+plain_result classes store k kind (given.Global s) c other h = plain_static kind c h.0
 plain_result classes store k kind (given.Buffer b) c other h = absurd (other h.0)
 
 -- it takes nothing
@@ -244,6 +270,7 @@ nothing_with NullResult h = refl
 nothing_with (ScalarResult v) h = refl
 nothing_with (ReferenceResult r) h = refl
 nothing_with (FieldResult f) h = refl
+nothing_with (WeakResult r) h = refl
 nothing_with (BufferResult b) h = absurd h
 
 -- a buffer
@@ -264,11 +291,12 @@ buffer_given classes store k access (given.Buffer h) NoResult small agrees = abs
 buffer_given classes store k access (given.Buffer h) (ScalarResult v) small agrees = absurd agrees.1
 buffer_given classes store k access (given.Buffer h) (ReferenceResult r) small agrees = absurd agrees.1
 buffer_given classes store k access (given.Buffer h) (FieldResult f) small agrees = absurd agrees.1
+buffer_given classes store k access (given.Buffer h) (WeakResult r) small agrees = absurd agrees.1
 buffer_given classes store k access given.Nothing c small agrees = absurd agrees
 buffer_given classes store k access (given.Number word) c small agrees = absurd agrees
 buffer_given classes store k access (given.Reference a) c small agrees = absurd agrees
 buffer_given classes store k access (given.FieldId f) c small agrees = absurd agrees
-buffer_given classes store k access (given.Global s) c small agrees = absurd (let e = agrees.0 in cc)
+buffer_given classes store k access (given.Global s) c small agrees = absurd agrees.0
 
 frames_result : (classes : Classes) (store : Store) (k : ℕ) (kind : ResultKind) (g : Given) (c : CallResult) (locals after : LocalTable) (key : Option ℕ) (gs : List source.Frame) → AreStacked locals → ResultAgrees classes store k g kind c → MakesLocal kind g locals key after → FramesAgree store.heap locals gs → FramesAgree store.heap after (frames_received kind c gs)
 frames_result classes store k kind given.Nothing c locals after key gs stacked h makes agree = frames_agree store.heap classes kind given.Nothing c locals key after gs stacked h makes agree
@@ -276,8 +304,12 @@ frames_result classes store k kind (given.Number word) c locals after key gs sta
 frames_result classes store k kind (given.Reference a) c locals after key gs stacked h makes agree = frames_agree store.heap classes kind (given.Reference a) c locals key after gs stacked h makes agree
 frames_result classes store k kind (given.FieldId f) c locals after key gs stacked h makes agree = frames_agree store.heap classes kind (given.FieldId f) c locals key after gs stacked h makes agree
 frames_result classes store k kind (given.Global s) c locals after key gs stacked h makes agree =
-    subst (λ (k : ResultKind). FramesAgree store.heap after (frames_received k c gs)) (sym h.0)
-    (subst (λ (t : LocalTable). FramesAgree store.heap t gs) (sym (subst (λ (k : ResultKind). MakesLocal k (given.Global s) locals key after) h.0 makes).1) agree)
+    static_frames kind (for_static kind c h.0) makes
+  where
+    static_frames : (kind : ResultKind) → IsStaticResult kind → MakesLocal kind (given.Global s) locals key after → FramesAgree store.heap after (frames_received kind c gs)
+    static_frames NewGlobal goes makes = subst (λ (t : LocalTable). FramesAgree store.heap t gs) (sym makes.1) agree
+    static_frames NewWeak goes makes = subst (λ (t : LocalTable). FramesAgree store.heap t gs) (sym makes.1) agree
+    static_frames kind goes makes = absurd goes
 frames_result classes store k kind (given.Buffer b) c locals after key gs stacked h makes agree =
     subst (λ (k : ResultKind). FramesAgree store.heap after (frames_received k c gs)) (sym h.0.1)
     (subst (λ (t : LocalTable). FramesAgree store.heap t gs) (sym (subst (λ (k : ResultKind). MakesLocal k (given.Buffer b) locals key after) h.0.1 makes).1) agree)
@@ -379,7 +411,7 @@ module _ (p : Lowered) (w : World) (old : Space) (old_copies : List (Option Owne
     (r : Ready p w.classes old old_copies k call code (visible_to own shared s) s.frames task rest) (line : ℕ) (f : JniFunction) (args : List Actual) (locals : LocalTable) (stacked : AreStacked locals) (room : HasRoom (prototype f).result locals) (keyed : KeysAgree store.heap locals call.slots.references.items r.meant.references r.meant.owners)
     (buffered : BuffersAgree store.heap store.elements k call.slots.buffers.items r.meant.buffers) (viewed : AreViewed store.heap call.slots.buffers.items s) (left : List source.Frame) (framed : FramesAgree store.heap locals left) (q : Reference) (g : Given) (c : CallResult) (untold : Variables) (told : tell_copy (address_given args 1) c untold ≡ s.variables) (told_taken : taken_by s.variables ≡ taken_by untold)
     (shares : StoreAgrees p w store next (beside others (beside (taken_by untold) (acquired_with c)))) (agrees : ResultAgrees w.classes store k g (prototype f).result c) (small : (b : Buffer) → c ≡ BufferResult b → IsSmallCopy b) (apart : (b : HeldBuffer) (j key : ℕ) → g ≡ given.Buffer b → b ≡ held_as.Copy key → slice_get call.slots.buffers.items j ≡ Some (held_as.Copy key) → ⊥)
-    (still : (prototype f).result ≡ NewGlobal → next.statics ≡ shared.statics) (function : Call) (at : slice_get code.instrs call.place ≡ Some (instr.Call function)) (none_left : with_fewer (words_taken function.operands) (length call.stack) ≡ Some 0) (after : Activation) (statics : Vec InMemory) where
+    (still : IsStaticResult (prototype f).result → next.statics ≡ shared.statics) (function : Call) (at : slice_get code.instrs call.place ≡ Some (instr.Call function)) (none_left : with_fewer (words_taken function.operands) (length call.stack) ≡ Some 0) (after : Activation) (statics : Vec InMemory) where
   abbrev space : Space
   space = store.heap
 
@@ -613,10 +645,10 @@ module _ (p : Lowered) (w : World) (old : Space) (old_copies : List (Option Owne
 
   -- ---- a global reference
 
-  static_finishes : IsNoBuffer c → (i : ℕ) (x : Identifier) → HasNoWord → Receives (destination.Static i) kind None g carried after → kind ≡ NewGlobal → statics.items ≡ statics_with (destination.Static i) g store.statics.items → IsGlobal store g c
+  static_finishes : IsNoBuffer c → (i : ℕ) (x : Identifier) → HasNoWord → Receives (destination.Static i) kind None g carried after → IsStaticResult kind → statics.items ≡ statics_with (destination.Static i) g store.statics.items → IsGlobal store g c
       → TakesStatic code r.known call.place call.stack held (visible_to own shared s) i x rest → Ends (Assigned x)
   static_finishes plain i x no_word receives global same_statics n takes =
-      let h : StaticReference = as_static n.reference in
+      let h : StaticReference = static_result c in
       let now : Shared = record next { statics = assign x h next.statics } in
       let seen : Shared = record shared { statics = assign x h shared.statics } in
       let unnamed : lookup x s.variables ≡ None = nothing_named (lookup x s.variables) takes.static.no_variable.kind takes.static.no_variable.array_type in
@@ -629,9 +661,8 @@ module _ (p : Lowered) (w : World) (old : Space) (old_copies : List (Option Owne
         tasks = rest;
         steps =
             ap (put (Assigned x) c next) (resumed_is line f args rest s left q c untold told (Assigned x))
-            ∙ ap (put_assigned x c next (resuming s.variables)) unnamed
-            ∙ ap (λ (v : StaticReference). source.Advances (record next { statics = assign x v next.statics }) (resuming s.variables) source.Quiet) n.gave;
-        store_agrees = with_static p w store next (beside others (taken_by s.variables)) (plain_shares plain s.variables refl) statics x i n.held h assigned place n.agrees (keys_put store.globals store.statics.items i n.held n.fresh shares.keys);
+            ∙ ap (put_assigned x c next (resuming s.variables)) unnamed;
+        store_agrees = with_static p w store next (beside others (taken_by s.variables)) (plain_shares plain s.variables refl) statics x i n.held h assigned place n.agrees (keys_put store.globals store.statics.items i n.held n.fresh.live shares.keys) (weak_keys_put store.weaks store.statics.items i n.held n.fresh.weak shares.weak_keys);
         keeps = record { names = keeps.names; statics = inr (x, h, now_statics); shapes = keeps.shapes; room = keeps.room; laid = keeps.laid; few = keeps.few };
         views = plain_views s.variables receives.buffers refl;
         stands = fewer_stands p w.classes space store.elements k after own (put_owners (Assigned x) own s.variables) now (resuming s.variables) (frames_received kind c left) rest (fewer_static x own s.variables unnamed) (record {
@@ -733,21 +764,21 @@ module _ (p : Lowered) (w : World) (old : Space) (old_copies : List (Option Owne
   pub finishes : (d : Destination) (target : Target) → (kind ≡ NewLocal → IsDeclaredThere target) → IsFree target → function.target ≡ d → TakesResult code r.known call.place call.stack held (visible_to own shared s) line d kind target rest → Receives d kind None g carried after → statics.items ≡ statics_with d g store.statics.items → Ends target
   finishes (destination.Number i) target there free same goes receives same_statics =
       number_finishes same_statics (ap (λ (d : Destination). with_result d 0) same) i target free receives goes.0
-      (number_given w.classes space kind g c goes.0 (other_given w.classes store k kind g c (λ e. let clash : None ≡ Some goes.0 = sym (ap number_sort e) ∙ goes.1 in cc) (λ b. let clash : None ≡ Some goes.0 = sym (ap number_sort b.1) ∙ goes.1 in cc) agrees) goes.1) goes.2
+      (number_given w.classes space kind g c goes.0 (other_given w.classes store k kind g c (no_number kind goes.0 goes.1) (λ b. let clash : None ≡ Some goes.0 = sym (ap number_sort b.1) ∙ goes.1 in cc) agrees) goes.1) goes.2
   finishes (destination.Local i) target there free same goes receives same_statics =
-      let given = subst (λ (k : ResultKind). GivenAgrees w.classes space k g c) goes.0 (other_given w.classes store k kind g c (λ e. let clash : NewLocal ≡ NewGlobal = sym goes.0 ∙ e in cc) (λ b. let clash : NewLocal ≡ GivesBuffer b.0 = sym goes.0 ∙ b.1 in cc) agrees) in
+      let given = subst (λ (k : ResultKind). GivenAgrees w.classes space k g c) goes.0 (other_given w.classes store k kind g c (λ e. subst IsStaticResult goes.0 e) (λ b. let clash : NewLocal ≡ GivesBuffer b.0 = sym goes.0 ∙ b.1 in cc) agrees) in
       reference_finishes (no_buffer w.classes space NewLocal g c given) goes.0 same_statics (ap (λ (d : Destination). with_result d 0) same) i target free (there goes.0) receives (reference_given w.classes space g c given) goes.1
   finishes (destination.FieldId i) target there free same goes receives same_statics =
-      let given = subst (λ (k : ResultKind). GivenAgrees w.classes space k g c) goes.0 (other_given w.classes store k kind g c (λ e. let clash : GivesField ≡ NewGlobal = sym goes.0 ∙ e in cc) (λ b. let clash : GivesField ≡ GivesBuffer b.0 = sym goes.0 ∙ b.1 in cc) agrees) in
+      let given = subst (λ (k : ResultKind). GivenAgrees w.classes space k g c) goes.0 (other_given w.classes store k kind g c (λ e. subst IsStaticResult goes.0 e) (λ b. let clash : GivesField ≡ GivesBuffer b.0 = sym goes.0 ∙ b.1 in cc) agrees) in
       field_finishes (no_buffer w.classes space GivesField g c given) same_statics (ap (λ (d : Destination). with_result d 0) same) i target free receives (field_given w.classes space g c given) goes.1
   finishes (destination.Static i) target there free same goes receives same_statics =
       subst Ends (sym goes.1.1)
-      (static_finishes (plain_result w.classes store k kind g c (λ b. let clash : NewGlobal ≡ GivesBuffer b.0 = sym goes.0 ∙ b.1 in cc) agrees) i goes.1.0 (ap (λ (d : Destination). with_result d 0) same) receives goes.0 same_statics (global_given w.classes store k g c (subst (λ (x : ResultKind). ResultAgrees w.classes store k g x c) goes.0 agrees)) goes.1.2)
+      (static_finishes (plain_result w.classes store k kind g c (λ b. subst IsStaticResult b.1 goes.0) agrees) i goes.1.0 (ap (λ (d : Destination). with_result d 0) same) receives goes.0 same_statics (static_given w.classes store k kind g c goes.0 agrees) goes.1.2)
   finishes (destination.Buffer element i) target there free same goes receives same_statics =
       buffer_finishes same_statics (ap (λ (d : Destination). with_result d 0) same) element i target free receives goes.1.0 (buffer_given w.classes store k goes.0.0 g c small (subst (λ (x : ResultKind). ResultAgrees w.classes store k g x c) goes.0.1 agrees)) goes.1.2
   finishes destination.Test target there free same goes receives same_statics =
       test_finishes same_statics target (ap (λ (d : Destination). with_result d 0) same) receives
-      (number_given w.classes space kind g c Jint (other_given w.classes store k kind g c (λ e. let clash : GivesInt ≡ NewGlobal = sym goes.0 ∙ e in cc) (λ b. let clash : GivesInt ≡ GivesBuffer b.0 = sym goes.0 ∙ b.1 in cc) agrees) (ap number_sort goes.0)) goes.1
+      (number_given w.classes space kind g c Jint (other_given w.classes store k kind g c (λ e. subst IsStaticResult goes.0 e) (λ b. let clash : GivesInt ≡ GivesBuffer b.0 = sym goes.0 ∙ b.1 in cc) agrees) (ap number_sort goes.0)) goes.1
   finishes destination.Dropped target there free same goes receives same_statics =
       subst Ends (sym goes.0) (record {
         now = next;

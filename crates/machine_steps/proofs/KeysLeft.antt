@@ -15,8 +15,11 @@ use Rattle.heap.specs.Heap.{Space, values_at}
 use Rattle.heap.specs.declared.value.Value.{Value}
 use Rattle.jni.specs.Access.{Access, is_critical}
 use Rattle.jni.specs.declared.mode.ReleaseMode.{ReleaseMode}
+use Rattle.machine_scenes.specs.declared.references.Held.{Held}
+use Rattle.machine_scenes.specs.declared.references.Held.TheVariants as held_by
+use Rattle.machine_scenes.specs.Statics.{References, static_at}
 use Rattle.machine_scenes.specs.declared.buffer.Buffer.{Buffer}
-use Rattle.jni.specs.JniFunction.{GetBuffer, ReleaseBuffer, JniFunction, FindClass, DeleteLocalRef, DeleteGlobalRef, EnsureLocalCapacity, PushLocalFrame, PopLocalFrame, GetFieldID, GetStaticFieldID, SetField, SetStaticField, SetObjectField, SetStaticObjectField, NewArray, NewObjectArray, GetObjectArrayElement, SetObjectArrayElement, MonitorEnter, MonitorExit, GetArrayRegion, SetArrayRegion, GetStringRegion}
+use Rattle.jni.specs.JniFunction.{GetBuffer, ReleaseBuffer, JniFunction, FindClass, DeleteLocalRef, DeleteGlobalRef, DeleteWeakGlobalRef, EnsureLocalCapacity, PushLocalFrame, PopLocalFrame, GetFieldID, GetStaticFieldID, SetField, SetStaticField, SetObjectField, SetStaticObjectField, NewArray, NewObjectArray, GetObjectArrayElement, SetObjectArrayElement, MonitorEnter, MonitorExit, GetArrayRegion, SetArrayRegion, GetStringRegion}
 use Rattle.semantics_safety.specs.Owners.{other_than}
 use Rattle.code.specs.declared.instr.LocalArray.{LocalArray}
 use Rattle.machine_scenes.specs.declared.array_region.ArrayRegion.{ArrayRegion}
@@ -26,8 +29,8 @@ use Rattle.machine_answers.specs.declared.answer.Given.TheVariants.{Nothing}
 use Rattle.machine_answers.specs.declared.answer.Answer.TheVariants as answer
 use Rattle.machine_calls.specs.CarriedOut.{IsLeft}
 use Rattle.machine_scenes.specs.Scenes.{Scene}
-use Rattle.machine_scenes.specs.Given.{name_there}
-use Rattle.machine_answers.specs.WorkedOut.{acquires, releases, IsFoundField, IsWorkedOut, copies_in, copies_out, local_array, region, deletes_global, element_there, entered_by, enters, found_class, frame_for, leaves, left_by, new_array, room_for, stores_there, writes_there}
+use Rattle.machine_scenes.specs.Given.{name_there, operand_of}
+use Rattle.machine_answers.specs.WorkedOut.{acquires, releases, IsFoundField, IsWorkedOut, copies_in, copies_out, local_array, region, deletes_global, deletes_held, deletes_held_weakly, deletes_weak, element_there, entered_by, enters, found_class, frame_for, leaves, left_by, new_array, room_for, stores_there, writes_there}
 use Rattle.monitors.specs.declared.monitors.Enter.{Enter}
 use Rattle.monitors.specs.declared.monitors.Enter.TheVariants as enter
 use Rattle.monitors.specs.declared.monitors.Exit.{Exit}
@@ -54,10 +57,22 @@ none_frame : (z : ℤ) → ends_none (frame_for z) ≡ true
 none_frame (pos n) = refl
 none_frame (negsuc n) = refl
 
-none_global : (r : Option ℕ) (o : Operand) → ends_none (deletes_global r o) ≡ true
-none_global None o = refl
-none_global (Some a) (operand.Static i) = refl
-none_global (Some a) o = refl
+none_held : (i : ℕ) (h : Held) → ends_none (deletes_held i h) ≡ true
+none_held i (held_by.At a) = refl
+none_held i h = refl
+
+none_global : (references : References) (o : Operand) → ends_none (deletes_global references o) ≡ true
+none_global references (operand.Static i) = none_held i (static_at references i)
+none_global references o = refl
+
+none_held_weakly : (i : ℕ) (h : Held) → ends_none (deletes_held_weakly i h) ≡ true
+none_held_weakly i (held_by.Weakly a) = refl
+none_held_weakly i held_by.Cleared = refl
+none_held_weakly i h = refl
+
+none_weak : (references : References) (o : Operand) → ends_none (deletes_weak references o) ≡ true
+none_weak references (operand.Static i) = none_held_weakly i (static_at references i)
+none_weak references o = refl
 
 none_write : (space : Space) (r : Option ℕ) (place : ℕ) (v : Value) → ends_none (writes_there space r place v) ≡ true
 none_write space None place v = refl
@@ -136,7 +151,8 @@ module _ (scene : Scene) (call : Call) where
   others_end_none FindClass a m is = ap ends_none is ∙ none_class scene.loaded _
   others_end_none EnsureLocalCapacity a m is = ap ends_none is ∙ none_room _
   others_end_none PushLocalFrame a m is = ap ends_none is ∙ none_frame _
-  others_end_none DeleteGlobalRef a m is = ap ends_none is ∙ none_global _ _
+  others_end_none DeleteGlobalRef a m is = ap ends_none is ∙ none_global scene.references (operand_of call.operands 0)
+  others_end_none DeleteWeakGlobalRef a m is = ap ends_none is ∙ none_weak scene.references (operand_of call.operands 0)
   others_end_none (SetField T) a m is = ap ends_none is ∙ none_write scene.space _ _ _
   others_end_none SetObjectField a m is = ap ends_none is ∙ none_write scene.space _ _ _
   others_end_none (SetStaticField T) a m is = ap ends_none is ∙ none_write scene.space _ _ _

@@ -18,7 +18,7 @@ use Rattle.semantics.specs.Thread as source
 use Rattle.semantics.specs.Thread.{Shared}
 use Rattle.semantics.specs.ThreadStep.{with_tasks}
 use Rattle.semantics.specs.Value.{Gives, Stuck}
-use Rattle.semantics.specs.Variable.{Buffer, Variable, Scalar, LocalRef, FieldHandle, Elements, LocalArray, NoBuffer, StaticReference, Empty, Variables, assign, copied_length, viewed}
+use Rattle.semantics.specs.Variable.{Buffer, Variable, Scalar, LocalRef, FieldHandle, Elements, LocalArray, NoBuffer, StaticReference, Empty, Live, Weakly, Cleared, Deleted, Statics, Variables, assign, copied_length, viewed}
 use Rattle.semantics_safety.specs.Owners.{Owners, is_target}
 use Rattle.semantics_safety.specs.StepSafe.{HoldsNoBuffer}
 use Rattle.code_meaning.specs.Slots as lower
@@ -31,8 +31,9 @@ use Rattle.class_rules.specs.Class.{Classes}
 use Rattle.class_rules.specs.Fields.{FieldId}
 use Rattle.classes.specs.declared.class.FieldHandle.{FieldHandle as Handle}
 use Rattle.machine_scenes.specs.FieldIds.{FieldAgrees, FieldsAgree}
-use Rattle.machine_scenes.specs.StoreAgrees.{StaticsAgree}
-use Rattle.machine_calls.proofs.HeldStatics.{null_at}
+use Rattle.machine_scenes.specs.StoreAgrees.{HeldAgrees, StaticsAgree}
+use Rattle.machine_scenes.specs.declared.references.Held.{Held}
+use Rattle.machine_scenes.specs.declared.references.Held.TheVariants as held_by
 use Rattle.machine_scenes.specs.Locals.{KeysAgree}
 use Rattle.tables.specs.Elements.{OwnedNumbers}
 use Rattle.tables.specs.Locals.{LocalTable}
@@ -41,9 +42,9 @@ use Rattle.machine_scenes.specs.declared.buffer.Buffer.{Buffer as HeldBuffer}
 use Rattle.machine_answers.specs.WorkedOut.{buffer_there}
 use Rattle.machine_scenes.proofs.KeyLaws.{key_nulled, null_there}
 use Rattle.machine_scenes.specs.Given.{held_in}
-use Rattle.machine_scenes.specs.Statics.{References}
+use Rattle.machine_scenes.specs.Statics.{References, held_or_null}
 use Rattle.machine_threads.specs.SlotsHold.{IsSmallCopy}
-use Rattle.machine_steps.specs.Variables.{is_null, is_null_buffer, nulled_references, nulled_fields, nulled_buffers}
+use Rattle.machine_steps.specs.Variables.{is_empty_held, is_null, is_null_buffer, nulled_references, nulled_fields, nulled_buffers}
 use Rattle.machine_steps.proofs.Changes.{is_nulled, lookup_other, lookup_same}
 use Rattle.machine_steps.proofs.Acquisitions.{assigned_nothing, taken_by}
 use Rattle.machine_steps.proofs.SlotBuffers.{all_put, buffers_nulled, null_buffer}
@@ -159,6 +160,41 @@ buffer_found : (space : Space) (copies : List (Option OwnedNumbers)) (owner : �
     → is_null_buffer (buffer_there slots i) ≡ null
 buffer_found space copies owner slots buffers i null h None at e = absurd (cc)
 buffer_found space copies owner slots buffers i null h (Some b) at e = null_buffer space copies owner slots buffers i b h at ∙ (let same : lower.is_no_buffer b ≡ null = cc in same)
+
+-- a static is NULL where the source's is
+empty_agrees : (space : Space) (h : Held) (r : StaticReference) → HeldAgrees space h r → is_empty_held h ≡ lower.is_empty r
+empty_agrees space held_by.Empty Empty e = refl
+empty_agrees space held_by.Empty (Live n) e = absurd e
+empty_agrees space held_by.Empty (Weakly n) e = absurd e
+empty_agrees space held_by.Empty Cleared e = absurd e
+empty_agrees space held_by.Empty Deleted e = absurd e
+empty_agrees space (held_by.At a) Empty e = absurd e
+empty_agrees space (held_by.At a) (Live n) e = refl
+empty_agrees space (held_by.At a) (Weakly n) e = absurd e
+empty_agrees space (held_by.At a) Cleared e = absurd e
+empty_agrees space (held_by.At a) Deleted e = absurd e
+empty_agrees space (held_by.Weakly a) Empty e = absurd e
+empty_agrees space (held_by.Weakly a) (Live n) e = absurd e
+empty_agrees space (held_by.Weakly a) (Weakly n) e = refl
+empty_agrees space (held_by.Weakly a) Cleared e = absurd e
+empty_agrees space (held_by.Weakly a) Deleted e = absurd e
+empty_agrees space held_by.Cleared Empty e = absurd e
+empty_agrees space held_by.Cleared (Live n) e = absurd e
+empty_agrees space held_by.Cleared (Weakly n) e = absurd e
+empty_agrees space held_by.Cleared Cleared e = refl
+empty_agrees space held_by.Cleared Deleted e = absurd e
+empty_agrees space held_by.Deleted Empty e = absurd e
+empty_agrees space held_by.Deleted (Live n) e = absurd e
+empty_agrees space held_by.Deleted (Weakly n) e = absurd e
+empty_agrees space held_by.Deleted Cleared e = absurd e
+empty_agrees space held_by.Deleted Deleted e = refl
+
+null_at : (space : Space) (helds : List Held) (statics : Statics) (i : ℕ) (null : Bool) → StaticsAgree space helds statics → option_map (λ (s : Identifier × StaticReference). lower.is_empty s.1) (slice_get statics i) ≡ Some null → is_empty_held (held_or_null (slice_get helds i)) ≡ null
+null_at space [] [] i null h e = absurd (cc)
+null_at space [] (s ∷ statics) i null h e = absurd h
+null_at space (k ∷ helds) [] i null h e = absurd h
+null_at space (k ∷ helds) (s ∷ statics) zero null h e = empty_agrees space k s.1 h.0 ∙ (let same : lower.is_empty s.1 ≡ null = cc in same)
+null_at space (k ∷ helds) (s ∷ statics) (suc i) null h e = null_at space helds statics i null h.1 e
 
 -- a variable is NULL where the source's is
 pub variable_null_agrees : (classes : Classes) (space : Space) (copies : List (Option OwnedNumbers)) (owner : ℕ) (references : References) (handles : List (Option Handle)) (buffers : List HeldBuffer) (visible : Visible) (slots : Slots) (variable : NullableVariable) (null : Bool) → KeysAgree space references.locals references.keys slots.references slots.owners → StaticsAgree space references.statics visible.statics → FieldsAgree classes handles slots.fields → BuffersAgree space copies owner buffers slots.buffers

@@ -21,7 +21,7 @@ use Rattle.machine_scenes.specs.declared.store.Store.{Store}
 use Rattle.machine_scenes.specs.Buffers.{Acquired}
 use Rattle.machine_scenes.specs.StoreAgrees.{MayChange, StoreAgrees}
 use Rattle.machine_steps.specs.Variables.{nulled_statics}
-use Rattle.machine_calls.proofs.HeldStatics.{keys_left}
+use Rattle.machine_calls.proofs.HeldStatics.{keys_left, weak_keys_put}
 use Rattle.machine_calls.proofs.StaticStores.{with_same, with_static}
 
 module _ (p : Lowered) (w : World) (store : Store) (shared : Shared) (all : Acquired) (h : StoreAgrees p w store shared all) where
@@ -34,7 +34,7 @@ module _ (p : Lowered) (w : World) (store : Store) (shared : Shared) (all : Acqu
     store_nulled (nullable.Buffer i) kind stored is = subst (λ (k : Option VariableKind). StoreAgrees p w (record store { statics = statics }) (record shared { statics = lower.nulled_statics k x shared.statics }) all) (sym stored.1) (with_same p w store shared all h statics is)
     store_nulled (nullable.Static i) kind stored is =
         subst (λ (k : Option VariableKind). StoreAgrees p w (record store { statics = statics }) (record shared { statics = lower.nulled_statics k x shared.statics }) all) (sym stored.0)
-        (with_static p w store shared all h statics x i static.Empty Empty is stored.1.static.place tt (keys_left store.globals store.statics.items i static.Empty (λ key e. cc) h.keys))
+        (with_static p w store shared all h statics x i static.Empty Empty is stored.1.static.place tt (keys_left store.globals store.statics.items i static.Empty (λ key e. cc) h.keys) (weak_keys_put store.weaks store.statics.items i static.Empty (λ key e. absurd (cc)) h.weak_keys))
 
 -- what is NULL then
 pub may_be_nulled : (kind : Option VariableKind) (x : Identifier) (statics : Statics) → MayChange statics (lower.nulled_statics kind x statics)

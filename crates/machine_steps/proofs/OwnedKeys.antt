@@ -24,7 +24,7 @@ use Rattle.semantics.specs.Term as term
 use Rattle.semantics.specs.Term.{Term, Done, Read, index_of, reduce}
 use Rattle.semantics.specs.Thread.{Shared, Thread, sight_of}
 use Rattle.semantics.specs.Value.{Value, Int, Truth, Outcome, Gives, Traps, Stuck}
-use Rattle.semantics.specs.Variable.{Variable, LocalRef, StaticReference, Empty, Live, Deleted, Variables, as_static}
+use Rattle.semantics.specs.Variable.{Variable, LocalRef, StaticReference, Empty, Live, Weakly, Cleared, Deleted, Variables, as_static}
 use Rattle.code.specs.Depth.{Listing}
 use Rattle.code.specs.declared.instr.Operand.{Operand as InMemory}
 use Rattle.code.specs.declared.instr.Operand.TheVariants as operand
@@ -138,6 +138,8 @@ module _ (own : Owners) (vs : Variables) (sight : Sight) where
       by_reference : (r : StaticReference) → IsArgumentOwn own vs (ReferenceActual x r)
       by_reference (Live n) = h.0
       by_reference Empty = tt
+      by_reference (Weakly n) = tt
+      by_reference Cleared = tt
       by_reference Deleted = tt
   reference_own e h = tt
 

@@ -6,8 +6,9 @@ use Rattle.class_rules.specs.Class.{Classes}
 use Rattle.class_rules.specs.Fields.{FieldId}
 use Rattle.classes.specs.declared.class.FieldHandle.{FieldHandle}
 use Rattle.heap.specs.Heap.{Space}
-use Rattle.jni.specs.Prototype.{ResultKind, NewLocal, NewGlobal, GivesFlag, GivesInt, GivesField, GivesNothing, GivesBuffer}
-use Rattle.semantics.specs.CallEffects.{CallResult, NoResult, NullResult, ScalarResult, ReferenceResult, FieldResult, BufferResult, with_local}
+use Rattle.jni.specs.Prototype.{ResultKind, NewLocal, NewGlobal, NewWeak, GivesFlag, GivesInt, GivesField, GivesNothing, GivesBuffer}
+use Rattle.machine_calls.specs.CarriedOut.{IsForStatic}
+use Rattle.semantics.specs.CallEffects.{CallResult, NoResult, NullResult, ScalarResult, ReferenceResult, WeakResult, FieldResult, BufferResult, with_local}
 use Rattle.semantics.specs.CallStep.{received, tell_copy}
 use Rattle.semantics.specs.Thread as source
 use Rattle.semantics.specs.Variable.{Variables}
@@ -27,6 +28,23 @@ abbrev pub IsNoBuffer : CallResult → Type 0
 IsNoBuffer (BufferResult b) = ⊥
 IsNoBuffer c = Unit {0}
 
+-- what goes into a static is none
+pub plain_static : (kind : ResultKind) (c : CallResult) → IsForStatic kind c → IsNoBuffer c
+plain_static kind NoResult h = tt
+plain_static kind NullResult h = tt
+plain_static kind (ScalarResult v) h = tt
+plain_static kind (ReferenceResult r) h = tt
+plain_static kind (WeakResult r) h = tt
+plain_static kind (FieldResult f) h = tt
+plain_static NewLocal (BufferResult b) h = h
+plain_static NewGlobal (BufferResult b) h = h
+plain_static NewWeak (BufferResult b) h = h
+plain_static GivesFlag (BufferResult b) h = h
+plain_static GivesInt (BufferResult b) h = h
+plain_static GivesField (BufferResult b) h = h
+plain_static GivesNothing (BufferResult b) h = h
+plain_static (GivesBuffer a) (BufferResult b) h = h
+
 -- nothing that is given is a buffer
 pub no_buffer : (classes : Classes) (space : Space) (kind : ResultKind) (g : Given) (c : CallResult) → GivenAgrees classes space kind g c → IsNoBuffer c
 no_buffer classes space kind g NoResult h = tt
@@ -34,7 +52,9 @@ no_buffer classes space kind g NullResult h = tt
 no_buffer classes space kind g (ScalarResult v) h = tt
 no_buffer classes space kind g (ReferenceResult r) h = tt
 no_buffer classes space kind g (FieldResult f) h = tt
+no_buffer classes space kind g (WeakResult r) h = tt
 no_buffer classes space NewGlobal g (BufferResult b) h = h
+no_buffer classes space NewWeak g (BufferResult b) h = h
 no_buffer classes space (GivesBuffer a) g (BufferResult b) h = h
 no_buffer classes space NewLocal given.Nothing (BufferResult b) h = h
 no_buffer classes space NewLocal (given.Number n) (BufferResult b) h = h
@@ -75,6 +95,7 @@ nothing_told (Some x) NullResult variables h = refl
 nothing_told (Some x) (ScalarResult v) variables h = refl
 nothing_told (Some x) (ReferenceResult r) variables h = refl
 nothing_told (Some x) (FieldResult f) variables h = refl
+nothing_told (Some x) (WeakResult r) variables h = refl
 nothing_told (Some x) (BufferResult c) variables h = absurd h
 
 -- ---- frames
@@ -92,8 +113,10 @@ received_count NewLocal NoResult frames = refl
 received_count NewLocal NullResult frames = refl
 received_count NewLocal (ScalarResult v) frames = refl
 received_count NewLocal (FieldResult f) frames = refl
+received_count NewLocal (WeakResult r) frames = refl
 received_count NewLocal (BufferResult b) frames = refl
 received_count NewGlobal c frames = refl
+received_count NewWeak c frames = refl
 received_count GivesFlag c frames = refl
 received_count GivesInt c frames = refl
 received_count GivesField c frames = refl
@@ -107,8 +130,10 @@ received_is NewLocal NoResult t = refl
 received_is NewLocal NullResult t = refl
 received_is NewLocal (ScalarResult v) t = refl
 received_is NewLocal (FieldResult f) t = refl
+received_is NewLocal (WeakResult r) t = refl
 received_is NewLocal (BufferResult b) t = refl
 received_is NewGlobal c t = refl
+received_is NewWeak c t = refl
 received_is GivesFlag c t = refl
 received_is GivesInt c t = refl
 received_is GivesField c t = refl
@@ -130,6 +155,7 @@ module _ (space : Space) where
   frames_agree classes NewLocal (given.Reference (Some a)) NoResult locals key after gs stacked h makes agree = absurd h
   frames_agree classes NewLocal (given.Reference (Some a)) (ScalarResult v) locals key after gs stacked h makes agree = absurd h
   frames_agree classes NewLocal (given.Reference (Some a)) (FieldResult f) locals key after gs stacked h makes agree = absurd h
+  frames_agree classes NewLocal (given.Reference (Some a)) (WeakResult r) locals key after gs stacked h makes agree = absurd h
   frames_agree classes NewLocal (given.Reference (Some a)) (BufferResult b) locals key after gs stacked h makes agree = absurd h
   frames_agree classes NewLocal (given.Reference None) (ReferenceResult (Some n)) locals key after gs stacked h makes agree = absurd h
   frames_agree classes NewLocal (given.Reference None) (ReferenceResult None) locals key after gs stacked h makes agree = same_table locals after gs makes.1 agree
@@ -137,6 +163,7 @@ module _ (space : Space) where
   frames_agree classes NewLocal (given.Reference None) NoResult locals key after gs stacked h makes agree = same_table locals after gs makes.1 agree
   frames_agree classes NewLocal (given.Reference None) (ScalarResult v) locals key after gs stacked h makes agree = same_table locals after gs makes.1 agree
   frames_agree classes NewLocal (given.Reference None) (FieldResult f) locals key after gs stacked h makes agree = same_table locals after gs makes.1 agree
+  frames_agree classes NewLocal (given.Reference None) (WeakResult r) locals key after gs stacked h makes agree = same_table locals after gs makes.1 agree
   frames_agree classes NewLocal (given.Reference None) (BufferResult b) locals key after gs stacked h makes agree = same_table locals after gs makes.1 agree
   frames_agree classes NewLocal given.Nothing c locals key after gs stacked h makes agree = absurd h
   frames_agree classes NewLocal (given.Number n) c locals key after gs stacked h makes agree = absurd h
@@ -144,6 +171,7 @@ module _ (space : Space) where
   frames_agree classes NewLocal (given.Global s) c locals key after gs stacked h makes agree = absurd h
   frames_agree classes NewLocal (given.Buffer b) c locals key after gs stacked h makes agree = absurd h
   frames_agree classes NewGlobal g c locals key after gs stacked h makes agree = same_table locals after gs makes.1 agree
+  frames_agree classes NewWeak g c locals key after gs stacked h makes agree = same_table locals after gs makes.1 agree
   frames_agree classes GivesFlag g c locals key after gs stacked h makes agree = same_table locals after gs makes.1 agree
   frames_agree classes GivesInt g c locals key after gs stacked h makes agree = same_table locals after gs makes.1 agree
   frames_agree classes GivesField g c locals key after gs stacked h makes agree = same_table locals after gs makes.1 agree

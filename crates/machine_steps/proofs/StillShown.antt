@@ -37,6 +37,12 @@ module _ (own : Owners) (shared shared' : Shared) (statics : shared'.statics ≡
     is_null = nulls x ∙ h.is_null;
     reference = referred x ∙ h.reference;
   }
+  slot_stays x slots slot sort.Weak h = record {
+    static = record { place = ap (static_index x) statics ∙ h.static.place; held = h.static.held; there = ap (lookup x) statics ∙ h.static.there };
+    no_variable = record { number = h.no_variable.number; array_type = h.no_variable.array_type; kind = h.no_variable.kind };
+    is_null = nulls x ∙ h.is_null;
+    reference = referred x ∙ h.reference;
+  }
   slot_stays x slots slot sort.FieldId h = record { field = h.field; is = h.is; is_null = nulls x ∙ h.is_null; no_number = h.no_number; kind = h.kind; there = h.there }
   slot_stays x slots slot (sort.Buffer t writable) h = record { buffer = h.buffer; is = h.is; is_null = nulls x ∙ h.is_null; kind = h.kind; there = h.there }
   slot_stays x slots slot (sort.Array t size) h =

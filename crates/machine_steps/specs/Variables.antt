@@ -9,7 +9,9 @@ use Rattle.machine_scenes.specs.Statics.{StaticReference}
 use Rattle.semantics.specs.declared.static_reference.StaticReference.TheVariants.{Empty}
 use Rattle.machine_scenes.specs.Given.{held_in}
 use Rattle.machine_threads.specs.SlotsHold.{SlotValues}
-use Rattle.machine_scenes.specs.Statics.{References, holds_null, static_at}
+use Rattle.machine_scenes.specs.Statics.{References, static_at}
+use Rattle.machine_scenes.specs.declared.references.Held.{Held}
+use Rattle.machine_scenes.specs.declared.references.Held.TheVariants as held_by
 use Rattle.machine_answers.specs.WorkedOut.{buffer_there}
 
 -- whether a buffer is NULL
@@ -17,10 +19,15 @@ abbrev pub is_null_buffer : HeldBuffer → Bool
 is_null_buffer held.Null = true
 is_null_buffer b = false
 
+-- whether a static is NULL, which a weak reference isn't by being cleared
+abbrev pub is_empty_held : Held → Bool
+is_empty_held held_by.Empty = true
+is_empty_held h = false
+
 -- whether a variable is NULL
 abbrev pub is_null : References → List (Option FieldHandle) → List HeldBuffer → NullableVariable → Bool
 is_null references fields buffers (Local i) = is_none (held_in (slice_get references.keys i))
-is_null references fields buffers (Static i) = holds_null (static_at references i)
+is_null references fields buffers (Static i) = is_empty_held (static_at references i)
 is_null references fields buffers (FieldId i) = is_none (held_in (slice_get fields i))
 is_null references fields buffers (Buffer i) = is_null_buffer (buffer_there buffers i)
 

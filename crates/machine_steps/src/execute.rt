@@ -130,6 +130,7 @@ fn test_null(store: &Store, activation: &mut Activation, variable: NullableVaria
         &activation.locals,
         &store.statics,
         &store.globals,
+        &store.weaks,
     );
     let null = is_null(
         &references,

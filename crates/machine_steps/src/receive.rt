@@ -136,7 +136,7 @@ fn tell_copy(numbers: &mut [u32], told: Option<u32>, given: &Given)
     }
 }
 
-/// Puts a global reference into its static. One that the static held stays.
+/// Puts a global reference, weak or not, into its static. One that the static held stays.
 fn put_static(statics: &mut [StaticReference], slot: u32, given: &Given)
     requires { slot < length statics.old }
     ensures { statics.new ≡ statics_with (Target.Static slot) given.now statics.old }

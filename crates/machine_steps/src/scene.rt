@@ -33,6 +33,7 @@ pub(crate) fn scene_of<'a>(
             &activation.locals,
             &store.statics,
             &store.globals,
+            &store.weaks,
         ),
         fields: &activation.slots.fields,
         buffers: &activation.slots.buffers,

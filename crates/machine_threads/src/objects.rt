@@ -23,7 +23,7 @@ use machine_scenes::store::Store;
 use monitors::Monitors;
 use std::alloc::{AllocError, Global};
 use syntax::Item;
-use tables::{Elements, Globals};
+use tables::{Elements, Globals, Weaks};
 use world_values::{ObjectValue, World};
 
 /// The heap with the objects that are made before the first step, and the address of each by its name, counted from 1.
@@ -34,6 +34,7 @@ pub fn load_store(alloc: Global, items: &[Item], world: &World) -> Result<Store,
     ensures cells { IfOk result (λ store. store.heap.cells ≡ world.now.cells) }
     ensures statics { IfOk result (λ store. store.statics.items ≡ replicate (length (statics_of (unit_tree items.now))) Empty) }
     ensures globals { IfOk result (λ store. store.globals ≡ []) }
+    ensures weaks { IfOk result (λ store. store.weaks ≡ []) }
     ensures elements { IfOk result (λ store. store.elements ≡ []) }
     ensures views { IfOk result (λ store. store.views ≡ 0) }
     ensures monitors { IfOk result (λ store. store.monitors ≡ []) }
@@ -49,6 +50,7 @@ pub fn load_store(alloc: Global, items: &[Item], world: &World) -> Result<Store,
         births,
         statics: empty_statics(alloc, items)?,
         globals: Globals::new(alloc),
+        weaks: Weaks::new(alloc),
         elements: Elements::new(alloc),
         views: 0,
         monitors: Monitors::new(alloc),

@@ -1,4 +1,4 @@
-use Rattle.std.proofs.Common.{rules, ◌≡◌, ℕ, List, Option, Some, false, refl, sym, ap, ◌∙◌, subst}
+use Rattle.std.proofs.Common.{rules, ◌≡◌, ◌<◌, ℕ, List, length, Option, Some, false, refl, sym, ap, ◌∙◌, subst}
 use Rattle.std.specs.Prelude.{slice_get, slice_set, IsSome}
 use Rattle.machine_answers.specs.declared.answer.Answer.{Answer}
 use Rattle.machine_answers.specs.declared.answer.Given.TheVariants as given
@@ -8,8 +8,8 @@ use Rattle.machine_calls.specs.CarriedOut.{CarriesOut}
 use Rattle.tables.specs.Locals.{LocalTable, without}
 use Rattle.machine_answers.specs.declared.answer.Answer.TheVariants as answer
 use Rattle.machine_calls.proofs.CarryOuts as carries
-use Rattle.machine_calls.proofs.StaticStores.{live_there}
-use Rattle.machine_scenes.specs.Statics.{StaticReference}
+use Rattle.machine_calls.proofs.StaticStores.{live_there, static_within}
+use Rattle.machine_scenes.specs.Statics.{StaticReference, without_weak}
 use Rattle.semantics.specs.declared.static_reference.StaticReference.TheVariants as static
 use Rattle.std.specs.Vec.{with_items}
 use Rattle.std.proofs.lemmas.List.{with_items_is, places}
@@ -43,6 +43,34 @@ returns-in_ok-held-in-MakesGlobal-clause-carried c p kind brought others k share
     let old = c.args.store.now in
     carries.by_answer p w old.heap c.args.locals.now kind others k shared s effect brought c.args.answer (answer.MakesGlobal c.in-MakesGlobal.reference) c.in-MakesGlobal.is _ _ _ _ _ (λ makes.
     carries.makes_global p w old c.args.pending.now c.args.locals.now kind others k shared s h brought c.make_global.new.globals c.in_ok-held-in-MakesGlobal.held effect c.in-MakesGlobal.reference makes.1.0 makes.0 makes.1.1 makes.1.2 c.in_ok-held-in-MakesGlobal.ensures.made) does
+
+-- the static that is marked is there
+pub delete_weak-requires : goal.delete_weak-requires
+delete_weak-requires c =
+    let r = c.requires.possible in
+    let w = c.args.world.now in
+    let old = c.args.store.now in
+    let slot = c.in-DeletesWeak.slot in
+    let deletes = subst (λ (a : Answer). IsAnswer w.classes r.2 old.heap c.args.locals.now r.1 r.4 r.5 a r.6) c.in-DeletesWeak.is r.8 in
+    subst (λ (l : List StaticReference). slot < length l) (sym c.deref_mut-in-DeletesWeak.ensures.value) (static_within r.0 w old r.4 (beside r.3 (acquired_by r.5)) r.7.store_agrees deletes.1.0 slot deletes.1.2.place)
+
+pub returns-in-DeletesWeak-clause-carried : goal.returns-in-DeletesWeak-clause-carried
+returns-in-DeletesWeak-clause-carried c p kind brought others k shared s effect h does =
+    let w = c.args.world.now in
+    let old = c.args.store.now in
+    let slot = c.in-DeletesWeak.slot in
+    let statics = with_items old.statics c.delete_weak.new.statics in
+    carries.by_answer p w old.heap c.args.locals.now kind others k shared s effect brought c.args.answer (answer.DeletesWeak slot) c.in-DeletesWeak.is _ _ _ _ _ (λ deletes.
+    carries.deletes_weak p w old c.args.pending.now c.args.locals.now kind others k shared s h brought statics c.delete_weak.new.weaks slot effect deletes
+    (with_items_is old.statics c.delete_weak.new.statics (search (rules, places)) ∙ c.delete_weak.ensures.statics ∙ ap (λ (l : List StaticReference). slice_set l slot static.Deleted) c.deref_mut-in-DeletesWeak.ensures.value)
+    (c.delete_weak.ensures.weaks ∙ ap (λ (l : List StaticReference). without_weak old.weaks (slice_get l slot)) c.deref_mut-in-DeletesWeak.ensures.value)) does
+
+pub returns-in_ok-held-in-MakesWeak-clause-carried : goal.returns-in_ok-held-in-MakesWeak-clause-carried
+returns-in_ok-held-in-MakesWeak-clause-carried c p kind brought others k shared s effect h does =
+    let w = c.args.world.now in
+    let old = c.args.store.now in
+    carries.by_answer p w old.heap c.args.locals.now kind others k shared s effect brought c.args.answer (answer.MakesWeak c.in-MakesWeak.reference) c.in-MakesWeak.is _ _ _ _ _ (λ makes.
+    carries.makes_weak p w old c.args.pending.now c.args.locals.now kind others k shared s h brought c.make_weak.new.weaks c.in_ok-held-in-MakesWeak.held effect c.in-MakesWeak.reference makes.1.0 makes.0 makes.1.1 makes.1.2 c.in_ok-held-in-MakesWeak.ensures.made) does
 
 pub returns-in-Deletes-clause-carried : goal.returns-in-Deletes-clause-carried
 returns-in-Deletes-clause-carried c p kind brought others k shared s effect h does =

@@ -70,7 +70,7 @@ store_null-requires-clause-slot c =
     let s = c.requires.stands in
     let f = fetched (goal.at.store_null-requires-clause-slot c).After-instr_at-instr in
     let count : length s.2.statics ≡ length c.args.store.now.statics.items =
-    sym (statics_count c.args.store.now.heap (all_held c.args.store.now.globals c.args.store.now.statics.items) s.2.statics s.6.store_agrees.statics) ∙ length-map c.args.store.now.statics.items (held c.args.store.now.globals) in
+    sym (statics_count c.args.store.now.heap (all_held c.args.store.now.globals c.args.store.now.weaks c.args.store.now.statics.items) s.2.statics s.6.store_agrees.statics) ∙ length-map c.args.store.now.statics.items (held c.args.store.now.globals c.args.store.now.weaks) in
     let there = variable_there c.args.program.now c.args.world.now.classes c.args.store.now.heap c.args.store.now.elements c.args.thread c.args.activation.now f.code (visible_to s.1 s.2 s.3) s.3.frames s.4 s.5 (ready_for c.args.program.now c.args.world.now c.args.store.now c.args.activation.now c.instr_at-instr.result.now f c.args.pending.now s.0 c.args.thread s.1 s.2 s.3 s.4 s.5 s.6) (possible c.args.program.now c.args.world.now c.args.store.now c.args.activation.now c.args.pending.now s.0 c.args.thread s.1 s.2 s.3 s.4 s.5 s.6) c.instr_at-instr.result.now f.at c.in-StoreNull.variable (length c.args.store.now.statics.items) c.in-StoreNull.is count in
     subst (λ (l : List StaticReference). HasSlot (length c.args.activation.now.slots.references.items) (length c.args.activation.now.slots.fields.items) (length c.args.activation.now.slots.buffers.items) (length l) c.in-StoreNull.variable) (sym c.deref_mut.ensures.value) there
 
