@@ -12,22 +12,19 @@ use Rattle.semantics.specs.Heap.{Heap}
 use Rattle.semantics.specs.Object.{ObjectValue, Number, Refers, Reference}
 use Rattle.semantics.specs.Thread as source
 use Rattle.semantics.specs.Variable as variable
-use Rattle.semantics.specs.Variable.{StaticReference, Empty, Live, Deleted, Statics, NoBuffer, Copy, View}
+use Rattle.semantics.specs.Variable.{NoBuffer, Copy, View}
 use Rattle.tables.specs.Locals.{Frame, FrameSlots, LocalTable, by_frame, slots_by_frame}
 use Rattle.tables.specs.References.{address_at, references_in}
 use Rattle.tables.specs.Elements.{OwnedNumbers}
 use Rattle.machine_scenes.specs.declared.buffer.Buffer.{Buffer}
 use Rattle.machine_scenes.specs.declared.buffer.Buffer.TheVariants as buffer
 use Rattle.machine_scenes.specs.Buffers.{BufferAgrees, IsTaken, Acquired}
-use Rattle.machine_scenes.specs.declared.references.Held.{Held}
-use Rattle.machine_scenes.specs.declared.references.Held.TheVariants as held
 use Rattle.machine_scenes.specs.HeapAgrees.{BlockAgrees, BlocksAgree, HeapAgrees, IsTable, NamesAgree, ReferenceAgrees, SlotsAgree, ValueAgrees, ValuesAgree}
 use Rattle.machine_scenes.specs.Locals.{FrameAgrees, FramesAgree, IsKeyOf, KeysAgree}
-use Rattle.machine_scenes.specs.StoreAgrees.{HeldAgrees, StaticsAgree}
 use Rattle.compact.specs.Same.{MovesBy, moved, moved_value}
 use Rattle.machine_collections.specs.Moving.{moved_locals, moved_slots}
 use Rattle.machine_scenes.proofs.BlocksOfNames.{is_address}
-use Rattle.machine_collections.proofs.KeptReferences.{AreKept, HeldIsKept, AllHeldAreKept, IsClosedUnder, ValueIsKept, ValuesAreKept, moved_held}
+use Rattle.machine_collections.proofs.KeptReferences.{AreKept, IsClosedUnder, ValueIsKept, ValuesAreKept}
 
 -- ---- lists
 
@@ -191,23 +188,6 @@ module _ (Kept : ℕ → Type 0) (to : ℕ → ℕ) (s t : Space) (m : MovesBy K
         let old = map_back to addresses i b at in
         subst (λ (x : ℕ). name_at t x ≡ Some (i + 1)) old.2 (name_moved old.0 (i + 1) (kept_in Kept addresses i old.0 kept old.1) (h.named i old.0 old.1));
   }
-
-  held_moved : (h : Held) (r : StaticReference) → HeldIsKept Kept h → HeldAgrees s h r → HeldAgrees t (moved_held to h) r
-  held_moved held.Empty Empty kept e = e
-  held_moved held.Empty (Live n) kept e = e
-  held_moved held.Empty Deleted kept e = e
-  held_moved (held.At a) Empty kept e = e
-  held_moved (held.At a) (Live n) kept e = name_moved a n kept e
-  held_moved (held.At a) Deleted kept e = e
-  held_moved held.Deleted Empty kept e = e
-  held_moved held.Deleted (Live n) kept e = e
-  held_moved held.Deleted Deleted kept e = e
-
-  pub statics_moved : (helds : List Held) (statics : Statics) → AllHeldAreKept Kept helds → StaticsAgree s helds statics → StaticsAgree t (map (moved_held to) helds) statics
-  statics_moved [] [] kept h = h
-  statics_moved [] (x ∷ statics) kept h = h
-  statics_moved (h ∷ helds) [] kept e = e
-  statics_moved (h ∷ helds) (x ∷ statics) kept e = (held_moved h x.1 kept.0 e.0, statics_moved helds statics kept.1 e.1)
 
   -- ---- the blocks
 

@@ -7,7 +7,7 @@ use Rattle.tables.specs.References.{references_in}
 use Rattle.machine_threads.specs.declared.thread.Thread.{Thread}
 use Rattle.machine_scenes.specs.declared.activation.Activation.{Activation}
 use Rattle.machine_scenes.specs.declared.references.Held.{Held}
-use Rattle.machine_scenes.specs.declared.references.Held.TheVariants.{Empty, At, Deleted}
+use Rattle.machine_scenes.specs.declared.references.Held.TheVariants.{Empty, At, Weakly, Cleared, Deleted}
 
 -- each address among these is kept
 abbrev pub AreKept : (ℕ → Type 0) → List ℕ → Type 0
@@ -31,19 +31,17 @@ pub record IsClosedUnder (Kept : ℕ → Type 0) (s : Space) : Type 0 where
 
 -- ---- statics
 
+-- the object of a global reference that isn't weak is kept
 abbrev pub HeldIsKept : (ℕ → Type 0) → Held → Type 0
 HeldIsKept Kept Empty = Unit {0}
 HeldIsKept Kept (At a) = Kept a
+HeldIsKept Kept (Weakly a) = Unit {0}
+HeldIsKept Kept Cleared = Unit {0}
 HeldIsKept Kept Deleted = Unit {0}
 
 abbrev pub AllHeldAreKept : (ℕ → Type 0) → List Held → Type 0
 AllHeldAreKept Kept [] = Unit {0}
 AllHeldAreKept Kept (h ∷ rest) = HeldIsKept Kept h × AllHeldAreKept Kept rest
-
-abbrev pub moved_held : (ℕ → ℕ) → Held → Held
-moved_held f Empty = Empty
-moved_held f (At a) = At (f a)
-moved_held f Deleted = Deleted
 
 -- ---- threads
 

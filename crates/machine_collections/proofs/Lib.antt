@@ -11,3 +11,12 @@ pub mod KeptNames
 pub mod Collections
 pub mod PackedLayouts
 pub mod OnePacking
+pub mod Rising
+pub mod Clearings
+pub mod ClearedStatics
+pub mod ClearedThreads
+pub mod PutWeaks
+pub mod ListedNames
+pub mod CollectedStores
+pub mod CollectedThreads
+pub mod ClearedRuns

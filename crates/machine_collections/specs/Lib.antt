@@ -1,3 +1,4 @@
 pub mod Roots
 pub mod Moving
 pub mod Packing
+pub mod Clearing

@@ -1,11 +1,13 @@
 -- What a collection does to the store and the threads.
-use Rattle.std.specs.Prelude.{◌≡◌, ℕ, ◌+◌, List, map, slice_get, Option, Some}
+use Rattle.std.specs.Prelude.{◌≡◌, ℕ, ◌+◌, List, map, slice_get, Option, Some, None}
 use Rattle.std.specs.Option.{option_map}
 use Rattle.heap.specs.Heap.{Space}
 use Rattle.compact.specs.Reach as compact
 use Rattle.compact.specs.Reach.{IsKept, IsClosed}
 use Rattle.compact.specs.Same.{MovesBy}
+use Rattle.tables.specs.Keys.{value_at}
 use Rattle.tables.specs.Locals.{LocalTable}
+use Rattle.tables.specs.Weaks.{weak_places}
 use Rattle.monitors.specs.declared.monitors.Monitor.{Monitor}
 use Rattle.monitors.specs.Monitors.{moved}
 use Rattle.machine_threads.specs.declared.thread.Thread.{Thread}
@@ -34,7 +36,15 @@ moved_monitors f monitors = map (λ (m : Monitor). moved (f m.address) m) monito
 abbrev pub AreMovedAt : (ℕ → ℕ) → (slots places : List (Option ℕ)) → (from : ℕ) → Type 0
 AreMovedAt f slots places from = (i : ℕ) (r : Option ℕ) → slice_get slots i ≡ Some r → slice_get places (from + i) ≡ Some (option_map f r)
 
--- a store with this heap, whose references have the new addresses
+-- Key by key, a weak reference follows its object, and is cleared where that isn't kept. One that was cleared stays so, and a key that has
+-- none has none.
+pub record AreFollowed (Kept : ℕ → Type 0) (f : ℕ → ℕ) (weaks after : List (Option (Option ℕ))) : Type 0 where
+  pub free : (key : ℕ) → value_at weaks key ≡ None → value_at after key ≡ None
+  pub cleared : (key : ℕ) → value_at weaks key ≡ Some None → value_at after key ≡ Some None
+  pub kept : (key a : ℕ) → value_at weaks key ≡ Some (Some a) → Kept a → value_at after key ≡ Some (Some (f a))
+  pub gone : (key a : ℕ) → value_at weaks key ≡ Some (Some a) → ¬ (Kept a) → value_at after key ≡ Some None
+
+-- a store with this heap, whose references, but for the weak ones, have the new addresses
 pub record IsMoved (f : ℕ → ℕ) (store : Store) (t : Space) (after : Store) : Type 0 where
   pub heap : after.heap ≡ t
   pub loaded : after.loaded.items ≡ map f store.loaded.items
@@ -48,6 +58,7 @@ pub record IsMoved (f : ℕ → ℕ) (store : Store) (t : Space) (after : Store)
 -- the roots have the new addresses, and nothing else has changed
 pub record AreMoved (f : ℕ → ℕ) (store : Store) (threads : List Thread) (after : Store) (later : List Thread) : Type 0 where
   pub moved : IsMoved f store store.heap after
+  pub weaks : after.weaks ≡ store.weaks
   pub follow : later ≡ map (moved_thread f) threads
 
 -- ---- a collection
@@ -56,12 +67,14 @@ pub record AreMoved (f : ℕ → ℕ) (store : Store) (threads : List Thread) (a
 pub record AreReferred (store : Store) (threads : List Thread) : Type 0 where
   pub closed : IsClosed store.heap
   pub roots : ThreadsAreStacked threads → compact.AreAddresses store.heap (root_places store threads)
+  pub weaks : compact.AreAddresses store.heap (weak_places store.weaks)
 
--- The blocks that roots or views lead to were moved together, and the roots follow. What is viewed is pinned, and stays where it is, so
--- slots have its address yet.
+-- The blocks that roots or views lead to were moved together, and the roots follow, and the weak references. What is viewed is pinned, and
+-- stays where it is, so slots have its address yet.
 pub record AreCollected (store : Store) (threads : List Thread) (after : Store) (later : List Thread) : Type 0 where
   pub to : ℕ → ℕ
   pub blocks : MovesBy (IsKept store.heap (root_places store threads)) to store.heap after.heap
   pub moved : IsMoved to store after.heap after
+  pub weaks : AreFollowed (IsKept store.heap (root_places store threads)) to store.weaks after.weaks
   pub follow : later ≡ map (moved_thread to) threads
   pub stacked : ThreadsAreStacked threads

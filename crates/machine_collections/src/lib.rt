@@ -4,3 +4,4 @@
 
 pub mod collecting;
 pub mod roots;
+mod weak;

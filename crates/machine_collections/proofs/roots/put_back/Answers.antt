@@ -52,5 +52,6 @@ returns c = λ to h.
         views = refl;
         monitors = c.put_monitors.ensures to (subst (λ (n : ℕ). AreMovedAt to (addresses c.args.store.now.monitors) items n) (sym last) parts.3);
       };
+      weaks = refl;
       follow = c.put_threads-next.ensures.moved to (subst (λ (n : ℕ). AreMovedAt to (flat_map thread_places c.args.threads.now) items n) (sym further) parts.2);
     }

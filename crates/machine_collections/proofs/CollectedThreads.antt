@@ -1,0 +1,121 @@
+-- Threads stand for those of the source still, once a collection has moved what they refer to and has cleared what is lost there.
+use Rattle.std.proofs.Common.{◌≡◌, ℕ, zero, suc, ◌+◌, ◌<◌, ◌≤◌, List, [], ◌∷◌, map, take, drop, Option, Some, None, sym, ap, ◌∙◌, subst, arith, refl}
+use Rattle.std.specs.Prelude.{flat_map, slice_get, reverse}
+use Rattle.std.specs.Option.{option_map}
+use Rattle.class_rules.specs.Class.{Classes}
+use Rattle.std.proofs.lemmas.List.Concat.{flat_map-cons}
+use Rattle.heap.specs.Heap.{Space, name_at, pins_at}
+use Rattle.semantics.specs.Task.{Task}
+use Rattle.semantics.specs.Thread as source
+use Rattle.semantics.specs.Thread.{Shared, objects_viewed, viewed_by}
+use Rattle.code_meaning.specs.Lowered.{Lowered}
+use Rattle.code_meaning.specs.Slots.{Visible, visible_to}
+use Rattle.semantics_safety.specs.Owners.{AllOwners}
+use Rattle.tables.specs.Locals.{Frame, slots_by_frame}
+use Rattle.tables.specs.References.{references_in}
+use Rattle.machine_scenes.specs.declared.activation.Activation.{Activation}
+use Rattle.machine_scenes.specs.declared.buffer.Buffer.{Buffer}
+use Rattle.machine_scenes.specs.declared.buffer.Buffer.TheVariants as buffer
+use Rattle.machine_scenes.specs.declared.store.Store.{Store}
+use Rattle.machine_scenes.specs.Buffers.{AreViewed, viewed_in}
+use Rattle.machine_scenes.specs.HeapAgrees.{times}
+use Rattle.machine_threads.specs.declared.thread.Thread.{Thread}
+use Rattle.machine_threads.specs.InProgress.{CallStands, WorkAgrees}
+use Rattle.machine_threads.specs.ThreadAgrees.{ThreadsAgree, buffers_of}
+use Rattle.compact.specs.Same.{MovesBy}
+use Rattle.machine_collections.specs.Moving.{moved_call, moved_thread}
+use Rattle.machine_collections.proofs.Collections.{FramesKept, buffers_moved, keys_moved, locals_moved, reference_moved}
+use Rattle.machine_collections.proofs.HeldViews.{AgreeInSlots, slots_agree, view_at, viewed_same}
+use Rattle.machine_collections.proofs.KeptReferences.{AreKept, CallIsKept, ThreadsAreKept}
+use Rattle.machine_collections.proofs.ReachableNames.{in_times}
+use Rattle.machine_collections.proofs.RootNames.{times_append}
+
+-- ---- what is kept, frame by frame
+
+module _ (Kept : ℕ → Type 0) where
+  kept_drop : (n : ℕ) (slots : List (Option ℕ)) → AreKept Kept (references_in slots) → AreKept Kept (references_in (drop n slots))
+  kept_drop zero slots h = h
+  kept_drop (suc n) [] h = h
+  kept_drop (suc n) (None ∷ slots) h = kept_drop n slots h
+  kept_drop (suc n) (Some a ∷ slots) h = kept_drop n slots h.1
+
+  kept_take : (n : ℕ) (slots : List (Option ℕ)) → AreKept Kept (references_in slots) → AreKept Kept (references_in (take n slots))
+  kept_take zero slots h = tt
+  kept_take (suc n) [] h = h
+  kept_take (suc n) (None ∷ slots) h = kept_take n slots h
+  kept_take (suc n) (Some a ∷ slots) h = (h.0, kept_take n slots h.1)
+
+-- ---- the threads
+
+module _ (Kept : ℕ → Type 0) (to : ℕ → ℕ) (p : Lowered) (store : Store) (t : Space) (m : MovesBy Kept to store.heap t) where
+  frames_kept : (fs : List Frame) (slots : List (Option ℕ)) → AreKept Kept (references_in slots) → FramesKept Kept to store.heap t m (slots_by_frame fs slots)
+  frames_kept [] slots h = tt
+  frames_kept (f ∷ below) slots h = (kept_drop Kept f.first slots h, frames_kept below (take f.first slots) (kept_take Kept f.first slots h))
+
+  -- what views in slots are of is kept, and pinned
+  abbrev ArePinned : List Buffer → Type 0
+  ArePinned slots = (i a : ℕ) → slice_get slots i ≡ Some (buffer.View a) → Kept a × (0 < pins_at store.heap a)
+
+  call_moved : (classes : Classes) (k : ℕ) (call : Activation) (visible : Visible) (frames : List source.Frame) (tasks : List Task) → AreKept Kept (references_in call.locals.slots) → ArePinned call.slots.buffers.items → CallStands p classes store.heap store.elements k call visible frames tasks
+      → CallStands p classes t store.elements k (moved_call to call) visible frames tasks
+  call_moved classes k call visible frames tasks kept pinned h = record {
+    code = h.code;
+    of_function = h.of_function;
+    known = h.known;
+    stands = h.stands;
+    meant = h.meant;
+    holds = record {
+      keys = keys_moved Kept to store.heap t m call.locals call.slots.references.items h.meant.references h.meant.owners kept h.holds.keys;
+      fields = h.holds.fields;
+      buffers = record { agree = buffers_moved Kept to store.heap t m store.elements k call.slots.buffers.items h.meant.buffers pinned h.holds.buffers.agree; apart = h.holds.buffers.apart };
+      small = h.holds.small;
+    };
+    shows = h.shows;
+    depth = h.depth;
+    frames_agree = locals_moved Kept to store.heap t m call.locals frames (frames_kept (reverse call.locals.frames) call.locals.slots kept) h.frames_agree;
+  }
+
+  work_moved : (classes : Classes) (k : ℕ) (visible : Visible) (o : Option Activation) (frames : List source.Frame) (tasks : Option (List Task)) → CallIsKept Kept o → ArePinned (buffers_of o) → WorkAgrees p classes store.heap store.elements k visible o frames tasks
+      → WorkAgrees p classes t store.elements k visible (option_map (moved_call to) o) frames tasks
+  work_moved classes k visible None frames None kept pinned h = h
+  work_moved classes k visible None frames (Some tasks) kept pinned h = h
+  work_moved classes k visible (Some call) frames None kept pinned h = h
+  work_moved classes k visible (Some call) frames (Some tasks) kept pinned h = call_moved classes k call visible frames tasks kept pinned h
+
+  -- the slots are those that they were
+  still_slots : (o : Option Activation) → buffers_of (option_map (moved_call to) o) ≡ buffers_of o
+  still_slots None = refl
+  still_slots (Some call) = refl
+
+  -- what a thread views is pinned, where all of these names are
+  thread_pinned : (k : ℕ) (o : Option Activation) (s : source.Thread) → AgreeInSlots store.heap store.elements k o → AreViewed store.heap (buffers_of o) s
+      → ((a n : ℕ) → name_at store.heap a ≡ Some n → 0 < times n (objects_viewed s.variables) → Kept a × (0 < pins_at store.heap a)) → ArePinned (buffers_of o)
+  thread_pinned k o s slots views pinned i a at =
+      let r = view_at store.heap store.elements k (buffers_of o) slots.buffers i a slots.agree at in
+      let often = in_times (viewed_in store.heap (buffers_of o)) r.0 r.2 in
+      pinned a r.0 r.1 (omega (arith, often, views r.0))
+
+  pub threads_moved : (classes : Classes) (made : ℕ) (owners : AllOwners) (k : ℕ) (shared : Shared) (ts : List Thread) (ss : List source.Thread) → ThreadsAreKept Kept ts
+      → ((a n : ℕ) → name_at store.heap a ≡ Some n → 0 < times n (flat_map viewed_by ss) → Kept a × (0 < pins_at store.heap a))
+      → ThreadsAgree p classes store.heap store.elements made owners k shared ts ss → ThreadsAgree p classes t store.elements made owners k shared (map (moved_thread to) ts) ss
+  threads_moved classes made owners k shared [] [] kept pinned h = h
+  threads_moved classes made owners k shared [] (s ∷ ss) kept pinned h = h
+  threads_moved classes made owners k shared (x ∷ ts) [] kept pinned h = h
+  threads_moved classes made owners k shared (x ∷ ts) (s ∷ ss) kept pinned h =
+      let slots = slots_agree p classes store.heap store.elements k (visible_to (owners k).current shared s) x.call s.frames s.tasks (h.0).work in
+      let parts : (n : ℕ) → times n (flat_map viewed_by (s ∷ ss)) ≡ times n (viewed_by s) + times n (flat_map viewed_by ss) = λ n. ap (times n) (flat_map-cons viewed_by s ss) ∙ times_append n (viewed_by s) (flat_map viewed_by ss) in
+      let own = thread_pinned k x.call s slots (h.0).views (λ a n named some. pinned a n named (omega (arith, some, parts n, times_append n (flat_map (λ (c : source.Caller). objects_viewed c.variables) s.callers) (objects_viewed s.variables)))) in (
+        record {
+          calls = (h.0).calls;
+          work = work_moved classes k (visible_to (owners k).current shared s) x.call s.frames s.tasks kept.0 own (h.0).work;
+          pending = reference_moved Kept to store.heap t m x.pending s.pending kept.1 (h.0).pending;
+          ending = (h.0).ending;
+          busy = (h.0).busy;
+          caught = (h.0).caught;
+          idle = (h.0).idle;
+          views = subst (λ (slots : List Buffer). AreViewed t slots s) (sym (still_slots x.call))
+              (subst (λ (l : List ℕ). (n : ℕ) → times n l ≤ times n (objects_viewed s.variables))
+              (sym (viewed_same store.heap t store.elements store.elements k (buffers_of x.call) slots.buffers slots.agree (buffers_moved Kept to store.heap t m store.elements k (buffers_of x.call) slots.buffers own slots.agree))) (h.0).views);
+        },
+        threads_moved classes made owners (suc k) shared ts ss kept.2 (λ a n named some. pinned a n named (omega (arith, some, parts n))) h.1,
+      )
