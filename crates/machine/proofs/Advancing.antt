@@ -1,12 +1,19 @@
--- A step that is asked for before and after a collection is one step of the source.
-use Rattle.std.proofs.Common.{◌≡◌, ℕ, zero, suc, ◌+◌, ◌<◌, false, true, List, [], ◌∷◌, set, Some, refl, sym, ap, ◌∙◌, subst, arith}
+-- A step that is asked for again after a collection takes no host memory either: a clearing changes none that makes objects.
+use Rattle.std.proofs.Common.{◌≡◌, ◌≢◌, ◌++◌, ℕ, zero, suc, ◌+◌, ◌<◌, false, true, List, [], ◌∷◌, set, Some, refl, sym, ap, ◌∙◌, subst, arith}
 use Rattle.std.specs.Prelude.{slice_get, slice_index_or, Result, IfOk}
 use Rattle.std.proofs.lemmas.Option.{get_or_from_slice_get}
 use Rattle.syntax.specs.Views.{unit_tree}
 use Rattle.compact.proofs.Tight.{get_map}
 use Rattle.code_meaning.specs.Lowered.{Lowered}
-use Rattle.semantics.specs.State.{State}
-use Rattle.semantics.specs.ThreadStep.{waits}
+use Rattle.semantics.specs.Object.{sizes}
+use Rattle.semantics.specs.Run.{made}
+use Rattle.semantics.specs.State.{State, thread_at}
+use Rattle.semantics.specs.Step.{is_blocked}
+use Rattle.semantics.specs.Task.{Task}
+use Rattle.semantics.specs.ThreadStep.{thread_step, waits}
+use Rattle.semantics.specs.WeakArguments.{WeakAreTaken}
+use Rattle.semantics.specs.WeakReferences.{with_cleared}
+use Rattle.semantics.proofs.ClearedMade.{made_stays, waits_stays}
 use Rattle.semantics.specs.Thread as source
 use Rattle.semantics.specs.Thread.{Shared}
 use Rattle.semantics.specs.World.{World, loaded_objects}
@@ -18,14 +25,16 @@ use Rattle.machine_steps.specs.declared.fault.StepFault.{StepFault}
 use Rattle.machine_steps.specs.declared.fault.StepFault.TheVariants.{Memory, NoRoom}
 use Rattle.semantics.specs.declared.event.Ending.TheVariants.{Unfinished}
 use Rattle.machine_threads.specs.declared.thread.Thread.{Thread}
-use Rattle.machine_steps.specs.Executes.{IsHindered, IsSteady}
+use Rattle.machine_steps.specs.Executes.{IsHindered, IsSteady, cells_made, in_use_with}
 use Rattle.machine_threads.specs.ThreadAgrees.{ThreadAgrees}
+use Rattle.heap.specs.Heap.{left_of}
+use Rattle.machine_collections.specs.Clearing.{AreCleared, clearing_of}
 use Rattle.machine_collections.specs.Moving.{AreCollected, moved_thread}
 use Rattle.machine_steps.specs.declared.advance.Advanced.{Advanced}
-use Rattle.machine.specs.Run.{AdvancesFrom, CanAdvance, LacksRoom, acquired}
-use Rattle.machine.proofs.Collected.{corresponds_collected}
+use Rattle.machine.specs.Run.{CanAdvance, Corresponds, LacksRoom, acquired}
+use Rattle.machine.proofs.Collected.{stands_after, state_after}
 use Rattle.machine.proofs.OwnerSteps.{Found}
-use Rattle.machine.proofs.Steps.{shared_agrees, steady, the_thread, waits_here}
+use Rattle.machine.proofs.Steps.{made_is, no_room_yet, shared_agrees, steady, the_thread, waits_here}
 use Rattle.machine.proofs.TakenBuffers.{others, parted}
 use Rattle.machine_steps.proofs.Acquisitions.{store_taken}
 use Rattle.std.proofs.Common.{length}
@@ -61,11 +70,6 @@ module _ (p : Lowered) (w : World) (store : Store) (ts : List Thread) (index : �
   pub put_there : (new : Thread) → new ≡ slice_index_or ts index d → set ts index new ≡ ts
   put_there new same = ap (λ (t : Thread). set ts index t) same ∙ set_there ts index (slice_index_or ts index d) there
 
-  -- a collection of what is as it was
-  pub collected_there : (mid : Store) (new : Thread) (after : Store) (later : List Thread) → mid ≡ store → new ≡ slice_index_or ts index d → AreCollected mid (set ts index new) after later → AreCollected store ts after later
-  collected_there mid new after later same thread h =
-      subst (λ (y : Store). AreCollected y ts after later) same (subst (λ (l : List Thread). AreCollected mid l after later) (put_there new thread) h)
-
   -- where an advance changed nothing, it can advance yet
   pub can_there : (mid : Store) (new : Thread) → mid ≡ store → new ≡ slice_index_or ts index d → CanAdvance p w mid (set ts index new) index
   can_there mid new same thread =
@@ -76,11 +80,6 @@ module _ (p : Lowered) (w : World) (store : Store) (ts : List Thread) (index : �
   lacks_there k mid new t same thread at h =
       let is : slice_index_or ts index d ≡ t = let both : Some (slice_index_or ts index d) ≡ Some t = sym there ∙ ap (λ (l : List Thread). slice_get l index) (sym (put_there new thread)) ∙ at in cc in
       subst (λ (y : Store). LacksRoom p w k y t) (sym same) (subst (λ (y : Thread). LacksRoom p w k store y) is h)
-
-  -- a step from there is one from here
-  pub from_there : {E : Type 0} (mid : Store) (new : Thread) (r : Result Advanced E) (after : Store) (later : List Thread) → mid ≡ store → new ≡ slice_index_or ts index d → IfOk r (AdvancesFrom p w mid (set ts index new) index after later) → IfOk r (AdvancesFrom p w store ts index after later)
-  from_there mid new r after later same thread h =
-      subst (λ (l : List Thread). IfOk r (AdvancesFrom p w store l index after later)) (put_there new thread) (subst (λ (y : Store). IfOk r (AdvancesFrom p w y (set ts index new) index after later)) same h)
 
   abbrev pub own : ThreadOwners
   own = owners_after (unit_tree p.unit) w s.journal (suc index)
@@ -108,29 +107,64 @@ module _ (p : Lowered) (w : World) (store : Store) (ts : List Thread) (index : �
   unfolding found
   shared_there = shared_agrees p w store ts s.printed s.stop s.journal s.stands (suc index) index (slice_index_or ts index d) refl there
 
-  -- it takes the same step after a collection
-  module _ (after : Store) (later : List Thread) (h : AreCollected store ts after later) where
-    -- what a thread of the collection's threads agrees with
-    pub record AgreesStill (e : Thread) : Type 0 where
-      pub shares : StoreAgrees p w after shared (beside rest (acquired_by found.source))
-      pub agrees : ThreadAgrees p w.classes after.heap after.elements (length (loaded_objects w)) (suc index) own.current shared (slice_index_or later index e) found.source
-      pub lives : (slice_index_or later index e).ending ≡ Unfinished
-      pub at : slice_get later index ≡ Some (slice_index_or later index e)
+  -- a collection, which clears the weak references to these objects, where what the step makes had no room
+  module _ (lacks : (t : Thread) → slice_get ts index ≡ Some t → LacksRoom p w (suc index) store t) (after : Store) (later : List Thread) (names : List ℕ) (h : AreCollected store ts after later) (cl : AreCleared store.heap store.statics.items store.weaks after.weaks names) where
+    abbrev pub before : State
+    before = s.stands.state
 
-    pub agrees_still : (e : Thread) → AgreesStill e
-    agrees_still e =
-        let c = corresponds_collected p w store ts s.printed s.stop s.journal s.stands after later h in
-        let moved_at : slice_get later index ≡ Some (moved_thread h.to s.thread) = ap (λ (l : List Thread). slice_get l index) h.follow ∙ get_map (moved_thread h.to) ts index s.thread s.at in
-        let read : slice_index_or later index e ≡ moved_thread h.to s.thread = get_or_from_slice_get later index (moved_thread h.to s.thread) e moved_at in
-        let at : slice_get later index ≡ Some (slice_index_or later index e) = moved_at ∙ ap (λ (t : Thread). Some t) (sym read) in
-        let state : c.state ≡ s.stands.state = cc (sym c.replays, s.stands.replays) in
-        let f = the_thread p w after later s.printed s.stop s.journal c (suc index) index (slice_index_or later index e) refl at in
-        let same : f.source ≡ found.source = let both : Some f.source ≡ Some found.source = sym f.is ∙ ap (λ (x : State). slice_get x.threads index) state ∙ found.is in cc in
-        record {
-          shares = store_taken p w after shared (acquired s.stands.state) (beside rest (acquired_by found.source)) (parted s.stands.state.threads index found.source is_steady.alone found.is)
-              (subst (λ (x : State). StoreAgrees p w after x.shared (acquired x)) state c.store_agrees);
-          agrees = subst (λ (x : State). ThreadAgrees p w.classes after.heap after.elements (length (loaded_objects w)) (suc index) own.current x.shared (slice_index_or later index e) found.source) state
-              (subst (λ (x : source.Thread). ThreadAgrees p w.classes after.heap after.elements (length (loaded_objects w)) (suc index) own.current c.state.shared (slice_index_or later index e) x) same f.agrees);
-          lives = ap (λ (t : Thread). t.ending) read ∙ s.lives;
-          at = at;
-        }
+    -- the machine after it
+    abbrev pub now : Corresponds p w after later s.printed s.stop (s.journal ++ clearing_of names)
+    now = stands_after p w store ts s.printed s.stop s.journal s.stands after later names h cl
+
+    pub state_now : now.state ≡ with_cleared names before
+    state_now = state_after p w store ts s.printed s.stop s.journal s.stands after later names h cl
+
+    -- the source's thread, which names no weak reference but where it makes no object
+    pub there_before : thread_at before (suc index) ≡ Some found.source
+    unfolding found
+    there_before = found.is
+
+    pub weak_before : (task : Task) (rest : List Task) → (found.source).tasks ≡ Some (task ∷ rest) → WeakAreTaken (found.source).variables before.shared.statics task
+    weak_before = (s.stands.safe s.journal before (suc index) found.source s.stands.replays there_before).weak
+
+    -- its step makes objects
+    no_room : left_of store.heap < sizes (made (unit_tree p.unit) w before (suc index))
+    no_room = no_room_yet p w store ts s.printed s.stop s.journal s.stands (suc index) index s.thread refl s.at s.goes s.lives s.ready (lacks s.thread s.at)
+
+    pub makes_some : made (unit_tree p.unit) w before (suc index) ≢ []
+    makes_some none = let size : sizes (made (unit_tree p.unit) w before (suc index)) ≡ 0 = ap sizes none in omega (arith, no_room, size)
+
+    -- so it can be taken yet, and makes the same
+    pub moved_at : slice_get later index ≡ Some (moved_thread h.to s.thread)
+    moved_at = ap (λ (l : List Thread). slice_get l index) h.follow ∙ get_map (moved_thread h.to) ts index s.thread s.at
+
+    unfoldable pub can_still : CanAdvance p w after later index
+    can_still = record {
+      printed = s.printed;
+      stop = s.stop;
+      journal = s.journal ++ clearing_of names;
+      stands = now;
+      goes = s.goes;
+      thread = moved_thread h.to s.thread;
+      at = moved_at;
+      lives = s.lives;
+      ready =
+          ap (λ (x : State). is_blocked w.classes x (suc index)) state_now
+          ∙ waits_stays (unit_tree p.unit) w before (suc index) found.source names there_before weak_before makes_some
+          ∙ s.ready;
+    }
+
+    pub makes_still : 0 < sizes (made (unit_tree p.unit) w now.state (suc index))
+    makes_still =
+        let same : sizes (made (unit_tree p.unit) w now.state (suc index)) ≡ sizes (made (unit_tree p.unit) w before (suc index)) =
+        ap (λ (x : State). sizes (made (unit_tree p.unit) w x (suc index))) state_now ∙ ap sizes (made_stays (unit_tree p.unit) w before (suc index) found.source names there_before weak_before makes_some) in
+        omega (arith, no_room, same)
+
+-- a step that makes objects and may be refused isn't hindered by want of host memory
+pub unhindered : (p : Lowered) (w : World) (store : Store) (ts : List Thread) (index : ℕ) (s : CanAdvance p w store ts index) (d : Thread) (k : ℕ) → suc index ≡ k → (left : ℕ) (fault : StepFault) → 0 < sizes (made (unit_tree p.unit) w s.stands.state (suc index))
+    → IsHindered left (cells_made (shared p w store ts index s d) (thread_step (unit_tree p.unit) w.classes (in_use_with (rest p w store ts index s d) (found p w store ts index s d).source) k (shared p w store ts index s d) (found p w store ts index s d).source false)) true fault → ⊥
+unfolding found
+unhindered p w store ts index s d k number left fault some h =
+    let cells = made_is p w store ts s.printed s.stop s.journal s.stands (suc index) index (slice_index_or ts index d) refl (there p w store ts index s d) s.goes (lives_there p w store ts index s d) s.ready in
+    let here = ap (λ (n : ℕ). cells_made (shared p w store ts index s d) (thread_step (unit_tree p.unit) w.classes (in_use_with (rest p w store ts index s d) (found p w store ts index s d).source) n (shared p w store ts index s d) (found p w store ts index s d).source false)) number in
+    no_fault _ _ fault (omega (arith, some, cells, here)) h

@@ -1,5 +1,6 @@
--- What a collection leaves stands for the same state, and the cells that it leaves are those of what can't be reached.
-use Rattle.std.proofs.Common.{◌≡◌, ℕ, zero, suc, ◌+◌, ◌-◌, ◌<◌, ◌≤◌, ◌⊎◌, inl, inr, length, map, List, [], ◌∷◌, ◌++◌, Option, Some, None, Result, Ok, Err, OnOk, OnErr, refl, sym, ap, ◌∙◌, subst, arith, IsSome, ⊎_elim}
+-- What a collection leaves stands for the state in which what is lost was cleared, and the cells that it leaves are those of what can't be
+-- reached.
+use Rattle.std.proofs.Common.{◌≡◌, ℕ, zero, suc, ◌+◌, ◌-◌, ◌*◌, append-nil, ◌<◌, ◌≤◌, ◌⊎◌, inl, inr, length, map, List, [], ◌∷◌, ◌++◌, Option, Some, None, Result, Ok, Err, OnOk, OnErr, refl, sym, ap, ◌∙◌, subst, arith, IsSome, ⊎_elim}
 use Rattle.std.specs.Prelude.{Contains, flat_map, slice_get, sum_by}
 use Rattle.std.specs.Option.{option_map, option_map_or, option_to_list}
 use Rattle.std.proofs.lemmas.Bool.{false≢true}
@@ -23,11 +24,19 @@ use Rattle.compact.proofs.Tight.{get_map, some_block}
 use Rattle.compact.proofs.Blocks.{IsAddress-from_kept}
 use Rattle.tables.specs.References.{references_in}
 use Rattle.code_meaning.specs.Lowered.{Lowered}
-use Rattle.semantics.specs.declared.journal.Entry.{Entry}
+use Rattle.semantics.specs.Journal.{Entry, steps_in}
 use Rattle.semantics.specs.declared.printed.Printed.{Printed}
 use Rattle.semantics.specs.Reachable.{live_size, roots, Reachable, FromRoot}
-use Rattle.semantics.specs.State.{State, views}
-use Rattle.semantics.specs.World.{World}
+use Rattle.semantics.specs.State.{State, thread_at, views}
+use Rattle.semantics.specs.Run.{replay}
+use Rattle.semantics.specs.Step.{is_blocked}
+use Rattle.semantics.specs.Thread as source
+use Rattle.semantics.specs.Thread.{viewed_by}
+use Rattle.semantics.proofs.ClearedMade.{blocked_stays, none_waits}
+use Rattle.semantics.specs.WeakReferences.{lost, with_cleared}
+use Rattle.semantics.specs.World.{World, loaded_objects}
+use Rattle.semantics_safety.specs.Owners.{AllOwners, owners_after}
+use Rattle.syntax.specs.Views.{unit_tree}
 use Rattle.semantics.proofs.ReachableLemmas.{In, contains_in, in_append_cases, in_append_left, in_append_right, in_cases, in_head, to_contains}
 use Rattle.semantics.proofs.ShownRows.{from_one-contains}
 use Rattle.machine_scenes.specs.declared.store.Store.{Store}
@@ -37,10 +46,20 @@ use Rattle.machine_steps.specs.declared.advance.Advanced.{Advanced}
 use Rattle.machine_steps.specs.declared.advance.Advanced.TheVariants as advanced
 use Rattle.machine_threads.specs.declared.thread.Thread.{Thread}
 use Rattle.semantics.specs.declared.event.Stop.{Stop}
+use Rattle.tables.specs.Elements.{OwnedNumbers}
+use Rattle.tables.specs.Keys.{value_at}
+use Rattle.tables.specs.Weaks.{weak_places}
+use Rattle.machine_scenes.specs.StoreAgrees.{StoreAgrees}
+use Rattle.machine_threads.specs.ThreadAgrees.{ThreadsAgree}
+use Rattle.compact.proofs.Blocks.{get-from_contains}
+use Rattle.machine_collections.specs.Clearing.{AreCleared, clearing_of}
 use Rattle.machine_collections.specs.Moving.{AreCollected, AreReferred, moved_thread}
 use Rattle.machine_collections.specs.Roots.{ThreadsAreStacked, root_places, slots_of}
-use Rattle.machine.specs.Run.{Run, Corresponds, IsAfterCollection, IsAsItWas, IsCollected, IsOrderly, cells_left, seen}
-use Rattle.machine.proofs.CollectedRuns.{corresponds_moved}
+use Rattle.machine.specs.Run.{Run, Corresponds, IsAfterCollection, IsAsItWas, IsCollected, IsOrderly, acquired, cells_left, seen}
+use Rattle.machine_collections.proofs.ClearedRuns.{fair_cleared, fits_cleared, owners_cleared, replays_cleared, same_state, steps_cleared}
+use Rattle.machine_collections.proofs.ClearedThreads.{threads_cleared}
+use Rattle.machine_collections.proofs.CollectedStores.{cleared_is, store_collected}
+use Rattle.machine_collections.proofs.CollectedThreads.{threads_moved}
 use Rattle.machine_collections.proofs.Collections.{name_moved}
 use Rattle.machine_collections.proofs.GatheredRoots.{gathered, in_place, places_are, thread_addresses}
 use Rattle.machine_collections.proofs.OwnedMonitors.{monitor_addresses}
@@ -162,6 +181,13 @@ threads_kept Kept (t ∷ ts) h =
       threads_kept Kept ts (λ a k. all a (in_append_right (thread_addresses t) (flat_map thread_addresses ts) a k)),
     )
 
+-- a place with an address has a weak reference that isn't cleared
+weak_at : (slots : List (Option (Option ℕ))) (place a : ℕ) → slice_get (weak_places slots) place ≡ Some (Some a) → value_at slots place ≡ Some (Some a)
+weak_at [] place a at = absurd (cc)
+weak_at (None ∷ slots) zero a at = absurd (let both : ◌≡◌ {A = Option (Option ℕ)} (Some None) (Some (Some a)) = at in cc)
+weak_at (Some held ∷ slots) zero a at = let both : ◌≡◌ {A = Option (Option ℕ)} (Some held) (Some (Some a)) = at in both
+weak_at (s ∷ slots) (suc place) a at = weak_at slots place a at
+
 -- ---- the machine
 
 module _ (p : Lowered) (world : World) (store : Store) (ts : List Thread) (printed : List Printed) (stop : Option Stop) (journal : List Entry) (c : Corresponds p world store ts printed stop journal) where
@@ -193,7 +219,14 @@ module _ (p : Lowered) (world : World) (store : Store) (ts : List Thread) (print
 
   -- what blocks and roots refer to is there
   pub are_referred : AreReferred store ts
-  are_referred = record { closed = is_closed; roots = roots_there }
+  are_referred = record {
+    closed = is_closed;
+    roots = roots_there;
+    weaks = λ a there.
+        let at = get-from_contains (weak_places store.weaks) (Some a) there in
+        let r = c.store_agrees.weaks there.0 a (weak_at store.weaks there.0 a at) in
+        is_address store.heap a r.0 r.1;
+  }
 
   module _ (after : Store) (later : List Thread) (h : AreCollected store ts after later) where
     abbrev Kept : ℕ → Type 0
@@ -211,23 +244,6 @@ module _ (p : Lowered) (world : World) (store : Store) (ts : List Thread) (print
       }));
     }
 
-    -- the machine stands for the state that it stood for
-    pub corresponds_collected : Corresponds p world after later printed stop journal
-    corresponds_collected =
-        let items = store.loaded.items in
-        let globals = references_in store.globals in
-        let threads = flat_map thread_addresses ts in
-        let owned = monitor_addresses store.monitors in
-        let last : (a : ℕ) → In (threads ++ owned) a → Kept a = λ a k. gathered_kept a (in_append_right items (globals ++ (threads ++ owned)) a (in_append_right globals (threads ++ owned) a k)) in
-        subst (λ (l : List Thread). Corresponds p world after l printed stop journal) (sym h.follow)
-        (corresponds_moved Kept h.to p world store after after.heap h.blocks kept_closed h.moved ts printed stop journal
-        (each_kept Kept items (λ a k. gathered_kept a (in_append_left items (globals ++ (threads ++ owned)) a k)))
-        (each_kept Kept globals (λ a k. gathered_kept a (in_append_right items (globals ++ (threads ++ owned)) a (in_append_left globals (threads ++ owned) a k))))
-        (threads_kept Kept ts (λ a k. last a (in_append_left threads owned a k)))
-        (each_kept Kept owned (λ a k. last a (in_append_right threads owned a k)))
-        (λ a some. pinned some)
-        c)
-
     -- each block that is left can be reached
     left_reachable : (n : ℕ) → In (births after.heap.blocks) n → Reachable world c.state n
     left_reachable n k =
@@ -243,68 +259,148 @@ module _ (p : Lowered) (world : World) (store : Store) (ts : List Thread) (print
         let same : r.0 ≡ n = let first : b.birth ≡ r.0 = cc in sym first ∙ at.3 in
         subst (λ (m : ℕ). Reachable world c.state m) same r.2
 
-    -- the blocks are those of what can be reached
-    pub held_collected : size_of after.heap.blocks ≡ live_size world c.state
-    held_collected =
-        let d = corresponds_collected in
-        let same : c.state ≡ d.state = cc (sym c.replays, d.replays) in
-        live_taken world d.state after.heap d.store_agrees.heap (reachable_there p world after later printed stop journal d) (λ n k. subst (λ (s : State). Reachable world s n) same (left_reachable n k))
-        ∙ ap (live_size world) (sym same)
-
     -- no fewer cells are left
     pub more_collected : left_of store.heap ≤ left_of after.heap
     more_collected = left_grows Kept h.to store.heap after.heap kept_closed.there c.store_agrees.laid_out h.blocks
 
-    -- where nothing is viewed, all cells are left but those of what can be reached
-    pub left_collected : views c.state ≡ [] → left_of after.heap ≡ world.cells - live_size world c.state
-    left_collected none =
-        let tight : end_of after.heap ≡ size_of after.heap.blocks = h.blocks.lowest (λ a. unpinned store.heap (views c.state) a c.store_agrees.buffers.pins none) in
-        let cells : after.heap.cells ≡ world.cells = corresponds_collected.store_agrees.cells in
-        omega (arith, tight, cells, held_collected)
-
-    -- ---- where blocks lie
-
     -- the objects of kept blocks are those that can be reached
+    kept_reached : (a : ℕ) → Kept a → (n : ℕ) × (name_at store.heap a ≡ Some n) × Reachable world c.state n
+    kept_reached a k = kept_reachable world c.state store.heap c.store_agrees.heap (root_places store ts) (gathered_name p world store ts printed stop journal c h.stacked) viewed_name a k
+
+    reached_kept : (n : ℕ) → Reachable world c.state n → (a : ℕ) × (name_at store.heap a ≡ Some n) × Kept a
+    reached_kept = reachable_kept world c.state store.heap c.store_agrees.heap (root_places store ts) root_kept
+
     kept_named : (a n : ℕ) → name_at store.heap a ≡ Some n → Kept a → Reachable world c.state n
     kept_named a n name kept =
-        let r = kept_reachable world c.state store.heap c.store_agrees.heap (root_places store ts) (gathered_name p world store ts printed stop journal c h.stacked) viewed_name a kept in
+        let r = kept_reached a kept in
         let same : r.0 ≡ n = let both : Some r.0 ≡ Some n = sym r.1 ∙ name in cc in
         subst (λ (m : ℕ). Reachable world c.state m) same r.2
 
     named_kept : (a n : ℕ) → name_at store.heap a ≡ Some n → Reachable world c.state n → Kept a
     named_kept a n name reached =
-        let r = reachable_kept world c.state store.heap c.store_agrees.heap (root_places store ts) root_kept n reached in
+        let r = reached_kept n reached in
         subst Kept (one_address store.heap r.0 a n c.store_agrees.heap.unique r.1 name) r.2
 
-    -- the run is as it was, but for where blocks lie
-    pub run_collected : IsCollected (seen p world store journal) (seen p world after journal)
-    run_collected =
-        let before = left_seen p world store journal c.store_agrees.cells in
-        let now = left_seen p world after journal corresponds_collected.store_agrees.cells in
-        record {
-          same = refl;
-          state = c.state;
-          replays = c.replays;
-          packed = packed_layout Kept h.to store.heap after.heap c.store_agrees.laid_out kept_closed.there h.blocks (Reachable world c.state) (Contains (views c.state)) kept_named named_kept
-              (λ a n name some. to_contains (views c.state) n (times_in (views c.state) n (omega (arith, some, c.store_agrees.buffers.pins a n name))))
-              (λ a n name viewed. let often = in_times (views c.state) n (contains_in (views c.state) n viewed) in omega (arith, often, c.store_agrees.buffers.pins a n name));
-          more = omega (arith, before, now, more_collected);
-          live = taken_seen after.heap.blocks ∙ held_collected;
-          tight = λ none. now ∙ left_collected none;
-        }
+    module _ (names : List ℕ) (cl : AreCleared store.heap store.statics.items store.weaks after.weaks names) where
+      pub names_are : names ≡ lost world c.state
+      names_are = cleared_is Kept h.to p world c.state store after after.heap h.blocks kept_closed h.moved h.weaks names cl kept_reached reached_kept (acquired c.state) c.store_agrees
+
+      loaded_kept : (a : ℕ) → In store.loaded.items a → Kept a
+      loaded_kept a k = gathered_kept a (in_append_left store.loaded.items (references_in store.globals ++ (flat_map thread_addresses ts ++ monitor_addresses store.monitors)) a k)
+
+      later_kept : (a : ℕ) → In (references_in store.globals ++ (flat_map thread_addresses ts ++ monitor_addresses store.monitors)) a → Kept a
+      later_kept a k = gathered_kept a (in_append_right store.loaded.items (references_in store.globals ++ (flat_map thread_addresses ts ++ monitor_addresses store.monitors)) a k)
+
+      last_kept : (a : ℕ) → In (flat_map thread_addresses ts ++ monitor_addresses store.monitors) a → Kept a
+      last_kept a k = later_kept a (in_append_right (references_in store.globals) (flat_map thread_addresses ts ++ monitor_addresses store.monitors) a k)
+
+      shared_stands : StoreAgrees p world after (with_cleared names c.state).shared (acquired c.state)
+      shared_stands =
+          store_collected Kept h.to p world c.state store after after.heap h.blocks kept_closed h.moved h.weaks names cl kept_reached reached_kept (acquired c.state) c.store_agrees
+          (each_kept Kept store.loaded.items loaded_kept)
+          (each_kept Kept (references_in store.globals) (λ a k. later_kept a (in_append_left (references_in store.globals) (flat_map thread_addresses ts ++ monitor_addresses store.monitors) a k)))
+          (each_kept Kept (monitor_addresses store.monitors) (λ a k. last_kept a (in_append_right (flat_map thread_addresses ts) (monitor_addresses store.monitors) a k)))
+          (λ a some. pinned some)
+
+      abbrev made : ℕ
+      made = length (loaded_objects world)
+
+      threads_stand : ThreadsAgree p world.classes after.heap after.elements made (owners_after (unit_tree p.unit) world (journal ++ clearing_of names)) 1 (with_cleared names c.state).shared later c.state.threads
+      threads_stand =
+          let owners = owners_after (unit_tree p.unit) world journal in
+          let all_pinned : (a n : ℕ) → name_at store.heap a ≡ Some n → 0 < times n (flat_map viewed_by c.state.threads) → Kept a × (0 < pins_at store.heap a) = λ a n named some.
+          let many : 0 < pins_at store.heap a = omega (arith, some, c.store_agrees.buffers.pins a n named) in (pinned many, many) in
+          let moved = threads_moved Kept h.to p store after.heap h.blocks world.classes made owners 1 c.state.shared ts c.state.threads
+          (threads_kept Kept ts (λ a k. last_kept a (in_append_left (flat_map thread_addresses ts) (monitor_addresses store.monitors) a k))) all_pinned c.threads_agree in
+          let cleared = threads_cleared p world.classes after.heap store.elements names c.state.shared made owners 1 (map (moved_thread h.to) ts) c.state.threads moved in
+          subst (λ (o : AllOwners). ThreadsAgree p world.classes after.heap after.elements made o 1 (with_cleared names c.state).shared later c.state.threads) (sym (owners_cleared (unit_tree p.unit) world journal names))
+          (subst (λ (l : List Thread). ThreadsAgree p world.classes after.heap after.elements made owners 1 (with_cleared names c.state).shared l c.state.threads) (sym h.follow)
+          (subst (λ (copies : List (Option OwnedNumbers)). ThreadsAgree p world.classes after.heap copies made owners 1 (with_cleared names c.state).shared (map (moved_thread h.to) ts) c.state.threads) (sym h.moved.elements) cleared))
+
+      -- the machine stands for the state in which what is lost was cleared, by that one entry
+      pub corresponds_collected : Corresponds p world after later printed stop (journal ++ clearing_of (lost world c.state))
+      corresponds_collected = record {
+        lowered = c.lowered;
+        safe = c.safe;
+        typed = c.typed;
+        state = with_cleared (lost world c.state) c.state;
+        replays = replays_cleared (unit_tree p.unit) world journal c.state c.replays;
+        store_agrees = subst (λ (l : List ℕ). StoreAgrees p world after (with_cleared l c.state).shared (acquired c.state)) names_are shared_stands;
+        threads_agree = subst (λ (l : List ℕ). ThreadsAgree p world.classes after.heap after.elements made (owners_after (unit_tree p.unit) world (journal ++ clearing_of l)) 1 (with_cleared l c.state).shared later c.state.threads) names_are threads_stand;
+        same_printed = c.same_printed;
+        same_stop = c.same_stop;
+        born = subst (λ (n : ℕ). n ≤ 1048576 + 2 * steps_in (journal ++ clearing_of (lost world c.state))) (sym h.moved.births)
+            (subst (λ (n : ℕ). store.births ≤ 1048576 + 2 * n) (sym (steps_cleared journal (lost world c.state))) c.born);
+        fits = fits_cleared (unit_tree p.unit) world journal (lost world c.state) c.fits;
+        fair = fair_cleared (unit_tree p.unit) world journal (lost world c.state) c.fair;
+        count = ap (λ (l : List Thread). length l) h.follow ∙ length-map ts (moved_thread h.to) ∙ c.count;
+        few = subst (λ (n : ℕ). n ≤ 8) (sym (ap (λ (l : List Thread). length l) h.follow ∙ length-map ts (moved_thread h.to))) c.few;
+      }
+
+      -- the run that is left
+      abbrev goes_on : List Entry
+      goes_on = journal ++ clearing_of (lost world c.state)
+
+      -- the blocks are those of what can be reached
+      pub held_collected : size_of after.heap.blocks ≡ live_size world c.state
+      unfolding corresponds_collected
+      held_collected =
+          let d = corresponds_collected in
+          live_taken world c.state after.heap d.store_agrees.heap (reachable_there p world after later printed stop goes_on d) left_reachable
+
+      cells_collected : after.heap.cells ≡ world.cells
+      cells_collected = corresponds_collected.store_agrees.cells
+
+      -- where nothing is viewed, all cells are left but those of what can be reached
+      pub left_collected : views c.state ≡ [] → left_of after.heap ≡ world.cells - live_size world c.state
+      left_collected none =
+          let tight : end_of after.heap ≡ size_of after.heap.blocks = h.blocks.lowest (λ a. unpinned store.heap (views c.state) a c.store_agrees.buffers.pins none) in
+          omega (arith, tight, cells_collected, held_collected)
+
+      -- the run goes on with the clearing of what is lost, and its blocks lie elsewhere
+      pub run_collected : IsCollected (seen p world store journal) (seen p world after (journal ++ clearing_of names))
+      run_collected =
+          let before = left_seen p world store journal c.store_agrees.cells in
+          let now = left_seen p world after (journal ++ clearing_of names) cells_collected in
+          record {
+            state = c.state;
+            replays = c.replays;
+            same = ap (λ (l : List ℕ). seen p world after (journal ++ clearing_of l)) names_are;
+            packed = packed_layout Kept h.to store.heap after.heap c.store_agrees.laid_out kept_closed.there h.blocks (Reachable world c.state) (Contains (views c.state)) kept_named named_kept
+                (λ a n name some. to_contains (views c.state) n (times_in (views c.state) n (omega (arith, some, c.store_agrees.buffers.pins a n name))))
+                (λ a n name viewed. let often = in_times (views c.state) n (contains_in (views c.state) n viewed) in omega (arith, often, c.store_agrees.buffers.pins a n name));
+            more = omega (arith, before, now, more_collected);
+            live = taken_seen after.heap.blocks ∙ held_collected;
+            tight = λ none. now ∙ left_collected none;
+            waits = λ k. by_thread k (thread_at c.state k) refl;
+          }
+        where
+          by_thread : (k : ℕ) (o : Option source.Thread) → thread_at c.state k ≡ o → is_blocked world.classes (with_cleared (lost world c.state) c.state) k ≡ is_blocked world.classes c.state k
+          by_thread k None none = none_waits world.classes c.state k (lost world c.state) none
+          by_thread k (Some t) there = blocked_stays world.classes c.state k t (lost world c.state) there (c.safe journal c.state k t c.replays there).weak
 
 -- ---- a collection by itself
 
 module _ (p : Lowered) (world : World) (store : Store) (ts : List Thread) (printed : List Printed) (stop : Option Stop) (journal : List Entry) (c : Corresponds p world store ts printed stop journal) where
-  -- the machine stands for the state that it stood for, whether memory was refused or not
-  pub stands_after : {T E : Type 0} (r : Result T E) (after : Store) (later : List Thread) → OnOk r (AreCollected store ts after later) → OnErr r (after ≡ store) → OnErr r (later ≡ ts) → Corresponds p world after later printed stop journal
-  stands_after (Ok x) after later h e f = corresponds_collected p world store ts printed stop journal c after later h
-  stands_after (Err x) after later h e f = subst (λ (y : Store). Corresponds p world y later printed stop journal) (sym e) (subst (λ (l : List Thread). Corresponds p world store l printed stop journal) (sym f) c)
+  -- the machine stands for the state in which what is lost was cleared
+  pub stands_after : (after : Store) (later : List Thread) (names : List ℕ) → AreCollected store ts after later → AreCleared store.heap store.statics.items store.weaks after.weaks names
+      → Corresponds p world after later printed stop (journal ++ clearing_of names)
+  stands_after after later names h cl =
+      subst (λ (l : List ℕ). Corresponds p world after later printed stop (journal ++ clearing_of l)) (sym (names_are p world store ts printed stop journal c after later h names cl))
+      (corresponds_collected p world store ts printed stop journal c after later h names cl)
 
-  -- and the run is as it was, but for where blocks lie
-  pub run_after : {T E : Type 0} (r : Result T E) (after : Store) (later : List Thread) (old : Run) → ◌≡◌ {A = Run} (seen p world store journal) old → OnOk r (AreCollected store ts after later) → OnOk r (IsCollected old (seen p world after journal))
-  run_after (Ok x) after later old view h = subst (λ (r : Run). IsCollected r (seen p world after journal)) view (run_collected p world store ts printed stop journal c after later h)
-  run_after (Err x) after later old view h = tt
+  pub state_after : (after : Store) (later : List Thread) (names : List ℕ) (h : AreCollected store ts after later) (cl : AreCleared store.heap store.statics.items store.weaks after.weaks names)
+      → (stands_after after later names h cl).state ≡ with_cleared names c.state
+  state_after after later names h cl =
+      let led : replay (unit_tree p.unit) world (journal ++ clearing_of names) ≡ Some (with_cleared names c.state) =
+      subst (λ (l : List ℕ). replay (unit_tree p.unit) world (journal ++ clearing_of l) ≡ Some (with_cleared l c.state)) (sym (names_are p world store ts printed stop journal c after later h names cl)) (replays_cleared (unit_tree p.unit) world journal c.state c.replays) in
+      cc (sym (stands_after after later names h cl).replays, led)
+
+  -- and the run is what a collection leaves
+  pub run_after : (after : Store) (later : List Thread) (names : List ℕ) (old : Run) → ◌≡◌ {A = Run} (seen p world store journal) old → AreCollected store ts after later → AreCleared store.heap store.statics.items store.weaks after.weaks names
+      → IsCollected old (seen p world after (journal ++ clearing_of names))
+  run_after after later names old view h cl =
+      subst (λ (r : Run). IsCollected r (seen p world after (journal ++ clearing_of names))) view (run_collected p world store ts printed stop journal c after later h names cl)
 
   -- blocks lie apart, and what is viewed can be reached
   pub orderly : IsOrderly (seen p world store journal)
@@ -321,27 +417,45 @@ module _ (p : Lowered) (world : World) (store : Store) (ts : List Thread) (print
 
 -- ---- between two steps
 
-module _ (p : Lowered) (world : World) (store : Store) (ts : List Thread) (index : ℕ) (printed : List Printed) (stop : Option Stop) (journal : List Entry) (c : Corresponds p world store ts printed stop journal) (between : Store) (among : List Thread) (x : Advanced) where
+module _ (p : Lowered) (world : World) (store : Store) (ts : List Thread) (index : ℕ) (printed : List Printed) (stop : Option Stop) (journal : List Entry) (c : Corresponds p world store ts printed stop journal) (between : Store) (among : List Thread) (cleared : List ℕ) (x : Advanced) where
   -- what a step begins with
   abbrev pub Between : Type 0
-  Between = IsAsItWas store ts between among x ⊎ IsAfterCollection p world store ts index between among
+  Between = IsAsItWas store ts between among cleared x ⊎ IsAfterCollection p world store ts index between among cleared
 
-  -- it stands for the same journal
-  pub stands_between : Between → Corresponds p world between among printed stop journal
-  stands_between (inl h) = subst (λ (y : Store). Corresponds p world y among printed stop journal) (sym h.same_store) (subst (λ (l : List Thread). Corresponds p world store l printed stop journal) (sym h.same_threads) c)
-  stands_between (inr h) = corresponds_collected p world store ts printed stop journal c between among h.collected
+  -- what is cleared before it is nothing, or all that is lost
+  pub cleared_between : IsAfterCollection p world store ts index between among cleared → cleared ≡ lost world c.state
+  cleared_between h = names_are p world store ts printed stop journal c between among h.collected cleared h.clears
+
+  -- it stands for the journal with that clearing
+  pub stands_between : Between → Corresponds p world between among printed stop (journal ++ clearing_of cleared)
+  stands_between (inl h) =
+      subst (λ (j : List Entry). Corresponds p world between among printed stop j) (sym (append-nil journal) ∙ ap (λ (l : List ℕ). journal ++ clearing_of l) (sym h.none))
+      (subst (λ (y : Store). Corresponds p world y among printed stop journal) (sym h.same_store) (subst (λ (l : List Thread). Corresponds p world store l printed stop journal) (sym h.same_threads) c))
+  stands_between (inr h) = stands_after p world store ts printed stop journal c between among cleared h.collected h.clears
+
+  -- which leads to the state with what is cleared
+  leads_between : Between → replay (unit_tree p.unit) world (journal ++ clearing_of cleared) ≡ Some (with_cleared cleared c.state)
+  leads_between (inl h) =
+      subst (λ (l : List ℕ). replay (unit_tree p.unit) world (journal ++ clearing_of l) ≡ Some (with_cleared l c.state)) (sym h.none)
+      (ap (replay (unit_tree p.unit) world) (append-nil journal) ∙ c.replays ∙ ap (λ (s : State). Some s) (sym (same_state c.state)))
+  leads_between (inr h) =
+      subst (λ (l : List ℕ). replay (unit_tree p.unit) world (journal ++ clearing_of l) ≡ Some (with_cleared l c.state)) (sym (cleared_between h)) (replays_cleared (unit_tree p.unit) world journal c.state c.replays)
+
+  pub state_between : (is : Between) → (stands_between is).state ≡ with_cleared cleared c.state
+  state_between is = cc (sym (stands_between is).replays, leads_between is)
 
   -- where the allocation was refused there was a collection
-  pub refused_after : Between → x ≡ advanced.Refused → IsAfterCollection p world store ts index between among
+  pub refused_after : Between → x ≡ advanced.Refused → IsAfterCollection p world store ts index between among cleared
   refused_after (inl h) refused = absurd (h.did refused)
   refused_after (inr h) refused = h
 
   -- which left all cells but those of what can be reached, with nothing viewed
   pub left_between : (is : Between) → x ≡ advanced.Refused → views (stands_between is).state ≡ [] → left_of between.heap ≡ world.cells - live_size world (stands_between is).state
   left_between is refused none =
-      let d = stands_between is in
-      let same : c.state ≡ d.state = cc (sym c.replays, d.replays) in
-      left_collected p world store ts printed stop journal c between among (refused_after is refused).collected (ap views same ∙ none) ∙ ap (λ (s : State). world.cells - live_size world s) same
+      let h = refused_after is refused in
+      let same = state_between is in
+      let viewed : views c.state ≡ [] = sym (ap views same) ∙ none in
+      left_collected p world store ts printed stop journal c between among h.collected cleared h.clears viewed ∙ ap (λ (s : State). world.cells - live_size world s) (sym same)
 
   -- threads go on where they have moved
   pub lives_between : Between → (i : ℕ) (t u : Thread) → slice_get ts i ≡ Some t → slice_get among i ≡ Some u → u.ending ≡ t.ending

@@ -4,8 +4,7 @@ use Rattle.std.specs.Prelude.{slice_get, slice_set}
 use Rattle.std.proofs.lemmas.Option.{slice_get_within}
 use Rattle.semantics.specs.declared.event.Ending.TheVariants.{Unfinished}
 use Rattle.semantics.specs.declared.event.Event.{Event}
-use Rattle.semantics.specs.declared.journal.Entry.{Entry}
-use Rattle.semantics.specs.declared.journal.Entry.TheVariants.{Step}
+use Rattle.semantics.specs.Journal.{Entry, Step, steps_in}
 use Rattle.semantics.specs.declared.printed.Printed.{Printed}
 use Rattle.semantics.specs.declared.schedule.ScheduleWord.TheVariants.{Turn}
 use Rattle.semantics.specs.EventViews.{stop_after}
@@ -63,7 +62,7 @@ module _ (p : Lowered) (w : World) (store : Store) (ts : List Thread) (index : �
         )
 
     -- one step more
-    pub one_more : (after : Thread) (e : Event) → t.ending ≡ Unfinished → length journal < 1000000 → StepsFreely p w k store t after e → IsSilent e → WentOn p w store ts index printed before k (n + 1) after (stop_after None k e) (journal ++ Step k false ∷ [])
+    pub one_more : (after : Thread) (e : Event) → t.ending ≡ Unfinished → steps_in journal < 1000000 → StepsFreely p w k store t after e → IsSilent e → WentOn p w store ts index printed before k (n + 1) after (stop_after None k e) (journal ++ Step k false ∷ [])
     one_more after e lives few freely silent =
         let c = so_far.stands in
         let next = steps_freely p w store (slice_set ts index t) printed None journal c k index t h.number thread_at after e freely refl lives in

@@ -1,9 +1,9 @@
 pub mod Crosses
 pub mod TakenBuffers
 pub mod KeptThreads
+pub mod Entries
 pub mod OwnerSteps
 pub mod Reports
-pub mod CollectedRuns
 pub mod Collected
 pub mod Steps
 pub mod Turns

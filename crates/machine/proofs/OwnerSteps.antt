@@ -8,9 +8,7 @@ use Rattle.class_rules.specs.Class.{Classes}
 use Rattle.heap.specs.Heap.{Space}
 use Rattle.code_meaning.specs.Lowered.{Lowered}
 use Rattle.semantics_safety.specs.Owners.{AllOwners, Owners, ThreadOwners, after_advance, after_entry, after_turn, no_owners, owners_after, owners_from, with_owners}
-use Rattle.semantics.specs.declared.journal.Entry.{Entry}
-use Rattle.semantics.specs.declared.journal.Entry.TheVariants.{Step}
-use Rattle.semantics.specs.Journal.{Journal}
+use Rattle.semantics.specs.Journal.{Entry, Step, Journal}
 use Rattle.semantics.specs.Run.{replay, replay_from}
 use Rattle.semantics.specs.Start.{start}
 use Rattle.semantics.specs.State.{State, thread_at, in_use}
@@ -28,7 +26,7 @@ use Rattle.machine_threads.specs.ThreadAgrees.{ThreadAgrees, ThreadsAgree}
 owners_more : (unit : SourceUnit) (w : World) (s : State) (owners : AllOwners) (journal : Journal) (e : Entry) (s' : State) → replay_from unit w s journal ≡ Some s'
     → owners_from unit w (Some s) owners (journal ++ e ∷ []) ≡ after_entry unit w.classes s' (owners_from unit w (Some s) owners journal) e
 owners_more unit w s owners [] e s' is = let same : s ≡ s' = cc in ap (λ (t : State). after_entry unit w.classes t owners e) same
-owners_more unit w s owners (x ∷ journal) e s' is = by_step (world_step unit w.classes s x) is (λ t at. owners_more unit w t (after_entry unit w.classes s owners x) journal e s' at)
+owners_more unit w s owners (x ∷ journal) e s' is = by_step (world_step unit w s x) is (λ t at. owners_more unit w t (after_entry unit w.classes s owners x) journal e s' at)
   where
     by_step : (o : Option State) → option_and_then (λ (t : State). replay_from unit w t journal) o ≡ Some s'
         → ((t : State) → replay_from unit w t journal ≡ Some s' → owners_from unit w (Some t) (after_entry unit w.classes s owners x) (journal ++ e ∷ []) ≡ after_entry unit w.classes s' (owners_from unit w (Some t) (after_entry unit w.classes s owners x) journal) e)

@@ -5,7 +5,7 @@ use Rattle.std.specs.List.{AllByRecursion, AllZip}
 use Rattle.std.specs.Option.{option_map, option_map_or}
 use Rattle.syntax.specs.Views.{unit_tree}
 use Rattle.class_rules.specs.Class.{Classes}
-use Rattle.semantics.specs.declared.journal.Entry.{Entry}
+use Rattle.semantics.specs.Journal.{Entry}
 use Rattle.semantics.specs.declared.printed.Printed.{Printed}
 use Rattle.report.specs.declared.thread_status.ThreadStatus.{ThreadStatus}
 use Rattle.semantics.specs.JournalText.{journal_line}

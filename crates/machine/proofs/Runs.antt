@@ -1,5 +1,5 @@
 -- Several words go along with a schedule.
-use Rattle.std.proofs.Common.{◌≡◌, ℕ, zero, suc, ◌+◌, ◌-◌, ◌<◌, ◌≤◌, Bool, true, false, List, [], ◌∷◌, ◌++◌, length, take, drop, get_or, replicate, Option, Some, None, refl, sym, ap, ◌∙◌, subst, arith, IsSome, append_assoc, append-nil, inl, inr}
+use Rattle.std.proofs.Common.{◌≡◌, ℕ, zero, suc, ◌+◌, ◌-◌, ◌<◌, ◌≤◌, Bool, true, false, List, [], ◌∷◌, ◌++◌, length, take, drop, get_or, replicate, Option, Some, None, refl, sym, ap, ◌∙◌, ◌⊎◌, subst, arith, IsSome, append_assoc, append-nil, inl, inr}
 use Rattle.std.specs.Prelude.{Contains, slice_get, is_none, not, ◌&&◌, flat_map}
 use Rattle.std.specs.Option.{option_and_then}
 use Rattle.std.proofs.lemmas.Bool.{and_left, and_right}
@@ -9,23 +9,28 @@ use Rattle.std.proofs.lemmas.List.Concat.{flat_map-cons}
 use Rattle.std.proofs.lemmas.Grind.{flat_map-append}
 use Rattle.world_schedules.specs.declared.schedule.Repetition.{Repetition}
 use Rattle.world_schedules.specs.ReadingSchedules.{repeated_words}
+use Rattle.syntax.specs.Tree.{SourceUnit}
 use Rattle.syntax.specs.Views.{unit_tree}
 use Rattle.syntax.specs.declared.unit.Item.{Item}
 use Rattle.class_rules.specs.Class.{Classes}
-use Rattle.semantics.specs.declared.journal.Entry.{Entry}
-use Rattle.semantics.specs.declared.journal.Entry.TheVariants.{Step}
+use Rattle.semantics.specs.Journal.{Entry, Step}
 use Rattle.semantics.specs.declared.schedule.ScheduleWord.{ScheduleWord}
 use Rattle.semantics.specs.declared.schedule.ScheduleWord.TheVariants.{Turn, Collect}
 use Rattle.semantics.specs.World.{World}
 use Rattle.semantics.specs.Schedule.{Schedule}
-use Rattle.semantics.specs.Run.{replay, replay_from, Follows, Over, Collects, Waits, Steps}
+use Rattle.semantics.specs.Run.{replay, replay_from, Follows, Over, Collects, Clears, Waits, Steps, ClearsAndSteps, ClearsLost, made}
+use Rattle.semantics.specs.WeakReferences.{lost, with_cleared}
+use Rattle.semantics.proofs.WeakLaws.{lost_are_cleared}
+use Rattle.semantics.specs.Object.{sizes}
 use Rattle.semantics.specs.Reachable.{live_size, Reachable}
 use Rattle.semantics.specs.Start.{start}
 use Rattle.semantics.specs.State.{State, Stop, thread_at, views}
 use Rattle.heap.specs.Layout.{Extent, Layout}
 use Rattle.machine_collections.specs.Packing.{IsPacked}
 use Rattle.machine_collections.proofs.PackedLayouts.{packed_still}
-use Rattle.semantics.specs.Step.{can_step, is_live, is_waiting, world_step}
+use Rattle.machine_collections.proofs.ClearedRuns.{clears_to, replays_cleared, same_state}
+use Rattle.machine_collections.specs.Clearing.{clearing_of}
+use Rattle.semantics.specs.Step.{can_step, clearing_step, is_blocked, is_live, is_waiting, turn_step}
 use Rattle.semantics.proofs.RunLaws.{replay_from-append, follows-replay, follows-append}
 use Rattle.machine.specs.declared.turn.Turn.{Turn as Answer}
 use Rattle.machine.specs.declared.turn.Turn.TheVariants as turn
@@ -33,7 +38,7 @@ use Rattle.machine_threads.proofs.Lists.{take_next}
 use Rattle.machine.specs.declared.fault.RunFault.{RunFault}
 use Rattle.machine.specs.declared.fault.RunFault.TheVariants as running
 use Rattle.machine.specs.Run.AreTaken.{NoWord, Taken}
-use Rattle.machine.specs.Run.{Run, replay_of, can_turn, AreTaken, IsTaken, EndsAt, FindsRoom, HasEnded, IsCollected, IsOrderly, TurnHolds, GivesNoStep, RunsAlong, RunsInto}
+use Rattle.machine.specs.Run.{Run, replay_of, can_turn, AreTaken, IsTaken, CouldStep, EndsAt, FindsRoom, HasEnded, HasNoRoom, InState, IsCollected, IsOrderly, TurnHolds, GivesNoStep, RunsAlong, RunsInto, refused, stepped}
 
 -- the walk from a state of a run along these words
 abbrev pub Walk : Run → State → List Entry → Schedule → State → Type 0
@@ -136,41 +141,81 @@ words_without_step r word (suc n) other h d = along_both r r r (word ∷ []) (re
 
 -- ---- collections
 
--- a collection gives no entry
-collected_once : (r new : Run) → IsCollected r new → IsSome (replay_of r) → RunsAlong r new (Collect ∷ [])
-collected_once r new h d = by_state (replay_of r) refl d
+-- what is lost can be cleared
+clears_lost : (w : World) (s : State) → (lost w s ≡ [] → ⊥) → clearing_step w s (lost w s) ≡ Some (with_cleared (lost w s) s)
+clears_lost w s some = let c = lost_are_cleared w s some in c.1 ∙ ap (λ (t : State). Some t) (clears_to w s (lost w s) c.0 c.1)
+
+-- so that a collection can clear these
+clears_these : (w : World) (s : State) (n : ℕ) (names : List ℕ) → lost w s ≡ n ∷ names → ClearsLost w s (n ∷ names) (with_cleared (n ∷ names) s)
+clears_these w s n names e = record {
+  all = e;
+  possible = subst (λ (l : List ℕ). clearing_step w s l ≡ Some (with_cleared l s)) e (clears_lost w s (λ none. (let both : n ∷ names ≡ [] = sym e ∙ none in cc)));
+}
+
+-- and nothing is lost then
+none_lost : (w : World) (s : State) → lost w (with_cleared (lost w s) s) ≡ []
+none_lost w s = by_names (lost w s) refl
   where
-    by_state : (o : Option State) → replay_of r ≡ o → IsSome o → RunsAlong r new (Collect ∷ [])
-    by_state None e d = absurd (let f : false ≡ true = d in cc)
-    by_state (Some s) e d = subst (λ (x : Run). RunsAlong r x (Collect ∷ [])) (sym h.same)
-        (record { taken = subst (λ (x : Run). AreTaken r (Collect ∷ []) x) h.same (once r new Collect h); same_unit = refl; same_world = refl; steps = []; journal = sym (append-nil r.journal); before = s; replays = e; after = s; follows = Collects s s [] [] (Over s) })
+    by_names : (names : List ℕ) → lost w s ≡ names → lost w (with_cleared names s) ≡ []
+    by_names [] e = ap (lost w) (same_state s) ∙ e
+    by_names (n ∷ names) e =
+        let c = lost_are_cleared w s (λ none. (let both : n ∷ names ≡ [] = sym e ∙ none in cc)) in
+        subst (λ (l : List ℕ). lost w (with_cleared l s) ≡ []) e (subst (λ (t : State). lost w t ≡ []) (clears_to w s (lost w s) c.0 c.1) c.2)
+
+-- a collection gives the clearing of what is lost
+collects_lost : (unit : SourceUnit) (w : World) (s : State) → Follows unit w s (clearing_of (lost w s)) (Collect ∷ []) (with_cleared (lost w s) s)
+collects_lost unit w s = by_names (lost w s) refl
+  where
+    by_names : (names : List ℕ) → lost w s ≡ names → Follows unit w s (clearing_of names) (Collect ∷ []) (with_cleared names s)
+    by_names [] e = subst (λ (t : State). Follows unit w s [] (Collect ∷ []) t) (sym (same_state s)) (Collects s s [] [] e (Over s))
+    by_names (n ∷ names) e = let next = with_cleared (n ∷ names) s in Clears s next next (n ∷ names) [] [] (clears_these w s n names e) (Over next)
+
+collected_once : (r new : Run) → IsCollected r new → RunsAlong r new (Collect ∷ [])
+collected_once r new h = record {
+  taken = once r new Collect h;
+  same_unit = ap (λ (x : Run). x.unit) h.same;
+  same_world = ap (λ (x : Run). x.world) h.same;
+  steps = clearing_of (lost r.world h.state);
+  journal = ap (λ (x : Run). x.journal) h.same;
+  before = h.state;
+  replays = h.replays;
+  after = with_cleared (lost r.world h.state) h.state;
+  follows = collects_lost (unit_tree r.unit) r.world h.state;
+}
+
+-- it leads there
+collected_replays : (r new : Run) (h : IsCollected r new) → replay_of new ≡ Some (with_cleared (lost r.world h.state) h.state)
+collected_replays r new h = ap replay_of h.same ∙ replays_cleared (unit_tree r.unit) r.world r.journal h.state h.replays
 
 -- one right after another leaves what it left
 collected_still : (r new : Run) → IsOrderly r → IsCollected r new → IsCollected new new
 collected_still r new can h =
+    let s : State = with_cleared (lost r.world h.state) h.state in
     let world : new.world ≡ r.world = ap (λ (x : Run). x.world) h.same in
+    let none : lost new.world s ≡ [] = ap (λ (w : World). lost w s) world ∙ none_lost r.world h.state in
     let state : can.state ≡ h.state = cc (sym can.replays, h.replays) in
     let viewed : (e : Extent) → Contains r.layout e → Contains (views h.state) e.name → Reachable r.world h.state e.name =
     subst (λ (s : State). (e : Extent) → Contains r.layout e → Contains (views s) e.name → Reachable r.world s e.name) state can.viewed in
     record {
-      same = refl;
-      state = h.state;
-      replays = ap replay_of h.same ∙ h.replays;
-      packed = subst (λ (w : World). IsPacked (Reachable w h.state) (Contains (views h.state)) new.layout new.layout) (sym world)
+      state = s;
+      replays = collected_replays r new h;
+      same = ap (λ (j : List Entry). let x : Run = record new { journal = j } in x) (sym (append-nil new.journal) ∙ ap (λ (l : List ℕ). new.journal ++ clearing_of l) (sym none));
+      packed = subst (λ (w : World). IsPacked (Reachable w s) (Contains (views s)) new.layout new.layout) (sym world)
           (packed_still (Reachable r.world h.state) (Contains (views h.state)) r.layout new.layout can.rising viewed h.packed);
       more = omega arith;
-      live = h.live ∙ ap (λ (w : World). live_size w h.state) (sym world);
-      tight = λ none. h.tight none ∙ ap (λ (w : World). w.cells - live_size w h.state) (sym world);
+      live = h.live ∙ ap (λ (w : World). live_size w s) (sym world);
+      tight = λ none. h.tight none ∙ ap (λ (w : World). w.cells - live_size w s) (sym world);
+      waits = λ k. ap (λ (t : State). is_blocked new.world.classes t k) (ap (λ (l : List ℕ). with_cleared l s) none ∙ same_state s);
     }
 
--- nor do more of them, if there is one
-pub collected_often : (r new : Run) (times : ℕ) → (times ≡ 0 → ⊥) → IsOrderly r → IsCollected r new → IsSome (replay_of r) → IsSome (replay_of new) → RunsAlong r new (replicate times Collect)
-collected_often r new zero some can h d e = absurd (some refl)
-collected_often r new (suc n) some can h d e = along_both r new new (Collect ∷ []) (replicate n Collect) (collected_once r new h d) (more n)
+-- nor do more of them change anything, if there is one
+pub collected_often : (r new : Run) (times : ℕ) → (times ≡ 0 → ⊥) → IsOrderly r → IsCollected r new → IsSome (replay_of new) → RunsAlong r new (replicate times Collect)
+collected_often r new zero some can h e = absurd (some refl)
+collected_often r new (suc n) some can h e = along_both r new new (Collect ∷ []) (replicate n Collect) (collected_once r new h) (more n)
   where
     more : (n : ℕ) → RunsAlong new new (replicate n Collect)
     more zero = none_yet new e
-    more (suc n) = along_both new new new (Collect ∷ []) (replicate n Collect) (collected_once new new (collected_still r new can h) e) (more n)
+    more (suc n) = along_both new new new (Collect ∷ []) (replicate n Collect) (collected_once new new (collected_still r new can h)) (more n)
 
 -- a run ends at a collection that memory is refused to
 pub collection_refused : (r new : Run) (times : ℕ) → (times ≡ 0 → ⊥) → new ≡ r → IsSome (replay_of r) → RunsInto r new (replicate times Collect) running.Memory
@@ -199,22 +244,23 @@ stopped_waits classes s k h =
 blocked_waits : (classes : Classes) (s : State) (k : ℕ) → is_waiting classes k s.shared (thread_at s k) ≡ true → can_step classes s k ≡ false
 blocked_waits classes s k h = and_right (is_none s.stop && is_live (thread_at s k)) (not (is_waiting classes k s.shared (thread_at s k))) (ap not h)
 
--- the run with one entry more, and with its blocks where they lie then
-abbrev pub with_entry : (old new : Run) → Entry → Run
-with_entry old new e = record old { journal = old.journal ++ e ∷ []; layout = new.layout }
+-- the run with these entries more, and with its blocks where they lie then
+abbrev pub with_entries : (old new : Run) → List Entry → Run
+with_entries old new entries = record old { journal = old.journal ++ entries; layout = new.layout }
 
 -- the step of a journal with one more entry
-step_of : (r new : Run) (e : Entry) (s : State) → new ≡ with_entry r new e → replay_of r ≡ Some s → IsSome (replay_of new) → (n : State) × (world_step (unit_tree r.unit) r.world.classes s e ≡ Some n)
-step_of r new e s is h defined = there (world_step (unit_tree r.unit) r.world.classes s e) (subst IsSome (ap replay_of is ∙ replay_with r (e ∷ []) s h) defined)
+step_of : (r new : Run) (k : ℕ) (refused : Bool) (s : State) → new ≡ with_entries r new (Step k refused ∷ []) → replay_of r ≡ Some s → IsSome (replay_of new)
+    → (n : State) × (turn_step (unit_tree r.unit) r.world.classes s k refused ≡ Some n)
+step_of r new k refused s is h defined = there (turn_step (unit_tree r.unit) r.world.classes s k refused) (subst IsSome (ap replay_of is ∙ replay_with r (Step k refused ∷ []) s h) defined)
   where
     there : (o : Option State) → IsSome (option_and_then (λ t. replay_from (unit_tree r.unit) r.world t []) o) → (n : State) × (o ≡ Some n)
     there None d = absurd (let f : false ≡ true = d in cc)
     there (Some n) d = (n, refl)
 
 -- a step, whose allocation was refused or not
-stepped_once : (r new : Run) (k : ℕ) (refused : Bool) (s : State) → new ≡ with_entry r new (Step k refused) → replay_of r ≡ Some s → can_turn r s k ≡ true → IsSome (replay_of new) → AreTaken r (Turn k ∷ []) new → RunsAlong r new (Turn k ∷ [])
+stepped_once : (r new : Run) (k : ℕ) (refused : Bool) (s : State) → new ≡ with_entries r new (Step k refused ∷ []) → replay_of r ≡ Some s → can_turn r s k ≡ true → IsSome (replay_of new) → AreTaken r (Turn k ∷ []) new → RunsAlong r new (Turn k ∷ [])
 stepped_once r new k refused s is h can defined each =
-    let n = step_of r new (Step k refused) s is h defined in
+    let n = step_of r new k refused s is h defined in
     subst (λ x. RunsAlong r x (Turn k ∷ [])) (sym is) (record {
       taken = subst (λ (x : Run). AreTaken r (Turn k ∷ []) x) is each;
       same_unit = refl;
@@ -227,27 +273,90 @@ stepped_once r new k refused s is h can defined each =
       follows = Steps s n.0 n.0 k refused [] [] can n.1 (Over n.0);
     })
 
+-- what is lost is cleared, and then the step is taken
+clears_and_steps : (unit : SourceUnit) (w : World) (s next : State) (k : ℕ) (refused : Bool) → can_step w.classes s k ≡ true → (made unit w s k ≡ [] → ⊥) → turn_step unit w.classes (with_cleared (lost w s) s) k refused ≡ Some next
+    → Follows unit w s (clearing_of (lost w s) ++ Step k refused ∷ []) (Turn k ∷ []) next
+clears_and_steps unit w s next k refused can some step = by_names (lost w s) refl step
+  where
+    by_names : (names : List ℕ) → lost w s ≡ names → turn_step unit w.classes (with_cleared names s) k refused ≡ Some next → Follows unit w s (clearing_of names ++ Step k refused ∷ []) (Turn k ∷ []) next
+    by_names [] e step = Steps s next next k refused [] [] can (ap (λ (t : State). turn_step unit w.classes t k refused) (sym (same_state s)) ∙ step) (Over next)
+    by_names (n ∷ names) e step = ClearsAndSteps s (with_cleared (n ∷ names) s) next next (n ∷ names) k refused [] [] can some (clears_these w s n names e) step (Over next)
+
+-- a step after a collection, which there was as what it makes had no room
+stepped_after : (r mid new : Run) (k : ℕ) (refused : Bool) → IsCollected r mid → HasNoRoom r k → CouldStep r k → new ≡ with_entries mid new (Step k refused ∷ []) → IsSome (replay_of new) → AreTaken r (Turn k ∷ []) new → RunsAlong r new (Turn k ∷ [])
+stepped_after r mid new k refused h less could is defined each =
+    let names = lost r.world h.state in
+    let between = with_cleared names h.state in
+    let left : Run = record r { journal = r.journal ++ clearing_of names; layout = mid.layout } in
+    let now : new ≡ with_entries left new (Step k refused ∷ []) = is ∙ ap (λ (x : Run). with_entries x new (Step k refused ∷ [])) h.same in
+    let led : replay_of left ≡ Some between = replays_cleared (unit_tree r.unit) r.world r.journal h.state h.replays in
+    let n = step_of left new k refused between now led defined in
+    let could_here : could.1.0 ≡ h.state = cc (sym could.1.1, h.replays) in
+    let less_here : less.0 ≡ h.state = cc (sym less.1, h.replays) in
+    let some : made (unit_tree r.unit) r.world h.state k ≡ [] → ⊥ = λ none. (let size : sizes (made (unit_tree r.unit) r.world less.0 k) ≡ 0 = ap (λ (s : State). sizes (made (unit_tree r.unit) r.world s k)) less_here ∙ ap sizes none in omega (arith, less.2, size)) in
+    let can : can_step r.world.classes h.state k ≡ true = ap (λ (s : State). can_step r.world.classes s k) (sym could_here) ∙ could.1.2 in
+    subst (λ x. RunsAlong r x (Turn k ∷ [])) (sym now) (record {
+      taken = subst (λ (x : Run). AreTaken r (Turn k ∷ []) x) now each;
+      same_unit = refl;
+      same_world = refl;
+      steps = clearing_of names ++ Step k refused ∷ [];
+      journal = append_assoc r.journal (clearing_of names) (Step k refused ∷ []);
+      before = h.state;
+      replays = h.replays;
+      after = n.0;
+      follows = clears_and_steps (unit_tree r.unit) r.world h.state n.0 k refused can some n.1;
+    })
+
 -- ---- what a step adds
 
--- an entry after a run that differs in where blocks lie alone
-entry_after : (old mid new : Run) (e : Entry) (layout : Layout) → mid ≡ record old { layout = mid.layout } → new ≡ record mid { journal = mid.journal ++ e ∷ []; layout = layout } → new ≡ with_entry old new e
-entry_after old mid new e layout same is =
+-- a run with an entry more, wherever blocks lie then
+entry_more : (mid new : Run) (e : Entry) (layout : Layout) → new ≡ record mid { journal = mid.journal ++ e ∷ []; layout = layout } → new ≡ with_entries mid new (e ∷ [])
+entry_more mid new e layout is =
     let there : new.layout ≡ layout = ap (λ (r : Run). r.layout) is in
-    is
-    ∙ ap (λ (l : Layout). let r : Run = record mid { journal = mid.journal ++ e ∷ []; layout = l } in r) (sym there)
-    ∙ ap (λ (r : Run). with_entry r new e) same
+    is ∙ ap (λ (l : Layout). let r : Run = record mid { journal = mid.journal ++ e ∷ []; layout = l } in r) (sym there)
 
--- a step that found room begins with such a run
-room_found : (old : Run) (k : ℕ) (mid : Run) → FindsRoom old k mid → mid ≡ record old { layout = mid.layout }
-room_found old k mid (inl h) = h.0 ∙ ap (λ (l : Layout). let r : Run = record old { layout = l } in r) (sym (ap (λ (r : Run). r.layout) h.0))
-room_found old k mid (inr h) = h.1.same
+did_more : (mid new : Run) (k : ℕ) → InState mid (λ s. new ≡ stepped mid s k) → new ≡ with_entries mid new (Step k false ∷ [])
+did_more mid new k h = entry_more mid new (Step k false) _ h.2
 
--- so a step adds its entry, and nothing else
-pub did_add : (old new : Run) (k : ℕ) → TurnHolds old k new turn.Stepped → new ≡ with_entry old new (Step k false)
-did_add old new k h = let mid = h.1.0 in entry_after old mid new (Step k false) _ (room_found old k mid h.1.1) h.1.2.2
+refused_more : (mid new : Run) (k : ℕ) → new ≡ refused mid k → new ≡ with_entries mid new (Step k true ∷ [])
+refused_more mid new k h = entry_more mid new (Step k true) mid.layout h
 
-pub refused_add : (old new : Run) (k : ℕ) → TurnHolds old k new turn.Short → new ≡ with_entry old new (Step k true)
-refused_add old new k h = let mid = h.1.0 in entry_after old mid new (Step k true) mid.layout h.1.1.collected.same h.1.2
+-- What a step of thread k adds to a run: its entry, after the clearing of what is lost where there was a collection.
+pub record AddsStep (old : Run) (k : ℕ) (refused : Bool) (new : Run) : Type 0 where
+  pub state : State
+  pub replays : replay_of old ≡ Some state
+  pub cleared : List ℕ
+  pub which : (cleared ≡ []) ⊎ (cleared ≡ lost old.world state)
+  pub is : new ≡ with_entries old new (clearing_of cleared ++ Step k refused ∷ [])
+
+adds_after : (old mid new : Run) (k : ℕ) (refused : Bool) → IsCollected old mid → new ≡ with_entries mid new (Step k refused ∷ []) → AddsStep old k refused new
+adds_after old mid new k refused h is =
+    let names = lost old.world h.state in
+    record {
+      state = h.state;
+      replays = h.replays;
+      cleared = names;
+      which = inr refl;
+      is =
+          is ∙ ap (λ (x : Run). with_entries x new (Step k refused ∷ [])) h.same
+          ∙ ap (λ (j : List Entry). let r : Run = record old { journal = j; layout = new.layout } in r) (append_assoc old.journal (clearing_of names) (Step k refused ∷ []));
+    }
+
+pub did_add : (old new : Run) (k : ℕ) → TurnHolds old k new turn.Stepped → AddsStep old k false new
+did_add old new k h = by_room h.1.1
+  where
+    by_room : FindsRoom old k h.1.0 → AddsStep old k false new
+    by_room (inl f) = record {
+      state = h.0.1.0;
+      replays = h.0.1.1;
+      cleared = [];
+      which = inl refl;
+      is = subst (λ (x : Run). new ≡ with_entries x new (Step k false ∷ [])) f.0 (did_more h.1.0 new k h.1.2);
+    }
+    by_room (inr f) = adds_after old h.1.0 new k false f.1 (did_more h.1.0 new k h.1.2)
+
+pub refused_add : (old new : Run) (k : ℕ) → TurnHolds old k new turn.Short → AddsStep old k true new
+refused_add old new k h = adds_after old h.1.0 new k true h.1.1.collected (refused_more h.1.0 new k h.1.2)
 
 turn_other : {k : ℕ} → Turn k ≡ Collect → ⊥
 turn_other same = absurd (cc)
@@ -261,8 +370,16 @@ turned r new k turn.Ended h defined full =
 turned r new k (turn.Blocked all) h defined full =
     subst (λ x. RunsAlong r x (Turn k ∷ [])) (sym h.0) (no_step r (Turn k) turn_other (h.1.0, h.1.1, blocked_waits r.world.classes h.1.0 k h.1.2.waits))
 turned r new k turn.Full h defined full = absurd (full refl)
-turned r new k turn.Short h defined full = let could = h.0.1 in stepped_once r new k true could.0 (refused_add r new k h) could.1 could.2 defined (once r new (Turn k) (inr (inr h)))
-turned r new k turn.Stepped h defined full = let could = h.0.1 in stepped_once r new k false could.0 (did_add r new k h) could.1 could.2 defined (once r new (Turn k) (inr (inl h)))
+turned r new k turn.Short h defined full =
+    let found = h.1.1 in
+    stepped_after r h.1.0 new k true found.collected found.first h.0 (refused_more h.1.0 new k h.1.2) defined (once r new (Turn k) (inr (inr h)))
+turned r new k turn.Stepped h defined full = by_room h.1.1
+  where
+    by_room : FindsRoom r k h.1.0 → RunsAlong r new (Turn k ∷ [])
+    by_room (inl f) =
+        let could = h.0.1 in
+        stepped_once r new k false could.0 (subst (λ (x : Run). new ≡ with_entries x new (Step k false ∷ [])) f.0 (did_more h.1.0 new k h.1.2)) could.1 could.2 defined (once r new (Turn k) (inr (inl h)))
+    by_room (inr f) = stepped_after r h.1.0 new k false f.1 f.0 h.0 (did_more h.1.0 new k h.1.2) defined (once r new (Turn k) (inr (inl h)))
 
 -- ---- threads that are not there
 

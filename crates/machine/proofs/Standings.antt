@@ -7,7 +7,7 @@ use Rattle.std.proofs.lemmas.List.{length-map, take_all}
 use Rattle.std.proofs.lemmas.Option.{slice_get-map}
 use Rattle.std.proofs.lemmas.List.FromFn.{length-enumerate_from}
 use Rattle.syntax.specs.Views.{unit_tree}
-use Rattle.semantics.specs.declared.journal.Entry.{Entry}
+use Rattle.semantics.specs.Journal.{Entry}
 use Rattle.semantics.specs.declared.printed.Printed.{Printed}
 use Rattle.semantics.specs.Report.{ThreadStanding}
 use Rattle.semantics.specs.ReportOf.{standing_at, standing_of}

@@ -7,13 +7,12 @@ use Rattle.std.proofs.lemmas.Option.{slice_get_read}
 use Rattle.syntax.specs.declared.unit.Item.{Item}
 use Rattle.syntax.specs.Views.{unit_tree}
 use Rattle.class_rules.specs.Class.{Classes}
-use Rattle.semantics.specs.declared.journal.Entry.{Entry}
-use Rattle.semantics.specs.declared.journal.Entry.TheVariants.{Step}
+use Rattle.semantics.specs.Journal.{Entry, Step}
 use Rattle.semantics.specs.declared.printed.Printed.{Printed}
 use Rattle.semantics.specs.World.{World, loaded_objects}
 use Rattle.semantics.specs.State.{State, thread_at, set_thread, in_use, views, with_event}
 use Rattle.semantics.specs.State.{advanced as advanced_to}
-use Rattle.semantics.specs.Step.{can_step, is_blocked, is_unfinished, is_waiting, world_step}
+use Rattle.semantics.specs.Step.{can_step, is_blocked, is_unfinished, is_waiting, turn_step}
 use Rattle.semantics.specs.Step.{is_live as is_live_thread}
 use Rattle.semantics.specs.State as state
 use Rattle.std.proofs.lemmas.Bool.{false≢true}
@@ -57,6 +56,7 @@ use Rattle.machine.proofs.TakenBuffers.{in_use_same, joined, others, own_viewed,
 use Rattle.machine_steps.proofs.Acquisitions.{store_taken}
 use Rattle.semantics_typing.specs.Objects.{IsTypedThread}
 use Rattle.semantics_typing.proofs.Lists.{all_get}
+use Rattle.machine.proofs.Entries.{steps_more}
 use Rattle.machine.proofs.OwnerSteps.{Found, found, owner_elsewhere, owner_here, owners_stepped}
 use Rattle.semantics_safety.specs.Owners.{AllOwners, ThreadOwners, after_advance, owners_after, with_owners}
 
@@ -136,7 +136,7 @@ none_held false true h = (refl, refl)
 -- ---- room
 
 -- a step that isn't refused has room beside what is reachable
-has_room : (p : Lowered) (w : World) (store : Store) (s next : State) (k : ℕ) → StoreAgrees p w store s.shared (acquired s) → ((n : ℕ) → Reachable w s n → IsNamed store.heap n) → sizes (drop (length s.shared.heap) next.shared.heap) ≤ left_of store.heap → world_step (unit_tree p.unit) w.classes s (entry_of k) ≡ Some next → Fits (unit_tree p.unit) w s k
+has_room : (p : Lowered) (w : World) (store : Store) (s next : State) (k : ℕ) → StoreAgrees p w store s.shared (acquired s) → ((n : ℕ) → Reachable w s n → IsNamed store.heap n) → sizes (drop (length s.shared.heap) next.shared.heap) ≤ left_of store.heap → turn_step (unit_tree p.unit) w.classes s k false ≡ Some next → Fits (unit_tree p.unit) w s k
 has_room p w store s next k shares named room step some =
     let made_now : made (unit_tree p.unit) w s k ≡ drop (length s.shared.heap) next.shared.heap = ap (made_between s) step in
     let live = live_below w s store.heap shares.heap.blocks shares.laid_out named in
@@ -263,12 +263,12 @@ module _ (p : Lowered) (world : World) (store : Store) (ts : List Thread) (print
   has_ended goes ended = record { running = running goes; thread = the_thread.source; is = there; ended = ap is_unfinished the_thread.agrees.ending ∙ is_over t.ending ended }
 
   -- what is asked of the entry
-  fits_entry : (refused : Bool) (next : State) → sizes (drop (length c.state.shared.heap) next.shared.heap) ≤ left_of store.heap → world_step (unit_tree p.unit) classes c.state (Step k refused) ≡ Some next → FitsUnmarked (unit_tree p.unit) world c.state (Step k refused)
+  fits_entry : (refused : Bool) (next : State) → sizes (drop (length c.state.shared.heap) next.shared.heap) ≤ left_of store.heap → turn_step (unit_tree p.unit) classes c.state k refused ≡ Some next → FitsUnmarked (unit_tree p.unit) world c.state (Step k refused)
   fits_entry true next room step = tt
   fits_entry false next room step = has_room p world store c.state next k c.store_agrees (reachable_there p world store ts printed stop journal c) room step
 
   -- the cells of what its next step makes, if nothing is refused
-  made_is : stop ≡ None → t.ending ≡ Unfinished → Free → sizes (made (unit_tree p.unit) world c.state k) ≡ cells_made c.state.shared (thread_step (unit_tree p.unit) classes (in_use_with rest the_thread.source) k c.state.shared the_thread.source false)
+  pub made_is : stop ≡ None → t.ending ≡ Unfinished → Free → sizes (made (unit_tree p.unit) world c.state k) ≡ cells_made c.state.shared (thread_step (unit_tree p.unit) classes (in_use_with rest the_thread.source) k c.state.shared the_thread.source false)
   made_is goes live free =
       let f = the_thread in
       ap sizes (ap (made_between c.state) (step-thread (unit_tree p.unit) classes c.state k f.source false (steps_here goes live free)))
@@ -294,7 +294,7 @@ module _ (p : Lowered) (world : World) (store : Store) (ts : List Thread) (print
   did_make store' after e goes live free advances =
       let f = the_thread in
       let a = advances rest (owners k) c.state.shared f.source shared_agrees f.agrees steady (ready free) in
-      let step : world_step (unit_tree p.unit) classes c.state (Step k false) ≡ Some (next_state c.state k a.next_shared a.next e) =
+      let step : turn_step (unit_tree p.unit) classes c.state k false ≡ Some (next_state c.state k a.next_shared a.next e) =
       step-thread (unit_tree p.unit) classes c.state k f.source false (steps_here goes live free) ∙ ap (λ (u : BuffersInUse). advanced_to c.state k (thread_step (unit_tree p.unit) classes u k c.state.shared f.source false)) used ∙ ap (advanced_to c.state k) a.steps in
       let objects : made (unit_tree p.unit) world c.state k ≡ drop (length c.state.shared.heap) a.next_shared.heap =
       ap (made_between c.state) step ∙ ap (λ (x : Shared). drop (length c.state.shared.heap) x.heap) (shared_next c.state k a.next_shared a.next e) in
@@ -325,7 +325,7 @@ module _ (p : Lowered) (world : World) (store : Store) (ts : List Thread) (print
       let entry : Entry = Step k refused in
       let a = advances rest (owners k) c.state.shared f.source shared_agrees f.agrees steady (ready free) in
       let next = next_state c.state k a.next_shared a.next e in
-      let step : world_step (unit_tree p.unit) classes c.state entry ≡ Some next =
+      let step : turn_step (unit_tree p.unit) classes c.state k refused ≡ Some next =
       step-thread (unit_tree p.unit) classes c.state k f.source refused (steps_here goes live free) ∙ ap (λ (u : BuffersInUse). advanced_to c.state k (thread_step (unit_tree p.unit) classes u k c.state.shared f.source refused)) used ∙ ap (advanced_to c.state k) a.steps in
       let shared_is : next.shared ≡ a.next_shared = shared_next c.state k a.next_shared a.next e in
       let threads_is : next.threads ≡ slice_set c.state.threads i a.next = threads_next c.state k a.next_shared a.next e ∙ ap (λ n. set_thread c.state.threads n a.next) counted in
@@ -364,7 +364,7 @@ module _ (p : Lowered) (world : World) (store : Store) (ts : List Thread) (print
         born =
             let before : store.births ≡ length c.state.shared.heap = c.store_agrees.births in
             let now : store'.births ≡ length a.next_shared.heap = a.store_agrees.births in
-            omega (arith, c.born, before, now, a.keeps.few, length-append journal (entry ∷ []));
+            omega (arith, c.born, before, now, a.keeps.few, steps_more journal k refused);
         count = length-set ts i after ∙ c.count;
         few = subst (λ n. n ≤ 8) (sym (length-set ts i after)) c.few;
       }

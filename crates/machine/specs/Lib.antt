@@ -1,4 +1,5 @@
 pub mod Rows
+pub mod Writing
 pub mod Run
 -- what loading answers
 pub use Rattle.machine_threads.specs.Loading

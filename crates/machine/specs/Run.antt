@@ -1,4 +1,4 @@
--- A run, as its program, its world, the steps taken and where the blocks of its objects lie.
+-- A run, as its program, its world, its journal and where the blocks of its objects lie.
 use Rattle.std.specs.Prelude.{◌≡◌, ◌≢◌, ℕ, ◌+◌, ◌-◌, ◌*◌, ◌<◌, ◌≤◌, ◌⊎◌, Bool, true, false, List, [], ◌∷◌, ◌++◌, length, map, slice_get, slice_set, replicate, Option, Some, None, Result, Ok, Err, IsSome, is_some, not, ◌||◌, suc}
 use Rattle.std.specs.Option.{option_map}
 use Rattle.std.specs.List.{Contains, list_all, enumerate_from, sum_by}
@@ -6,8 +6,8 @@ use Rattle.base.specs.Limits.{most_cells, most_entries}
 use Rattle.syntax.specs.declared.unit.Item.{Item}
 use Rattle.class_rules.specs.Class.{Classes}
 use Rattle.syntax.specs.Views.{unit_tree}
-use Rattle.semantics.specs.declared.journal.Entry.{Entry}
-use Rattle.semantics.specs.declared.journal.Entry.TheVariants.{Step}
+use Rattle.semantics.specs.Journal.{Entry, Step, steps_in}
+use Rattle.semantics.specs.WeakReferences.{lost, with_cleared}
 use Rattle.semantics.specs.declared.printed.Printed.{Printed}
 use Rattle.semantics.specs.declared.schedule.ScheduleWord.{ScheduleWord}
 use Rattle.semantics.specs.declared.schedule.ScheduleWord.TheVariants.{Turn, Collect}
@@ -45,6 +45,7 @@ use Rattle.machine.specs.declared.fault.RunFault.{RunFault}
 use Rattle.machine.specs.declared.fault.RunFault.TheVariants as running
 use Rattle.machine.specs.declared.turn.Turn.{Turn as Answer}
 use Rattle.machine.specs.declared.turn.Turn.TheVariants as turn
+use Rattle.machine.specs.Writing.{Writing}
 use Rattle.semantics.specs.declared.event.Stop.{Stop}
 use Rattle.machine_scenes.specs.declared.store.Store.{Store}
 use Rattle.machine_scenes.specs.Buffers.{Acquired}
@@ -52,12 +53,13 @@ use Rattle.machine_scenes.specs.StoreAgrees.{StoreAgrees}
 use Rattle.machine_steps.specs.Advances.{AdvancesAlways, HoldsAlways}
 use Rattle.machine_steps.specs.Executes.{cells_made, in_use_with}
 use Rattle.machine_threads.specs.ThreadAgrees.{ThreadsAgree}
+use Rattle.machine_collections.specs.Clearing.{AreCleared, clearing_of}
 use Rattle.machine_collections.specs.Moving.{AreCollected}
 use Rattle.machine_collections.specs.Packing.{IsPacked, RiseFrom}
 use Rattle.machine_scenes.specs.Layouts.{laid_from, with_objects}
 use Rattle.semantics.specs.EventViews.{stop_view}
 
--- a program's items, the world, the steps taken, and the extents of the heap's blocks
+-- a program's items, the world, what the run did, and the extents of the heap's blocks
 pub record Run : Type 0 where
   pub unit : List Item
   pub world : World
@@ -103,7 +105,7 @@ pub record Corresponds (p : Lowered) (world : World) (store : Store) (threads : 
   pub same_printed : state.printed ≡ printed
   pub same_stop : state.stop ≡ option_map stop_view stop
   -- fewer objects were made at load than a heap has cells, and each step makes two at most
-  pub born : store.births ≤ most_cells + 2 * length journal
+  pub born : store.births ≤ most_cells + 2 * steps_in journal
   -- the steps that made objects had room, and those whose allocation was refused had none
   pub fits : UnmarkedFit (unit_tree p.unit) world journal
   pub fair : MarkedAreFair (unit_tree p.unit) world journal
@@ -120,40 +122,52 @@ abbrev pub LacksRoom : Lowered → World → (k : ℕ) → Store → Thread → 
 LacksRoom p w k store t = HoldsAlways p w k store t (λ others own shared s. left_of store.heap < cells_made shared
     (thread_step (unit_tree p.unit) w.classes (in_use_with others s) k shared s false))
 
--- The thread at a place hasn't ended and doesn't wait, in a store and threads that stand for the state that a journal leads to.
+-- The thread at a place hasn't ended and doesn't wait, in a store and threads that stand for the state that a journal leads to, and no trap
+-- has stopped the machine.
 pub record CanAdvance (p : Lowered) (w : World) (store : Store) (threads : List Thread) (index : ℕ) : Type 0 where
   pub printed : List Printed
   pub stop : Option Stop
   pub journal : List Entry
   pub stands : Corresponds p w store threads printed stop journal
+  pub goes : stop ≡ None
   pub thread : Thread
   pub at : slice_get threads index ≡ Some thread
   pub lives : thread.ending ≡ Unfinished
   pub ready : is_blocked w.classes stands.state (suc index) ≡ false
 
 -- a step began with the store and the threads as they were; its allocation wasn't refused then
-pub record IsAsItWas (store : Store) (threads : List Thread) (between : Store) (among : List Thread) (x : Advanced) : Type 0 where
+pub record IsAsItWas (store : Store) (threads : List Thread) (between : Store) (among : List Thread) (cleared : List ℕ) (x : Advanced) : Type 0 where
   pub same_store : between ≡ store
   pub same_threads : among ≡ threads
+  pub none : cleared ≡ []
   pub did : x ≢ advanced.Refused
 
--- or with what a collection left of them, which there was as its objects had no room
+-- or with what a collection left of them, which there was as its objects had no room; it cleared the weak references to these objects
 pub record IsAfterCollection (p : Lowered) (w : World) (store : Store) (threads : List Thread) (index : ℕ) (between : Store)
-    (among : List Thread) : Type 0 where
+    (among : List Thread) (cleared : List ℕ) : Type 0 where
   pub lacks : (t : Thread) → slice_get threads index ≡ Some t → LacksRoom p w (suc index) store t
   pub collected : AreCollected store threads between among
+  pub clears : AreCleared store.heap store.statics.items store.weaks between.weaks cleared
 
--- the thread at a place took its step, with a collection before it or without one
+-- the thread at a place took its step, with a collection before it, which cleared the weak references to these objects, or without one
 pub record AdvancesFrom (p : Lowered) (w : World) (store : Store) (threads : List Thread) (index : ℕ) (after : Store)
-    (later : List Thread) (x : Advanced) : Type 0 where
+    (later : List Thread) (cleared : List ℕ) (x : Advanced) : Type 0 where
   pub between : Store
   pub among : List Thread
-  pub is : IsAsItWas store threads between among x ⊎ IsAfterCollection p w store threads index between among
+  pub is : IsAsItWas store threads between among cleared x ⊎ IsAfterCollection p w store threads index between among cleared
   pub old : Thread
   pub new : Thread
   pub at : slice_get among index ≡ Some old
   pub advances : AdvancesAlways p w (suc index) between after old new x
   pub follow : later ≡ slice_set among index new
+
+-- it took its step, and the journal goes on with the clearing of a collection before it, if there was one, and has memory for the step
+pub record AdvancesAndNotes (p : Lowered) (w : World) (store : Store) (threads : List Thread) (index : ℕ) (journal : Writing) (after : Store)
+    (later : List Thread) (noted : Writing) (x : Advanced) : Type 0 where
+  pub cleared : List ℕ
+  pub advances : AdvancesFrom p w store threads index after later cleared x
+  pub entries : noted.entries ≡ journal.entries ++ clearing_of cleared
+  pub room : 0 < noted.room
 
 -- whether its allocation was refused
 abbrev pub is_refused : Advanced → Bool
@@ -217,7 +231,7 @@ refused r k = record r { journal = r.journal ++ refused_entry_of k ∷ [] }
 
 -- thread k can step, and the journal has room for the step
 abbrev pub CouldStep : Run → ℕ → Type 0
-CouldStep r k = (length r.journal < most_entries) × InState r (λ s. can_turn r s k ≡ true)
+CouldStep r k = (steps_in r.journal < most_entries) × InState r (λ s. can_turn r s k ≡ true)
 
 -- the turn that was this step
 abbrev pub turn_after : Advanced → Answer
@@ -232,16 +246,19 @@ HasRoom r k = InState r (λ s. sizes (makes r s k) ≤ cells_left r)
 abbrev pub HasNoRoom : Run → ℕ → Type 0
 HasNoRoom r k = InState r (λ s. cells_left r < sizes (makes r s k))
 
--- What a collection leaves: the run as it was, but for where blocks lie. The blocks are those of what can be reached; those that are viewed
--- stay, and the others have the lowest cells. So no fewer cells are left, and where nothing is viewed all but those of these blocks.
+-- What a collection leaves. The journal goes on with the one clearing of all that is lost, and with no entry where nothing is. The blocks are
+-- those of what can be reached; those that are viewed stay, and the others have the lowest cells. So no fewer cells are left, and where nothing
+-- is viewed all but those of these blocks.
 pub record IsCollected (old new : Run) : Type 0 where
-  pub same : new ≡ record old { layout = new.layout }
   pub state : State
   pub replays : replay_of old ≡ Some state
+  pub same : new ≡ record old { journal = old.journal ++ clearing_of (lost old.world state); layout = new.layout }
   pub packed : IsPacked (Reachable old.world state) (Contains (views state)) old.layout new.layout
   pub more : cells_left old ≤ cells_left new
   pub live : cells_taken new ≡ live_size old.world state
   pub tight : views state ≡ [] → cells_left new ≡ old.world.cells - live_size old.world state
+  -- and a thread waits for a monitor exactly where it did
+  pub waits : (k : ℕ) → is_blocked old.world.classes (with_cleared (lost old.world state) state) k ≡ is_blocked old.world.classes state k
 
 -- as each run of a machine is: its blocks lie by rising addresses, none over another, and what is viewed can be reached
 pub record IsOrderly (r : Run) : Type 0 where
@@ -269,7 +286,7 @@ abbrev pub TurnHolds : Run → ℕ → Run → Answer → Type 0
 TurnHolds old k new turn.Stopped = (new ≡ old) × InState old (λ s. IsSome s.stop)
 TurnHolds old k new turn.Ended = (new ≡ old) × InState old (λ s. HasEnded s k)
 TurnHolds old k new (turn.Blocked all) = (new ≡ old) × InState old (λ s. IsWaiting old.world.classes s k all)
-TurnHolds old k new turn.Full = (new ≡ old) × (most_entries ≤ length old.journal) × InState old (λ s. can_turn old s k ≡ true)
+TurnHolds old k new turn.Full = (new ≡ old) × (most_entries ≤ steps_in old.journal) × InState old (λ s. can_turn old s k ≡ true)
 TurnHolds old k new turn.Short = CouldStep old k × ((mid : Run) × FindsNoRoom old k mid × (new ≡ refused mid k))
 TurnHolds old k new turn.Stepped = CouldStep old k × ((mid : Run) × FindsRoom old k mid × InState mid (λ s. new ≡ stepped mid s k))
 
@@ -306,9 +323,9 @@ GivesStep r (Turn k) = InState r (λ s. can_turn r s k ≡ true)
 -- A word at which a run ends by a fault: the turn of a thread that can step, where the journal is full or where it has room and memory
 -- was refused, or a collection that memory was refused to.
 abbrev pub EndsAt : Run → RunFault → ScheduleWord → Type 0
-EndsAt r running.Full word = (most_entries ≤ length r.journal) × GivesStep r word
+EndsAt r running.Full word = (most_entries ≤ steps_in r.journal) × GivesStep r word
 EndsAt r running.Memory Collect = Unit {0}
-EndsAt r running.Memory (Turn k) = (length r.journal < most_entries) × GivesStep r (Turn k)
+EndsAt r running.Memory (Turn k) = (steps_in r.journal < most_entries) × GivesStep r (Turn k)
 
 -- A word of a schedule was taken: a collection was made; a turn was the step of its thread, or gave none where the thread couldn't take it.
 abbrev pub IsTaken : Run → ScheduleWord → Run → Type 0
@@ -320,7 +337,7 @@ pub data AreTaken : Run → Schedule → Run → Type 0 where
   NoWord : (r : Run) → AreTaken r [] r
   Taken : (old mid new : Run) (word : ScheduleWord) (words : Schedule) → IsTaken old word mid → AreTaken mid words new → AreTaken old (word ∷ words) new
 
--- The words of the schedule were taken, and the steps follow it.
+-- The words of the schedule were taken, and what was done follows it.
 pub record RunsAlong (old new : Run) (schedule : Schedule) : Type 0 where
   pub taken : AreTaken old schedule new
   pub same_unit : new.unit ≡ old.unit

@@ -10,7 +10,7 @@ use thiserror::Error;
 /// Why a schedule was not run to its end. The steps taken stay.
 #[derive(Clone, Copy, Debug, Error)]
 pub enum RunFault {
-    /// Fault 92: the journal has 1,000,000 entries.
+    /// Fault 92: the journal has 1,000,000 steps.
     #[error("the journal is full")]
     Full,
     /// Host memory was refused.

@@ -2,6 +2,7 @@
 #![tactic(auto)]
 
 mod fault;
+mod journal;
 mod machine;
 mod rows;
 mod turn;

@@ -21,14 +21,14 @@ ghost use Rattle.machine_scenes.specs.StoreAgrees.{StoreAgrees};
 ghost use Rattle.machine_steps.specs.Executes.{IsSteady};
 ghost use Rattle.machine_threads.specs.Loading.{IsLoadFault};
 ghost use Rattle.machine_threads.specs.ThreadAgrees.{ThreadAgrees};
-ghost use Rattle.semantics.specs.declared.journal.Entry.TheVariants.{Step};
-ghost use Rattle.machine.specs.Run.{replay_of, AdvancesFrom, CanAdvance, CanGoOn, WentOn, CollectionsHaveOneOutcome, Corresponds, EndsAt, IsCollected, IsOrderly, IsUnstarted, CouldStep, TurnHolds, RunsAlong, RunsInto, PrintedBy, IsFinished, AllRest, Waits, ReportsRun, AreShown, ShowsObjects, ShowsStandings, GivesNoStep, LacksRoom, StoppedBy, cells_left, event_of, is_refused, turn_after, turn_at_rest};
+ghost use Rattle.semantics.specs.Journal.{Step, steps_in};
+ghost use Rattle.machine.specs.Run.{replay_of, AdvancesAndNotes, CanAdvance, CanGoOn, WentOn, CollectionsHaveOneOutcome, Corresponds, EndsAt, IsCollected, IsOrderly, IsUnstarted, CouldStep, TurnHolds, RunsAlong, RunsInto, PrintedBy, IsFinished, AllRest, Waits, ReportsRun, AreShown, ShowsObjects, ShowsStandings, GivesNoStep, LacksRoom, StoppedBy, cells_left, event_of, is_refused, turn_after, turn_at_rest};
 
 use crate::fault::{ReportFault, RunFault};
+use crate::journal::Journal;
 use crate::rows::{NamedBlocks, named_blocks};
 use crate::turn::Turn;
 use arrayvec::ArrayVec;
-use base::limits::MOST_ENTRIES;
 use code_meaning::Program;
 use machine_collections::collecting::collect_blocks;
 use machine_collections::roots::{gather, push_viewed, root_names};
@@ -51,7 +51,7 @@ use std::marker::Model;
 use world_schedules::Schedule;
 use world_values::World;
 
-/// A lowered program on a world, with the steps that were taken. Its state is always the one to which its journal leads.
+/// A lowered program on a world, with its journal. Its state is always the one to which the journal leads.
 pub struct Machine<'a> {
     alloc: Global,
     program: Program<'a>,
@@ -60,7 +60,7 @@ pub struct Machine<'a> {
     threads: Vec<Thread>,
     printed: Vec<Printed>,
     stop: Option<Stop>,
-    journal: Vec<Entry>,
+    journal: Journal,
 }
 
 // Written out, and not derived, so that crates above needn't prove it again.
@@ -95,9 +95,9 @@ impl<'a> Model for Machine<'a> {
 
     ghost coded = { Prim.hlevel (all_codes, item.the_row.coded) };
 
-    ghost view = { λ m. record { unit = m.program.unit; world = m.world; journal = m.journal.items; layout = layout_of m.store.heap } };
+    ghost view = { λ m. record { unit = m.program.unit; world = m.world; journal = m.journal.entries; layout = layout_of m.store.heap } };
 
-    ghost invariant = { λ m. Corresponds m.program m.world m.store m.threads.items m.printed.items m.stop m.journal.items };
+    ghost invariant = { λ m. Corresponds m.program m.world m.store m.threads.items m.printed.items m.stop m.journal.entries };
 }
 
 impl<'a> Machine<'a> {
@@ -121,11 +121,11 @@ impl<'a> Machine<'a> {
             threads,
             printed: Vec::new(alloc),
             stop: None,
-            journal: Vec::new(alloc),
+            journal: Journal::new(alloc),
         })
     }
 
-    /// The steps taken so far.
+    /// What was done so far: steps, and clearings of weak global references.
     pub fn journal(&self) -> &[Entry]
         ensures entries { result.now ≡ self.now.journal }
         ensures runs { IsSome (replay_of self.now) }
@@ -134,7 +134,15 @@ impl<'a> Machine<'a> {
     {
         // Here the proof takes up the machine's invariant.
         let _ = &self.world;
-        &self.journal
+        self.journal.entries()
+    }
+
+    /// Whether the journal has no room for another step. Clearings don't count.
+    #[inline(always)]
+    pub fn is_full(&self) -> bool
+        ensures { result ≡ nat_le most_entries (steps_in self.now.journal) }
+    {
+        self.journal.is_full()
     }
 
     /// How many cells of the heap are left after its highest block.
@@ -165,15 +173,19 @@ impl<'a> Machine<'a> {
 
     /// Moves the objects that can still be reached together; the others are gone.
     /// What is viewed can be reached, and stays where it is, so that a view shows the present elements of its array
-    /// through any collection. It gives no entry.
+    /// through any collection. Weak global references to what is gone are cleared, by one entry of the journal, and
+    /// there is no entry where none is.
     ///
-    /// An `Err` says that host memory was refused. Nothing has moved then.
+    /// An `Err` says that host memory was refused. Nothing has moved then, and nothing is cleared.
     pub fn collect(&mut self) -> Result<(), AllocError>
         ensures ok { OnOk result (IsCollected self.old self.new) }
         ensures err { OnErr result (self.new ≡ self.old) }
         ensures runs { IsSome (replay_of self.new) }
     {
-        collect_blocks(self.alloc, &mut self.store, &mut self.threads)
+        self.journal.reserve(1)?;
+        let cleared = collect_blocks(self.alloc, &mut self.store, &mut self.threads)?;
+        self.journal.push_clearing(cleared);
+        Ok(())
     }
 
     /// The turn of thread `k`, counted from 1, where it has no step to take: a trap has stopped the machine, the thread
@@ -192,7 +204,7 @@ impl<'a> Machine<'a> {
         if self.waits(k) {
             return Some(Turn::Blocked(self.finished()));
         }
-        if self.journal.len() >= MOST_ENTRIES {
+        if self.is_full() {
             return Some(Turn::Full);
         }
         None
@@ -222,6 +234,7 @@ impl<'a> Machine<'a> {
             &self.world,
             &mut self.store,
             &mut self.threads,
+            &mut self.journal,
             usize::from(k) - 1,
             k,
         )?;
@@ -318,7 +331,7 @@ impl<'a> Machine<'a> {
         if turn_at_rest(&self.stop, thread).is_some() {
             return 0;
         }
-        let most = most_entries(&self.journal, most);
+        let most = self.journal.most_steps(most);
         take_plainly(
             &self.program,
             &self.store,
@@ -448,7 +461,7 @@ impl<'a> Machine<'a> {
             &self.printed,
             standings.as_slice(),
             rows,
-            &self.journal,
+            self.journal.entries(),
         ) {
             Ok(()) => Ok(()),
             Err(_) => Err(ReportFault::Sink),
@@ -495,18 +508,6 @@ fn turn_at_rest(stop: &Option<Stop>, thread: &Thread) -> Option<Turn>
     }
 }
 
-/// How many entries the journal has room and memory for, but no more than this many.
-#[inline(always)]
-fn most_entries(journal: &Vec<Entry>, most: u32) -> u32
-    ensures most { result ≤ most }
-    ensures room { 0 < result → length journal.now.items + result ≤ most_entries }
-    ensures memory { 0 < result → vec_len journal.now + result ≤ vec_capacity journal.now }
-{
-    let room = journal.capacity().min(MOST_ENTRIES);
-    let left = room.saturating_sub(journal.len());
-    most.min(left as u32)
-}
-
 /// Takes steps of a thread as long as its next instruction works on the stack and the number slots alone.
 /// It is thread `k`, has not ended, and is of a machine that no trap has stopped. It takes this many at most, for which
 /// the journal has room and memory, and answers how many. A trap is the last.
@@ -516,33 +517,27 @@ fn take_plainly(
     store: &Store,
     thread: &mut Thread,
     stop: &mut Option<Stop>,
-    journal: &mut Vec<Entry>,
+    journal: &mut Journal,
     k: u8,
     most: u32,
 ) -> u32
     requires stands { (w : SourceWorld) × (threads : List Thread) × (index : ℕ) × (printed : List Printed)
-        × CanGoOn program.now w store.now threads index printed journal.old.items k thread.old }
+        × CanGoOn program.now w store.now threads index printed journal.old.entries k thread.old }
     requires goes { stop.old ≡ None }
-    requires room { 0 < most → length journal.old.items + most ≤ most_entries }
-    requires memory { 0 < most → vec_len journal.old + most ≤ vec_capacity journal.old }
+    requires room { 0 < most → steps_in journal.old.entries + most ≤ most_entries }
+    requires memory { most ≤ journal.old.room }
     ensures most { result ≤ most }
     ensures went { (w : SourceWorld) (threads : List Thread) (index : ℕ) (printed : List Printed)
-        → CanGoOn program.now w store.now threads index printed journal.old.items k thread.old
-        → WentOn program.now w store.now threads index printed journal.old.items k result thread.new stop.new
-        journal.new.items }
+        → CanGoOn program.now w store.now threads index printed journal.old.entries k thread.old
+        → WentOn program.now w store.now threads index printed journal.old.entries k result thread.new stop.new
+        journal.new.entries }
 {
     for taken in 0..most {
         match advance_plainly(program, store, thread) {
             None => return taken,
-            Some(Event::Quiet) => journal.push_reserved(Entry::Step {
-                thread: k,
-                refused: false,
-            }),
+            Some(Event::Quiet) => journal.push_step(k, false),
             Some(Event::Trapped { trap, line }) => {
-                journal.push_reserved(Entry::Step {
-                    thread: k,
-                    refused: false,
-                });
+                journal.push_step(k, false);
                 *stop = Some(Stop {
                     thread: k,
                     trap,
@@ -558,11 +553,11 @@ fn take_plainly(
 
 /// Makes room for a number and an entry more.
 #[inline(always)]
-fn make_room(printed: &mut Vec<Printed>, journal: &mut Vec<Entry>) -> Result<(), AllocError>
+fn make_room(printed: &mut Vec<Printed>, journal: &mut Journal) -> Result<(), AllocError>
     ensures printed { printed.new.items ≡ printed.old.items }
-    ensures journal { journal.new.items ≡ journal.old.items }
+    ensures journal { journal.new.entries ≡ journal.old.entries }
     ensures printed_room { OnOk result (vec_len printed.new < vec_capacity printed.new) }
-    ensures journal_room { OnOk result (vec_len journal.new < vec_capacity journal.new) }
+    ensures journal_room { OnOk result (0 < journal.new.room) }
 {
     journal.reserve(1)?;
     printed.reserve(1)
@@ -579,26 +574,30 @@ fn advance_or_collect(
     world: &World,
     store: &mut Store,
     threads: &mut [Thread],
+    journal: &mut Journal,
     index: usize,
     k: u8,
 ) -> Result<Advanced, AllocError>
     requires few { store.old.births + 2 < 2 ^ 32 }
     requires number { k ≡ index + 1 }
+    requires room { 0 < journal.old.room }
     requires stands { CanAdvance program.now world.now store.old threads.old index }
-    ensures advances { IfOk result (AdvancesFrom program.now world.now store.old threads.old index store.new threads.new) }
+    ensures advances { IfOk result (AdvancesAndNotes program.now world.now store.old threads.old index journal.old store.new threads.new journal.new) }
     ensures store { OnErr result (store.new ≡ store.old) }
     ensures threads { OnErr result (threads.new ≡ threads.old) }
+    ensures journal { OnErr result (journal.new.entries ≡ journal.old.entries) }
 {
     match advance(program, world, store, &mut threads[index], k, false) {
         Ok(advanced) => Ok(advanced),
         Err(StepFault::Memory) => Err(AllocError),
         Err(StepFault::NoRoom) => {
-            collect_and_advance(alloc, program, world, store, threads, index, k)
+            collect_and_advance(alloc, program, world, store, threads, journal, index, k)
         }
     }
 }
 
-/// The step of thread `k` that found no room, after a collection. It makes objects, so it takes no host memory.
+/// The step of thread `k` that found no room, after a collection, whose clearing is written down. It makes objects, so it
+/// takes no host memory, and a clearing changes nothing of that.
 #[inline(never)]
 fn collect_and_advance(
     alloc: Global,
@@ -606,6 +605,7 @@ fn collect_and_advance(
     world: &World,
     store: &mut Store,
     threads: &mut [Thread],
+    journal: &mut Journal,
     index: usize,
     k: u8,
 ) -> Result<Advanced, AllocError>
@@ -614,11 +614,14 @@ fn collect_and_advance(
     requires stands { CanAdvance program.now world.now store.old threads.old index }
     requires lacks { (t : Thread) → slice_get threads.old index ≡ Some t
         → LacksRoom program.now world.now k store.old t }
-    ensures advances { IfOk result (AdvancesFrom program.now world.now store.old threads.old index store.new threads.new) }
+    ensures advances { IfOk result (AdvancesAndNotes program.now world.now store.old threads.old index journal.old store.new threads.new journal.new) }
     ensures store { OnErr result (store.new ≡ store.old) }
     ensures threads { OnErr result (threads.new ≡ threads.old) }
+    ensures journal { OnErr result (journal.new.entries ≡ journal.old.entries) }
 {
-    collect_blocks(alloc, store, threads)?;
+    journal.reserve(2)?;
+    let cleared = collect_blocks(alloc, store, threads)?;
+    journal.push_clearing(cleared);
     match advance(program, world, store, &mut threads[index], k, true) {
         Ok(advanced) => Ok(advanced),
         Err(_) => unreachable!(),
@@ -630,36 +633,28 @@ fn collect_and_advance(
 fn write_step(
     printed: &mut Vec<Printed>,
     stop: &mut Option<Stop>,
-    journal: &mut Vec<Entry>,
+    journal: &mut Journal,
     k: u8,
     advanced: Advanced,
 ) -> Turn
     requires printed { vec_len printed.old < vec_capacity printed.old }
-    requires journal { vec_len journal.old < vec_capacity journal.old }
+    requires journal { 0 < journal.old.room }
     ensures printed { printed.new.items ≡ printed_after printed.old.items k (event_of advanced) }
     ensures stop { stop.new ≡ stop_after stop.old k (event_of advanced) }
-    ensures journal { journal.new.items ≡ journal.old.items ++ Step k (is_refused advanced) ∷ [] }
+    ensures journal { journal.new.entries ≡ journal.old.entries ++ Step k (is_refused advanced) ∷ [] }
     ensures turn { result ≡ turn_after advanced }
 {
     match advanced {
         Advanced::Did(event) => {
             note(printed, stop, k, event);
-            write_down(journal, k, false);
+            journal.push_step(k, false);
             Turn::Stepped
         }
         Advanced::Refused => {
-            write_down(journal, k, true);
+            journal.push_step(k, true);
             Turn::Short
         }
     }
-}
-
-/// Writes down a step.
-fn write_down(journal: &mut Vec<Entry>, k: u8, refused: bool)
-    requires { vec_len journal.old < vec_capacity journal.old }
-    ensures { journal.new.items ≡ journal.old.items ++ Step k refused ∷ [] }
-{
-    journal.push_reserved(Entry::Step { thread: k, refused });
 }
 
 /// Writes down what a step lets others see.

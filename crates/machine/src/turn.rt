@@ -1,6 +1,7 @@
 //! What a turn gave.
 
-/// The answer of a turn: the first of these that applies. Only a step adds an entry to the journal.
+/// The answer of a turn: the first of these that applies. Only a step adds an entry to the journal, and the clearing of the
+/// collection before it, where there was one that cleared weak references.
 #[derive(Clone, Copy)]
 pub enum Turn {
     /// A trap has stopped the machine.
@@ -9,7 +10,7 @@ pub enum Turn {
     Ended,
     /// The thread waits for a monitor that another thread owns; whether each thread that hasn't ended waits.
     Blocked(bool),
-    /// The journal has no room for another entry.
+    /// The journal has no room for another step.
     Full,
     /// A step was taken whose allocation was refused, since too few cells are left: its entry is marked.
     Short,

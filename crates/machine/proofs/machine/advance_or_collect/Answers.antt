@@ -1,4 +1,4 @@
-use Rattle.std.proofs.Common.{◌≡◌, ℕ, true, false, Ok, inl, refl, sym, ap, subst}
+use Rattle.std.proofs.Common.{◌≡◌, ℕ, true, false, [], append-nil, Ok, inl, refl, sym, ap, subst}
 use Rattle.std.specs.Prelude.{slice_index_or}
 use Rattle.semantics.specs.ThreadStep.{waits}
 use Rattle.semantics.specs.World.{loaded_objects}
@@ -38,13 +38,18 @@ collect_and_advance-requires-clause-lacks c = λ t at.
 
 pub returns-in-Ok-clause-advances : goal.returns-in-Ok-clause-advances
 returns-in-Ok-clause-advances c = record {
-  between = c.args.store.now;
-  among = c.args.threads.now;
-  is = inl (record { same_store = refl; same_threads = refl; did = λ e. let t : false ≡ true = c.in-Ok.ensures.refuses (ap Ok e) in cc });
-  old = slice_index_or c.args.threads.now c.args.index c.index-threads-index.result;
-  new = c.advance.new.thread;
-  at = there c.args.program.now c.args.world.now c.args.store.now c.args.threads.now c.args.index c.requires.stands c.index-threads-index.result;
-  advances = subst (λ (n : ℕ). AdvancesAlways c.args.program.now c.args.world.now n c.args.store.now c.advance.new.store (slice_index_or c.args.threads.now c.args.index c.index-threads-index.result) c.advance.new.thread c.in-Ok.advanced)
-      (sym (numbered c.args.k c.args.index c.requires.number)) c.in-Ok.ensures.advances;
-  follow = refl;
+  cleared = [];
+  advances = record {
+    between = c.args.store.now;
+    among = c.args.threads.now;
+    is = inl (record { same_store = refl; same_threads = refl; none = refl; did = λ e. let t : false ≡ true = c.in-Ok.ensures.refuses (ap Ok e) in cc });
+    old = slice_index_or c.args.threads.now c.args.index c.index-threads-index.result;
+    new = c.advance.new.thread;
+    at = there c.args.program.now c.args.world.now c.args.store.now c.args.threads.now c.args.index c.requires.stands c.index-threads-index.result;
+    advances = subst (λ (n : ℕ). AdvancesAlways c.args.program.now c.args.world.now n c.args.store.now c.advance.new.store (slice_index_or c.args.threads.now c.args.index c.index-threads-index.result) c.advance.new.thread c.in-Ok.advanced)
+        (sym (numbered c.args.k c.args.index c.requires.number)) c.in-Ok.ensures.advances;
+    follow = refl;
+  };
+  entries = sym (append-nil c.args.journal.now.entries);
+  room = c.requires.room;
 }

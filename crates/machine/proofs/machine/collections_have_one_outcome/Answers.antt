@@ -1,8 +1,10 @@
-use Rattle.std.proofs.Common.{◌≡◌, ◌⊎◌, ℕ, Bool, true, false, inl, inr, List, Contains, refl, sym, ap, ◌∙◌, subst}
+use Rattle.std.proofs.Common.{◌≡◌, ◌⊎◌, ◌++◌, ℕ, Bool, true, false, inl, inr, List, Contains, refl, sym, ap, ◌∙◌, subst}
 use Rattle.std.proofs.lemmas.Bool.{false≢true}
 use Rattle.heap.specs.Layout.{Extent, Layout}
 use Rattle.semantics.specs.Reachable.{Reachable, is_in}
 use Rattle.semantics.specs.State.{State, views}
+use Rattle.semantics.specs.WeakReferences.{lost}
+use Rattle.machine_collections.specs.Clearing.{clearing_of}
 use Rattle.semantics.proofs.ReachableLemmas.{contains_in, to_contains}
 use Rattle.machine_collections.specs.Packing.{IsPacked}
 use Rattle.machine_collections.proofs.OnePacking.{packed_once}
@@ -24,4 +26,7 @@ returns c old new other orderly first second =
     let p = subst (λ (s : State). IsPacked (Reachable old.world s) (Contains (views s)) old.layout new.layout) one first.packed in
     let q = subst (λ (s : State). IsPacked (Reachable old.world s) (Contains (views s)) old.layout other.layout) two second.packed in
     let same = packed_once (Reachable old.world orderly.state) (Contains (views orderly.state)) old.layout orderly.rising (listed (views orderly.state)) orderly.viewed new.layout other.layout p q in
-    first.same ∙ ap (λ (l : Layout). let r : Run = record old { layout = l } in r) same ∙ sym second.same
+    first.same
+    ∙ ap (λ (s : State). let r : Run = record old { journal = old.journal ++ clearing_of (lost old.world s); layout = new.layout } in r) (one ∙ sym two)
+    ∙ ap (λ (l : Layout). let r : Run = record old { journal = old.journal ++ clearing_of (lost old.world second.state); layout = l } in r) same
+    ∙ sym second.same

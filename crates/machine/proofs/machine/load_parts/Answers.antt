@@ -1,7 +1,7 @@
 use Rattle.type_rules.specs.SortRules.{IsSorted}
 use Rattle.region_rules.specs.Regions.{HasRegions}
 use Rattle.machine.proofs.SafeLoads.{all_load, all_have_calls}
-use Rattle.std.proofs.Common.{◌≡◌, ℕ, List, [], Option, length, replicate, refl, sym, ap, ◌∙◌, subst, arith}
+use Rattle.std.proofs.Common.{◌≡◌, ℕ, zero, suc, List, [], Option, Some, length, replicate, refl, sym, ap, ◌∙◌, subst, arith}
 use Rattle.syntax.specs.Views.{unit_tree}
 use Rattle.semantics.specs.Start.{start, waiting_thread}
 use Rattle.semantics.specs.World.{loaded_objects}
@@ -13,18 +13,28 @@ use Rattle.semantics_typing.specs.Texts.{HasTexts}
 use Rattle.machine_threads.proofs.ThreadLoads.{agree_length}
 use Rattle.syntax.specs.Parts.{statics_of}
 use Rattle.syntax.specs.declared.unit.Item.{Item}
-use Rattle.machine_scenes.specs.StoreAgrees.{StaticsAgree}
+use Rattle.machine_scenes.specs.StoreAgrees.{AreWeaklyThere, StaticsAgree}
 use Rattle.machine_scenes.specs.HeapAgrees.{SlotsAgree, times}
 use Rattle.tables.specs.Elements.{lengths}
 use Rattle.machine.proofs.TakenBuffers.{none_taken}
 use Rattle.semantics_safety.specs.Owners.{AllOwners, owners_after}
-use Rattle.machine_scenes.specs.Statics.{HaveKeys, all_held}
+use Rattle.heap.specs.Heap.{Space}
+use Rattle.tables.specs.Keys.{value_at}
+use Rattle.machine_scenes.specs.Statics.{HaveKeys, HaveWeakKeys, all_held}
 use Rattle.machine_monitors.specs.Fit.{AreThere, MonitorsAgree}
 use Rattle.monitors.specs.declared.monitors.Monitor.{Monitor}
 use Rattle.machine_scenes.specs.Statics.{StaticReference}
 use Rattle.semantics.specs.declared.static_reference.StaticReference.TheVariants.{Empty}
-use Rattle.machine_calls.proofs.HeldStatics.{names_begin, no_keys, statics_begin}
+use Rattle.machine_calls.proofs.HeldStatics.{names_begin, no_keys, no_weak_keys, statics_begin}
 use Rattle.machine.proofs.machine.load_parts.Goals as goal
+
+-- there are no weak references
+none_weakly_there : (space : Space) → AreWeaklyThere space []
+none_weakly_there space key a at = absurd (none key a at)
+  where
+    none : (key a : ℕ) → value_at [] key ≡ Some (Some a) → ⊥
+    none zero a at = cc
+    none (suc key) a at = cc
 
 pub returns-clause-begins : goal.returns-clause-begins
 returns-clause-begins c =
@@ -53,10 +63,13 @@ returns-clause-begins c =
         table = made.table;
         begun = omega arith;
         births = c.in_ok-store.ensures.births;
-        statics = subst (λ (globals : List (Option ℕ)). StaticsAgree c.in_ok-store.store.heap (all_held globals c.in_ok-store.store.statics.items) s.shared.statics) (sym c.in_ok-store.ensures.globals)
-            (subst (λ (l : List StaticReference). StaticsAgree c.in_ok-store.store.heap (all_held [] l) s.shared.statics) (sym (c.in_ok-store.ensures.statics ∙ ap (λ (items : List Item). replicate (length (statics_of (unit_tree items))) Empty) c.items.ensures.items)) (statics_begin c.in_ok-store.store.heap (statics_of (unit_tree c.args.program.now.unit))));
+        statics = subst (λ (globals : List (Option ℕ)). StaticsAgree c.in_ok-store.store.heap (all_held globals c.in_ok-store.store.weaks c.in_ok-store.store.statics.items) s.shared.statics) (sym c.in_ok-store.ensures.globals)
+            (subst (λ (weaks : List (Option (Option ℕ))). StaticsAgree c.in_ok-store.store.heap (all_held [] weaks c.in_ok-store.store.statics.items) s.shared.statics) (sym c.in_ok-store.ensures.weaks)
+            (subst (λ (l : List StaticReference). StaticsAgree c.in_ok-store.store.heap (all_held [] [] l) s.shared.statics) (sym (c.in_ok-store.ensures.statics ∙ ap (λ (items : List Item). replicate (length (statics_of (unit_tree items))) Empty) c.items.ensures.items)) (statics_begin c.in_ok-store.store.heap (statics_of (unit_tree c.args.program.now.unit)))));
         named = names_begin (statics_of (unit_tree c.args.program.now.unit));
         keys = subst (HaveKeys c.in_ok-store.store.globals) (sym c.in_ok-store.ensures.statics) (no_keys c.in_ok-store.store.globals (length (statics_of (unit_tree c.items.result.now))));
+        weak_keys = subst (HaveWeakKeys c.in_ok-store.store.weaks) (sym c.in_ok-store.ensures.statics) (no_weak_keys c.in_ok-store.store.weaks (length (statics_of (unit_tree c.items.result.now))));
+        weaks = subst (AreWeaklyThere c.in_ok-store.store.heap) (sym c.in_ok-store.ensures.weaks) (none_weakly_there c.in_ok-store.store.heap);
         globals = subst (λ (globals : List (Option ℕ)). SlotsAgree c.in_ok-store.store.heap globals []) (sym c.in_ok-store.ensures.globals) (record { names = []; agree = tt; same = λ n. refl });
         buffers = record {
           copied = ap lengths c.in_ok-store.ensures.elements ∙ sym none.0;

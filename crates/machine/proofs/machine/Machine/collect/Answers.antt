@@ -1,30 +1,52 @@
-use Rattle.std.proofs.Common.{rules, ◌≡◌, List, OnOk, OnErr, sym, subst}
+use Rattle.std.proofs.Common.{rules, ◌≡◌, ◌++◌, ℕ, List, sym, ap, ◌∙◌, subst, refl}
 use Rattle.std.proofs.lemmas.List.{with_items_is, places}
+use Rattle.semantics.specs.Journal.{Entry}
+use Rattle.semantics.specs.Views.{names_of}
 use Rattle.machine_threads.specs.declared.thread.Thread.{Thread}
+use Rattle.machine_collections.specs.Clearing.{clearing_of}
 use Rattle.machine_collections.specs.Moving.{AreCollected, AreReferred}
-use Rattle.machine.specs.Run.{Corresponds}
+use Rattle.machine.specs.Run.{Corresponds, IsCollected, seen}
 use Rattle.machine.proofs.Collected.{are_referred, run_after, stands_after}
 use Rattle.machine.proofs.machine.Machine.collect.Goals as goal
+use Rattle.machine.proofs.machine.Machine.collect.Goals.{After-push_clearing}
 
 pub collect_blocks-requires : goal.collect_blocks-requires
 collect_blocks-requires c = subst (λ (ts : List Thread). AreReferred c.self.inside.store ts) (sym c.deref_mut.ensures.value) (are_referred _ _ _ _ _ _ _ c.self.invariant)
 
+-- the journal stays where host memory was refused to it
 pub invariant_of-self : goal.invariant_of-self
 invariant_of-self c =
     let i = c.self.inside in
-    let r = c.collect_blocks.result in
+    subst (λ (j : List Entry). Corresponds i.program i.world i.store i.threads.items i.printed.items i.stop j) (sym c.reserve.ensures.same) c.self.invariant
+
+-- the objects whose weak references were cleared
+abbrev cleared : After-push_clearing → List ℕ
+cleared c = names_of c.in_ok-cleared.cleared.items
+
+collected : (c : After-push_clearing) → AreCollected c.self.inside.store c.self.inside.threads.items c.collect_blocks.new.store c.collect_blocks.new.threads
+collected c = subst (λ (ts : List Thread). AreCollected c.self.inside.store ts c.collect_blocks.new.store c.collect_blocks.new.threads) c.deref_mut.ensures.value c.in_ok-cleared.ensures.ok
+
+-- they are told
+told : (c : After-push_clearing) → c.push_clearing.new.self.entries ≡ c.self.inside.journal.entries ++ clearing_of (cleared c)
+told c = c.push_clearing.ensures.entries ∙ ap (λ (j : List Entry). j ++ clearing_of (cleared c)) c.reserve.ensures.same
+
+pub invariant_of-self-2 : goal.invariant_of-self-2
+invariant_of-self-2 c =
+    let a = (goal.at.invariant_of-self-2 c).After-push_clearing in
+    let i = c.self.inside in
     let after = c.collect_blocks.new.store in
     let later = c.collect_blocks.new.threads in
-    let ok = subst (λ (ts : List Thread). OnOk r (AreCollected i.store ts after later)) c.deref_mut.ensures.value c.collect_blocks.ensures.ok in
-    let err = subst (λ (ts : List Thread). OnErr r (later ≡ ts)) c.deref_mut.ensures.value c.collect_blocks.ensures.threads in
-    subst (λ (ts : List Thread). Corresponds i.program i.world after ts i.printed.items i.stop i.journal.items) (sym (with_items_is i.threads later (search (rules, places))))
-    (stands_after _ _ _ _ _ _ _ c.self.invariant r after later ok c.collect_blocks.ensures.store err)
+    subst (λ (ts : List Thread). Corresponds i.program i.world after ts i.printed.items i.stop c.push_clearing.new.self.entries) (sym (with_items_is i.threads later (search (rules, places))))
+    (subst (λ (j : List Entry). Corresponds i.program i.world after later i.printed.items i.stop j) (sym (told a))
+    (stands_after _ _ _ _ _ _ _ c.self.invariant after later (cleared a) (collected a) c.in_ok-cleared.ensures.cleared))
 
 pub returns-clause-ok : goal.returns-clause-ok
 returns-clause-ok c =
+    let a = (goal.at.returns-clause-ok c).After-push_clearing in
     let i = c.self.inside in
-    let r = c.collect_blocks.result in
     let after = c.collect_blocks.new.store in
-    let later = c.collect_blocks.new.threads in
-    let ok = subst (λ (ts : List Thread). OnOk r (AreCollected i.store ts after later)) c.deref_mut.ensures.value c.collect_blocks.ensures.ok in
-    run_after _ _ _ _ _ _ _ c.self.invariant r after later c.args.self.now c.self.view_is ok
+    subst (λ (j : List Entry). IsCollected c.args.self.now (seen i.program i.world after j)) (sym (told a))
+    (run_after _ _ _ _ _ _ _ c.self.invariant after c.collect_blocks.new.threads (cleared a) c.args.self.now c.self.view_is (collected a) c.in_ok-cleared.ensures.cleared)
+
+pub returns-clause-runs : goal.returns-clause-runs
+returns-clause-runs c = rw (invariant_of-self-2 c).replays refl

@@ -13,9 +13,8 @@ returns-then-times-eq0-clause-ok c =
 
 pub returns-clause-ok : goal.returns-clause-ok
 returns-clause-ok c =
-    let runs : IsSome (replay_of c.args.self.now) = subst (λ (r : Run). IsSome (replay_of r)) c.self.view_is (rw c.self.invariant.replays refl) in
     let can : IsOrderly c.args.self.now = subst IsOrderly c.self.view_is (orderly _ _ _ _ _ _ _ c.self.invariant) in
-    collected_often c.args.self.now c.collect.new.self c.args.times c.if-times-eq0.false can c.in_ok-collect.ensures.ok runs c.in_ok-collect.ensures.runs
+    collected_often c.args.self.now c.collect.new.self c.args.times c.if-times-eq0.false can c.in_ok-collect.ensures.ok c.in_ok-collect.ensures.runs
 
 pub returns-in_err-collect-clause-err : goal.returns-in_err-collect-clause-err
 returns-in_err-collect-clause-err c =

@@ -30,12 +30,12 @@ free : (c : After-is_some) → is_some c.turn_at_rest.result ≡ false → (is_s
 free c none = none_held (is_some c.self.inside.stop) (is_unfinished (ending_view c.index_mut-thread.result.now.ending)) (sym c.turn_at_rest.ensures ∙ none_is c.turn_at_rest.result none)
 
 -- the thread can go on
-can_go_on : (c : After-is_some) → is_some c.turn_at_rest.result ≡ false → CanGoOn c.self.inside.program c.self.inside.world c.self.inside.store c.self.inside.threads.items (c.from-index.result - 1) c.self.inside.printed.items c.self.inside.journal.items c.args.k c.index_mut-thread.result.now
+can_go_on : (c : After-is_some) → is_some c.turn_at_rest.result ≡ false → CanGoOn c.self.inside.program c.self.inside.world c.self.inside.store c.self.inside.threads.items (c.from-index.result - 1) c.self.inside.printed.items c.self.inside.journal.entries c.args.k c.index_mut-thread.result.now
 can_go_on c none =
     let a = (goal.at.After-is_some c).After-index_mut-thread in
     let i = c.self.inside in
     record {
-      stands = subst (λ (stop : Option Stop). Corresponds i.program i.world i.store i.threads.items i.printed.items stop i.journal.items) (not_stopped i.stop (free c none).0) c.self.invariant;
+      stands = subst (λ (stop : Option Stop). Corresponds i.program i.world i.store i.threads.items i.printed.items stop i.journal.entries) (not_stopped i.stop (free c none).0) c.self.invariant;
       number = number a;
       at = there a;
       lives = is_live c.index_mut-thread.result.now.ending (free c none).1;
@@ -53,7 +53,7 @@ pub take_plainly-requires-clause-goes : goal.take_plainly-requires-clause-goes
 take_plainly-requires-clause-goes c = not_stopped c.self.inside.stop (free (goal.at.take_plainly-requires-clause-goes c).After-is_some (sym c.is_some.ensures ∙ c.if-is_some.false)).0
 
 -- what it came to
-went : (c : After-take_plainly) → WentOn c.self.inside.program c.self.inside.world c.self.inside.store c.self.inside.threads.items (c.from-index.result - 1) c.self.inside.printed.items c.self.inside.journal.items c.args.k c.take_plainly.result c.take_plainly.new.thread c.take_plainly.new.stop c.take_plainly.new.journal.items
+went : (c : After-take_plainly) → WentOn c.self.inside.program c.self.inside.world c.self.inside.store c.self.inside.threads.items (c.from-index.result - 1) c.self.inside.printed.items c.self.inside.journal.entries c.args.k c.take_plainly.result c.take_plainly.new.thread c.take_plainly.new.stop c.take_plainly.new.journal.entries
 went c =
     let i = c.self.inside in
     c.take_plainly.ensures.went i.world i.threads.items (c.from-index.result - 1) i.printed.items (can_go_on (goal.at.After-take_plainly c).After-is_some (sym c.is_some.ensures ∙ c.if-is_some.false))
@@ -63,7 +63,7 @@ invariant_of-self-2 c = (went (goal.at.invariant_of-self-2 c).After-take_plainly
 
 pub returns-clause-along : goal.returns-clause-along
 returns-clause-along c =
-    subst (λ (r : Run). RunsAlong r (seen c.self.inside.program c.self.inside.world c.self.inside.store c.take_plainly.new.journal.items) (replicate c.take_plainly.result (Word c.args.k))) c.self.view_is (went (goal.at.returns-clause-along c).After-take_plainly).along
+    subst (λ (r : Run). RunsAlong r (seen c.self.inside.program c.self.inside.world c.self.inside.store c.take_plainly.new.journal.entries) (replicate c.take_plainly.result (Word c.args.k))) c.self.view_is (went (goal.at.returns-clause-along c).After-take_plainly).along
 
 pub returns-clause-runs : goal.returns-clause-runs
 returns-clause-runs c = rw (went (goal.at.returns-clause-runs c).After-take_plainly).stands.replays refl

@@ -1,6 +1,7 @@
 use Rattle.std.proofs.Common.{◌≡◌, ℕ, suc, ◌-◌, ◌<◌, ◌≤◌, Bool, true, false, Option, Some, None, List, length, get_or, refl, sym, ap, ◌∙◌, subst, arith}
 use Rattle.std.specs.Prelude.{slice_get, is_some, IsSome}
 use Rattle.std.specs.Option.{option_map}
+use Rattle.std.proofs.lemmas.Bool.{leb-true, leb-false}
 use Rattle.semantics.specs.State as state
 use Rattle.semantics.specs.Step.{is_blocked, is_unfinished}
 use Rattle.semantics.specs.declared.event.Ending.{Ending}
@@ -67,18 +68,16 @@ returns-in-Some-clause-some c =
     (λ stopped. (refl, (c.self.invariant.state, replays a, stops c.self.inside.stop c.self.invariant.state.stop c.self.invariant.same_stop stopped)))
     (λ goes over. (refl, (c.self.invariant.state, replays a, has_ended _ _ _ _ _ _ _ c.self.invariant c.args.k (c.from-index.result - 1) c.index.result.now (number a) (there a c.index.result.now c.index.ensures) (not_stopped c.self.inside.stop goes) (is_over _ over))))
 
-pub returns-then-len-ge-MOST_ENTRIES-clause-some : goal.returns-then-len-ge-MOST_ENTRIES-clause-some
-returns-then-len-ge-MOST_ENTRIES-clause-some c =
-    let a = (goal.at.returns-then-len-ge-MOST_ENTRIES-clause-some c).After-index in
+pub returns-then-is_full-clause-some : goal.returns-then-is_full-clause-some
+returns-then-is_full-clause-some c =
+    let a = (goal.at.returns-then-is_full-clause-some c).After-index in
     let none = none_held (is_some c.self.inside.stop) (is_unfinished (ending_view c.index.result.now.ending)) (sym c.turn_at_rest.ensures ∙ c.in_default.is) in
-    let many : 1000000 ≤ length c.self.inside.journal.items = omega (arith, c.len.ensures, c.if-len-ge-MOST_ENTRIES.true) in
-    (refl, subst (λ (r : Run). 1000000 ≤ length r.journal) c.self.view_is many, can_step a (not_stopped c.self.inside.stop none.0) (is_live _ none.1) (is_free a c.waits.result c.waits.ensures c.if-waits.false))
+    (refl, leb-true 1000000 _ (sym c.is_full.ensures ∙ c.if-is_full.true), can_step a (not_stopped c.self.inside.stop none.0) (is_live _ none.1) (is_free a c.waits.result c.waits.ensures c.if-waits.false))
 
 pub returns-clause-none : goal.returns-clause-none
 returns-clause-none c =
     let a = (goal.at.returns-clause-none c).After-index in
-    let none = none_held (is_some c.self.inside.stop) (is_unfinished (ending_view c.index.result.now.ending)) (sym c.turn_at_rest.ensures ∙ c.in_default.is) in
-    let room : length c.self.inside.journal.items < 1000000 = omega (arith, c.len.ensures, c.if-len-ge-MOST_ENTRIES.false) in (
-      subst (λ (r : Run). length r.journal < 1000000) c.self.view_is room,
+    let none = none_held (is_some c.self.inside.stop) (is_unfinished (ending_view c.index.result.now.ending)) (sym c.turn_at_rest.ensures ∙ c.in_default.is) in (
+      leb-false 1000000 _ (sym c.is_full.ensures ∙ c.if-is_full.false),
       can_step a (not_stopped c.self.inside.stop none.0) (is_live _ none.1) (is_free a c.waits.result c.waits.ensures c.if-waits.false),
     )
