@@ -22,7 +22,7 @@ use class_rules::ClassId;
 use classes::fields::FieldId;
 pub use jni::ReleaseMode;
 use jni::{JniFunction, ParameterKind};
-use replay_terms::{Content, Operand, StaticReference, Term, Value, Variables};
+use replay_terms::{Content, Operand, StaticReference, Term, Value, Variables, as_argument};
 use semantics::{Level, NO_OBJECT, ObjectId};
 use std::alloc::{AllocError, Global};
 use syntax::{Argument, Constant, Expr, Name};
@@ -211,7 +211,7 @@ fn held_by(shared: &Shared<'_>, variables: &Variables<'_>, name: &Name) -> Stati
 {
     match variables.content_of(name) {
         None => match shared.statics.held(name) {
-            Some(held) => held,
+            Some(held) => as_argument(held),
             None => StaticReference::Empty,
         },
         Some(content) => match content {

@@ -96,9 +96,9 @@ fn is_missing(parameter: ParameterKind, actual: Actual<'_>) -> bool
     ensures { result ≡ is_missing (parameter_value parameter, actual_view actual.entry) }
 {
     match parameter {
-        ParameterKind::Nullable => false,
+        ParameterKind::Nullable | ParameterKind::AnyReference => false,
         ParameterKind::LocalVariable => false,
-        ParameterKind::StaticVariable => false,
+        ParameterKind::StaticVariable | ParameterKind::WeakVariable => false,
         _ => match actual {
             Actual::Reference(_, held) => matches!(held, StaticReference::Empty),
             Actual::Field(field) => field.is_none(),
@@ -143,6 +143,7 @@ fn is_misfit(
                 class_misfits(classes, parameter, store.class_of(name))
             }
             StaticReference::Empty | StaticReference::Deleted => false,
+            StaticReference::Weakly(_) | StaticReference::Cleared => false,
         },
         _ => false,
     }

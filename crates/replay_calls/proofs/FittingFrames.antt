@@ -6,7 +6,7 @@ use Rattle.class_rules.specs.BuiltIns.{illegal_monitor_state}
 use Rattle.class_rules.specs.Class.{Classes}
 use Rattle.class_rules.specs.Fields.{FieldId}
 use Rattle.jni.specs.Access.{ElementsCopy}
-use Rattle.jni.specs.JniFunction.{JniFunction, FindClass, NewGlobalRef, DeleteLocalRef, DeleteGlobalRef, EnsureLocalCapacity, PushLocalFrame, GetFieldID, GetStaticFieldID, NewArray, NewObjectArray, GetObjectArrayElement, SetObjectArrayElement, GetArrayRegion, SetArrayRegion, GetStringRegion, ReleaseBuffer, MonitorEnter, MonitorExit}
+use Rattle.jni.specs.JniFunction.{JniFunction, FindClass, NewGlobalRef, DeleteLocalRef, EnsureLocalCapacity, PushLocalFrame, GetFieldID, GetStaticFieldID, NewArray, NewObjectArray, GetObjectArrayElement, SetObjectArrayElement, GetArrayRegion, SetArrayRegion, GetStringRegion, ReleaseBuffer, MonitorEnter, MonitorExit}
 use Rattle.semantics.specs.Arguments.{Actual, ReleaseMode, CopyBackAndFree, CopyBack, FreeUncopied, mode_given, variable_given, reference_given, number_given, object_given}
 use Rattle.semantics.specs.CallEffects.{ScalarResult, local_array, with_capacity}
 use Rattle.semantics.specs.Heap.{Heap, values_of}
@@ -16,7 +16,7 @@ use Rattle.semantics.specs.Value.{Int, Trap, OutOfRange}
 use Rattle.semantics.specs.Variable.{Variables}
 use Rattle.replay_calls.specs.Answers.{Answer, Gives, Raises, Owns, Disowns, Ensures, Pushes, RefusesFrames, Region, GetsRegion, SetsRegion, Halts, FitsArrays, FitsFrames, HasRoom, IsInside, answer_or_trap}
 use Rattle.replay_objects.specs.Frames.{new_frame}
-use Rattle.replay_calls.specs.WorkedOut.{element_given, element_set, ensured, found_class, found_field, global_deleted, if_it_has_room, local_deleted, made_global, monitor_entered, monitor_left, new_array, new_object_array, pushed, region_given, region_got, region_set, region_within, released, worked_out}
+use Rattle.replay_calls.specs.WorkedOut.{element_given, element_set, ensured, found_class, found_field, if_it_has_room, local_deleted, made_global, monitor_entered, monitor_left, new_array, new_object_array, pushed, region_given, region_got, region_set, region_within, released, worked_out}
 
 module _ (frames : List Frame) where
   class_fits : (c : Option ℕ) → FitsFrames frames (found_class c)
@@ -50,10 +50,6 @@ module _ (frames : List Frame) where
   global_fits : (r : Reference) → FitsFrames frames (made_global r)
   global_fits None = tt
   global_fits (Some n) = tt
-
-  deleted_fits : (x : Identifier) (r : Reference) → FitsFrames frames (global_deleted x r)
-  deleted_fits x None = tt
-  deleted_fits x (Some n) = tt
 
   array_fits : (class : ℕ) (z : ℤ) → FitsFrames frames (new_array class z)
   array_fits class (pos n) = tt
@@ -113,7 +109,6 @@ module _ (frames : List Frame) where
   answer_fits classes in_use k monitors heap vs pending args FindClass = class_fits _
   answer_fits classes in_use k monitors heap vs pending args NewGlobalRef = global_fits (reference_given args 0)
   answer_fits classes in_use k monitors heap vs pending args DeleteLocalRef = local_fits _ (reference_given args 0)
-  answer_fits classes in_use k monitors heap vs pending args DeleteGlobalRef = deleted_fits (variable_given args 0) (reference_given args 0)
   answer_fits classes in_use k monitors heap vs pending args EnsureLocalCapacity = ensured_fits (number_given args 0)
   answer_fits classes in_use k monitors heap vs pending args PushLocalFrame = pushed_fits (number_given args 0)
   answer_fits classes in_use k monitors heap vs pending args GetFieldID = field_fits _
@@ -165,10 +160,6 @@ module _ (heap : Heap) (vs : Variables) where
   global_copies : (r : Reference) → FitsArrays heap vs (made_global r)
   global_copies None = tt
   global_copies (Some n) = tt
-
-  deleted_copies : (x : Identifier) (r : Reference) → FitsArrays heap vs (global_deleted x r)
-  deleted_copies x None = tt
-  deleted_copies x (Some n) = tt
 
   array_copies : (class : ℕ) (z : ℤ) → FitsArrays heap vs (new_array class z)
   array_copies class (pos n) = tt
@@ -241,7 +232,6 @@ module _ (heap : Heap) (vs : Variables) where
     answer_copies classes in_use k monitors frames pending FindClass = class_copies _
     answer_copies classes in_use k monitors frames pending NewGlobalRef = global_copies (reference_given args 0)
     answer_copies classes in_use k monitors frames pending DeleteLocalRef = local_copies _ (reference_given args 0)
-    answer_copies classes in_use k monitors frames pending DeleteGlobalRef = deleted_copies (variable_given args 0) (reference_given args 0)
     answer_copies classes in_use k monitors frames pending EnsureLocalCapacity = ensured_copies frames (number_given args 0)
     answer_copies classes in_use k monitors frames pending PushLocalFrame = pushed_copies frames (number_given args 0)
     answer_copies classes in_use k monitors frames pending GetFieldID = field_copies _

@@ -10,7 +10,7 @@ use Rattle.semantics.specs.Heap.{Heap, next_name, numbers_of, values_of, with_nu
 use Rattle.semantics.specs.Object.{ObjectValue, Reference}
 use Rattle.semantics.specs.Thread.{Frame, Shared, capacities, without_monitor}
 use Rattle.semantics.specs.Value.{Int, Trap}
-use Rattle.semantics.specs.Variable.{Deleted, Variables, assign, change}
+use Rattle.semantics.specs.Variable.{StaticReference, Live, Weakly, Cleared, Deleted, Variables, assign, change}
 use Rattle.semantics.specs.World.{fresh_object}
 use Rattle.replay_calls.specs.declared.answer.Answer.{Answer as InMemory}
 use Rattle.replay_calls.specs.declared.answer.Answer.TheVariants as answer
@@ -38,7 +38,7 @@ region_view r = record { object = r.object.number; start = r.start; count = r.co
 -- given, the current frame gets room for this many more and 0 is given, a frame of this capacity is made and 0 is
 -- given, the OutOfMemoryError object is pending and -4 is given, the current frame is dropped and this is given, a
 -- local reference in the frame of a level is deleted, a global reference is made and given, the one of a static is
--- deleted, a pending exception or none replaces that before it and this is given, a local array begins with the numbers
+-- deleted, the weak one of a static is deleted, a pending exception or none replaces that before it and this is given, a local array begins with the numbers
 -- of a region, a region's numbers become the first of a local array, a buffer is given, an object gets the numbers of
 -- the copy of a variable, which is given up or not, the buffer of a variable is given up, the thread owns an object so
 -- many times and 0 is given, nobody owns an object and 0 is given, or the run stops.
@@ -54,7 +54,8 @@ pub data Answer : Type 0 where
   Pops : Reference → Answer
   DeletesLocal : (level object : ℕ) → Answer
   MakesGlobal : (object : ℕ) → Answer
-  DeletesGlobal : Identifier → (object : ℕ) → Answer
+  DeletesGlobal : Identifier → Answer
+  DeletesWeak : Identifier → Answer
   Pends : Reference → CallResult → Answer
   GetsRegion : Region → Answer
   SetsRegion : Region → Answer
@@ -77,7 +78,8 @@ answer_view answer.RefusesFrames = RefusesFrames
 answer_view (answer.Pops r) = Pops (name_of r)
 answer_view (answer.DeletesLocal l n) = DeletesLocal l.number n.number
 answer_view (answer.MakesGlobal n) = MakesGlobal n.number
-answer_view (answer.DeletesGlobal x n) = DeletesGlobal x.now n.number
+answer_view (answer.DeletesGlobal x) = DeletesGlobal x.now
+answer_view (answer.DeletesWeak x) = DeletesWeak x.now
 answer_view (answer.Pends r g) = Pends (name_of r) (given_view g)
 answer_view (answer.GetsRegion r) = GetsRegion (region_view r)
 answer_view (answer.SetsRegion r) = SetsRegion (region_view r)
@@ -146,9 +148,16 @@ lent_in a = None
 abbrev pub zero_result : CallResult
 zero_result = ScalarResult (Int (pos 0))
 
--- what is shared without a global reference, the static of which is marked
-abbrev pub without_global : Identifier → ℕ → Shared → Shared
-without_global x n s = record s { globals = without_one n s.globals; statics = assign x Deleted s.statics }
+-- what is shared without the global reference that a static holds, which is marked, if it holds one
+abbrev pub without_global : Identifier → Option StaticReference → Shared → Shared
+without_global x (Some (Live n)) s = record s { globals = without_one n s.globals; statics = assign x Deleted s.statics }
+without_global x r s = s
+
+-- what is shared without the weak global reference that a static holds, which is marked, if it holds one
+abbrev pub without_weak : Identifier → Option StaticReference → Shared → Shared
+without_weak x (Some (Weakly n)) s = record s { statics = assign x Deleted s.statics }
+without_weak x (Some Cleared) s = record s { statics = assign x Deleted s.statics }
+without_weak x r s = s
 
 -- what is shared where thread k owns an object so many times
 abbrev pub with_owned : (k : ℕ) → (object count : ℕ) → Shared → Shared
@@ -170,7 +179,8 @@ is_of_frames a = false
 -- or to the references or the monitors that there are
 abbrev pub is_of_references : Answer → Bool
 is_of_references (MakesGlobal n) = true
-is_of_references (DeletesGlobal x n) = true
+is_of_references (DeletesGlobal x) = true
+is_of_references (DeletesWeak x) = true
 is_of_references (Owns n count) = true
 is_of_references (Disowns n) = true
 is_of_references a = is_of_frames a
@@ -198,7 +208,8 @@ shared_after classes k s vs (Makes n) = record s { heap = s.heap ++ object_of cl
 shared_after classes k s vs (Raises c) = record s { heap = s.heap ++ fresh_object classes c ∷ [] }
 shared_after classes k s vs (ThrowsNew c text) = record s { heap = s.heap ++ thrown classes s.heap c text }
 shared_after classes k s vs (MakesGlobal n) = record s { globals = n ∷ s.globals }
-shared_after classes k s vs (DeletesGlobal x n) = without_global x n s
+shared_after classes k s vs (DeletesGlobal x) = without_global x (lookup x s.statics) s
+shared_after classes k s vs (DeletesWeak x) = without_weak x (lookup x s.statics) s
 shared_after classes k s vs (SetsRegion r) = record s { heap = heap_with vs r s.heap }
 shared_after classes k s vs (CopiesBack n p frees) = record s { heap = heap_copied n p vs s.heap }
 shared_after classes k s vs (Owns n count) = with_owned k n count s
@@ -241,7 +252,8 @@ given_after heap kind RefusesFrames = ScalarResult (Int (negsuc 3))
 given_after heap kind (Pops r) = ReferenceResult r
 given_after heap kind (DeletesLocal l n) = NoResult
 given_after heap kind (MakesGlobal n) = ReferenceResult (Some n)
-given_after heap kind (DeletesGlobal x n) = NoResult
+given_after heap kind (DeletesGlobal x) = NoResult
+given_after heap kind (DeletesWeak x) = NoResult
 given_after heap kind (Pends r g) = g
 given_after heap kind (GetsRegion r) = NoResult
 given_after heap kind (SetsRegion r) = NoResult

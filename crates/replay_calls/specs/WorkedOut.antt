@@ -6,15 +6,15 @@ use Rattle.class_rules.specs.BuiltIns.{array_index_out_of_bounds, array_store_ex
 use Rattle.class_rules.specs.Class.{Classes, class_kind, class_named, element_class, superclass, assignable}
 use Rattle.class_rules.specs.Fields.{FieldId, find_field, find_static}
 use Rattle.jni.specs.Access.{Access, ElementsCopy, ArrayView, CharsCopy, CharsView}
-use Rattle.jni.specs.JniFunction.{JniFunction, FindClass, GetSuperclass, GetObjectClass, IsInstanceOf, IsAssignableFrom, AllocObject, NewLocalRef, NewGlobalRef, DeleteLocalRef, DeleteGlobalRef, IsSameObject, EnsureLocalCapacity, PushLocalFrame, PopLocalFrame, GetFieldID, GetStaticFieldID, GetField, SetField, GetStaticField, SetStaticField, GetObjectField, SetObjectField, GetStaticObjectField, SetStaticObjectField, GetArrayLength, NewArray, NewObjectArray, GetObjectArrayElement, SetObjectArrayElement, GetArrayRegion, SetArrayRegion, NewStringUTF, GetStringLength, GetStringRegion, GetBuffer, ReleaseBuffer, Throw, ThrowNew, ExceptionOccurred, ExceptionCheck, ExceptionClear, FatalError, MonitorEnter, MonitorExit}
+use Rattle.jni.specs.JniFunction.{JniFunction, FindClass, GetSuperclass, GetObjectClass, IsInstanceOf, IsAssignableFrom, AllocObject, NewLocalRef, NewGlobalRef, NewWeakGlobalRef, DeleteLocalRef, DeleteGlobalRef, DeleteWeakGlobalRef, IsSameObject, EnsureLocalCapacity, PushLocalFrame, PopLocalFrame, GetFieldID, GetStaticFieldID, GetField, SetField, GetStaticField, SetStaticField, GetObjectField, SetObjectField, GetStaticObjectField, SetStaticObjectField, GetArrayLength, NewArray, NewObjectArray, GetObjectArrayElement, SetObjectArrayElement, GetArrayRegion, SetArrayRegion, NewStringUTF, GetStringLength, GetStringRegion, GetBuffer, ReleaseBuffer, Throw, ThrowNew, ExceptionOccurred, ExceptionCheck, ExceptionClear, FatalError, MonitorEnter, MonitorExit}
 use Rattle.semantics.specs.Arguments.{Actual, ReleaseMode, CopyBackAndFree, CopyBack, FreeUncopied, reference_given, object_given, mode_given, number_given, text_given, field_given, variable_given}
-use Rattle.semantics.specs.CallEffects.{NoResult, ScalarResult, ReferenceResult, FieldResult, level_of, local_array, same_reference, with_capacity}
+use Rattle.semantics.specs.CallEffects.{NoResult, ScalarResult, ReferenceResult, WeakResult, FieldResult, level_of, local_array, same_reference, with_capacity}
 use Rattle.semantics.specs.Heap.{Heap, class_of, numbers_of, values_of, value_at, number_in, reference_in, field_place, static_place, fits_class}
 use Rattle.semantics.specs.Object.{Number, Refers, Reference}
 use Rattle.semantics.specs.Thread.{BuffersInUse, Frame, Monitor, capacities, monitor_of}
 use Rattle.semantics.specs.Value.{Int, Flag, Fatal, OutOfRange, convert}
 use Rattle.semantics.specs.Variable.{Variables}
-use Rattle.replay_calls.specs.Answers.{Answer, Gives, Writes, Makes, Raises, ThrowsNew, Ensures, Pushes, RefusesFrames, Pops, DeletesLocal, MakesGlobal, DeletesGlobal, Pends, Region, GetsRegion, SetsRegion, Lends, CopiesBack, Frees, Owns, Disowns, Halts, zero_result}
+use Rattle.replay_calls.specs.Answers.{Answer, Gives, Writes, Makes, Raises, ThrowsNew, Ensures, Pushes, RefusesFrames, Pops, DeletesLocal, MakesGlobal, DeletesGlobal, DeletesWeak, Pends, Region, GetsRegion, SetsRegion, Lends, CopiesBack, Frees, Owns, Disowns, Halts, zero_result}
 use Rattle.replay_terms.specs.declared.given.Lent.{Lent}
 use Rattle.replay_terms.specs.declared.given.Lent.TheVariants as lent
 use Rattle.replay_objects.specs.Frames.{new_frame}
@@ -59,11 +59,6 @@ local_deleted level (Some n) = DeletesLocal level n
 abbrev pub made_global : Reference → Answer
 made_global None = Gives (ReferenceResult None)
 made_global (Some n) = MakesGlobal n
-
--- one global reference less, that of this static; NULL: nothing
-abbrev pub global_deleted : Identifier → Reference → Answer
-global_deleted x None = Gives NoResult
-global_deleted x (Some n) = DeletesGlobal x n
 
 -- ---- arrays
 
@@ -205,8 +200,10 @@ module _ (classes : Classes) (in_use : BuffersInUse) (k : ℕ) (monitors : List 
   worked_out AllocObject = Makes (Fresh (object 0))
   worked_out NewLocalRef = Gives (ReferenceResult (reference 0))
   worked_out NewGlobalRef = made_global (reference 0)
+  worked_out NewWeakGlobalRef = Gives (WeakResult (reference 0))
   worked_out DeleteLocalRef = local_deleted (level_of (lookup (variable_given args 0) variables)) (reference 0)
-  worked_out DeleteGlobalRef = global_deleted (variable_given args 0) (reference 0)
+  worked_out DeleteGlobalRef = DeletesGlobal (variable_given args 0)
+  worked_out DeleteWeakGlobalRef = DeletesWeak (variable_given args 0)
   worked_out IsSameObject = Gives (ScalarResult (Flag (same_reference (reference 0) (reference 1))))
   worked_out EnsureLocalCapacity = ensured frames (number 0)
   worked_out PushLocalFrame = pushed frames (number 0)

@@ -14,7 +14,7 @@ ghost use Rattle.replay_arguments.specs.Actuals.{actual_view};
 ghost use Rattle.replay_calls.specs.Answers.{answer_or_trap, answer_view, lent_in, trap_in};
 ghost use Rattle.replay_arguments.specs.Checked.{trap_found};
 ghost use Rattle.jni.specs.Subjects.{subject_of};
-ghost use Rattle.replay_calls.specs.WorkedOut.{IsByFrames, IsByObjects, element_given, element_set, ensured, field_named, fits_element, found_class, found_field, global_deleted, index_given, local_deleted, made_global, new_array, new_object_array, pushed, worked_out};
+ghost use Rattle.replay_calls.specs.WorkedOut.{IsByFrames, IsByObjects, element_given, element_set, ensured, field_named, fits_element, found_class, found_field, index_given, local_deleted, made_global, new_array, new_object_array, pushed, worked_out};
 ghost use Rattle.jni.specs.declared.subject.Subject.TheVariants as subject;
 ghost use Rattle.semantics.specs.EventViews.{trap_view};
 ghost use Rattle.semantics.specs.Views.{name_of};
@@ -83,11 +83,10 @@ pub enum Answer<'a> {
     },
     /// A global reference to the object of this name is made, and given.
     MakesGlobal(ObjectId),
-    /// A global reference to the object of this name is deleted, and the static is marked.
-    DeletesGlobal {
-        variable: &'a [u8],
-        object: ObjectId,
-    },
+    /// The global reference that the static of this name holds is deleted, and the static is marked, if it holds one.
+    DeletesGlobal(&'a [u8]),
+    /// The weak global reference that the static of this name holds is deleted, and the static is marked, if it holds one.
+    DeletesWeak(&'a [u8]),
     /// The exception of this name is pending, or none is, whatever was pending before, and this is given.
     Pends {
         exception: Option<ObjectId>,
@@ -268,8 +267,10 @@ fn reference_answer<'a>(
     match function {
         JniFunction::NewLocalRef => { Answer::Gives(Given::Reference(reference_given(actuals, 0))) }
         JniFunction::NewGlobalRef => made_global(reference_given(actuals, 0)),
+        JniFunction::NewWeakGlobalRef => { Answer::Gives(Given::Weak(reference_given(actuals, 0))) }
         JniFunction::DeleteLocalRef => local_deleted(variables, actuals),
-        JniFunction::DeleteGlobalRef => global_deleted(actuals),
+        JniFunction::DeleteGlobalRef => Answer::DeletesGlobal(variable_given(actuals, 0)),
+        JniFunction::DeleteWeakGlobalRef => Answer::DeletesWeak(variable_given(actuals, 0)),
         JniFunction::IsSameObject => {
             let same = same_reference(reference_given(actuals, 0), reference_given(actuals, 1));
             Answer::Gives(Given::Flag(same))
@@ -473,21 +474,6 @@ fn local_deleted<'a>(variables: &Variables<'_>, actuals: &[Actual<'_>]) -> Answe
                 object: name,
             }
         }
-        None => Answer::Gives(Given::Nothing),
-    }
-}
-
-/// The reference of argument 0, a static, is deleted, unless it is NULL.
-fn global_deleted<'a>(actuals: &[Actual<'a>]) -> Answer<'a>
-    ensures { answer_view result
-        ≡ global_deleted (variable_given (map actual_view actuals.now) 0)
-        (reference_given (map actual_view actuals.now) 0) }
-{
-    match reference_given(actuals, 0) {
-        Some(name) => Answer::DeletesGlobal {
-            variable: variable_given(actuals, 0),
-            object: name,
-        },
         None => Answer::Gives(Given::Nothing),
     }
 }

@@ -2,6 +2,7 @@
 //! exception.
 
 ghost use Rattle.std.specs.Prelude.{◌≡◌, IfOk, List, None, Some, true, ℕ};
+ghost use Rattle.base.specs.Bytes.{lookup};
 ghost use Rattle.jni.specs.Prototype.{ResultKind as SourceKind};
 ghost use Rattle.jni.specs.Table.{result_value};
 ghost use Rattle.semantics.specs.CallEffects.{out_of_memory};
@@ -12,7 +13,7 @@ ghost use Rattle.semantics.specs.Object.{Reference};
 ghost use Rattle.semantics.specs.Thread.{Frame};
 ghost use Rattle.semantics.specs.Views.{name_of};
 ghost use Rattle.semantics.specs.Variable.{Variables as VariablesOfCall};
-ghost use Rattle.replay_calls.specs.Answers.{FitsArrays, FitsFrames, answer_view, frames_after, frames_with, given_after, is_of_frames, is_of_numbers, is_of_references, lent_in, makes_object, pending_after, shared_after, trap_in, variables_after};
+ghost use Rattle.replay_calls.specs.Answers.{FitsArrays, FitsFrames, answer_view, frames_after, frames_with, given_after, is_of_frames, is_of_numbers, is_of_references, lent_in, makes_object, pending_after, shared_after, trap_in, variables_after, without_global, without_weak};
 ghost use Rattle.replay_terms.specs.Views.{given_view, variables_view};
 ghost use Rattle.replay_arguments.specs.Shares.{shared_view};
 
@@ -162,12 +163,12 @@ fn carry_out_references<'a>(
             shared.globals.push(name)?;
             Ok(Given::Reference(Some(name)))
         }
-        Answer::DeletesGlobal {
-            variable,
-            object: name,
-        } => {
-            shared.statics.set(variable, StaticReference::Deleted)?;
-            shared.globals.remove(name);
+        Answer::DeletesGlobal(variable) => {
+            delete_global(shared, variable)?;
+            Ok(Given::Nothing)
+        }
+        Answer::DeletesWeak(variable) => {
+            delete_weak(shared, variable)?;
             Ok(Given::Nothing)
         }
         Answer::Owns { object, count } => {
@@ -179,6 +180,34 @@ fn carry_out_references<'a>(
             Ok(Given::Number(0))
         }
         _ => carry_out_frames(turn, pending, frames, answer),
+    }
+}
+
+/// The global reference that the static of this name holds is deleted, if it holds one.
+fn delete_global<'a>(shared: &mut Shared<'a>, variable: &'a [u8]) -> Result<(), AllocError>
+    ensures { IfOk result (λ _. shared_view shared.new
+        ≡ without_global variable.now (lookup variable.now shared.old.statics) (shared_view shared.old)) }
+{
+    match shared.statics.held_named(variable) {
+        Some(StaticReference::Live(name)) => {
+            shared.statics.set(variable, StaticReference::Deleted)?;
+            shared.globals.remove(name);
+            Ok(())
+        }
+        _ => Ok(()),
+    }
+}
+
+/// The weak global reference that the static of this name holds is deleted, if it holds one.
+fn delete_weak<'a>(shared: &mut Shared<'a>, variable: &'a [u8]) -> Result<(), AllocError>
+    ensures { IfOk result (λ _. shared_view shared.new
+        ≡ without_weak variable.now (lookup variable.now shared.old.statics) (shared_view shared.old)) }
+{
+    match shared.statics.held_named(variable) {
+        Some(StaticReference::Weakly(_)) | Some(StaticReference::Cleared) => {
+            shared.statics.set(variable, StaticReference::Deleted)
+        }
+        _ => Ok(()),
     }
 }
 
@@ -246,7 +275,7 @@ pub fn makes_object(answer: Answer<'_>) -> bool
         Answer::Makes(_) | Answer::Raises(_) | Answer::ThrowsNew { .. } => true,
         Answer::Ensures(_) | Answer::Pushes(_) | Answer::RefusesFrames => false,
         Answer::Pops(_) | Answer::DeletesLocal { .. } => false,
-        Answer::MakesGlobal(_) | Answer::DeletesGlobal { .. } => false,
+        Answer::MakesGlobal(_) | Answer::DeletesGlobal(_) | Answer::DeletesWeak(_) => false,
         Answer::GetsRegion(_) | Answer::SetsRegion(_) => false,
         Answer::Lends(_) | Answer::CopiesBack { .. } | Answer::Frees(_) => false,
         Answer::Owns { .. } | Answer::Disowns(_) => false,
@@ -281,7 +310,7 @@ fn failed<'a>(kind: ResultKind) -> Given<'a>
     ensures { given_view result ≡ failure (result_value kind) }
 {
     match kind {
-        ResultKind::NewLocal | ResultKind::NewGlobal => Given::Null,
+        ResultKind::NewLocal | ResultKind::NewGlobal | ResultKind::NewWeak => Given::Null,
         ResultKind::GivesField | ResultKind::GivesBuffer(_) => Given::Null,
         ResultKind::GivesInt => Given::Number(-1),
         ResultKind::GivesFlag => Given::Flag(false),

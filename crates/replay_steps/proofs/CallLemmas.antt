@@ -8,10 +8,10 @@ use Rattle.class_rules.specs.BuiltIns.{array_index_out_of_bounds, illegal_monito
 use Rattle.class_rules.specs.Class.{Classes}
 use Rattle.class_rules.specs.Fields.{FieldId}
 use Rattle.jni.specs.Access.{Access, ElementsCopy, ArrayView, CharsCopy, CharsView}
-use Rattle.jni.specs.JniFunction.{JniFunction, FindClass, NewGlobalRef, DeleteLocalRef, DeleteGlobalRef, EnsureLocalCapacity, PushLocalFrame, GetFieldID, GetStaticFieldID, prototype, NewArray, NewObjectArray, GetObjectArrayElement, SetObjectArrayElement, GetArrayRegion, SetArrayRegion, GetStringRegion, GetBuffer, ReleaseBuffer, MonitorEnter, MonitorExit}
+use Rattle.jni.specs.JniFunction.{JniFunction, FindClass, NewGlobalRef, DeleteLocalRef, DeleteGlobalRef, DeleteWeakGlobalRef, EnsureLocalCapacity, PushLocalFrame, GetFieldID, GetStaticFieldID, prototype, NewArray, NewObjectArray, GetObjectArrayElement, SetObjectArrayElement, GetArrayRegion, SetArrayRegion, GetStringRegion, GetBuffer, ReleaseBuffer, MonitorEnter, MonitorExit}
 use Rattle.jni.specs.Prototype.{ResultKind, NewLocal}
 use Rattle.semantics.specs.Arguments.{Actual, ReleaseMode, CopyBackAndFree, CopyBack, FreeUncopied, mode_given, number_given, object_given, reference_given, variable_given, address_given}
-use Rattle.semantics.specs.CallEffects.{CallResult, NoResult, ReferenceResult, ScalarResult, enter_effect, exit_effect, monitor, monitors_effect, BufferResult, CallEffect, copy_effect, freed, release_effect, view_effect, Leaves, Throws, at_index, at_region, delete_global_effect, delete_local_effect, ensure_effect, found_class_effect, found_field_effect, get_region_effect, level_of, local_array, new_array_effect, out_of_memory, push_effect, refuses_frames, set_region_effect, store_effect, with_capacity, without_local}
+use Rattle.semantics.specs.CallEffects.{CallResult, NoResult, ReferenceResult, ScalarResult, enter_effect, exit_effect, monitor, monitors_effect, BufferResult, CallEffect, copy_effect, freed, release_effect, view_effect, Leaves, Throws, at_index, at_region, delete_global_effect, delete_weak_effect, delete_local_effect, ensure_effect, found_class_effect, found_field_effect, get_region_effect, level_of, local_array, new_array_effect, out_of_memory, push_effect, refuses_frames, set_region_effect, store_effect, with_capacity, without_local}
 use Rattle.semantics.specs.CallEffects as call_effects
 use Rattle.semantics.specs.CallStep.{after_call, after_refusal, call_step, checked, completed, failure, is_zero, makes_objects, put, received, target_element, tell_copy}
 use Rattle.semantics.specs.CallTable.{call_effect, go_together}
@@ -24,7 +24,7 @@ use Rattle.semantics.specs.Task.{Task}
 use Rattle.semantics.specs.Thread.{Frame, Monitor, Thread, Shared, BuffersInUse, Trapped, Advance, Advances, capacities, monitor_of, without_monitor}
 use Rattle.semantics.specs.ThreadStep.{with_tasks}
 use Rattle.semantics.specs.Value.{Int, Trap, OutOfRange}
-use Rattle.semantics.specs.Variable.{Variable, Variables, Buffer, NoBuffer, Copy, View, change}
+use Rattle.semantics.specs.Variable.{Variable, Variables, StaticReference, Empty, Live, Weakly, Cleared, Deleted, Buffer, NoBuffer, Copy, View, change}
 use Rattle.replay_terms.specs.declared.given.Given.{Given}
 use Rattle.replay_terms.specs.declared.given.Given.TheVariants as given
 use Rattle.replay_terms.specs.declared.given.Lent.{Lent}
@@ -36,7 +36,7 @@ use Rattle.replay_tasks.specs.declared.outcome.Purpose.TheVariants as purposes
 use Rattle.replay_tasks.specs.declared.outcome.Target.TheVariants as target
 use Rattle.replay_tasks.specs.declared.task.Task.{Task as TaskInMemory}
 use Rattle.semantics.specs.declared.trap.Trap.{Trap as TrapInMemory}
-use Rattle.replay_calls.specs.Answers.{Answer, Gives, Writes, Makes, Raises, ThrowsNew, Ensures, Pushes, RefusesFrames, Pops, DeletesLocal, MakesGlobal, DeletesGlobal, Pends, Region, GetsRegion, SetsRegion, Lends, CopiesBack, Frees, Owns, Disowns, Halts, answer_or_trap, frames_after, frames_with, given_after, lent_in, makes_object, pending_after, shared_after, trap_in, variables_after, variables_freed, variables_with, with_disowned, with_owned, without_global, zero_result}
+use Rattle.replay_calls.specs.Answers.{Answer, Gives, Writes, Makes, Raises, ThrowsNew, Ensures, Pushes, RefusesFrames, Pops, DeletesLocal, MakesGlobal, DeletesGlobal, DeletesWeak, Pends, Region, GetsRegion, SetsRegion, Lends, CopiesBack, Frees, Owns, Disowns, Halts, answer_or_trap, frames_after, frames_with, given_after, lent_in, makes_object, pending_after, shared_after, trap_in, variables_after, variables_freed, variables_with, with_disowned, with_owned, without_global, without_weak, zero_result}
 use Rattle.semantics.specs.EventViews.{trap_view}
 use Rattle.replay_terms.specs.Views.{given_view, lent_view, Contents, variables_view}
 use Rattle.replay_steps.specs.Calls.{MakesCall, lent_outcome, wanted_element}
@@ -46,7 +46,7 @@ use Rattle.replay_objects.specs.New.{array_class, object_of, thrown}
 use Rattle.replay_tasks.specs.Outcomes.{outcome_for, purpose_view}
 use Rattle.replay_steps.specs.Steps.{Scene, Sees, left_by, scene_with}
 use Rattle.replay_tasks.specs.Tasks.{task_view}
-use Rattle.replay_calls.specs.WorkedOut.{element_given, element_set, ensured, fits_element, found_class, found_field, global_deleted, index_within, local_deleted, made_global, monitor_entered, monitor_left, new_array, new_object_array, pushed, lent_by, region_got, region_set, region_within, released, worked_out}
+use Rattle.replay_calls.specs.WorkedOut.{element_given, element_set, ensured, fits_element, found_class, found_field, index_within, local_deleted, made_global, monitor_entered, monitor_left, new_array, new_object_array, pushed, lent_by, region_got, region_set, region_within, released, worked_out}
 use Rattle.replay_steps.proofs.AnswerEffects.{effect_as}
 use Rattle.replay_steps.proofs.TaskLemmas.{same_thread}
 
@@ -108,9 +108,21 @@ module _ (classes : Classes) (in_use : BuffersInUse) (k : ℕ) (s : Shared) (t :
   makes_global None = refl
   makes_global (Some n) = refl
 
-  deletes_global : (x : Identifier) (r : Reference) → delete_global_effect s t x r ≡ effect_as classes k s t (global_deleted x r)
+  deletes_global : (x : Identifier) (r : Option StaticReference) → delete_global_effect s t x r ≡ Leaves [] (without_global x r s) t NoResult
   deletes_global x None = refl
-  deletes_global x (Some n) = refl
+  deletes_global x (Some Empty) = refl
+  deletes_global x (Some (Live n)) = refl
+  deletes_global x (Some (Weakly n)) = refl
+  deletes_global x (Some Cleared) = refl
+  deletes_global x (Some Deleted) = refl
+
+  deletes_weak : (x : Identifier) (r : Option StaticReference) → delete_weak_effect s t x r ≡ Leaves [] (without_weak x r s) t NoResult
+  deletes_weak x None = refl
+  deletes_weak x (Some Empty) = refl
+  deletes_weak x (Some (Live n)) = refl
+  deletes_weak x (Some (Weakly n)) = refl
+  deletes_weak x (Some Cleared) = refl
+  deletes_weak x (Some Deleted) = refl
 
   new_arrays : (class : ℕ) (z : ℤ) → new_array_effect s t class z (Number (pos 0)) ≡ effect_as classes k s t (new_array class z)
   new_arrays class (pos n) = refl
@@ -234,7 +246,8 @@ module _ (classes : Classes) (in_use : BuffersInUse) (k : ℕ) (s : Shared) (t :
   effects FindClass = class_found _
   effects NewGlobalRef = makes_global _
   effects DeleteLocalRef = deletes_local (lookup (variable_given args 0) t.variables) (reference_given args 0)
-  effects DeleteGlobalRef = deletes_global _ _
+  effects DeleteGlobalRef = deletes_global _ (lookup (variable_given args 0) s.statics)
+  effects DeleteWeakGlobalRef = deletes_weak _ (lookup (variable_given args 0) s.statics)
   effects EnsureLocalCapacity = ensures _
   effects PushLocalFrame = pushes _
   effects GetFieldID = field_found _
@@ -273,6 +286,7 @@ not_told (Some x) given.Null vs = refl
 not_told (Some x) (given.Number z) vs = refl
 not_told (Some x) (given.Flag c) vs = refl
 not_told (Some x) (given.Reference r) vs = refl
+not_told (Some x) (given.Weak r) vs = refl
 not_told (Some x) (given.Field f) vs = refl
 
 -- a thread with these variables, these frames and this pending exception
@@ -292,6 +306,7 @@ in_received NewLocal given.Nothing t vs frames pending = refl
 in_received NewLocal given.Null t vs frames pending = refl
 in_received NewLocal (given.Number z) t vs frames pending = refl
 in_received NewLocal (given.Flag b) t vs frames pending = refl
+in_received NewLocal (given.Weak r) t vs frames pending = refl
 in_received NewLocal (given.Reference None) t vs frames pending = refl
 in_received NewLocal (given.Reference (Some n)) t vs frames pending = refl
 in_received NewLocal (given.Field f) t vs frames pending = refl
@@ -315,7 +330,8 @@ makes_alike classes k s t RefusesFrames = refl
 makes_alike classes k s t (Pops r) = refl
 makes_alike classes k s t (DeletesLocal l n) = refl
 makes_alike classes k s t (MakesGlobal n) = refl
-makes_alike classes k s t (DeletesGlobal x n) = refl
+makes_alike classes k s t (DeletesGlobal x) = refl
+makes_alike classes k s t (DeletesWeak x) = refl
 makes_alike classes k s t (Pends r g) = refl
 makes_alike classes k s t (GetsRegion r) = refl
 makes_alike classes k s t (SetsRegion r) = refl
@@ -339,7 +355,8 @@ halts_with RefusesFrames trap is = absurd (cc)
 halts_with (Pops r) trap is = absurd (cc)
 halts_with (DeletesLocal l n) trap is = absurd (cc)
 halts_with (MakesGlobal n) trap is = absurd (cc)
-halts_with (DeletesGlobal x n) trap is = absurd (cc)
+halts_with (DeletesGlobal x) trap is = absurd (cc)
+halts_with (DeletesWeak x) trap is = absurd (cc)
 halts_with (Pends r g) trap is = absurd (cc)
 halts_with (GetsRegion r) trap is = absurd (cc)
 halts_with (SetsRegion r) trap is = absurd (cc)
@@ -363,7 +380,8 @@ lends_it RefusesFrames b is = absurd (cc)
 lends_it (Pops r) b is = absurd (cc)
 lends_it (DeletesLocal l n) b is = absurd (cc)
 lends_it (MakesGlobal n) b is = absurd (cc)
-lends_it (DeletesGlobal x n) b is = absurd (cc)
+lends_it (DeletesGlobal x) b is = absurd (cc)
+lends_it (DeletesWeak x) b is = absurd (cc)
 lends_it (Pends r g) b is = absurd (cc)
 lends_it (GetsRegion r) b is = absurd (cc)
 lends_it (SetsRegion r) b is = absurd (cc)
@@ -443,7 +461,8 @@ module _ (classes : Classes) (in_use : BuffersInUse) (k : ℕ) (s : Shared) (t :
   answered (Pops r) g new goes unlent same = plain s vs (drop 1 frames) pending (ReferenceResult r) g new same
   answered (DeletesLocal l n) g new goes unlent same = plain s vs (without_local l n frames) pending NoResult g new same
   answered (MakesGlobal n) g new goes unlent same = plain (shared_after classes k s vs (MakesGlobal n)) vs frames pending (ReferenceResult (Some n)) g new same
-  answered (DeletesGlobal x n) g new goes unlent same = plain (without_global x n s) vs frames pending NoResult g new same
+  answered (DeletesGlobal x) g new goes unlent same = plain (without_global x (lookup x s.statics) s) vs frames pending NoResult g new same
+  answered (DeletesWeak x) g new goes unlent same = plain (without_weak x (lookup x s.statics) s) vs frames pending NoResult g new same
   answered (Pends r c) g new goes unlent same = plain s vs frames r c g new same
   answered (GetsRegion r) g new goes unlent same = plain s (variables_with s.heap r vs) frames pending NoResult g new same
   answered (SetsRegion r) g new goes unlent same = plain (shared_after classes k s vs (SetsRegion r)) vs frames pending NoResult g new same

@@ -6,8 +6,8 @@ use Rattle.std.proofs.lemmas.List.Folds.{list_all-append}
 use Rattle.base.specs.Bytes.{Identifier}
 use Rattle.syntax.specs.Parts.{functions_of, line_of, names_declared, parameter_names, statements_of, statements_within}
 use Rattle.syntax.specs.Tree.{ResultType, Void, Stmt, If, IfElse, While, Block, End, Next, Function, Item, StaticItem, FunctionItem, SourceUnit}
-use Rattle.type_rules.specs.Sorts.{Ref, Global, Scope}
-use Rattle.type_rules.specs.SortRules.{SortRule, UnknownName, DeclaredTwice, SortMisfit, UnknownFunction, ArgumentCount, ReferenceCopied, BadMode, ReadOnlyWrite, sort_rules, Place, StaticForm, HeadForm, StatementForm, breaks, broken_at, parameter_sort, with_declared, places_within, places_of, function_places, item_places, IsSorted}
+use Rattle.type_rules.specs.Sorts.{Ref, Scope}
+use Rattle.type_rules.specs.SortRules.{SortRule, UnknownName, DeclaredTwice, SortMisfit, UnknownFunction, ArgumentCount, ReferenceCopied, BadMode, ReadOnlyWrite, sort_rules, Place, StaticForm, HeadForm, StatementForm, breaks, broken_at, parameter_sort, with_declared, places_within, places_of, function_places, item_places, IsSorted, static_sort}
 use Rattle.type_rules.proofs.PlaceLists.{AreUnbroken, first_empty, second_empty, front_unbroken, back_unbroken, none_broken, first_false, second_false}
 use Rattle.replay_tasks.specs.Tasks.{calls_known}
 
@@ -92,8 +92,8 @@ items_known : (items : List Item) (taken : List Identifier) (statics : Scope) �
 items_known [] taken statics h = refl
 items_known (StaticItem g ∷ items) taken statics h =
     let place : Place = record { line = g.line; known = statics; taken = taken; returns = Void; form = StaticForm g } in
-    let further = item_places (g.name ∷ taken) ((g.name, Global) ∷ statics) items in
-    items_known items (g.name ∷ taken) ((g.name, Global) ∷ statics) (second_empty (broken_at place) (flat_map broken_at further) h)
+    let further = item_places (g.name ∷ taken) ((g.name, static_sort g.type) ∷ statics) items in
+    items_known items (g.name ∷ taken) ((g.name, static_sort g.type) ∷ statics) (second_empty (broken_at place) (flat_map broken_at further) h)
 items_known (FunctionItem f ∷ items) taken statics h =
     let own = function_places taken statics f in
     let further = item_places (f.name ∷ taken) statics items in

@@ -3,3 +3,4 @@ pub mod ByNameLemmas
 pub mod VariableLemmas
 pub mod SightLemmas
 pub mod BufferLemmas
+mod WeakStatics

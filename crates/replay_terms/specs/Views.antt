@@ -9,7 +9,7 @@ use Rattle.syntax.specs.Tree.{BinaryOp}
 use Rattle.syntax.specs.Views.{argument_tree, constant_tree, prefix_tree, binary_tree}
 use Rattle.syntax.specs.Limits.{number_limit}
 use Rattle.classes.specs.FieldViews.{field_id_view}
-use Rattle.semantics.specs.CallEffects.{CallResult, NoResult, NullResult, ScalarResult, ReferenceResult, FieldResult}
+use Rattle.semantics.specs.CallEffects.{CallResult, NoResult, NullResult, ScalarResult, ReferenceResult, WeakResult, FieldResult}
 use Rattle.semantics.specs.EventViews.{trap_view}
 use Rattle.semantics.specs.Heap.{Heap, number_in, numbers_of}
 use Rattle.semantics.specs.Sight.{Sight, in_range}
@@ -17,7 +17,7 @@ use Rattle.semantics.specs.Task.{Operand, NumberOperand}
 use Rattle.semantics.specs.Task as task
 use Rattle.semantics.specs.Term.{Term, Done, Number, Named, Read, Element, IsNull, Prefix, And, Or, Binary, Reduction, binary_term, done, reduce}
 use Rattle.semantics.specs.Value.{Value, Word, Int, Flag, Truth, Outcome, Gives, Traps, Stuck, outcome_then, outcome_map, convert}
-use Rattle.semantics.specs.Variable.{Variable, Scalar, LocalRef, FieldHandle, Elements, LocalArray, Buffer, NoBuffer, Copy, View, StaticReference, Empty, Live, Deleted, Variables, Statics, assign, copied_length, viewed}
+use Rattle.semantics.specs.Variable.{Variable, Scalar, LocalRef, FieldHandle, Elements, LocalArray, Buffer, NoBuffer, Copy, View, StaticReference, Empty, Live, Weakly, Cleared, Deleted, Variables, Statics, assign, copied_length, viewed}
 use Rattle.semantics.specs.Thread.{BuffersInUse}
 use Rattle.semantics.specs.Views.{name_of, object_value_view}
 use Rattle.semantics.specs.declared.object_id.ObjectId.{ObjectId}
@@ -89,13 +89,15 @@ variable_view v = (v.0, content_view v.1)
 abbrev pub variables_view : Contents → Variables
 variables_view vs = map variable_view vs
 
--- what a static holds: a global reference is known by the name of its object
+-- what a static holds: a global reference, weak or not, is known by the name of its object
 abbrev pub HeldInMemory : Type 0
-HeldInMemory = Held ObjectId
+HeldInMemory = Held ObjectId ObjectId
 
 abbrev pub held_view : HeldInMemory → StaticReference
 held_view held.Empty = Empty
 held_view (held.Live n) = Live n.number
+held_view (held.Weakly n) = Weakly n.number
+held_view held.Cleared = Cleared
 held_view held.Deleted = Deleted
 
 abbrev pub static_view : Identifier × HeldInMemory → Identifier × StaticReference
@@ -296,6 +298,7 @@ given_view given.Null = NullResult
 given_view (given.Number z) = ScalarResult (Int z)
 given_view (given.Flag b) = ScalarResult (Flag b)
 given_view (given.Reference r) = ReferenceResult (name_of r)
+given_view (given.Weak r) = WeakResult (name_of r)
 given_view (given.Field f) = FieldResult (option_map field_id_view f)
 
 -- the buffer that a call gives, of an object of this heap

@@ -17,6 +17,8 @@ pub enum Given<'a> {
     Flag(bool),
     /// NULL or an object, by its name.
     Reference(Option<ObjectId>),
+    /// NULL or a weak global reference, by the name of its object.
+    Weak(Option<ObjectId>),
     Field(Option<FieldId<'a>>),
 }
 
@@ -44,6 +46,7 @@ pub fn static_result(given: Given<'_>) -> StaticReference
 {
     match given {
         Given::Reference(Some(name)) => StaticReference::Live(name),
+        Given::Weak(Some(name)) => StaticReference::Weakly(name),
         _ => StaticReference::Empty,
     }
 }

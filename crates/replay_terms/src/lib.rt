@@ -17,7 +17,7 @@ pub use given::{Given, Lent, is_zero, static_result};
 pub use operand::Operand;
 pub use reduction::{Reduction, reduce};
 pub use sight::{Indexed, number_in, place_in};
-pub use statics::{StaticReference, Statics, null_statics};
+pub use statics::{StaticReference, Statics, as_argument, is_among, null_statics};
 pub use term::{Term, put_term, term_of};
 pub use value::{Evaluated, Value, constant, convert};
 pub use variable::{Content, Variables, Written, held_number, zeros};

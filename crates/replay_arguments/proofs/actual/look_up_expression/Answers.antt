@@ -15,6 +15,7 @@ use Rattle.replay_arguments.proofs.actual.look_up_expression.Goals as goal
 by_default : (sight : Sight) (e : Expr) (p : ParameterKind) → (p ≡ parameter.FieldID → ⊥) → ((t : ElementType) → p ≡ parameter.ArrayVariable t → ⊥) → ((a : Access) → p ≡ parameter.BufferVariable a → ⊥) → (p ≡ parameter.Mode → ⊥)
     → (p ≡ parameter.IsCopy → ⊥) → look_up_expression sight (parameter_value p) e ≡ reference_argument sight e
 by_default sight e parameter.Nullable f a b m i = refl
+by_default sight e parameter.AnyReference f a b m i = refl
 by_default sight e parameter.NonNull f a b m i = refl
 by_default sight e parameter.ClassObject f a b m i = refl
 by_default sight e parameter.AnyArray f a b m i = refl
@@ -23,6 +24,7 @@ by_default sight e parameter.StringObject f a b m i = refl
 by_default sight e (parameter.NumberArray t) f a b m i = refl
 by_default sight e parameter.LocalVariable f a b m i = refl
 by_default sight e parameter.StaticVariable f a b m i = refl
+by_default sight e parameter.WeakVariable f a b m i = refl
 by_default sight e parameter.FieldID f a b m i = absurd (f refl)
 by_default sight e parameter.IntNumber f a b m i = refl
 by_default sight e parameter.TextBytes f a b m i = refl
