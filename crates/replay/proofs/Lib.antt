@@ -1,3 +1,2 @@
-mod RootLemmas
 mod LoadLemmas
 mod RunLemmas

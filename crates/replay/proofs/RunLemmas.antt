@@ -4,8 +4,7 @@ use Rattle.std.specs.Prelude.{slice_get, is_some, Result, Ok, Err, IfOk, IfErr, 
 use Rattle.std.specs.Option.{option_and_then, option_map}
 use Rattle.std.proofs.lemmas.List.{take-append-drop, length-take-le, take_all}
 use Rattle.syntax.specs.Tree.{SourceUnit}
-use Rattle.semantics.specs.declared.journal.Entry.{Entry}
-use Rattle.semantics.specs.Journal.{Journal}
+use Rattle.semantics.specs.Journal.{Entry, Journal}
 use Rattle.semantics.specs.JournalText.{journal_line}
 use Rattle.class_rules.specs.Class.{Classes}
 use Rattle.report_objects.specs.Rows.{AreReported}
@@ -38,7 +37,7 @@ use Rattle.replay_arguments.specs.Shares.{shared_view}
 use Rattle.replay_threads.specs.Rows.{root_names}
 use Rattle.replay.specs.Replays.{Answers, IsFirstImpossible, Replayed, IsRefused, IsLoadFault, IsStoppedBy, IsReplayable, IsFromOutside, EndsBy, ShowsRows, WritesRun, shown_stop}
 use Rattle.replay.proofs.LoadLemmas.{drop_more, take_more}
-use Rattle.replay.proofs.RootLemmas.{among_roots, root_among}
+use Rattle.replay_threads.proofs.RootLemmas.{among_roots, root_among}
 use Rattle.replay_threads.proofs.StateLemmas.{report_same}
 
 module _ (unit : SourceUnit) (w : World) (journal : Journal) (i : ℕ) (e : Entry) (old new : StateInMemory) (at : slice_get journal i ≡ Some e) (h : Replayed unit w (take i journal) old) where

@@ -2,8 +2,7 @@
 use Rattle.std.specs.Prelude.{◌≡◌, ℕ, ◌+◌, List, [], ◌∷◌, ◌++◌, length, Option, Some, None, Result, Ok, Err, IsSome}
 use Rattle.std.specs.Option.{option_map}
 use Rattle.syntax.specs.Tree.{SourceUnit}
-use Rattle.semantics.specs.declared.journal.Entry.{Entry}
-use Rattle.semantics.specs.Journal.{Journal}
+use Rattle.semantics.specs.Journal.{Entry, Journal}
 use Rattle.sinks.specs.Sink.{Written, AppendsText, StopsWithin}
 use Rattle.semantics.specs.World.{World}
 use Rattle.semantics.specs.Load.{first_load_fault}
@@ -31,7 +30,7 @@ pub record IsFirstImpossible (unit : SourceUnit) (w : World) (journal : Journal)
   pub number : i ≡ length done + 1
   pub before : State
   pub replays : replay unit w done ≡ Some before
-  pub impossible : world_step unit w.classes before entry ≡ None
+  pub impossible : world_step unit w before entry ≡ None
 
 -- the calls fit, and the text of the journal's run was appended
 pub record WritesRun (unit : SourceUnit) (w : World) (journal : Journal) (old new : Written) : Type 0 where

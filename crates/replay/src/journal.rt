@@ -38,7 +38,7 @@ fn follow<'a>(
     ensures refused { IfErr result (IsRefusedFrom (unit_tree functions.now) state.old journal.now) }
 {
     for (done, entry) in journal.iter().enumerate() {
-        if !take_entry(alloc, functions, state, *entry)? {
+        if !take_entry(alloc, functions, state, entry)? {
             return Err(ReplayError::Impossible(done + 1));
         }
     }
@@ -141,10 +141,11 @@ fn replay_with<W: Sink>(
     replay_from(alloc, functions, &mut state, journal, out)
 }
 
-/// Writes the report of a run that took these steps, and their journal, without code, addresses or a collector. Answers the
+/// Writes the report of a run that did what these entries say, and their journal, without code, addresses or a collector. Answers the
 /// trap that stopped the run, if one did.
 ///
-/// Its time is proportional to the journal's length, for programs and worlds of one size. What was written reaches
+/// Its time is proportional to the journal's length, for programs and worlds of one size, but that of a clearing to the number of
+/// objects and the values of those that are reached. What was written reaches
 /// the sink's writer before it answers `Ok`. Where an entry isn't possible or a call doesn't fit, and where memory is
 /// refused, nothing is written.
 pub fn replay<W: Sink>(

@@ -3,3 +3,5 @@ mod ThreadLemmas
 pub mod StateLemmas
 mod StandingLemmas
 mod BufferLemmas
+pub mod RootLemmas
+mod ClearingLemmas

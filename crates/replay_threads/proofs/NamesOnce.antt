@@ -8,8 +8,8 @@ use Rattle.std.proofs.lemmas.List.{map-append}
 use Rattle.base.specs.Bytes.{Identifier, ByName, lookup}
 use Rattle.syntax.specs.Parts.{functions_of, parameter_names}
 use Rattle.syntax.specs.Tree.{Void, Parameter, Function, Item, StaticItem, FunctionItem, SourceUnit}
-use Rattle.type_rules.specs.Sorts.{Ref, Global, Scope}
-use Rattle.type_rules.specs.SortRules.{Place, StaticForm, HeadForm, has_name, has_repeated, broken_at, parameter_sort, places_of, function_places, item_places, IsSorted}
+use Rattle.type_rules.specs.Sorts.{Ref, Scope}
+use Rattle.type_rules.specs.SortRules.{Place, StaticForm, HeadForm, has_name, has_repeated, broken_at, parameter_sort, places_of, function_places, item_places, IsSorted, static_sort}
 use Rattle.semantics.specs.Activation.{function_at, parameter_variables}
 use Rattle.semantics.specs.Object.{ObjectValue, Number, Refers}
 use Rattle.semantics.specs.Start.{null_statics}
@@ -85,8 +85,8 @@ head_place taken scope f = record { line = f.line; known = scope; taken = taken;
 functions_once : (items : List Item) (taken : List Identifier) (scope : Scope) → AreUnbroken (item_places taken scope items) → AllByRecursion HasNamesOnce (functions_of (record { items = items }))
 functions_once [] taken scope sorted = tt
 functions_once (StaticItem g ∷ items) taken scope sorted =
-    functions_once items (g.name ∷ taken) ((g.name, Global) ∷ scope)
-    (second_empty (broken_at (record { line = g.line; known = scope; taken = taken; returns = Void; form = StaticForm g })) (flat_map broken_at (item_places (g.name ∷ taken) ((g.name, Global) ∷ scope) items)) sorted)
+    functions_once items (g.name ∷ taken) ((g.name, static_sort g.type) ∷ scope)
+    (second_empty (broken_at (record { line = g.line; known = scope; taken = taken; returns = Void; form = StaticForm g })) (flat_map broken_at (item_places (g.name ∷ taken) ((g.name, static_sort g.type) ∷ scope) items)) sorted)
 functions_once (FunctionItem f ∷ items) taken scope sorted =
     let further = item_places (f.name ∷ taken) scope items in
     let head = head_place taken scope f in
@@ -135,9 +135,9 @@ all_statics : (before : Statics) (items : List Item) (taken : List Identifier) (
 all_statics before [] taken scope are sorted = sym (append-nil before)
 all_statics before (StaticItem g ∷ items) taken scope are sorted =
     let place : Place = record { line = g.line; known = scope; taken = taken; returns = Void; form = StaticForm g } in
-    let further = flat_map broken_at (item_places (g.name ∷ taken) ((g.name, Global) ∷ scope) items) in
+    let further = flat_map broken_at (item_places (g.name ∷ taken) ((g.name, static_sort g.type) ∷ scope) items) in
     one_more before g.name Empty (statics_in items) (are g.name (not_twice place (first_empty (broken_at place) further sorted)))
-    (all_statics (before ++ (g.name, Empty) ∷ []) items (g.name ∷ taken) ((g.name, Global) ∷ scope) (one_taken before taken g.name are) (second_empty (broken_at place) further sorted))
+    (all_statics (before ++ (g.name, Empty) ∷ []) items (g.name ∷ taken) ((g.name, static_sort g.type) ∷ scope) (one_taken before taken g.name are) (second_empty (broken_at place) further sorted))
 all_statics before (FunctionItem f ∷ items) taken scope are sorted =
     all_statics before items (f.name ∷ taken) scope (λ x h. are x (second_false (bytes_eq x f.name) (has_name taken x) h))
     (back_unbroken (function_places taken scope f) (item_places (f.name ∷ taken) scope items) sorted)

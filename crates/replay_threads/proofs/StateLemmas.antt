@@ -16,7 +16,7 @@ use Rattle.std.specs.Borrow.{Bor}
 use Rattle.std.specs.Option.{option_map, option_map_or, is_some}
 use Rattle.syntax.specs.Tree.{SourceUnit}
 use Rattle.class_rules.specs.Class.{Classes}
-use Rattle.semantics.specs.declared.journal.Entry.TheVariants as entry
+use Rattle.semantics.specs.Journal as entry
 use Rattle.semantics.specs.declared.printed.Printed.{Printed}
 use Rattle.semantics.specs.Report.{ShownRow, ThreadStanding}
 use Rattle.report.specs.Shown.{report_with}
@@ -26,7 +26,7 @@ use Rattle.report.specs.declared.thread_status.ThreadStatus.{ThreadStatus}
 use Rattle.semantics.specs.ReportOf.{report, standing_at, standing_of}
 use Rattle.replay_arguments.specs.Shares.{shared_view}
 use Rattle.semantics.specs.State.{State, thread_at, set_thread, copied, in_use, with_event, advanced}
-use Rattle.semantics.specs.Step.{world_step, can_step, step_of, is_blocked, is_live, is_unfinished, is_waiting}
+use Rattle.semantics.specs.Step.{turn_step, can_step, step_of, is_blocked, is_live, is_unfinished, is_waiting}
 use Rattle.jni.specs.JniFunction.{MonitorEnter}
 use Rattle.semantics.specs.CallStep.{trap_of_call, waits_with}
 use Rattle.semantics.specs.Effect.{Effect, Calls}
@@ -189,8 +189,8 @@ module _ (unit : SourceUnit) (w : World) (m : StateInMemory) (s : State) (h : St
   first_fails false b c e = refl
 
   -- a machine that has stopped takes no step
-  pub stopped : (k : ℕ) (refused : Bool) → is_some m.stop ≡ true → world_step unit w.classes s (entry.Step k refused) ≡ None
-  unfolding world_step
+  pub stopped : (k : ℕ) (refused : Bool) → is_some m.stop ≡ true → turn_step unit w.classes s k refused ≡ None
+  unfolding turn_step
   stopped k refused is =
       let over : is_none s.stop ≡ false = ap is_none h.stop ∙ stop_is m.stop is in
       none_else (can_step w.classes s k) (step_of unit w.classes s k refused (thread_at s k))
@@ -201,17 +201,17 @@ module _ (unit : SourceUnit) (w : World) (m : StateInMemory) (s : State) (h : St
   not_stopped (Some stop) e = absurd (cc)
 
   -- a thread that isn't there
-  pub not_there : (k : ℕ) (refused : Bool) → thread_at s k ≡ None → world_step unit w.classes s (entry.Step k refused) ≡ None
-  unfolding world_step
+  pub not_there : (k : ℕ) (refused : Bool) → thread_at s k ≡ None → turn_step unit w.classes s k refused ≡ None
+  unfolding turn_step
   not_there k refused none = none_both (can_step w.classes s k) (step_of unit w.classes s k refused (thread_at s k)) (ap (step_of unit w.classes s k refused) none)
 
-  pub past_the_end : (k : ℕ) (refused : Bool) → length m.threads.items < k → world_step unit w.classes s (entry.Step k refused) ≡ None
+  pub past_the_end : (k : ℕ) (refused : Bool) → length m.threads.items < k → turn_step unit w.classes s k refused ≡ None
   past_the_end zero refused past = absurd (omega (arith, past))
   past_the_end (suc i) refused past = not_there (suc i) refused (missing unit w.classes m.threads.items s.threads i h.threads (omega (arith, past)))
 
   -- a thread that has ended
-  pub ended : (k : ℕ) (refused : Bool) (i : ℕ) (t : ThreadInMemory) → k ≡ suc i → slice_get m.threads.items i ≡ Some t → is_unfinished (ending_view t.ending) ≡ false → world_step unit w.classes s (entry.Step k refused) ≡ None
-  unfolding world_step
+  pub ended : (k : ℕ) (refused : Bool) (i : ℕ) (t : ThreadInMemory) → k ≡ suc i → slice_get m.threads.items i ≡ Some t → is_unfinished (ending_view t.ending) ≡ false → turn_step unit w.classes s k refused ≡ None
+  unfolding turn_step
   ended k refused i t counted at over =
       let f = found unit w.classes m.threads.items s.threads i t h.threads at in
       let dead : is_live (thread_at s k) ≡ false = ap (λ k. is_live (thread_at s k)) counted ∙ ap is_live f.is ∙ ap is_unfinished f.stands.ending ∙ over in
@@ -225,8 +225,8 @@ module _ (unit : SourceUnit) (w : World) (m : StateInMemory) (s : State) (h : St
   last_fails a b false e = absurd (cc)
 
   -- a thread that waits
-  pub waiting : (k : ℕ) (refused : Bool) → is_blocked w.classes s k ≡ true → world_step unit w.classes s (entry.Step k refused) ≡ None
-  unfolding world_step
+  pub waiting : (k : ℕ) (refused : Bool) → is_blocked w.classes s k ≡ true → turn_step unit w.classes s k refused ≡ None
+  unfolding turn_step
   waiting k refused waits =
       none_else (can_step w.classes s k) (step_of unit w.classes s k refused (thread_at s k)) (last_fails (is_none s.stop) (is_live (thread_at s k)) (is_blocked w.classes s k) waits)
 
@@ -266,7 +266,7 @@ module _ (unit : SourceUnit) (w : World) (m : StateInMemory) (s : State) (h : St
     abbrev after_it : Shared
     after_it = shared_view new.shared
 
-    step_is : world_step unit w.classes s (entry.Step (suc i) refused) ≡ advanced s (suc i) (thread_step unit w.classes (in_use s) (suc i) (shared_view m.shared) the_thread.source refused)
+    step_is : turn_step unit w.classes s (suc i) refused ≡ advanced s (suc i) (thread_step unit w.classes (in_use s) (suc i) (shared_view m.shared) the_thread.source refused)
     step_is =
         step-thread unit w.classes s (suc i) the_thread.source refused steps_here
         ∙ ap (λ (x : Shared). advanced s (suc i) (thread_step unit w.classes (in_use s) (suc i) x the_thread.source refused)) h.shared

@@ -6,12 +6,13 @@ use Rattle.syntax.specs.Tree.{SourceUnit}
 use Rattle.class_rules.specs.Class.{Classes}
 use Rattle.semantics.specs.declared.event.Event.{Event}
 use Rattle.semantics.specs.declared.event.Stop.{Stop as StopInMemory}
-use Rattle.semantics.specs.declared.journal.Entry.{Entry}
-use Rattle.semantics.specs.declared.journal.Entry.TheVariants as entry
+use Rattle.semantics.specs.Journal as entry
+use Rattle.semantics.specs.Journal.{Entry}
 use Rattle.semantics.specs.Report.{ThreadStanding}
 use Rattle.semantics.specs.World.{World}
 use Rattle.semantics.specs.Thread.{Thread, BuffersInUse}
 use Rattle.semantics.specs.Variable.{Variable, Variables, copied_length, viewed}
+use Rattle.semantics.specs.WeakReferences.{may_clear}
 use Rattle.base.specs.Bytes.{Identifier}
 use Rattle.replay_steps.specs.declared.activation.Activation.{Activation}
 use Rattle.semantics.specs.State.{State}
@@ -60,12 +61,18 @@ pub record IsNoted (old : StateInMemory) (k : ℕ) (took : Option Event) (new : 
 
 -- an entry is possible and leaves this, or is not possible
 abbrev pub Leads : SourceUnit → World → State → Entry → StateInMemory → (possible : Bool) → Type 0
-Leads unit w s e new true = (next : State) × (world_step unit w.classes s e ≡ Some next) × Stands unit w new next
-Leads unit w s e new false = world_step unit w.classes s e ≡ None
+Leads unit w s e new true = (next : State) × (world_step unit w s e ≡ Some next) × Stands unit w new next
+Leads unit w s e new false = world_step unit w s e ≡ None
 
 -- the same in each state that it stands for
 abbrev pub TakesEntry : SourceUnit → StateInMemory → Entry → (possible : Bool) → StateInMemory → Type 0
 TakesEntry unit old e possible new = (w : World) (s : State) → Stands unit w old s → Leads unit w s e new possible
+
+-- ---- clearings
+
+-- whether the weak references to these objects may be cleared
+abbrev pub MayClear : StateInMemory → List ℕ → Bool → Type 0
+MayClear m names may = (unit : SourceUnit) (w : World) (s : State) → Stands unit w m s → may ≡ may_clear w s names
 
 -- ---- threads that wait
 

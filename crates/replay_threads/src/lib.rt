@@ -1,6 +1,7 @@
 //! The threads of a replay in memory: calls in progress and to come, the state of all, and what an entry does to it.
 #![tactic(auto)]
 
+mod clearing;
 mod rows;
 mod state;
 mod thread;

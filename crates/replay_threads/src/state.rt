@@ -5,18 +5,21 @@ ghost use Rattle.base.specs.Limits.{most_copied, most_views};
 ghost use Rattle.syntax.specs.Limits.{IsTree};
 ghost use Rattle.syntax.specs.Views.{unit_tree};
 ghost use Rattle.type_rules.specs.SortRules.{IsSorted};
-ghost use Rattle.semantics.specs.declared.journal.Entry.TheVariants as journal;
+ghost use Rattle.semantics.specs.Journal.{Step, Clearing};
+ghost use Rattle.semantics.specs.Views.{names_of};
+ghost use Rattle.syntax.specs.Tree.{SourceUnit};
 ghost use Rattle.replay_threads.specs.States.{AreInRange, IsLiveAt, TakesEntry, TakesNone, IsNoted, AreStandings, Waits, in_use_by, copied_in, viewed_in};
 ghost use Rattle.replay_terms.specs.Views.{in_use_view};
 ghost use Rattle.report.specs.ThreadStatus.{standing_view};
 
+use crate::clearing::may_clear;
 use crate::thread::{Thread, is_waiting, take_step};
 use functions::Functions;
 use replay_arguments::{Shared, Turn};
 use replay_terms::BuffersInUse;
 use report::ThreadStatus;
 use report_objects::standing_of;
-use semantics::{Entry, Event, Printed, Stop};
+use semantics::{Entry, EntryKind, Event, ObjectId, Printed, Stop};
 use std::alloc::{AllocError, Global};
 use world_values::World;
 
@@ -168,7 +171,7 @@ fn take_turn<'a>(
     requires range { AreInRange state.old.threads.items }
     requires live { IsLiveAt state.old k place }
     ensures step { IfOk result (λ possible.
-        TakesEntry (unit_tree functions.now) state.old (journal.Step k refused) possible state.new) }
+        TakesEntry (unit_tree functions.now) state.old (Step k refused) possible state.new) }
     ensures range { IfOk result (λ _. AreInRange state.new.threads.items) }
 {
     let turn = Turn {
@@ -183,23 +186,43 @@ fn take_turn<'a>(
     note(state, k, took)
 }
 
+/// Clears the weak references to these objects; false where they may not be cleared.
+#[inline(never)]
+fn take_clearing(
+    alloc: Global,
+    state: &mut State<'_>,
+    names: &[ObjectId],
+) -> Result<bool, AllocError>
+    ensures step { IfOk result (λ possible. (unit : SourceUnit)
+        → TakesEntry unit state.old (Clearing (names_of names.now)) possible state.new) }
+    ensures threads { state.new.threads ≡ state.old.threads }
+{
+    if !may_clear(alloc, state, names)? {
+        return Ok(false);
+    }
+    state.shared.statics.clear(names);
+    Ok(true)
+}
+
 /// Takes an entry; false where it isn't possible.
 pub fn take_entry<'a>(
     alloc: Global,
     functions: &Functions<'a>,
     state: &mut State<'a>,
-    entry: Entry,
+    entry: &Entry,
 ) -> Result<bool, AllocError>
     requires tree { IsTree (unit_tree functions.now) }
     requires sorted { IsSorted (unit_tree functions.now) }
     requires range { AreInRange state.old.threads.items }
-    ensures step { IfOk result (λ possible. TakesEntry (unit_tree functions.now) state.old entry possible state.new) }
+    ensures step { IfOk result (λ possible. TakesEntry (unit_tree functions.now) state.old entry.now possible state.new) }
     ensures range { IfOk result (λ _. AreInRange state.new.threads.items) }
 {
-    let Entry::Step { thread, refused } = entry;
-    match place_of(state, thread) {
-        Some(place) => take_turn(alloc, functions, state, thread, place, refused),
-        None => Ok(false),
+    match entry.kind() {
+        EntryKind::Step { thread, refused } => match place_of(state, *thread) {
+            Some(place) => take_turn(alloc, functions, state, *thread, place, *refused),
+            None => Ok(false),
+        },
+        EntryKind::Clearing(names) => take_clearing(alloc, state, names),
     }
 }
 

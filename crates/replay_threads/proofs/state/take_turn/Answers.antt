@@ -11,7 +11,7 @@ use Rattle.replay_threads.specs.declared.thread.Thread.{Thread}
 use Rattle.std.proofs.lemmas.Option.{slice_get_read}
 use Rattle.std.proofs.lemmas.Result.{IfOk-weaker}
 use Rattle.syntax.specs.Views.{unit_tree}
-use Rattle.semantics.specs.declared.journal.Entry.TheVariants as entry
+use Rattle.semantics.specs.Journal as entry
 use Rattle.semantics.specs.declared.event.Event.{Event}
 use Rattle.replay_threads.specs.States.{AreInRange, TakesEntry, in_use_by}
 use Rattle.replay_threads.specs.Threads.{TakesStep}

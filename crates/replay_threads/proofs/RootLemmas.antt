@@ -45,7 +45,7 @@ module _ (unit : SourceUnit) (classes : Classes) where
       ∙ sym (flat_map-cons thread_names t ts)
 
 -- the roots of a state that one in memory stands for
-roots_are : (unit : SourceUnit) (w : World) (m : StateInMemory) (s : State) → Stands unit w m s → roots w s ≡ from_one (loaded_count w) ++ root_names (shared_view m.shared) m.threads.items
+pub roots_are : (unit : SourceUnit) (w : World) (m : StateInMemory) (s : State) → Stands unit w m s → roots w s ≡ from_one (loaded_count w) ++ root_names (shared_view m.shared) m.threads.items
 roots_are unit w m s h =
     let loaded = from_one (loaded_count w) in
     let names = flat_map thread_roots s.threads in
