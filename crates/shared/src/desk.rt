@@ -1,5 +1,5 @@
 // The state that the lock protects.
-ghost use Rattle.std.specs.Prelude.{◌≡◌, ◌+◌, IfOk, OnOk, OnErr, IsSome, All};
+ghost use Rattle.std.specs.Prelude.{◌≡◌, ℕ, ◌+◌, IfOk, OnOk, OnErr, IsSome, All};
 ghost use Rattle.machine.specs.Run.{CouldStep, IsCollected, TurnHolds, replay_of};
 ghost use Rattle.shared_accounts.specs.Accounts.{account_of, kept_after, Agrees, taken, EndsSo};
 
@@ -75,8 +75,11 @@ impl<'a, J: Naming> Desk<'a, J> {
         answer
     }
 
-    /// Lets the machine collect.
+    /// Lets the machine collect. The journal may go on with a clearing of weak references; no account changes.
     pub fn collect(&mut self) -> Result<(), AllocError>
+        ensures unit { self.old.unit ≡ J.unit }
+        ensures world { self.old.world ≡ J.world }
+        ensures accounts { (k : ℕ) → account_of self.new k ≡ account_of self.old k }
         ensures ok { OnOk result (IsCollected self.old self.new) }
         ensures err { OnErr result (self.new ≡ self.old) }
         ensures runs { IsSome (replay_of self.new) }

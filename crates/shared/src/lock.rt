@@ -3,7 +3,7 @@ ghost use Rattle.std.specs.Prelude.{◌≡◌, [], true, false, length, IfOk, If
 ghost use Rattle.crossbeam_utils.specs.Seq.{cell_view};
 ghost use Rattle.machine.specs.Run.{replay_of};
 ghost use Rattle.shared_passes.specs.Tokens.{knower, unknown};
-ghost use Rattle.shared_accounts.specs.Accounts.{Agrees, is_one_each, seats_of, SeatTurn};
+ghost use Rattle.shared_accounts.specs.Accounts.{Agrees, is_one_each, seats_of, SeatTurn, SharedCollection};
 
 use crate::desk::Desk;
 use crate::seat::{Seat, give_all, one_each};
@@ -59,16 +59,20 @@ impl<'a, J: Naming> Shared<'a, J> {
         }
     }
 
-    /// Lets the thread of a seat take one step.
+    /// Lets the thread of a seat take one step. The seat's account counts the steps of its thread. Where the machine
+    /// collects before the step, the journal may have a clearing of weak references before it, which is no thread's.
     pub fn turn<R: Wait>(&self, rt: &R, seat: &mut Seat<J>) -> Result<Turn, AllocError>
         ensures { SeatTurn J.unit J.world seat.old seat.new result }
     {
         self.desk.lock(rt).turn(rt, &self.cell, seat)
     }
 
-    /// Lets the machine collect. No seat's account changes.
-    /// An `Err` says that host memory was refused; then nothing has moved.
-    pub fn collect<R: Wait>(&self, rt: &R) -> Result<(), AllocError> {
+    /// Lets the machine collect. The journal may go on with one entry, a clearing of weak references, which is no
+    /// thread's step: no seat's account changes.
+    /// An `Err` says that host memory was refused; then nothing has moved, and nothing is cleared.
+    pub fn collect<R: Wait>(&self, rt: &R) -> Result<(), AllocError>
+        ensures { SharedCollection J.unit J.world result }
+    {
         self.desk.lock(rt).collect()
     }
 

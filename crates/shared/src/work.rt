@@ -8,7 +8,6 @@ ghost use Rattle.shared.specs.Work.{VerdictHolds};
 
 use crate::lock::Shared;
 use crate::seat::Seat;
-use base::limits::MOST_ENTRIES;
 use machine::{Machine, Turn};
 use shared_passes::tokens::{Cell, Naming, Pass, new_cell};
 use std::alloc::{AllocError, Global};
@@ -31,7 +30,7 @@ pub enum Verdict {
     NoMemory,
     /// No thread can take a step any more.
     Done,
-    /// The journal has no room for another entry.
+    /// The journal has no room for another step.
     Full,
     /// A gate answered false.
     Stalled,
@@ -135,7 +134,7 @@ fn judge(machine: &Machine<'_>, no_memory: bool) -> Verdict
         Verdict::NoMemory
     } else if machine.finished() {
         Verdict::Done
-    } else if machine.journal().len() >= MOST_ENTRIES {
+    } else if machine.is_full() {
         Verdict::Full
     } else {
         Verdict::Stalled

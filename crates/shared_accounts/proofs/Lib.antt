@@ -1,2 +1,3 @@
 pub mod Tables
+pub mod Clearings
 pub mod Machines

@@ -1,5 +1,5 @@
 -- The accounts of all threads.
-use Rattle.std.specs.Prelude.{◌≡◌, ℕ, zero, suc, ◌+◌, ◌==◌, ◌&&◌, ◌||◌, not, Bool, true, false, ℤ, List, [], ◌∷◌, ◌++◌, length, map, slice_get, Option, Some, None, Result, Ok, Err, nat_le, is_some, IsSome, IfOk, OnErr}
+use Rattle.std.specs.Prelude.{◌≡◌, ℕ, zero, suc, ◌+◌, ◌==◌, ◌&&◌, ◌||◌, not, Bool, true, false, ℤ, List, [], ◌∷◌, ◌++◌, length, map, slice_get, Option, Some, None, Result, Ok, Err, nat_le, is_some, IsSome, IfOk, OnOk, OnErr}
 use Rattle.std.specs.List.{list_any, list_all, enumerate_from, filter}
 use Rattle.std.specs.Option.{unwrap_or, option_map, option_map_or}
 use Rattle.base.specs.Limits.{most_entries}
@@ -7,6 +7,7 @@ use Rattle.syntax.specs.declared.unit.Item.{Item}
 use Rattle.syntax.specs.Views.{unit_tree}
 use Rattle.class_rules.specs.Class.{Classes}
 use Rattle.semantics.specs.declared.printed.Printed.{Printed}
+use Rattle.semantics.specs.Journal.{steps_in}
 use Rattle.semantics.specs.World.{World}
 use Rattle.semantics.specs.Thread as thread
 use Rattle.semantics.specs.Thread.{Thread}
@@ -16,7 +17,7 @@ use Rattle.semantics.specs.Run as source
 use Rattle.semantics.specs.Run.{account}
 use Rattle.machine.specs.declared.turn.Turn.{Turn}
 use Rattle.machine.specs.declared.turn.Turn.TheVariants.{Stopped, Ended, Blocked, Full, Short, Stepped}
-use Rattle.machine.specs.Run.{CouldStep, Run, TurnHolds, replay_of}
+use Rattle.machine.specs.Run.{CouldStep, IsCollected, Run, TurnHolds, replay_of}
 use Rattle.shared_passes.specs.declared.view.Account.{Account}
 use Rattle.shared_passes.specs.declared.view.Ending.{Ending}
 use Rattle.shared_passes.specs.declared.view.Ending.TheVariants as seen
@@ -51,9 +52,9 @@ accounts_of r = table_of (account_of r) (length r.world.threads + 1)
 abbrev pub all_wait : Classes → State → Bool
 all_wait classes s = list_all (λ (t : ℕ × Thread). not (is_unfinished t.1.ending) || is_blocked classes s t.0) (enumerate_from 1 s.threads)
 
--- the journal has no room for another entry
+-- the journal has no room for another step
 abbrev pub is_full : Run → Bool
-is_full r = nat_le most_entries (length r.journal)
+is_full r = nat_le most_entries (steps_in r.journal)
 
 -- in the state that the run has led to
 abbrev pub fate_at : Run → State → Fate
@@ -126,7 +127,7 @@ kept_after kept (Ok Short) = kept
 kept_after kept (Ok Stepped) = kept
 kept_after kept (Err e) = kept
 
--- how many entries an answer adds
+-- how many steps an answer adds
 abbrev pub taken : {E : Type 0} → Result Turn E → ℕ
 taken (Ok Stopped) = 0
 taken (Ok Ended) = 0
@@ -166,3 +167,14 @@ pub record SeatTurn {E : Type 0} (unit : List Item) (world : World) (before afte
   pub kept : after.kept ≡ kept_after before.kept result
   pub counted : after.account.entries ≡ before.account.entries + taken result
   pub ended : IfOk result (EndsSo after.account)
+
+-- What a collection behind the lock was: one of a run, after which each thread's account is what it was.
+pub record SharedCollection {T E : Type 0} (unit : List Item) (world : World) (result : Result T E) : Type 0 where
+  pub old : Run
+  pub new : Run
+  pub of_unit : old.unit ≡ unit
+  pub on_world : old.world ≡ world
+  pub ok : OnOk result (IsCollected old new)
+  pub err : OnErr result (new ≡ old)
+  pub runs : IsSome (replay_of new)
+  pub accounts : (k : ℕ) → account_of new k ≡ account_of old k

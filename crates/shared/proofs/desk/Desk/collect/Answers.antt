@@ -1,12 +1,13 @@
-use Rattle.std.proofs.Common.{◌≡◌, ◌+◌, Result, Ok, Err, OnOk, OnErr, sym, ap, ◌∙◌, length}
+use Rattle.std.proofs.Common.{◌≡◌, ◌+◌, ℕ, Result, Ok, Err, OnOk, OnErr, sym, ap, ◌∙◌, length}
 use Rattle.machine.specs.Run.{Run, IsCollected}
 use Rattle.shared_passes.specs.Tokens.{knower}
-use Rattle.shared_accounts.specs.Accounts.{known_of}
+use Rattle.shared_accounts.specs.Accounts.{account_of, known_of}
+use Rattle.shared_accounts.proofs.Clearings.{account_collected, known_collected}
 use Rattle.shared.proofs.desk.Desk.collect.Goals as goal
 
 -- a collection changes nothing that is known
 kept : {T E : Type 0} (old new : Run) (r : Result T E) → OnOk r (IsCollected old new) → OnErr r (new ≡ old) → (new.world ≡ old.world) × (known_of new ≡ known_of old) × (new.unit ≡ old.unit)
-kept old new (Ok x) h e = (ap (λ (r : Run). r.world) h.same, ap known_of h.same, ap (λ (r : Run). r.unit) h.same)
+kept old new (Ok x) h e = (ap (λ (r : Run). r.world) h.same, known_collected old new h, ap (λ (r : Run). r.unit) h.same)
 kept old new (Err x) h e = (ap (λ (r : Run). r.world) e, ap known_of e, ap (λ (r : Run). r.unit) e)
 
 pub invariant_of-self : goal.invariant_of-self
@@ -14,3 +15,12 @@ invariant_of-self g c =
     let i = c.self.invariant in
     let k = kept c.self.inside.machine c.collect.new.self c.collect.result c.collect.ensures.ok c.collect.ensures.err in
     (k.0 ∙ i.0, i.1, i.2 ∙ ap (λ n. knower n (length g.J.Naming.world.threads + 1)) (sym k.1), k.2 ∙ i.3)
+
+-- nor any account
+accounts : {T E : Type 0} (old new : Run) (r : Result T E) → OnOk r (IsCollected old new) → OnErr r (new ≡ old) → (k : ℕ) → account_of new k ≡ account_of old k
+accounts old new (Ok x) h e k = account_collected old new h k
+accounts old new (Err x) h e k = ap (λ (r : Run). account_of r k) e
+
+pub returns-clause-accounts : goal.returns-clause-accounts
+returns-clause-accounts g c = λ k.
+    accounts c.self.inside.machine c.collect.new.self c.collect.result c.collect.ensures.ok c.collect.ensures.err k ∙ ap (λ (r : Run). account_of r k) c.self.view_is
