@@ -80,7 +80,7 @@ static FAULTS_20: [Explanation; 8] = [
     Explanation {
         number: 23,
         title: b"type mismatch",
-        text: b"fault 23: type mismatch\n\nAn operator's operands, a variable and its value, an argument and its parameter, a return and its function fit each\nother as docs/LANGUAGE.md says; nothing is converted by itself. Put a cast, or take a variable of the right type.\n\n    JNIEXPORT void JNICALL Java_A_f(JNIEnv *env, jclass cls, jint n)\n    {\n        put_jint(n + 1);\n        return;\n    }\n\nfault 23 line 3\n",
+        text: b"fault 23: type mismatch\n\nAn operator's operands, a variable and its value, an argument and its parameter, a return and its function fit each\nother as docs/LANGUAGE.md says; nothing is converted by itself. Put a cast, or take a variable of the right type.\n\n    JNIEXPORT void JNICALL Java_A_f(JNIEnv *env, jclass cls, jint n)\n    {\n        put_jint(n + 1);\n        return;\n    }\n\nfault 23 line 3\n\nA weak global reference isn't tested against NULL, and is given to NewLocalRef, NewGlobalRef, IsSameObject and\nDeleteWeakGlobalRef alone (JNI Specification, chapter 2, \"Weak Global References\"), since its object may be gone\nbefore the next statement. Make a local reference of it, and test and use that.\n\n    static jweak cache = NULL;\n    \n    JNIEXPORT void JNICALL Java_A_f(JNIEnv *env, jclass cls)\n    {\n        if (cache != NULL) {\n            put_jint(1);\n        }\n        return;\n    }\n\nfault 23 line 5\n",
     },
     Explanation {
         number: 24,
@@ -253,7 +253,7 @@ static FAULTS_80: [Explanation; 4] = [
     Explanation {
         number: 81,
         title: b"malformed line or word",
-        text: b"fault 81: malformed line or word\n\ndocs/WORLDS.md has the forms of lines and words and their order. An object line has a value for each field.\n\n    JNIEXPORT jint JNICALL Java_A_f(JNIEnv *env, jclass cls)\n    {\n        return 0;\n    }\n\n    heap 512\n    class A\n    threads Java_A_f\n\nfault 81 line 3\n\n    heap 512\n    class A\n    field A n I\n    object @x A\n    thread Java_A_f\n\nfault 81 line 4\n",
+        text: b"fault 81: malformed line or word\n\ndocs/WORLDS.md has the forms of lines and words and their order. An object line has a value for each field. A clearing\nof a journal, ~46,48, has rising names.\n\n    JNIEXPORT jint JNICALL Java_A_f(JNIEnv *env, jclass cls)\n    {\n        return 0;\n    }\n\n    heap 512\n    class A\n    threads Java_A_f\n\nfault 81 line 3\n\n    heap 512\n    class A\n    field A n I\n    object @x A\n    thread Java_A_f\n\nfault 81 line 4\n\n    heap 512\n    class A\n    thread Java_A_f\n\n    1 ~48,46\n\nfault 81 line 1\n",
     },
     Explanation {
         number: 82,
@@ -263,7 +263,7 @@ static FAULTS_80: [Explanation; 4] = [
     Explanation {
         number: 83,
         title: b"out of range",
-        text: b"fault 83: out of range\n\nA heap has 512 to 1,048,576 cells, a jint, an element or a field the range of its type, a world at most 65,536 objects\nand 1 to 8 threads, each of which makes at most 256 calls, a schedule or a journal at most 1,000,000 turns or entries in\nall (one *N of more is 81). Take a smaller or a larger number, or fewer of them.\n\n    JNIEXPORT jint JNICALL Java_A_f(JNIEnv *env, jclass cls)\n    {\n        return 0;\n    }\n\n    heap 511\n    class A\n    thread Java_A_f\n\nfault 83 line 1\n",
+        text: b"fault 83: out of range\n\nA heap has 512 to 1,048,576 cells, a jint, an element or a field the range of its type, a world at most 65,536 objects\nand 1 to 8 threads, each of which makes at most 256 calls, a schedule at most 1,000,000 turns and collections in all (one\n*N of more is 81), a journal at most 1,000,000 steps and as many clearings. Take a smaller or a larger number, or fewer\nof them.\n\n    JNIEXPORT jint JNICALL Java_A_f(JNIEnv *env, jclass cls)\n    {\n        return 0;\n    }\n\n    heap 511\n    class A\n    thread Java_A_f\n\nfault 83 line 1\n",
     },
     Explanation {
         number: 84,
@@ -285,12 +285,12 @@ static FAULTS_90: [Explanation; 2] = [
     Explanation {
         number: 91,
         title: b"an entry of a journal isn't possible",
-        text: b"fault 91: an entry of a journal isn't possible\n\nThe entry, counted from 1, is the first that no step goes with: the thread has ended or waits for a monitor, a trap has\nstopped the machine, or the step allocates nothing that could be refused. Replay a journal with the program and the\nworld that it came from. Here the thread ends with its third step.\n\n    JNIEXPORT jint JNICALL Java_A_f(JNIEnv *env, jclass cls)\n    {\n        return 0;\n    }\n\n    heap 512\n    class A\n    thread Java_A_f\n\n    1 1 1 1\n\nfault 91 entry 4\n",
+        text: b"fault 91: an entry of a journal isn't possible\n\nThe entry, counted from 1, is the first that can't be. Of a step: the thread has ended or waits for a monitor, a trap has\nstopped the machine, or the step allocates nothing that could be refused. Of a clearing: one of the objects is held by no\nweak reference, or can be reached otherwise; those that other weak references hold count as reached. Replay a journal\nwith the program and the world that it came from. Here the thread ends with its fifth step, and until its fourth it has a\nlocal reference to the object.\n\n    static jweak cache = NULL;\n    \n    JNIEXPORT void JNICALL Java_A_f(JNIEnv *env, jclass cls)\n    {\n        jobject object = (*env)->AllocObject(env, cls);\n        cache = (*env)->NewWeakGlobalRef(env, object);\n        (*env)->DeleteLocalRef(env, object);\n        return;\n    }\n\n    heap 512\n    class A\n    thread Java_A_f\n\n    1 1 1 1 1 1\n\nfault 91 entry 6\n\n    heap 512\n    class A\n    thread Java_A_f\n\n    1 1 1 ~46\n\nfault 91 entry 4\n",
     },
     Explanation {
         number: 92,
         title: b"the journal of a run by workers is full",
-        text: b"fault 92: the journal of a run by workers is full\n\nA journal has at most 1,000,000 entries. A run by workers (--workers) goes on until each thread has ended or waits, or\na trap stops it; where it could take a step more than the journal has room for, nothing is written. The fault has no\nline. Let the threads end, or run the program by a schedule, which says how far it goes. By a schedule this text runs as\nfar as you like.\n\n    JNIEXPORT void JNICALL Java_A_f(JNIEnv *env, jclass cls)\n    {\n        while (1u == 1u) {\n            put_jint(1);\n        }\n        return;\n    }\n\n    heap 512\n    class A\n    thread Java_A_f\n\nBy workers: fault 92 line 0\n",
+        text: b"fault 92: the journal of a run by workers is full\n\nA journal has at most 1,000,000 steps; clearings don't count. A run by workers (--workers) goes on until each thread\nhas ended or waits, or a trap stops it; where it could take a step more than the journal has room for, nothing is\nwritten. The fault has no line. Let the threads end, or run the program by a schedule, which says how far it goes. By a\nschedule this text runs as far as you like.\n\n    JNIEXPORT void JNICALL Java_A_f(JNIEnv *env, jclass cls)\n    {\n        while (1u == 1u) {\n            put_jint(1);\n        }\n        return;\n    }\n\n    heap 512\n    class A\n    thread Java_A_f\n\nBy workers: fault 92 line 0\n",
     },
 ];
 
@@ -356,7 +356,7 @@ static TRAPS_0: [Explanation; 9] = [
     Explanation {
         number: 7,
         title: b"a deleted global reference",
-        text: b"trap 7: a deleted global reference\n\nWhat DeleteGlobalRef was given refers to nothing (JNI Specification, chapter 4, \"DeleteGlobalRef\"). Delete it after\nits last use, and set the static to NULL.\n\n    static jclass kept = NULL;\n    \n    JNIEXPORT void JNICALL Java_A_f(JNIEnv *env, jclass cls)\n    {\n        kept = (*env)->NewGlobalRef(env, cls);\n        (*env)->DeleteGlobalRef(env, kept);\n        jobject object = (*env)->AllocObject(env, kept);\n        return;\n    }\n\n    heap 512\n    class A\n    thread Java_A_f\n\nT1 trap 7 line 7\n\n    static jobject lock = NULL;\n    \n    JNIEXPORT void JNICALL Java_A_f(JNIEnv *env, jclass cls)\n    {\n        lock = (*env)->NewGlobalRef(env, cls);\n        (*env)->MonitorEnter(env, lock);\n        (*env)->DeleteGlobalRef(env, lock);\n        (*env)->MonitorExit(env, lock);\n        return;\n    }\n\n    heap 512\n    class A\n    thread Java_A_f\n\nT1 trap 7 line 8\n",
+        text: b"trap 7: a deleted global reference\n\nWhat DeleteGlobalRef or DeleteWeakGlobalRef was given refers to nothing (JNI Specification, chapter 4,\n\"DeleteGlobalRef\", \"DeleteWeakGlobalRef\"), and isn't NULL: a second deletion is a use too. Delete it after its last use,\nand set the static to NULL.\n\n    static jclass kept = NULL;\n    \n    JNIEXPORT void JNICALL Java_A_f(JNIEnv *env, jclass cls)\n    {\n        kept = (*env)->NewGlobalRef(env, cls);\n        (*env)->DeleteGlobalRef(env, kept);\n        jobject object = (*env)->AllocObject(env, kept);\n        return;\n    }\n\n    heap 512\n    class A\n    thread Java_A_f\n\nT1 trap 7 line 7\n\n    static jobject lock = NULL;\n    \n    JNIEXPORT void JNICALL Java_A_f(JNIEnv *env, jclass cls)\n    {\n        lock = (*env)->NewGlobalRef(env, cls);\n        (*env)->MonitorEnter(env, lock);\n        (*env)->DeleteGlobalRef(env, lock);\n        (*env)->MonitorExit(env, lock);\n        return;\n    }\n\n    heap 512\n    class A\n    thread Java_A_f\n\nT1 trap 7 line 8\n\n    static jweak cache = NULL;\n    \n    JNIEXPORT void JNICALL Java_A_f(JNIEnv *env, jclass cls)\n    {\n        cache = (*env)->NewWeakGlobalRef(env, cls);\n        (*env)->DeleteWeakGlobalRef(env, cache);\n        jobject found = (*env)->NewLocalRef(env, cache);\n        return;\n    }\n\n    heap 512\n    class A\n    thread Java_A_f\n\nT1 trap 7 line 7\n",
     },
     Explanation {
         number: 8,

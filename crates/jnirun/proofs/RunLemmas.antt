@@ -14,12 +14,11 @@ use Rattle.semantics.specs.Schedule.{Schedule}
 use Rattle.world_schedules.specs.ScheduleText.{IsScheduleText}
 use Rattle.sinks.specs.Sink.{Written}
 use Rattle.semantics.specs.Load.{first_load_fault}
-use Rattle.semantics.specs.declared.journal.Entry.{Entry}
-use Rattle.semantics.specs.Journal.{Journal}
+use Rattle.semantics.specs.Journal.{Entry, Journal, steps_in}
 use Rattle.semantics.specs.World.{World}
 use Rattle.world_values.specs.WorldRules.{IsWorldText}
 use Rattle.semantics.specs.State.{State}
-use Rattle.semantics.specs.Run.{Over, Collects, Waits, Steps, Follows, JournalFollows, MarkedAreFair, UnmarkedFit, replay}
+use Rattle.semantics.specs.Run.{Over, Collects, Clears, Waits, Steps, ClearsAndSteps, Follows, JournalFollows, MarkedAreFair, UnmarkedFit, replay}
 use Rattle.report.specs.RunText.{Writes}
 use Rattle.semantics.specs.Start.{start}
 use Rattle.lower.specs.declared.fault.LowerError.{LowerError}
@@ -48,21 +47,25 @@ use Rattle.replay.specs.TrapAt.{trap_at}
 use Rattle.jnirun.specs.Runs.{RunsTexts, IsRun, EndsRun, IsRunOrFails}
 use Rattle.program_check.proofs.CheckLemmas as checks
 
--- a journal has no more entries than the words that it follows
-follows_short : {unit : SourceUnit} {w : World} {s end : State} {journal : Journal} {words : Schedule} → Follows unit w s journal words end → length journal ≤ length words
+-- a journal has no more steps than the words that it follows
+follows_short : {unit : SourceUnit} {w : World} {s end : State} {journal : Journal} {words : Schedule} → Follows unit w s journal words end
+    → steps_in journal ≤ length words
 follows_short (Over s) = omega arith
-follows_short (Collects s end journal words h) = let short : length journal ≤ length words = follows_short h in omega (arith, short)
-follows_short (Waits s end k journal words e h) = let short : length journal ≤ length words = follows_short h in omega (arith, short)
-follows_short (Steps s next end k refused journal words c e h) = let short : length journal ≤ length words = follows_short h in omega (arith, short)
+follows_short (Collects s end journal words l h) = let short : steps_in journal ≤ length words = follows_short h in omega (arith, short)
+follows_short (Clears s next end names journal words c h) = let short : steps_in journal ≤ length words = follows_short h in omega (arith, short)
+follows_short (Waits s end k journal words e h) = let short : steps_in journal ≤ length words = follows_short h in omega (arith, short)
+follows_short (Steps s next end k refused journal words c e h) = let short : steps_in journal ≤ length words = follows_short h in omega (arith, short)
+follows_short (ClearsAndSteps s between next end names k refused journal words c m l e h) =
+    let short : steps_in journal ≤ length words = follows_short h in omega (arith, short)
 
 -- so the journal is never full before the last of a schedule's words
 pub never_full : (begun ended : Run) (words : Schedule) → begun.journal ≡ [] → RunsInto begun ended words Full → length words ≤ 1000000 → ⊥
 never_full begun ended words unstarted into few =
     let steps : ended.journal ≡ into.along.steps = into.along.journal ∙ ap (λ (j : List Entry). j ++ into.along.steps) unstarted in
-    let short : length into.along.steps ≤ length into.taken = follows_short into.along.follows in
+    let short : steps_in into.along.steps ≤ length into.taken = follows_short into.along.follows in
     let parts : length words ≡ length into.taken + suc (length into.left) = ap length into.is ∙ length-append into.taken (into.next ∷ into.left) in
-    let full : 1000000 ≤ length ended.journal = into.ends.0 in
-    absurd (omega (arith, ap length steps, short, parts, full))
+    let full : 1000000 ≤ steps_in ended.journal = into.ends.0 in
+    absurd (omega (arith, ap steps_in steps, short, parts, full))
 
 -- what a report answered is what the run answers
 abbrev pub as_run : {T : Type 0} → Option TrapAt → Result T ReportFault → Result (Option TrapAt) RunError

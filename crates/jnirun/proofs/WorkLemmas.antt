@@ -1,5 +1,5 @@
 -- What the layers answer, as what a run by workers does to the sink.
-use Rattle.std.proofs.Common.{◌≡◌, ◌<◌, ◌≤◌, ℕ, List, ◌++◌, true, false, Option, None, Result, Ok, Err, length, inl, refl, sym, ap, ◌∙◌, subst}
+use Rattle.std.proofs.Common.{◌≡◌, ◌<◌, ◌≤◌, ℕ, List, ◌++◌, true, false, Option, None, Result, Ok, Err, inl, refl, sym, ap, ◌∙◌, subst}
 use Rattle.std.specs.Prelude.{OnOk}
 use Rattle.std.specs.Option.{option_map}
 use Rattle.syntax.specs.declared.unit.Item.{Item}
@@ -12,6 +12,7 @@ use Rattle.world.specs.ReadingWorlds.{world_of_text}
 use Rattle.report.specs.ReportText.{report_text}
 use Rattle.report.specs.RunText.{Writes}
 use Rattle.sinks.specs.Sink.{Written}
+use Rattle.semantics.specs.Journal.{steps_in}
 use Rattle.semantics.specs.JournalText.{journal_line}
 use Rattle.semantics.specs.Load.{first_load_fault}
 use Rattle.semantics.specs.ReportOf.{report}
@@ -52,7 +53,7 @@ pub room_done : (r : Run) → IsFinished r true → HasRoom r
 room_done r h = (h.0, h.1, λ going. absurd (cc (going, h.2)))
 
 -- a run that isn't over, and has room
-pub room_stalled : (r : Run) → IsFinished r false → length r.journal < 1000000 → HasRoom r
+pub room_stalled : (r : Run) → IsFinished r false → steps_in r.journal < 1000000 → HasRoom r
 room_stalled r h few = (h.0, h.1, λ going. few)
 
 -- ---- what is answered where nothing is written
@@ -107,7 +108,7 @@ module _ (program world : List ℕ) (old : Written) where
   }
 
   -- it has room in the state that it has led to
-  room_at_end : (r : Run) (end : State) (here : HasRoom r) → end ≡ here.0 → is_finished r.world.classes end ≡ false → length r.journal < 1000000
+  room_at_end : (r : Run) (end : State) (here : HasRoom r) → end ≡ here.0 → is_finished r.world.classes end ≡ false → steps_in r.journal < 1000000
   room_at_end r end here same going = here.2 (subst (λ (s : State). is_finished r.world.classes s ≡ false) same going)
 
   -- what a report answered is what the run by workers answers
@@ -136,7 +137,7 @@ module _ (program world : List ℕ) (old : Written) where
       }
 
   -- a run that isn't over has filled its journal
-  pub filled : (r : Run) → IsUnderWay program world r.unit r.world → IsFinished r false → 1000000 ≤ length r.journal → UnmarkedFit (unit_tree r.unit) r.world r.journal → MarkedAreFair (unit_tree r.unit) r.world r.journal
+  pub filled : (r : Run) → IsUnderWay program world r.unit r.world → IsFinished r false → 1000000 ≤ steps_in r.journal → UnmarkedFit (unit_tree r.unit) r.world r.journal → MarkedAreFair (unit_tree r.unit) r.world r.journal
       → Refuses (Fault 92 (Line which.Program 0))
   filled r under h full fits fair =
       let text : List ℕ = report_text (report r.world h.0) ++ journal_line r.journal in

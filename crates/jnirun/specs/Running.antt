@@ -9,6 +9,7 @@ use Rattle.world_schedules.specs.ReadingSchedules.{schedule_of}
 use Rattle.world_schedules.specs.ScheduleText.{IsScheduleText}
 use Rattle.world_values.specs.WorldRules.{IsWorldText}
 use Rattle.world.specs.ReadingWorlds.{world_of_text}
+use Rattle.semantics.specs.Journal.{steps_in}
 use Rattle.semantics.specs.World.{World}
 use Rattle.semantics.specs.Schedule.{Schedule}
 use Rattle.semantics.specs.Load.{first_load_fault}
@@ -29,7 +30,7 @@ pub record IsUnderWay (program text : List ℕ) (items : List Item) (world : Wor
 
 -- a run that can take steps has room for one in its journal
 abbrev pub HasRoom : Run → Type 0
-HasRoom r = InState r (λ s. is_finished r.world.classes s ≡ false → length r.journal < most_entries)
+HasRoom r = InState r (λ s. is_finished r.world.classes s ≡ false → steps_in r.journal < most_entries)
 
 -- three texts are loaded, and no step is taken
 pub record IsLoaded (program text order : List ℕ) (begun : Run) (words : Schedule) : Type 0 where

@@ -18,9 +18,9 @@ use Rattle.program_check.specs.declared.fault.RunError.{RunError}
 use Rattle.program_check.specs.declared.fault.RunError.TheVariants.{Memory, Fault, Writer}
 
 -- The text is the report of the source run that its journal names, on a heap where objects have names and never move,
--- and then that journal. The code of no function is too long. The journal has the schedule's thread steps in order, none left out but where the
--- thread is blocked, ended or stopped; an allocation that it doesn't mark as refused has room beside what can be reached, and one that it
--- marks had none beside it, or something was pinned.
+-- and then that journal. The code of no function is too long. The journal has the schedule's thread steps in order, with clearings of weak
+-- references to unreachable objects between them, and none left out but where the thread is blocked, ended or stopped; an allocation that it
+-- doesn't mark as refused has room beside what can be reached, and one that it marks had none beside it, or something was pinned.
 pub record IsRun (program world schedule text : List ℕ) : Type 0 where
   pub meaning : Meaning program world schedule
   pub short : IsTooLong meaning.unit → ⊥

@@ -67,7 +67,7 @@ fn run_loaded<W: Sink>(
     match machine.run(schedule) {
         Ok(()) => {}
         Err(RunFault::Memory) => return Err(RunError::Memory),
-        // A schedule has no more words than a journal may have entries.
+        // A schedule has no more words than a journal may have steps.
         Err(RunFault::Full) => unreachable!(),
     }
     let trap = trap_at(machine.stop());
@@ -151,10 +151,11 @@ fn run_checked<W: Sink>(
 /// Runs the program in the world by the schedule, and writes the report of the run and its journal. Answers the trap that
 /// stopped the run, if one did.
 ///
-/// On `Ok` what was written is the report of the source run that the journal names, and that journal, which follows the
-/// schedule; none of it waits in the sink. A fault is one that the texts earn, and nothing is written then. The texts
-/// are read in their order: the program is scanned, parsed, checked for sorts and regions and lowered, then the world
-/// and the schedule are read, then they are loaded.
+/// On `Ok` what was written is the report of the source run that the journal names, and that journal, which has the
+/// schedule's steps in order, with clearings of weak references to unreachable objects between them; none of it waits
+/// in the sink. A fault is one that the texts earn, and nothing is written then. The texts are read in their order: the
+/// program is scanned, parsed, checked for sorts and regions and lowered, then the world and the schedule are read, then
+/// they are loaded.
 pub fn run_text<W: Sink>(
     alloc: Global,
     program_text: &[u8],

@@ -17,7 +17,7 @@ use world_values::{Call, World};
 /// There are none where memory is refused.
 pub(crate) fn detail_at(alloc: Global, texts: &Texts, number: u32, place: Place) -> Detail {
     if Some(number) == RunFault::Full.number() {
-        return Detail::of(b"at most 1000000 entries");
+        return Detail::of(b"at most 1000000 steps");
     }
     match place {
         Place::Line(Text::Program, _) => detail_of(alloc, &texts.program),

@@ -156,10 +156,10 @@ fn work_checked<W: Sink, R: Threads + Wait + Sync>(
 /// and its journal. Answers the trap that stopped the run, if one did.
 ///
 /// On `Ok` what was written is the report of the source run that the journal names, and that journal; none of it waits
-/// in the sink. In which order the threads step isn't known before, and the journal tells it. A fault is one that the
-/// texts earn, 92 where the journal has no room for another entry, and nothing is written then. Memory is also refused
-/// where a worker of a thread couldn't be started. The texts are read as in `run_text`, and four workers lower the
-/// program.
+/// in the sink. In which order the threads step isn't known before, and the journal tells it, with clearings of weak
+/// references to unreachable objects between the steps. A fault is one that the texts earn, 92 where the journal has no
+/// room for another step, and nothing is written then. Memory is also refused where a worker of a thread couldn't be
+/// started. The texts are read as in `run_text`, and four workers lower the program.
 pub fn work_text<W: Sink, R: Threads + Wait + Sync>(
     rt: &R,
     alloc: Global,
