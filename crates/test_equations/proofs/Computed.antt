@@ -1,5 +1,5 @@
 -- How the claims are computed.
-use Rattle.std.proofs.Common.{◌≡◌, ℕ, ◌+◌, ◌≤◌, nat_le, nat_lt, Bool, true, false, ◌&&◌, inl, inr, List, [], ◌∷◌, ◌++◌, map, length, flat_map, refl, sym, ◌∙◌, ap, subst, Option, Some, None, decimal, codes, is_none, if◌then◌else◌}
+use Rattle.std.proofs.Common.{◌≡◌, ◌≢◌, ℕ, ◌+◌, ◌≤◌, nat_le, nat_lt, Bool, true, false, ◌&&◌, inl, inr, List, [], ◌∷◌, ◌++◌, map, length, flat_map, refl, sym, ◌∙◌, ap, subst, Option, Some, None, decimal, codes, is_none, if◌then◌else◌}
 use Rattle.std.specs.Prelude.{IsTrue}
 use Rattle.std.specs.Fmt.{digits}
 use Rattle.std.specs.List.{list_all, list_any, AllZip}
@@ -13,12 +13,10 @@ use Rattle.class_rules.specs.Class.{Classes}
 use Rattle.class_rules.specs.Mangling.{unmangle}
 use Rattle.jni.specs.JniFunction.{function_named}
 use Rattle.type_rules.specs.SortRules.{SortRule, sort_rule_number, IsSorted, first_broken}
-use Rattle.semantics.specs.declared.journal.Entry.{Entry}
-use Rattle.semantics.specs.declared.journal.Entry.TheVariants.{Step}
 use Rattle.semantics.specs.declared.schedule.ScheduleWord.{ScheduleWord}
 use Rattle.semantics.specs.declared.schedule.ScheduleWord.TheVariants.{Turn, Collect}
-use Rattle.semantics.specs.Journal.{Journal}
-use Rattle.world_schedules.specs.JournalMeaning.{IsJournalText, has_thread}
+use Rattle.semantics.specs.Journal.{Journal, Entry, Step, Clearing, steps_in, clearings_in}
+use Rattle.world_schedules.specs.JournalMeaning.{IsJournalText, is_entry}
 use Rattle.semantics.specs.JournalText.{entry_text, journal_line}
 use Rattle.semantics.specs.Object.{Object, sizes}
 use Rattle.world_lines.specs.ReadingValues.{value_named}
@@ -29,6 +27,7 @@ use Rattle.report.specs.ReportText.{report_text}
 use Rattle.semantics.specs.Schedule.{Schedule}
 use Rattle.world_schedules.specs.ScheduleText.{IsScheduleText, schedule_word, words_meant, is_turn, is_count}
 use Rattle.world_schedules.specs.Words.{words_of}
+use Rattle.semantics.specs.WeakReferences.{lost}
 use Rattle.semantics.specs.World.{World}
 use Rattle.world_values.specs.WorldLines.{WorldLine, Lines, has_words, line_text, spaced, text_lines}
 use Rattle.world_values.specs.WorldMeaning.{world_of}
@@ -41,11 +40,11 @@ use Rattle.semantics.specs.Load.{first_load_fault}
 use Rattle.semantics.specs.Reachable.{live_size}
 use Rattle.region_rules.specs.RegionRules.{RegionRule, region_rule_number}
 use Rattle.semantics.specs.ReportOf.{report}
-use Rattle.semantics.specs.Run.{Follows, Over, Collects, Waits, Steps, IsFair, Fits, FitsUnmarked, IsFairMarked, EachFrom, made_between, made, wanted, replay}
+use Rattle.semantics.specs.Run.{Follows, Over, Collects, Clears, Waits, Steps, ClearsAndSteps, ClearsLost, IsFair, Fits, FitsUnmarked, IsFairMarked, EachFrom, made_between, made, wanted, replay}
 use Rattle.report.specs.RunText.{Writes}
 use Rattle.semantics.specs.Start.{start}
 use Rattle.semantics.specs.State.{State, thread_at, views}
-use Rattle.semantics.specs.Step.{world_step, can_step, step_of}
+use Rattle.semantics.specs.Step.{turn_step, clearing_step, world_step, can_step, step_of}
 use Rattle.semantics.proofs.RunLaws.{follows-replay}
 use Rattle.regions.proofs.UnitLemmas.{accepted-all, faulty-all}
 use Rattle.test_equations.specs.Claims.{IsAccepted, IsRefused, by_sorts, by_regions, Beginning, IsWorkedRun, IsWorkedReplay, IsStoppedReplay, IsUnloaded}
@@ -53,7 +52,7 @@ use Rattle.test_equations.proofs.Programs.{entry}
 
 -- what the computations unfold
 unfoldable pub opened : Unit {0}
-unfolding world_step call_trap go_together call_effect report report_text journal_line digits function_named unmangle built_ins
+unfolding turn_step clearing_step call_trap go_together call_effect report report_text journal_line digits function_named unmangle built_ins
 opened = tt
 
 -- what the reading of worlds and schedules unfolds beside
@@ -164,27 +163,32 @@ schedule-text threads text words spelled h =
     let parts = both (list_all (λ w. is_turn threads w.0 && is_count w.1) words) (nat_le (length (flat_map words_meant words)) 1000000) h in
     record { words = words; spelled = spelled; counted = parts.0; meant = refl; few = leb-true _ _ parts.1 }
 
--- the entries of a journal are those of threads, and not too many
+-- the entries of a journal are those of threads, or clearings, and not too many
 abbrev pub is_journal : ℕ → Journal → Bool
-is_journal threads journal = list_all (has_thread threads) journal && nat_le (length journal) 1000000
+is_journal threads journal = list_all (is_entry threads) journal && (nat_le (steps_in journal) 1000000 && nat_le (clearings_in journal) 1000000)
 
 journal-text : (threads : ℕ) (text : List ℕ) (journal : Journal) → words_of text ≡ map entry_text journal → IsTrue (is_journal threads journal) → IsJournalText threads text journal
 journal-text threads text journal spelled h =
-    let parts = both (list_all (has_thread threads) journal) (nat_le (length journal) 1000000) h in
-    record { spelled = spelled; threads_known = parts.0; few = leb-true _ _ parts.1 }
+    let parts = both (list_all (is_entry threads) journal) (nat_le (steps_in journal) 1000000 && nat_le (clearings_in journal) 1000000) h in
+    let few = both (nat_le (steps_in journal) 1000000) (nat_le (clearings_in journal) 1000000) parts.1 in
+    record { spelled = spelled; known = parts.0; few = leb-true _ _ few.0; few_clearings = leb-true _ _ few.1 }
 
 abbrev pub begins : (unit : SourceUnit) (world : List ℕ) (w : World) → IsAccepted unit → IsWorldText world w → first_load_fault unit w ≡ None → Beginning unit world
 begins unit world w accepted of_world loads = record { accepted = accepted; w = w; of_world = of_world; loads = loads }
 
 -- ---- runs
 
--- the first mark, and none where there are no more
-abbrev pub first_mark : List Bool → Bool
-first_mark [] = false
+-- how a step is entered: refused or not, alone or after the clearing of all that is lost
+pub data Mark : Type 0 where
+  Alone AfterClearing : (refused : Bool) → Mark
+
+-- the first mark, and where there are no more that of a step as most are
+abbrev pub first_mark : List Mark → Mark
+first_mark [] = Alone false
 first_mark (mark ∷ marks) = mark
 
 -- the marks after the first
-abbrev pub later_marks : List Bool → List Bool
+abbrev pub later_marks : List Mark → List Mark
 later_marks [] = []
 later_marks (mark ∷ marks) = marks
 
@@ -193,8 +197,8 @@ if_true : (b : Bool) (o : Option State) (next : State) → (if b then o else Non
 if_true true o next h = refl
 if_true false o next h = absurd cc
 
-can-step : (unit : SourceUnit) (classes : Classes) (s next : State) (k : ℕ) (refused : Bool) → world_step unit classes s (Step k refused) ≡ Some next → can_step classes s k ≡ true
-unfolding world_step
+can-step : (unit : SourceUnit) (classes : Classes) (s next : State) (k : ℕ) (refused : Bool) → turn_step unit classes s k refused ≡ Some next → can_step classes s k ≡ true
+unfolding turn_step
 can-step unit classes s next k refused h = if_true (can_step classes s k) (step_of unit classes s k refused (thread_at s k)) next h
 
 -- a journal in front of others, turned round
@@ -252,7 +256,7 @@ module _ (unit : SourceUnit) (w : World) where
   fits-room s k [] e h = λ some. absurd (some e)
   fits-room s k (o ∷ objects) e h = λ some. subst (λ xs. live_size w s + sizes xs ≤ w.cells) (sym e) (leb-true _ _ h)
 
-  step-fits : (s next : State) (k : ℕ) (refused : Bool) → world_step unit w.classes s (entry k refused) ≡ Some next → IsTrue (has_room s k refused next) → FitsUnmarked unit w s (Step k refused)
+  step-fits : (s next : State) (k : ℕ) (refused : Bool) → turn_step unit w.classes s k refused ≡ Some next → IsTrue (has_room s k refused next) → FitsUnmarked unit w s (Step k refused)
   step-fits s next k true e h = tt
   step-fits s next k false e h = fits-room s k (made_between s (Some next)) (ap (made_between s) e) h
 
@@ -262,8 +266,12 @@ module _ (unit : SourceUnit) (w : World) where
 
   -- ---- the run by a schedule
 
+  -- what a run goes on with: a state, the marks that are left, and the entries so far, the latest first
+  abbrev pub Further : Type 0
+  Further = State → List Mark → Journal → Option (State × Journal)
+
   -- the run goes on after a step that has room
-  abbrev pub after_step : (State → List Bool → Journal → Option (State × Journal)) → State → List Bool → Journal → Bool → Option (State × Journal)
+  abbrev pub after_step : Further → State → List Mark → Journal → Bool → Option (State × Journal)
   after_step go next marks latest true = go next marks latest
   after_step go next marks latest false = None
 
@@ -273,32 +281,93 @@ module _ (unit : SourceUnit) (w : World) where
   after_waiting r true = None
 
   -- after a thread's turn, with the state after its step if that is possible
-  abbrev pub after_turn : ℕ → (State → List Bool → Journal → Option (State × Journal)) → State → List Bool → Journal → Option State → Option (State × Journal)
-  after_turn k go s marks latest None = after_waiting (go s marks latest) (can_step w.classes s k)
-  after_turn k go s marks latest (Some next) = after_step go next (later_marks marks) (entry k (first_mark marks) ∷ latest) (has_room s k (first_mark marks) next)
+  abbrev pub after_turn : ℕ → Bool → Further → State → List Mark → Journal → Option State → Option (State × Journal)
+  after_turn k refused go s marks latest None = after_waiting (go s marks latest) (can_step w.classes s k)
+  after_turn k refused go s marks latest (Some next) = after_step go next (later_marks marks) (entry k refused ∷ latest) (has_room s k refused next)
 
-  -- The state and the journal of a run by a schedule, the latest entry first. A mark for each step, up to the last refused one,
-  -- says whether it is refused.
-  abbrev pub run : Schedule → State → List Bool → Journal → Option (State × Journal)
+  -- it goes on after a clearing that is possible
+  abbrev pub after_clearing : (State → Journal → Option (State × Journal)) → List ℕ → Journal → Option State → Option (State × Journal)
+  after_clearing go names latest None = None
+  after_clearing go names latest (Some next) = go next (Clearing names ∷ latest)
+
+  -- a clearing stands before the entries of steps alone that make objects
+  abbrev pub where_made : List Object → Option (State × Journal) → Option (State × Journal)
+  where_made [] r = None
+  where_made (o ∷ objects) r = r
+
+  -- after a thread's turn behind a clearing
+  abbrev pub after_cleared_turn : ℕ → Bool → Further → State → List Mark → Journal → Option State → Option (State × Journal)
+  after_cleared_turn k refused go between marks latest None = None
+  after_cleared_turn k refused go between marks latest (Some next) =
+      after_step go next (later_marks marks) (entry k refused ∷ latest) (has_room between k refused next)
+
+  -- a thread's turn behind a clearing
+  abbrev pub cleared_turn : ℕ → Bool → Further → List Mark → State → Journal → Option (State × Journal)
+  cleared_turn k refused go marks between latest = after_cleared_turn k refused go between marks latest (turn_step unit w.classes between k refused)
+
+  -- a thread's turn
+  abbrev pub turn : ℕ → Further → State → List Mark → Journal → Mark → Option (State × Journal)
+  turn k go s marks latest (Alone refused) = after_turn k refused go s marks latest (turn_step unit w.classes s k refused)
+  turn k go s marks latest (AfterClearing refused) =
+      where_made (made unit w s k) (after_clearing (cleared_turn k refused go marks) (lost w s) latest (clearing_step w s (lost w s)))
+
+  -- a collection clears all that is lost, and gives no entry where nothing is
+  abbrev pub collection : (State → Journal → Option (State × Journal)) → State → Journal → List ℕ → Option (State × Journal)
+  collection go s latest [] = go s latest
+  collection go s latest (n ∷ names) = after_clearing go (n ∷ names) latest (clearing_step w s (n ∷ names))
+
+  -- The state and the journal of a run by a schedule, the latest entry first. Each step has a mark, up to the last that isn't as most are.
+  abbrev pub run : Schedule → State → List Mark → Journal → Option (State × Journal)
   run [] s marks latest = Some (s, latest)
-  run (Collect ∷ words) s marks latest = run words s marks latest
-  run (Turn k ∷ words) s marks latest = after_turn k (λ next rest j. run words next rest j) s marks latest (world_step unit w.classes s (entry k (first_mark marks)))
+  run (Collect ∷ words) s marks latest = collection (λ next j. run words next marks j) s latest (lost w s)
+  run (Turn k ∷ words) s marks latest = turn k (λ next rest j. run words next rest j) s marks latest (first_mark marks)
 
   -- where there is an end
   abbrev pub IsLawful : State → Schedule → Journal → Option (State × Journal) → Type 0
   IsLawful s words latest None = Unit {0}
   IsLawful s words latest (Some (end, whole)) = Lawful unit w s words latest end whole
 
-  collects : (s : State) (words : Schedule) (latest : Journal) (r : Option (State × Journal)) → IsLawful s words latest r → IsLawful s (Collect ∷ words) latest r
-  collects s words latest None h = tt
-  collects s words latest (Some (end, whole)) h = record { journal = h.journal; adds = h.adds; follows = Collects s end h.journal words h.follows; fits = h.fits; fair = h.fair }
+  -- a clearing of all that is lost, and what follows it
+  clears : (s next : State) (names : List ℕ) (words : Schedule) (latest : Journal) (r : Option (State × Journal)) → ClearsLost w s names next
+      → IsLawful next words (Clearing names ∷ latest) r
+      → IsLawful s (Collect ∷ words) latest r
+  clears s next names words latest None c h = tt
+  clears s next names words latest (Some (end, whole)) c h = record {
+    journal = Clearing names ∷ h.journal;
+    adds = h.adds;
+    follows = Clears s next end names h.journal words c h.follows;
+    fits = (tt, subst (λ o. EachFrom unit w (FitsUnmarked unit w) o h.journal) (sym c.possible) h.fits);
+    fair = (tt, subst (λ o. EachFrom unit w (IsFairMarked unit w) o h.journal) (sym c.possible) h.fair);
+  }
 
-  waits : (s : State) (k : ℕ) (words : Schedule) (latest : Journal) (r : Option (State × Journal)) (can : Bool) → can_step w.classes s k ≡ can → IsLawful s words latest r → IsLawful s (Turn k ∷ words) latest (after_waiting r can)
+  clears_where : (s : State) (words : Schedule) (go : State → Journal → Option (State × Journal)) (names : List ℕ) (latest : Journal) (o : Option State)
+      → lost w s ≡ names → clearing_step w s names ≡ o
+      → ((next : State) (j : Journal) → IsLawful next words j (go next j)) → IsLawful s (Collect ∷ words) latest (after_clearing go names latest o)
+  clears_where s words go names latest None e c further = tt
+  clears_where s words go names latest (Some next) e c further =
+      clears s next names words latest (go next (Clearing names ∷ latest)) (record { all = e; possible = c }) (further next (Clearing names ∷ latest))
+
+  keeps_all : (s : State) (words : Schedule) (latest : Journal) (r : Option (State × Journal)) → lost w s ≡ [] → IsLawful s words latest r
+      → IsLawful s (Collect ∷ words) latest r
+  keeps_all s words latest None e h = tt
+  keeps_all s words latest (Some (end, whole)) e h =
+      record { journal = h.journal; adds = h.adds; follows = Collects s end h.journal words e h.follows; fits = h.fits; fair = h.fair }
+
+  collects : (s : State) (words : Schedule) (go : State → Journal → Option (State × Journal)) (latest : Journal) (names : List ℕ) → lost w s ≡ names
+      → ((next : State) (j : Journal) → IsLawful next words j (go next j)) → IsLawful s (Collect ∷ words) latest (collection go s latest names)
+  collects s words go latest [] e further = keeps_all s words latest (go s latest) e (further s latest)
+  collects s words go latest (n ∷ names) e further = clears_where s words go (n ∷ names) latest (clearing_step w s (n ∷ names)) e refl further
+
+  waits : (s : State) (k : ℕ) (words : Schedule) (latest : Journal) (r : Option (State × Journal)) (can : Bool) → can_step w.classes s k ≡ can
+      → IsLawful s words latest r → IsLawful s (Turn k ∷ words) latest (after_waiting r can)
   waits s k words latest r true e h = tt
   waits s k words latest None false e h = tt
-  waits s k words latest (Some (end, whole)) false e h = record { journal = h.journal; adds = h.adds; follows = Waits s end k h.journal words e h.follows; fits = h.fits; fair = h.fair }
+  waits s k words latest (Some (end, whole)) false e h =
+      record { journal = h.journal; adds = h.adds; follows = Waits s end k h.journal words e h.follows; fits = h.fits; fair = h.fair }
 
-  goes_on : (s next : State) (k : ℕ) (refused : Bool) (words : Schedule) (latest : Journal) (r : Option (State × Journal)) → world_step unit w.classes s (entry k refused) ≡ Some next → IsTrue (has_room s k refused next) → IsLawful next words (entry k refused ∷ latest) r → IsLawful s (Turn k ∷ words) latest r
+  goes_on : (s next : State) (k : ℕ) (refused : Bool) (words : Schedule) (latest : Journal) (r : Option (State × Journal))
+      → turn_step unit w.classes s k refused ≡ Some next → IsTrue (has_room s k refused next) → IsLawful next words (entry k refused ∷ latest) r
+      → IsLawful s (Turn k ∷ words) latest r
   goes_on s next k refused words latest None e is h = tt
   goes_on s next k refused words latest (Some (end, whole)) e is h =
       record {
@@ -309,20 +378,102 @@ module _ (unit : SourceUnit) (w : World) where
         fair = (step-fair s next k refused is, subst (λ o. EachFrom unit w (IsFairMarked unit w) o h.journal) (sym e) h.fair);
       }
 
-  steps : (s next : State) (k : ℕ) (words : Schedule) (go : State → List Bool → Journal → Option (State × Journal)) (marks : List Bool) (latest : Journal) (room : Bool) → world_step unit w.classes s (entry k (first_mark marks)) ≡ Some next → has_room s k (first_mark marks) next ≡ room → IsLawful next words (entry k (first_mark marks) ∷ latest) (go next (later_marks marks) (entry k (first_mark marks) ∷ latest)) → IsLawful s (Turn k ∷ words) latest (after_step go next (later_marks marks) (entry k (first_mark marks) ∷ latest) room)
-  steps s next k words go marks latest false e is h = tt
-  steps s next k words go marks latest true e is h = goes_on s next k (first_mark marks) words latest (go next (later_marks marks) (entry k (first_mark marks) ∷ latest)) e is h
+  steps : (s next : State) (k : ℕ) (refused : Bool) (words : Schedule) (go : Further) (marks : List Mark) (latest : Journal) (room : Bool)
+      → turn_step unit w.classes s k refused ≡ Some next → has_room s k refused next ≡ room
+      → IsLawful next words (entry k refused ∷ latest) (go next marks (entry k refused ∷ latest))
+      → IsLawful s (Turn k ∷ words) latest (after_step go next marks (entry k refused ∷ latest) room)
+  steps s next k refused words go marks latest false e is h = tt
+  steps s next k refused words go marks latest true e is h = goes_on s next k refused words latest (go next marks (entry k refused ∷ latest)) e is h
 
-  turns : (s : State) (k : ℕ) (words : Schedule) (go : State → List Bool → Journal → Option (State × Journal)) (marks : List Bool) (latest : Journal) (o : Option State) → world_step unit w.classes s (entry k (first_mark marks)) ≡ o → ((next : State) (rest : List Bool) (j : Journal) → IsLawful next words j (go next rest j)) → IsLawful s (Turn k ∷ words) latest (after_turn k go s marks latest o)
-  turns s k words go marks latest None e further = waits s k words latest (go s marks latest) (can_step w.classes s k) refl (further s marks latest)
-  turns s k words go marks latest (Some next) e further =
-      steps s next k words go marks latest (has_room s k (first_mark marks) next) e refl (further next (later_marks marks) (entry k (first_mark marks) ∷ latest))
+  turns : (s : State) (k : ℕ) (refused : Bool) (words : Schedule) (go : Further) (marks : List Mark) (latest : Journal) (o : Option State)
+      → turn_step unit w.classes s k refused ≡ o
+      → ((next : State) (rest : List Mark) (j : Journal) → IsLawful next words j (go next rest j))
+      → IsLawful s (Turn k ∷ words) latest (after_turn k refused go s marks latest o)
+  turns s k refused words go marks latest None e further = waits s k words latest (go s marks latest) (can_step w.classes s k) refl (further s marks latest)
+  turns s k refused words go marks latest (Some next) e further =
+      steps s next k refused words go (later_marks marks) latest (has_room s k refused next) e refl
+      (further next (later_marks marks) (entry k refused ∷ latest))
 
-  run-lawful : (words : Schedule) (s : State) (marks : List Bool) (latest : Journal) → IsLawful s words latest (run words s marks latest)
+  -- a thread whose step makes objects can step
+  can-make : (s : State) (k : ℕ) (o : Option State) → turn_step unit w.classes s k false ≡ o → made_between s o ≢ [] → can_step w.classes s k ≡ true
+  can-make s k None e some = absurd (some refl)
+  can-make s k (Some next) e some = can-step unit w.classes s next k false e
+
+  -- the clearing before a step
+  clears_first : (s between next : State) (names : List ℕ) (k : ℕ) (refused : Bool) (words : Schedule) (latest : Journal) (r : Option (State × Journal))
+      → made unit w s k ≢ [] → ClearsLost w s names between
+      → turn_step unit w.classes between k refused ≡ Some next → IsTrue (has_room between k refused next)
+      → IsLawful next words (entry k refused ∷ Clearing names ∷ latest) r → IsLawful s (Turn k ∷ words) latest r
+  clears_first s between next names k refused words latest None some c e is h = tt
+  clears_first s between next names k refused words latest (Some (end, whole)) some c e is h =
+      record {
+        journal = Clearing names ∷ entry k refused ∷ h.journal;
+        adds = h.adds;
+        follows = ClearsAndSteps s between next end names k refused h.journal words
+            (can-make s k (turn_step unit w.classes s k false) refl some) some c e h.follows;
+        fits = (
+          tt,
+          subst (λ o. EachFrom unit w (FitsUnmarked unit w) o (entry k refused ∷ h.journal)) (sym c.possible)
+              (step-fits between next k refused e is, subst (λ o. EachFrom unit w (FitsUnmarked unit w) o h.journal) (sym e) h.fits),
+        );
+        fair = (
+          tt,
+          subst (λ o. EachFrom unit w (IsFairMarked unit w) o (entry k refused ∷ h.journal)) (sym c.possible)
+              (step-fair between next k refused is, subst (λ o. EachFrom unit w (IsFairMarked unit w) o h.journal) (sym e) h.fair),
+        );
+      }
+
+  steps_then : (s between next : State) (names : List ℕ) (k : ℕ) (refused : Bool) (words : Schedule) (go : Further) (marks : List Mark)
+      → (latest : Journal) (room : Bool)
+      → made unit w s k ≢ [] → ClearsLost w s names between
+      → turn_step unit w.classes between k refused ≡ Some next → has_room between k refused next ≡ room
+      → IsLawful next words (entry k refused ∷ Clearing names ∷ latest) (go next marks (entry k refused ∷ Clearing names ∷ latest))
+      → IsLawful s (Turn k ∷ words) latest (after_step go next marks (entry k refused ∷ Clearing names ∷ latest) room)
+  steps_then s between next names k refused words go marks latest false some c e is h = tt
+  steps_then s between next names k refused words go marks latest true some c e is h =
+      clears_first s between next names k refused words latest (go next marks (entry k refused ∷ Clearing names ∷ latest)) some c e is h
+
+  turns_then : (s between : State) (names : List ℕ) (k : ℕ) (refused : Bool) (words : Schedule) (go : Further) (marks : List Mark)
+      → (latest : Journal) (o : Option State)
+      → made unit w s k ≢ [] → ClearsLost w s names between
+      → turn_step unit w.classes between k refused ≡ o → ((next : State) (rest : List Mark) (j : Journal) → IsLawful next words j (go next rest j))
+      → IsLawful s (Turn k ∷ words) latest (after_cleared_turn k refused go between marks (Clearing names ∷ latest) o)
+  turns_then s between names k refused words go marks latest None some c e further = tt
+  turns_then s between names k refused words go marks latest (Some next) some c e further =
+      steps_then s between next names k refused words go (later_marks marks) latest (has_room between k refused next) some c e refl
+      (further next (later_marks marks) (entry k refused ∷ Clearing names ∷ latest))
+
+  turns_cleared : (s : State) (names : List ℕ) (k : ℕ) (refused : Bool) (words : Schedule) (go : Further) (marks : List Mark)
+      → (latest : Journal) (o : Option State)
+      → made unit w s k ≢ [] → lost w s ≡ names → clearing_step w s names ≡ o
+      → ((next : State) (rest : List Mark) (j : Journal) → IsLawful next words j (go next rest j))
+      → IsLawful s (Turn k ∷ words) latest (after_clearing (cleared_turn k refused go marks) names latest o)
+  turns_cleared s names k refused words go marks latest None some e c further = tt
+  turns_cleared s names k refused words go marks latest (Some between) some e c further =
+      turns_then s between names k refused words go marks latest (turn_step unit w.classes between k refused) some
+      (record { all = e; possible = c }) refl further
+
+  makes : (s : State) (k : ℕ) (words : Schedule) (latest : Journal) (r : Option (State × Journal)) (objects : List Object) → made unit w s k ≡ objects
+      → (made unit w s k ≢ [] → IsLawful s (Turn k ∷ words) latest r)
+      → IsLawful s (Turn k ∷ words) latest (where_made objects r)
+  makes s k words latest r [] e h = tt
+  makes s k words latest r (o ∷ objects) e h = h (λ none. absurd (cc (sym e ∙ none)))
+
+  any_turn : (s : State) (k : ℕ) (words : Schedule) (go : Further) (marks : List Mark) (latest : Journal) (mark : Mark)
+      → ((next : State) (rest : List Mark) (j : Journal) → IsLawful next words j (go next rest j))
+      → IsLawful s (Turn k ∷ words) latest (turn k go s marks latest mark)
+  any_turn s k words go marks latest (Alone refused) further = turns s k refused words go marks latest (turn_step unit w.classes s k refused) refl further
+  any_turn s k words go marks latest (AfterClearing refused) further =
+      makes s k words latest
+      (after_clearing (cleared_turn k refused go marks) (lost w s) latest (clearing_step w s (lost w s)))
+      (made unit w s k) refl (λ some. turns_cleared s (lost w s) k refused words go marks latest (clearing_step w s (lost w s)) some refl refl further)
+
+  run-lawful : (words : Schedule) (s : State) (marks : List Mark) (latest : Journal) → IsLawful s words latest (run words s marks latest)
   run-lawful [] s marks latest = record { journal = []; adds = refl; follows = Over s; fits = tt; fair = tt }
-  run-lawful (Collect ∷ words) s marks latest = collects s words latest (run words s marks latest) (run-lawful words s marks latest)
+  run-lawful (Collect ∷ words) s marks latest =
+      collects s words (λ next j. run words next marks j) latest (lost w s) refl (λ next j. run-lawful words next marks j)
   run-lawful (Turn k ∷ words) s marks latest =
-      turns s k words (λ next rest j. run words next rest j) marks latest (world_step unit w.classes s (entry k (first_mark marks))) refl (λ next rest j. run-lawful words next rest j)
+      any_turn s k words (λ next rest j. run words next rest j) marks latest (first_mark marks) (λ next rest j. run-lawful words next rest j)
 
   -- ---- what is written
 
@@ -357,7 +508,7 @@ module _ (unit : SourceUnit) (w : World) where
 abbrev pub worked_out : World → World
 worked_out w = record { cells = w.cells; classes = w.classes; objects = w.objects; threads = w.threads }
 
-pub worked-run : {world schedule text : List ℕ} (unit : SourceUnit) (w : World) (words : List (ScheduleWord × Option ℕ)) (marks : List Bool)
+pub worked-run : {world schedule text : List ℕ} (unit : SourceUnit) (w : World) (words : List (ScheduleWord × Option ℕ)) (marks : List Mark)
     → IsAccepted unit
     → IsWorldText world w
     → first_load_fault unit w ≡ None
@@ -399,13 +550,13 @@ worked-replay {world} {journal} {text} unit w entries h of_world loads spelled g
 -- a replay ends, and the next entry isn't possible
 abbrev pub is_stopped : SourceUnit → World → Entry → Option State → Bool
 is_stopped unit w e None = false
-is_stopped unit w e (Some s) = is_none (world_step unit w.classes s e)
+is_stopped unit w e (Some s) = is_none (world_step unit w s e)
 
 -- a state in which the entry isn't possible
 pub record Stops (unit : SourceUnit) (w : World) (e : Entry) (o : Option State) : Type 0 where
   pub before : State
   pub is : o ≡ Some before
-  pub impossible : world_step unit w.classes before e ≡ None
+  pub impossible : world_step unit w before e ≡ None
 
 no_step : (o : Option State) → IsTrue (is_none o) → o ≡ None
 no_step None h = refl
@@ -413,7 +564,7 @@ no_step (Some s) h = absurd cc
 
 stops : (unit : SourceUnit) (w : World) (e : Entry) (o : Option State) → IsTrue (is_stopped unit w e o) → Stops unit w e o
 stops unit w e None h = absurd cc
-stops unit w e (Some s) h = record { before = s; is = refl; impossible = no_step (world_step unit w.classes s e) h }
+stops unit w e (Some s) h = record { before = s; is = refl; impossible = no_step (world_step unit w s e) h }
 
 pub stopped-replay : {world journal : List ℕ} (unit : SourceUnit) (w : World) (done : Journal) (e : Entry) (rest : Journal)
     → IsAccepted unit

@@ -51,3 +51,4 @@ mod SortFaults
 mod Strings
 mod Traps
 mod Trees
+mod WeakReferences

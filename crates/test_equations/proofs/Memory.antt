@@ -8,7 +8,7 @@ use Rattle.world_values.specs.WorldMeaning.{world_of}
 use Rattle.world_values.specs.WorldRules.{IsWorldText}
 use Rattle.test_equations.specs.Claims.{IsAccepted, IsWorkedRun}
 use Rattle.test_equations.proofs.Programs.{unit_of, native, block, call, given}
-use Rattle.test_equations.proofs.Computed.{opened, accepted, world-text, worked-run}
+use Rattle.test_equations.proofs.Computed.{opened, accepted, world-text, Alone, worked-run}
 
 -- an exception object that has no room
 -- JNIEXPORT void JNICALL Java_A_f(JNIEnv *env, jclass cls) {
@@ -55,7 +55,7 @@ an_exception_object_that_has_no_room-accepted = accepted an_exception_object_tha
 an_exception_object_that_has_no_room-run : IsWorkedRun an_exception_object_that_has_no_room (codes "heap 512\nclass A\nthread Java_A_f\n") (codes "1*12\n")
     (codes "T1 0\nT1 ended\njournal 1 1 1 1! 1 1 1 1 1 1 1\n")
 unfolding opened
-an_exception_object_that_has_no_room-run = worked-run an_exception_object_that_has_no_room an_exception_object_that_has_no_room-world ((Turn 1, Some 12) ∷ []) (replicate 3 false ++ true ∷ []) an_exception_object_that_has_no_room-accepted an_exception_object_that_has_no_room-means refl refl refl refl
+an_exception_object_that_has_no_room-run = worked-run an_exception_object_that_has_no_room an_exception_object_that_has_no_room-world ((Turn 1, Some 12) ∷ []) (replicate 3 (Alone false) ++ Alone true ∷ []) an_exception_object_that_has_no_room-accepted an_exception_object_that_has_no_room-means refl refl refl refl
 
 -- a message and its exception are made both or neither
 -- JNIEXPORT void JNICALL Java_A_f(JNIEnv *env, jclass cls) {
@@ -87,7 +87,7 @@ a_message_and_its_exception_are_made_both_or_neither-accepted = accepted a_messa
 a_message_and_its_exception_are_made_both_or_neither-run : IsWorkedRun a_message_and_its_exception_are_made_both_or_neither (codes "heap 512\nclass A\nthread Java_A_f\n") (codes "1*10\n")
     (codes "T1 -1\nT1 ended\njournal 1 1 1 1 1! 1 1 1 1\n")
 unfolding opened
-a_message_and_its_exception_are_made_both_or_neither-run = worked-run a_message_and_its_exception_are_made_both_or_neither an_exception_object_that_has_no_room-world ((Turn 1, Some 10) ∷ []) (replicate 4 false ++ true ∷ []) a_message_and_its_exception_are_made_both_or_neither-accepted an_exception_object_that_has_no_room-means refl refl refl refl
+a_message_and_its_exception_are_made_both_or_neither-run = worked-run a_message_and_its_exception_are_made_both_or_neither an_exception_object_that_has_no_room-world ((Turn 1, Some 10) ∷ []) (replicate 4 (Alone false) ++ Alone true ∷ []) a_message_and_its_exception_are_made_both_or_neither-accepted an_exception_object_that_has_no_room-means refl refl refl refl
 
 -- room after a reference is deleted
 -- JNIEXPORT void JNICALL Java_A_f(JNIEnv *env, jclass cls) {
@@ -127,4 +127,4 @@ room_after_a_reference_is_deleted-accepted = accepted room_after_a_reference_is_
 room_after_a_reference_is_deleted-run : IsWorkedRun room_after_a_reference_is_deleted (codes "heap 512\nclass A\nthread Java_A_f\n") (codes "1*17\n")
     (codes "T1 100\nT1 ended\njournal 1 1 1 1 1! 1 1 1 1 1 1 1 1 1 1 1\n")
 unfolding opened
-room_after_a_reference_is_deleted-run = worked-run room_after_a_reference_is_deleted an_exception_object_that_has_no_room-world ((Turn 1, Some 17) ∷ []) (replicate 4 false ++ true ∷ []) room_after_a_reference_is_deleted-accepted an_exception_object_that_has_no_room-means refl refl refl refl
+room_after_a_reference_is_deleted-run = worked-run room_after_a_reference_is_deleted an_exception_object_that_has_no_room-world ((Turn 1, Some 17) ∷ []) (replicate 4 (Alone false) ++ Alone true ∷ []) room_after_a_reference_is_deleted-accepted an_exception_object_that_has_no_room-means refl refl refl refl

@@ -1,10 +1,8 @@
 -- Programs and journals in short.
 use Rattle.std.specs.Prelude.{ℕ, Bool, false, List, [], ◌∷◌, codes, replicate}
 use Rattle.base.specs.Bytes.{Identifier}
-use Rattle.syntax.specs.Tree.{Argument, Call, Variable, Stmt, Block, End, Next, ReferenceType, ResultType, Parameter, IntParameter, ReferenceParameter, Item, StaticItem, FunctionItem, SourceUnit}
-use Rattle.semantics.specs.declared.journal.Entry.{Entry}
-use Rattle.semantics.specs.declared.journal.Entry.TheVariants.{Step}
-use Rattle.semantics.specs.Journal.{Journal}
+use Rattle.syntax.specs.Tree.{Argument, Call, Variable, Stmt, Block, End, Next, ReferenceType, ResultType, Parameter, IntParameter, ReferenceParameter, ReferenceStatic, WeakStatic, Item, StaticItem, FunctionItem, SourceUnit}
+use Rattle.semantics.specs.Journal.{Entry, Step, Clearing, Journal}
 
 -- ---- programs
 
@@ -30,7 +28,11 @@ native line result name parameters statements end_line = FunctionItem (record {
 
 -- a file-scope reference
 abbrev pub static_reference : (line : ℕ) → ReferenceType → Identifier → Item
-static_reference line type name = StaticItem (record { line = line; type = type; name = name })
+static_reference line type name = StaticItem (record { line = line; type = ReferenceStatic type; name = name })
+
+-- a file-scope weak reference
+abbrev pub static_weak : (line : ℕ) → Identifier → Item
+static_weak line name = StaticItem (record { line = line; type = WeakStatic; name = name })
 
 -- a parameter of a reference type
 abbrev pub reference_parameter : ReferenceType → Identifier → Parameter
@@ -53,6 +55,10 @@ given x = Argument.Value (Variable x)
 -- an entry
 abbrev pub entry : (thread : ℕ) → Bool → Entry
 entry thread refused = Step thread refused
+
+-- that of a clearing
+abbrev pub clearing : (names : List ℕ) → Entry
+clearing names = Clearing names
 
 -- this many entries of a thread, none refused
 abbrev pub entries : (thread n : ℕ) → Journal

@@ -11,7 +11,7 @@ use Rattle.world_values.specs.WorldMeaning.{world_of}
 use Rattle.world_values.specs.WorldRules.{IsWorldText}
 use Rattle.test_equations.specs.Claims.{IsAccepted, IsWorkedRun}
 use Rattle.test_equations.proofs.Programs.{unit_of, native, call, given}
-use Rattle.test_equations.proofs.Computed.{opened, read, accepted, world-text, worked-run}
+use Rattle.test_equations.proofs.Computed.{opened, read, accepted, world-text, Alone, worked-run}
 
 -- an array that fills the heap
 -- JNIEXPORT void JNICALL Java_A_f(JNIEnv *env, jclass cls) {
@@ -78,7 +78,7 @@ an_array_that_is_too_long-accepted = accepted an_array_that_is_too_long refl ref
 an_array_that_is_too_long-run : IsWorkedRun an_array_that_is_too_long (codes "heap 512\nclass A\nthread Java_A_f\n") (codes "1*9\n")
     (codes "T1 uncaught java/lang/OutOfMemoryError\njournal 1 1 1 1 1 1! 1\n")
 unfolding opened
-an_array_that_is_too_long-run = worked-run an_array_that_is_too_long an_array_that_fills_the_heap-world ((Turn 1, Some 9) ∷ []) (replicate 5 false ++ true ∷ []) an_array_that_is_too_long-accepted an_array_that_fills_the_heap-means refl refl refl refl
+an_array_that_is_too_long-run = worked-run an_array_that_is_too_long an_array_that_fills_the_heap-world ((Turn 1, Some 9) ∷ []) (replicate 5 (Alone false) ++ Alone true ∷ []) an_array_that_is_too_long-accepted an_array_that_fills_the_heap-means refl refl refl refl
 
 -- a world that fills its heap
 -- JNIEXPORT jint JNICALL Java_A_f(JNIEnv *env, jclass cls) { return 0; }

@@ -2,7 +2,7 @@
 use Rattle.std.specs.Prelude.{◌≡◌, true, false, [], ◌∷◌, Some, None, codes, refl}
 use Rattle.std.proofs.Common.{arith}
 use Rattle.std.specs.Fmt.{digits}
-use Rattle.semantics.specs.declared.journal.Entry.TheVariants.{Step}
+use Rattle.semantics.specs.Journal.{Step, Clearing}
 use Rattle.semantics.specs.declared.schedule.ScheduleWord.TheVariants.{Turn, Collect}
 use Rattle.world_schedules.specs.JournalMeaning.{IsJournalText}
 use Rattle.world_schedules.specs.ScheduleText.{schedule_word, IsScheduleText}
@@ -22,4 +22,8 @@ schedule-text = record { words = (Turn 1, Some 3) ∷ (Collect, None) ∷ (Turn 
 
 journal-text : IsJournalText 2 (codes "1 2! 1") (Step 1 false ∷ Step 2 true ∷ Step 1 false ∷ [])
 unfolding digits
-journal-text = record { spelled = refl; threads_known = refl; few = omega arith }
+journal-text = record { spelled = refl; known = refl; few = omega arith; few_clearings = omega arith }
+
+clearing-text : IsJournalText 2 (codes "1 ~46,48 2!") (Step 1 false ∷ Clearing (46 ∷ 48 ∷ []) ∷ Step 2 true ∷ [])
+unfolding digits
+clearing-text = record { spelled = refl; known = refl; few = omega arith; few_clearings = omega arith }

@@ -3,8 +3,7 @@ use Rattle.std.specs.Prelude.{◌≡◌, ℕ, ◌+◌, List, ◌∷◌, ◌++◌
 use Rattle.syntax.specs.Limits.{IsTree}
 use Rattle.syntax.specs.Tree.{SourceUnit}
 use Rattle.type_rules.specs.SortRules.{SortRule, sort_rule_number, IsSorted, first_broken}
-use Rattle.semantics.specs.declared.journal.Entry.{Entry}
-use Rattle.semantics.specs.Journal.{Journal}
+use Rattle.semantics.specs.Journal.{Entry, Journal}
 use Rattle.world_schedules.specs.JournalMeaning.{IsJournalText}
 use Rattle.semantics.specs.Schedule.{Schedule}
 use Rattle.world_schedules.specs.ScheduleText.{IsScheduleText}
@@ -69,7 +68,7 @@ pub record IsStoppedReplay (unit : SourceUnit) (world journal : List ℕ) (numbe
   pub counted : number ≡ length done + 1
   pub before : State
   pub replays : replay unit beginning.w done ≡ Some before
-  pub impossible : world_step unit beginning.w.classes before entry ≡ None
+  pub impossible : world_step unit beginning.w before entry ≡ None
 
 -- a call of this line of the world is the first that the unit doesn't have, or not with such arguments
 pub record IsUnloaded (unit : SourceUnit) (world : List ℕ) (line : ℕ) : Type 0 where

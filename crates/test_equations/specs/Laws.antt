@@ -1,5 +1,5 @@
 -- What holds of the definitions.
-use Rattle.std.specs.Prelude.{◌↔◌, [], ◌∷◌}
+use Rattle.std.specs.Prelude.{◌≡◌, ◌↔◌, [], ◌∷◌, Option, Some, None}
 use Rattle.syntax.specs.Tree.{SourceUnit}
 use Rattle.semantics.specs.declared.schedule.ScheduleWord.TheVariants.{Turn, Collect}
 use Rattle.semantics.specs.Journal.{Journal}
@@ -7,6 +7,8 @@ use Rattle.semantics.specs.Schedule.{Schedule}
 use Rattle.semantics.specs.World.{World}
 use Rattle.semantics.specs.Run.{Follows}
 use Rattle.semantics.specs.State.{State}
+use Rattle.semantics.specs.Step.{world_step}
+use Rattle.semantics.specs.WeakReferences.{lost}
 
 -- the turns of a schedule
 abbrev pub without_collections : Schedule → Schedule
@@ -14,8 +16,16 @@ without_collections [] = []
 without_collections (Collect ∷ words) = without_collections words
 without_collections (Turn k ∷ words) = Turn k ∷ without_collections words
 
--- Collections allow no other journals: the same follow a schedule with them and without them, to the same states.
+-- In each state of a journal's replay, from a given one on, what is held weakly can be reached from the roots.
+abbrev pub LosesNothing : SourceUnit → World → Option State → Journal → Type 0
+LosesNothing unit w None journal = Unit {0}
+LosesNothing unit w (Some s) [] = lost w s ≡ []
+LosesNothing unit w (Some s) (e ∷ rest) = (lost w s ≡ []) × LosesNothing unit w (world_step unit w s e) rest
+
+-- Where nothing is lost that is held weakly, collections allow no other journals: the same follow a schedule with them and without them, to
+-- the same states.
 abbrev pub CollectionsAllowTheSame : Type 0
 CollectionsAllowTheSame =
     (unit : SourceUnit) (w : World) (s end : State) (journal : Journal) (words : Schedule)
+    → LosesNothing unit w (Some s) journal
     → Follows unit w s journal words end ↔ Follows unit w s journal (without_collections words) end

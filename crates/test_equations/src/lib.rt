@@ -4,8 +4,9 @@
 
 ghost use Rattle.test_equations.specs.Laws.{CollectionsAllowTheSame};
 
-/// Nothing is run here: the examples are in proofs/. A law of the definition of which journals follow a schedule: they
-/// are the same with its collections and without them. Which of them a run has can depend on its collections.
+/// Nothing is run here: the examples are in proofs/. A law of the definition of which journals follow a schedule: where
+/// nothing is lost that is held weakly, they are the same with its collections and without them. Which of them a run
+/// has can depend on its collections.
 pub fn collections_allow_the_same()
     ensures { CollectionsAllowTheSame }
 {}

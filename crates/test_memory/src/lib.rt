@@ -12,3 +12,5 @@ mod globals;
 mod heaps;
 #[cfg(test)]
 mod references;
+#[cfg(test)]
+mod weaks;

@@ -4,6 +4,7 @@ ghost use Rattle.std.specs.Prelude.{◌≡◌};
 ghost use Rattle.crossbeam_utils.specs.Seq.{cell_view};
 ghost use Rattle.shared_passes.specs.Tokens.{knower, unknown};
 
+use crate::workers::reported;
 use lower::lower;
 use machine::{Machine, Turn};
 use program_check::read_program;
@@ -115,5 +116,60 @@ fn seats_collect(rt: HostRuntime) -> Result<(), Fail> {
     let kept = turned(&rt, rt.alloc(), 4)?;
     let ended = turned(&rt, rt.alloc(), 100)?;
     assert_eq!(rt; [kept, ended].as_slice(), [Some(4), Some(0)].as_slice());
+    Ok(())
+}
+
+/// Makes an object, holds it weakly, drops it, and prints whether the weak reference still gives it: thirteen steps at most.
+const WEAK: &[u8] =
+    b"static jweak w = NULL;\nJNIEXPORT void JNICALL Java_A_f(JNIEnv *env, jclass cls) { jobject o = (*env)->AllocObject(env, cls); w = (*env)->NewWeakGlobalRef(env, o); (*env)->DeleteLocalRef(env, o); jobject x = (*env)->NewLocalRef(env, w); if (x == NULL) { put_jint(0); } else { put_jint(1); } return; }";
+
+/// The report after four turns of the one thread, a collection, and nine turns more.
+fn cleared<J: Naming, R: Wait>(
+    rt: &R,
+    alloc: Global,
+    cell: Cell,
+    keeper: Pass,
+    machine: Machine<'_>,
+) -> Result<Vec<u8>, AllocError>
+    requires cell { cell.table.shared.table_id ≡ J.cell }
+    requires keeper { (keeper.table_id ≡ J.cell) × (cell_view keeper ≡ knower unknown 0) }
+    requires unit { machine.unit ≡ J.unit }
+    requires world { machine.world ≡ J.world }
+{
+    let opened: Result<(Shared<'_, J>, Vec<_>), _> = Shared::new(alloc, cell, keeper, machine);
+    let Ok((shared, mut seats)) = opened else {
+        return Err(AllocError);
+    };
+    for turn in 0..13 {
+        if turn == 4 {
+            shared.collect(rt)?;
+        }
+        for seat in &mut seats {
+            shared.turn(rt, seat)?;
+        }
+    }
+    match shared.finish(rt, seats) {
+        Ok(machine) => reported(alloc, &machine),
+        Err(_) => Err(AllocError),
+    }
+}
+
+/// The report of the program that holds its object weakly.
+fn watched<R: Wait>(rt: &R, alloc: Global) -> Result<Vec<u8>, AllocError> {
+    let Ok(checked) = read_program(alloc, WEAK) else {
+        return Err(AllocError);
+    };
+    let machine = loaded(alloc, &checked)?;
+    let (cell, keeper) = new_cell(alloc)?;
+    cleared::<Brand, R>(rt, alloc, cell, keeper, machine)
+}
+
+// The fourth turn drops the object, so that the collection clears the weak reference, and the thread is given NULL.
+#[test]
+fn seats_clear(rt: HostRuntime) -> Result<(), Fail> {
+    let report = watched(&rt, rt.alloc())?;
+    assert!(rt;
+        report.as_slice() == b"T1 0\nT1 ended\njournal 1 1 1 1 ~46 1 1 1 1 1 1 1\n".as_slice()
+    );
     Ok(())
 }

@@ -3,7 +3,7 @@
 use crate::class_tables::id;
 use class_rules::ClassId;
 use class_rules::mangling::{is_mangled, mangle, unmangle};
-use semantics::{Entry, ObjectId, ScheduleWord};
+use semantics::{Entry, EntryKind, ObjectId, ScheduleWord};
 use std::test::Fail;
 use world::read_world;
 use world_schedules::{Repetition, read_journal, read_schedule};
@@ -23,11 +23,65 @@ fn a_schedule(rt: HostRuntime) -> Result<(), Fail> {
 #[test]
 fn a_journal(rt: HostRuntime) -> Result<(), Fail> {
     let entries = read_journal(rt.alloc(), b"1 1! 2\n", 2)?;
-    let expected = [(1, false), (1, true), (2, false)].map(|(thread, refused)| Entry::Step {
-        thread,
-        refused,
-    });
-    assert!(rt; entries.as_slice() == expected.as_slice());
+    let got = [
+        entries.len() == 3,
+        is_step(&entries[0], 1, false),
+        is_step(&entries[1], 1, true),
+        is_step(&entries[2], 2, false),
+    ];
+    assert!(rt; got == [true; 4]);
+    Ok(())
+}
+
+/// Whether an entry is a step of this thread, whose allocation is refused or not.
+fn is_step(entry: &Entry, number: u8, is_refused: bool) -> bool {
+    match entry.kind() {
+        EntryKind::Step { thread, refused } => *thread == number && *refused == is_refused,
+        EntryKind::Clearing(_) => false,
+    }
+}
+
+#[test]
+fn a_journal_with_a_clearing(rt: HostRuntime) -> Result<(), Fail> {
+    let entries = read_journal(rt.alloc(), b"1 ~46,4294967295 1\n", 1)?;
+    let names = [46, 4294967295].map(|number| ObjectId { number });
+    let got = [
+        entries.len() == 3,
+        is_step(&entries[0], 1, false),
+        is_clearing(&entries[1], &names),
+        is_step(&entries[2], 1, false),
+    ];
+    assert!(rt; got == [true; 4]);
+    Ok(())
+}
+
+/// Whether an entry is the clearing of these names.
+fn is_clearing(entry: &Entry, names: &[ObjectId]) -> bool {
+    match entry.kind() {
+        EntryKind::Step { .. } => false,
+        EntryKind::Clearing(cleared) => cleared.as_slice() == names,
+    }
+}
+
+/// Whether a journal for one thread is refused.
+fn is_refused(rt: HostRuntime, text: &[u8]) -> bool {
+    read_journal(rt.alloc(), text, 1).is_err()
+}
+
+#[test]
+fn no_clearings(rt: HostRuntime) -> Result<(), Fail> {
+    let got = [
+        is_refused(rt, b"~\n"),
+        is_refused(rt, b"~0\n"),
+        is_refused(rt, b"~46,46\n"),
+        is_refused(rt, b"~47,46\n"),
+        is_refused(rt, b"~46,\n"),
+        is_refused(rt, b"~,46\n"),
+        is_refused(rt, b"~046\n"),
+        is_refused(rt, b"~4294967296\n"),
+        is_refused(rt, b"~46!\n"),
+    ];
+    assert!(rt; got == [true; 9]);
     Ok(())
 }
 

@@ -1,8 +1,9 @@
 //! Sinks that take few bytes at a time, or fail.
 
 use report::{NoRows, ThreadStatus, write_journal, write_report, write_run};
-use semantics::{Entry, Printed};
+use semantics::{Entry, EntryKind, ObjectId, Printed};
 use sinks::{Sink, SinkFailed, StdSink};
+use std::alloc::{AllocError, Global};
 use std::io;
 use std::io::{ErrorKind, Write};
 use std::test::Fail;
@@ -111,29 +112,35 @@ const STANDINGS: [ThreadStatus; 4] = [
     ThreadStatus::Ended,
 ];
 
-const ENTRIES: [Entry; 4] = [
-    Entry::Step {
-        thread: 1,
-        refused: false,
-    },
-    Entry::Step {
-        thread: 1,
-        refused: true,
-    },
-    Entry::Step {
-        thread: 10,
-        refused: false,
-    },
-    Entry::Step {
-        thread: 255,
-        refused: true,
-    },
-];
+/// A step of a thread, whose allocation is refused or not.
+fn step(thread: u8, refused: bool) -> Entry {
+    Entry::new(EntryKind::Step { thread, refused })
+}
+
+/// A clearing of the weak references to the objects of these names.
+fn clearing(alloc: Global, numbers: &[usize]) -> Result<Entry, AllocError> {
+    let mut names = Vec::new(alloc);
+    for number in numbers {
+        names.push(ObjectId { number: *number })?;
+    }
+    Ok(Entry::new(EntryKind::Clearing(names)))
+}
+
+fn entries(alloc: Global) -> Result<Vec<Entry>, AllocError> {
+    let mut entries = Vec::new(alloc);
+    entries.push(step(1, false))?;
+    entries.push(clearing(alloc, &[46])?)?;
+    entries.push(step(1, true))?;
+    entries.push(clearing(alloc, &[47, 50, 4294967295])?)?;
+    entries.push(step(10, false))?;
+    entries.push(step(255, true))?;
+    Ok(entries)
+}
 
 const REPORT: &[u8] = b"T1 -2147483648\nT1 0\nT1 trap 3 line 7\nT2 running\nT3 blocked\nT4 ended\n";
 
 const TEXT: &[u8] =
-    b"T1 -2147483648\nT1 0\nT1 trap 3 line 7\nT2 running\nT3 blocked\nT4 ended\njournal 1 1! 10 255!\n";
+    b"T1 -2147483648\nT1 0\nT1 trap 3 line 7\nT2 running\nT3 blocked\nT4 ended\njournal 1 ~46 1! ~47,50,4294967295 10 255!\n";
 
 #[test]
 fn byte_by_byte(rt: HostRuntime) -> Result<(), Fail> {
@@ -142,37 +149,40 @@ fn byte_by_byte(rt: HostRuntime) -> Result<(), Fail> {
         room: 1000,
         failures: 0,
     };
-    write_run(&mut sink, &PRINTED, &STANDINGS, &NoRows, &ENTRIES)?;
+    let entries = entries(rt.alloc())?;
+    write_run(&mut sink, &PRINTED, &STANDINGS, &NoRows, &entries)?;
     assert!(rt; sink.taken.as_slice() == TEXT);
     Ok(())
 }
 
 #[test]
 fn a_failing_sink_has_a_beginning(rt: HostRuntime) -> Result<(), Fail> {
+    let entries = entries(rt.alloc())?;
     for room in 0..TEXT.len() {
         let mut sink = Slow {
             taken: Vec::new(rt.alloc()),
             room,
             failures: 0,
         };
-        let failed = write_run(&mut sink, &PRINTED, &STANDINGS, &NoRows, &ENTRIES).is_err();
+        let failed = write_run(&mut sink, &PRINTED, &STANDINGS, &NoRows, &entries).is_err();
         assert!(rt; failed && sink.failures == 1 && sink.taken.as_slice() == &TEXT[..room]);
     }
     Ok(())
 }
 
 /// Writes the report and then the journal, where the sink hasn't failed.
-fn write_text<W: Write>(sink: &mut StdSink<W>) -> Result<(), SinkFailed> {
+fn write_text<W: Write>(sink: &mut StdSink<W>, entries: &[Entry]) -> Result<(), SinkFailed> {
     if sink.failures() > 0 {
         return Err(SinkFailed);
     }
     write_report(sink, &PRINTED, &STANDINGS, &NoRows)?;
-    write_journal(sink, &ENTRIES)?;
+    write_journal(sink, entries)?;
     sink.flush()
 }
 
 #[test]
 fn through_a_writer(rt: HostRuntime) -> Result<(), Fail> {
+    let entries = entries(rt.alloc())?;
     for step in [1, 7, 1000] {
         let taken = Vec::new(rt.alloc());
         let mut sink = StdSink::new(Narrow {
@@ -180,7 +190,7 @@ fn through_a_writer(rt: HostRuntime) -> Result<(), Fail> {
             step,
             room: 1000,
         });
-        write_text(&mut sink)?;
+        write_text(&mut sink, &entries)?;
         assert!(rt; sink.into_inner().taken.as_slice() == TEXT);
     }
     Ok(())
@@ -188,6 +198,7 @@ fn through_a_writer(rt: HostRuntime) -> Result<(), Fail> {
 
 #[test]
 fn a_failing_writer_has_a_beginning(rt: HostRuntime) -> Result<(), Fail> {
+    let entries = entries(rt.alloc())?;
     for room in [0, 1, TEXT.len() - 1] {
         let taken = Vec::new(rt.alloc());
         let mut sink = StdSink::new(Narrow {
@@ -195,7 +206,7 @@ fn a_failing_writer_has_a_beginning(rt: HostRuntime) -> Result<(), Fail> {
             step: 5,
             room,
         });
-        let failed = write_text(&mut sink).is_err();
+        let failed = write_text(&mut sink, &entries).is_err();
         assert!(rt; failed && sink.failures() == 1);
         assert!(rt; sink.into_inner().taken.as_slice() == &TEXT[..room]);
     }
@@ -204,17 +215,20 @@ fn a_failing_writer_has_a_beginning(rt: HostRuntime) -> Result<(), Fail> {
 
 #[test]
 fn a_writer_that_keeps_bytes_is_flushed(rt: HostRuntime) -> Result<(), Fail> {
+    let entries = entries(rt.alloc())?;
     let mut sink = StdSink::new(keeping_writer(&rt, false));
-    write_text(&mut sink)?;
+    write_text(&mut sink, &entries)?;
     assert!(rt; sink.failures() == 0);
     assert!(rt; sink.into_inner().taken.as_slice() == TEXT);
     Ok(())
 }
 
 #[test]
-fn a_writer_that_fails_at_its_flush_is_told(rt: HostRuntime) {
+fn a_writer_that_fails_at_its_flush_is_told(rt: HostRuntime) -> Result<(), Fail> {
+    let entries = entries(rt.alloc())?;
     let mut sink = StdSink::new(keeping_writer(&rt, true));
-    let failed = write_text(&mut sink).is_err();
+    let failed = write_text(&mut sink, &entries).is_err();
     assert!(rt; failed && sink.failures() == 1);
     assert!(rt; sink.into_inner().taken.is_empty());
+    Ok(())
 }
