@@ -17,6 +17,7 @@ LAWFUL = {
     "entries": "entries into a monitor",
     "isCopy": "copies or views",
     "class": "classes of the library",
+    "weak": "weak references that are cleared",
 }
 HEAP, FIELDS = "want of heap", "fields of the library's classes"
 
@@ -76,6 +77,8 @@ def lawful_names(program, ours, theirs):
     """Why this run may differ."""
     if "!" in ours.journal:
         yield HEAP
+    if "~" in ours.journal:
+        yield LAWFUL["weak"]
     for kind, _, what in (note.partition(" ") for note in theirs.notes):
         if kind != "isCopy" or uses_flag(program, what):
             yield LAWFUL[kind]

@@ -84,12 +84,15 @@ static void *checked(JNIEnv *env, void *memory)
     return memory;
 }
 
+/* A weak reference that was cleared keeps nothing. One that isn't is kept from here on, and so can't be cleared before the program has its own reference. */
 jobject jnirun_global(JNIEnv *env, jobject object)
 {
-    if (object != NULL) {
+    jobject kept = (*env)->NewGlobalRef(env, object);
+    if (kept != NULL) {
         globals = checked(env, realloc(globals, (size_t)(count + 1) * sizeof *globals));
-        globals[count++] = checked(env, (*env)->NewGlobalRef(env, object));
-    }
+        globals[count++] = kept;
+    } else if (!(*env)->IsSameObject(env, object, NULL))
+        checked(env, NULL);
     return object;
 }
 
@@ -112,6 +115,32 @@ jobject jnirun_deletion(JNIEnv *env, jobject global)
         (*env)->DeleteLocalRef(env, pending);
     }
     return global;
+}
+
+/* ---- weak global references: a list of references of its own to the same objects, which the virtual machine clears with the program's */
+
+static jweak *weaks;
+static int weak_count;
+
+jobject jnirun_weak(JNIEnv *env, jobject object)
+{
+    if (object != NULL) {
+        weaks = checked(env, realloc(weaks, (size_t)(weak_count + 1) * sizeof *weaks));
+        weaks[weak_count++] = checked(env, (*env)->NewWeakGlobalRef(env, object));
+    }
+    return object;
+}
+
+/* Notes that one was cleared, the first time that it is seen. */
+static void note_cleared(JNIEnv *env)
+{
+    static int is_noted;
+    for (int at = 0; at < weak_count && !is_noted; at++)
+        is_noted = (*env)->IsSameObject(env, weaks[at], NULL);
+    if (is_noted == 1) {
+        say("? ", "weak");
+        is_noted = 2;
+    }
 }
 
 JNIEXPORT jint JNICALL Java_jnirun_Shim_globals(JNIEnv *env, jclass cls)
@@ -229,6 +258,7 @@ JNIEXPORT void JNICALL Java_jnirun_Shim_thread(JNIEnv *env, jclass cls, jclass r
     if (pthread_create(&id, NULL, attached, &thread) != 0 || pthread_join(id, NULL) != 0)
         thread.fault = "a thread can't be started";
     (*env)->DeleteGlobalRef(env, thread.runner);
+    note_cleared(env);
     if (thread.fault != NULL)
         (*env)->FatalError(env, thread.fault);
 }
