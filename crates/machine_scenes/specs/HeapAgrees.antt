@@ -3,9 +3,9 @@ use Rattle.std.specs.Prelude.{◌≡◌, ℕ, suc, ◌+◌, ◌==◌, if◌then�
 use Rattle.std.specs.Int.{w32, cast_unsigned}
 use Rattle.heap.specs.declared.value.Value.{Value}
 use Rattle.heap.specs.declared.value.Value.TheVariants.{Number as Word, Null, Block as Address}
-use Rattle.heap.specs.Heap.{Block, Space, IsLaidOut, end_of, name_at, pins_at, AreNamesUnique}
+use Rattle.heap.specs.Heap.{Block, Space, IsLaidOut, name_at, pins_at, AreNamesUnique}
 use Rattle.heap.specs.Layout.{layout_of}
-use Rattle.semantics.specs.Object.{Object, ObjectValue, Number, Refers, Reference, sizes}
+use Rattle.semantics.specs.Object.{Object, ObjectValue, Number, Refers, Reference}
 use Rattle.semantics.specs.Heap.{Heap, object_at}
 use Rattle.tables.specs.References.{references_in}
 use Rattle.machine_scenes.specs.Layouts.{laid_from}

@@ -3,12 +3,13 @@
 ghost use Rattle.std.specs.Prelude.{◌≡◌, slice_get};
 ghost use Rattle.machine_scenes.specs.Given.{held_in};
 ghost use Rattle.machine_scenes.specs.Locals.{address_of};
-ghost use Rattle.machine_scenes.specs.Statics.{all_held, static_at};
+ghost use Rattle.machine_scenes.specs.Statics.{all_held, held_weakly, static_at};
+ghost use Rattle.tables.specs.Keys.{value_at};
 
 use crate::statics::StaticReference;
 use heap::Addr;
 use std::marker::Model;
-use tables::{Globals, Local, Locals, Weaks};
+use tables::{Globals, Local, Locals, Weak, Weaks};
 
 /// What a static holds, with the address of its object.
 #[derive(Clone, Copy)]
@@ -49,6 +50,19 @@ pub fn local_of(keys: &[Option<Local>], locals: &Locals, slot: u32) -> Option<Ad
     match key_of(keys, slot) {
         Some(key) => locals.get(key).ok(),
         None => None,
+    }
+}
+
+/// What a static holds whose weak global reference has this key. It stands apart, and so finding any other reference takes
+/// no more instructions than without weak ones.
+#[inline(never)]
+fn held_weakly(weaks: &Weaks, key: Weak) -> Held
+    ensures { result ≡ held_weakly (value_at weaks.now key) }
+{
+    match weaks.get(key) {
+        Ok(Some(addr)) => Held::Weakly(addr),
+        Ok(None) => Held::Cleared,
+        Err(_) => Held::Empty,
     }
 }
 
@@ -104,11 +118,7 @@ impl<'a> References<'a> {
                 Ok(addr) => Held::At(addr),
                 Err(_) => Held::Empty,
             },
-            Some(StaticReference::Weakly(key)) => match self.weaks.get(*key) {
-                Ok(Some(addr)) => Held::Weakly(addr),
-                Ok(None) => Held::Cleared,
-                Err(_) => Held::Empty,
-            },
+            Some(StaticReference::Weakly(key)) => held_weakly(self.weaks, *key),
             Some(StaticReference::Cleared) => Held::Cleared,
             Some(StaticReference::Deleted) => Held::Deleted,
         }
