@@ -1,44 +1,73 @@
 //! The journal of a machine.
 
-ghost use Rattle.std.specs.Prelude.{◌≡◌, ℕ, ◌+◌, ◌<◌, ◌≤◌, [], ◌∷◌, ◌++◌, nat_le, OnOk};
+ghost use Rattle.std.specs.Prelude.{◌≡◌, ℕ, ◌+◌, ◌<◌, ◌≤◌, [], ◌∷◌, ◌++◌, length, nat_le, OnOk};
 ghost use Rattle.base.specs.Limits.{most_entries};
 ghost use Rattle.semantics.specs.Journal.{Step, steps_in};
 ghost use Rattle.semantics.specs.Views.{names_of};
 ghost use Rattle.machine_collections.specs.Clearing.{clearing_of};
 
 use base::limits::MOST_ENTRIES;
-use semantics::{Entry, EntryKind, ObjectId};
+use report::{Entries, ShownEntry};
+use semantics::ObjectId;
 use std::alloc::{AllocError, Global};
 use std::marker::Model;
 
-/// What a machine did, seen as its entries, and as the number of further ones for which it has memory.
-pub(crate) struct Journal {
-    entries: Vec<Entry>,
-    /// How many of the entries are clearings.
-    clearings: usize,
+/// What was done at a time. It is small, since there is one for each step.
+#[derive(Clone, Copy)]
+pub(crate) enum Note {
+    /// The thread of this number, from 1, took a step; and whether the step's allocation was refused.
+    Step { thread: u8, refused: bool },
+    /// Weak global references were cleared: those of the next list that is kept apart.
+    Clearing,
+}
+
+/// What a machine did, seen as its entries, and as the numbers of further ones for which it has memory.
+pub struct Journal {
+    notes: Vec<Note>,
+    /// The objects of each clearing, in the order of those.
+    cleared: Vec<Vec<ObjectId>>,
 }
 
 // Written out, and not derived, so that crates above needn't prove it again.
 impl Drop for Journal {
     fn drop(self) {
-        let Journal {
-            entries,
-            clearings: _,
-        } = self;
-        drop(entries);
+        let Journal { notes, cleared } = self;
+        drop(notes);
+        drop(cleared);
     }
 }
 
 impl Model for Journal {
-    ghost use Rattle.std.specs.Prelude.{◌≡◌, ◌-◌, vec_len, vec_capacity};
+    ghost use Rattle.std.specs.Prelude.{◌≡◌, ◌-◌, length, vec_len, vec_capacity};
     ghost use Rattle.semantics.specs.Journal.{clearings_in};
-    ghost use Rattle.machine.specs.Writing.{Writing};
+    ghost use Rattle.machine.specs.Writing.{Writing, entries_of};
 
     ghost Value = { Writing };
 
-    ghost view = { λ j. record { entries = j.entries.items; room = vec_capacity j.entries - vec_len j.entries } };
+    ghost view = { λ j. record {
+      entries = entries_of j.notes.items j.cleared.items;
+      room = vec_capacity j.notes - vec_len j.notes;
+      lists = vec_capacity j.cleared - vec_len j.cleared;
+    } };
 
-    ghost invariant = { λ j. j.clearings ≡ clearings_in j.entries.items };
+    ghost invariant = { λ j. clearings_in (entries_of j.notes.items j.cleared.items) ≡ length j.cleared.items };
+}
+
+impl Entries for Journal {
+    ghost entries = { λ j. j.entries };
+
+    #[inline]
+    fn len(&self) -> usize {
+        self.notes.len()
+    }
+
+    #[inline]
+    fn entry(&self, place: usize, clearings: usize) -> ShownEntry<'_> {
+        match self.notes[place] {
+            Note::Step { thread, refused } => ShownEntry::Step { thread, refused },
+            Note::Clearing => ShownEntry::Clearing(&self.cleared[clearings]),
+        }
+    }
 }
 
 impl Journal {
@@ -47,17 +76,9 @@ impl Journal {
         ensures { result.entries ≡ [] }
     {
         Journal {
-            entries: Vec::new(alloc),
-            clearings: 0,
+            notes: Vec::new(alloc),
+            cleared: Vec::new(alloc),
         }
-    }
-
-    /// The entries, in the order of what was done.
-    #[inline]
-    pub(crate) fn entries(&self) -> &[Entry]
-        ensures { result.now ≡ self.now.entries }
-    {
-        &self.entries
     }
 
     /// Whether no step can be added any more: clearings don't count.
@@ -65,7 +86,7 @@ impl Journal {
     pub(crate) fn is_full(&self) -> bool
         ensures { result ≡ nat_le most_entries (steps_in self.now.entries) }
     {
-        self.entries.len() >= MOST_ENTRIES && self.entries.len() - self.clearings >= MOST_ENTRIES
+        self.notes.len() >= MOST_ENTRIES && self.notes.len() - self.cleared.len() >= MOST_ENTRIES
     }
 
     /// How many steps it has room and memory for, but no more than this many.
@@ -76,20 +97,30 @@ impl Journal {
         ensures memory { result ≤ self.now.room }
     {
         let room = self
-            .entries
+            .notes
             .capacity()
-            .min(MOST_ENTRIES.saturating_add(self.clearings));
-        let left = room.saturating_sub(self.entries.len());
+            .min(MOST_ENTRIES.saturating_add(self.cleared.len()));
+        let left = room.saturating_sub(self.notes.len());
         most.min(left as u32)
     }
 
-    /// Takes memory for this many entries more, where there is none yet.
+    /// Takes memory for a step, where there is none yet.
     #[inline(always)]
-    pub(crate) fn reserve(&mut self, more: usize) -> Result<(), AllocError>
+    pub(crate) fn reserve(&mut self) -> Result<(), AllocError>
         ensures same { self.new.entries ≡ self.old.entries }
-        ensures room { OnOk result (more ≤ self.new.room) }
+        ensures room { OnOk result (0 < self.new.room) }
     {
-        self.entries.reserve(more)
+        self.notes.reserve(1)
+    }
+
+    /// Takes memory for a clearing and a step after it, where there is none yet.
+    pub(crate) fn reserve_clearing(&mut self) -> Result<(), AllocError>
+        ensures same { self.new.entries ≡ self.old.entries }
+        ensures room { OnOk result (2 ≤ self.new.room) }
+        ensures lists { OnOk result (0 < self.new.lists) }
+    {
+        self.notes.reserve(2)?;
+        self.cleared.reserve(1)
     }
 
     /// Adds a step of thread `k`, for which there is memory.
@@ -99,20 +130,19 @@ impl Journal {
         ensures entries { self.new.entries ≡ self.old.entries ++ Step k refused ∷ [] }
         ensures room { self.new.room + 1 ≡ self.old.room }
     {
-        let kind = EntryKind::Step { thread: k, refused };
-        self.entries.push_reserved(Entry::new(kind));
+        self.notes.push_reserved(Note::Step { thread: k, refused });
     }
 
     /// Adds the clearing of the weak references to these objects, for which there is memory; none where there are no objects.
     pub(crate) fn push_clearing(&mut self, objects: Vec<ObjectId>)
-        requires { 0 < self.old.room }
+        requires room { 0 < self.old.room }
+        requires lists { 0 < self.old.lists }
         ensures entries { self.new.entries ≡ self.old.entries ++ clearing_of (names_of objects.items) }
         ensures room { self.old.room ≤ self.new.room + 1 }
     {
         if !objects.is_empty() {
-            let kind = EntryKind::Clearing(objects);
-            self.entries.push_reserved(Entry::new(kind));
-            self.clearings += 1;
+            self.notes.push_reserved(Note::Clearing);
+            self.cleared.push_reserved(objects);
         }
     }
 }

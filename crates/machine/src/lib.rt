@@ -8,6 +8,8 @@ mod rows;
 mod turn;
 
 pub use fault::{ReportFault, RunFault};
+pub use journal::Journal;
 pub use machine::{Machine, collections_have_one_outcome};
 pub use machine_threads::fault::LoadFault;
+pub use report::{Entries, ShownEntry};
 pub use turn::Turn;

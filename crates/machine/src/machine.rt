@@ -42,7 +42,7 @@ use machine_threads::objects::load_store;
 use machine_threads::thread::Thread;
 use report::{Rows, ThreadStatus, write_run};
 use report_objects::{reached_rows, standing_of};
-use semantics::{Entry, Event, ObjectId, Printed, ScheduleWord, Stop};
+use semantics::{Event, ObjectId, Printed, ScheduleWord, Stop};
 use semantics_safety::accepted_is_safe;
 use semantics_typing::objects_are_typed;
 use sinks::Sink;
@@ -126,15 +126,15 @@ impl<'a> Machine<'a> {
     }
 
     /// What was done so far: steps, and clearings of weak global references.
-    pub fn journal(&self) -> &[Entry]
-        ensures entries { result.now ≡ self.now.journal }
+    pub fn journal(&self) -> &Journal
+        ensures entries { result.now.entries ≡ self.now.journal }
         ensures runs { IsSome (replay_of self.now) }
         ensures fits { UnmarkedFit (unit_tree self.now.unit) self.now.world self.now.journal }
         ensures fair { MarkedAreFair (unit_tree self.now.unit) self.now.world self.now.journal }
     {
         // Here the proof takes up the machine's invariant.
         let _ = &self.world;
-        self.journal.entries()
+        &self.journal
     }
 
     /// Whether the journal has no room for another step. Clearings don't count.
@@ -182,7 +182,7 @@ impl<'a> Machine<'a> {
         ensures err { OnErr result (self.new ≡ self.old) }
         ensures runs { IsSome (replay_of self.new) }
     {
-        self.journal.reserve(1)?;
+        self.journal.reserve_clearing()?;
         let cleared = collect_blocks(self.alloc, &mut self.store, &mut self.threads)?;
         self.journal.push_clearing(cleared);
         Ok(())
@@ -461,7 +461,7 @@ impl<'a> Machine<'a> {
             &self.printed,
             standings.as_slice(),
             rows,
-            self.journal.entries(),
+            &self.journal,
         ) {
             Ok(()) => Ok(()),
             Err(_) => Err(ReportFault::Sink),
@@ -559,7 +559,7 @@ fn make_room(printed: &mut Vec<Printed>, journal: &mut Journal) -> Result<(), Al
     ensures printed_room { OnOk result (vec_len printed.new < vec_capacity printed.new) }
     ensures journal_room { OnOk result (0 < journal.new.room) }
 {
-    journal.reserve(1)?;
+    journal.reserve()?;
     printed.reserve(1)
 }
 
@@ -619,7 +619,7 @@ fn collect_and_advance(
     ensures threads { OnErr result (threads.new ≡ threads.old) }
     ensures journal { OnErr result (journal.new.entries ≡ journal.old.entries) }
 {
-    journal.reserve(2)?;
+    journal.reserve_clearing()?;
     let cleared = collect_blocks(alloc, store, threads)?;
     journal.push_clearing(cleared);
     match advance(program, world, store, &mut threads[index], k, true) {

@@ -16,7 +16,7 @@ use functions::Functions;
 use region_rules::Checked;
 use replay_objects::{Store, made_before};
 use replay_threads::{State, root_names, standings_of, take_entry};
-use report::write_run;
+use report::{Listed, write_run};
 use report_objects::{ReachedRows, reached_rows};
 use semantics::{Entry, Stop};
 use sinks::Sink;
@@ -73,7 +73,7 @@ fn write_rows<W: Sink>(
     ensures { WritesState state.now journal.now (W.written out.old) (W.written out.new) result }
 {
     let standings = standings_of(alloc, state)?;
-    match write_run(out, &state.printed, &standings, rows, journal) {
+    match write_run(out, &state.printed, &standings, rows, &Listed(journal)) {
         Ok(()) => Ok(()),
         Err(_) => Err(ReplayError::Writer),
     }

@@ -1,7 +1,10 @@
 -- What a run writes in all.
 use Rattle.std.specs.Prelude.{◌≡◌, ℕ, List, ◌++◌, Some, Result, Ok, Err, codes, decimal, flat_map}
 use Rattle.syntax.specs.Tree.{SourceUnit}
-use Rattle.semantics.specs.Journal.{Journal}
+use Rattle.semantics.specs.Journal.{Entry, Journal, Step, Clearing}
+use Rattle.semantics.specs.Views.{names_of}
+use Rattle.report.specs.declared.entries.ShownEntry.{ShownEntry}
+use Rattle.report.specs.declared.entries.ShownEntry.TheVariants as held
 use Rattle.semantics.specs.ReportOf.{report}
 use Rattle.semantics.specs.Run.{replay}
 use Rattle.semantics.specs.State.{State}
@@ -16,6 +19,11 @@ pub record Writes (unit : SourceUnit) (w : World) (journal : Journal) (text : Li
   pub end : State
   pub replays : replay unit w journal ≡ Some end
   pub same : text ≡ report_text (report w end) ++ journal_line journal
+
+-- an entry of a journal, as it is held in memory
+abbrev pub entry_shown : ShownEntry → Entry
+entry_shown (held.Step thread refused) = Step thread refused
+entry_shown (held.Clearing objects) = Clearing (names_of objects.now)
 
 -- the numbers of these names, each after a comma
 abbrev pub further_text : List ObjectId → List ℕ

@@ -5,18 +5,19 @@ ghost use Rattle.arrayvec.specs.ArrayVec.{array_vec_len};
 ghost use Rattle.sinks.specs.Sink.{CanFail, Writes};
 ghost use Rattle.report.specs.ReportText.{report_text};
 ghost use Rattle.report.specs.Shown.{report_with};
-ghost use Rattle.report.specs.RunText.{further_text, Gathers};
+ghost use Rattle.report.specs.RunText.{entry_shown, further_text, Gathers};
 ghost use Rattle.semantics.specs.JournalText.{entry_text, journal_line};
 ghost use Rattle.semantics.specs.Journal.{Step, Clearing};
 ghost use Rattle.semantics.specs.JournalText.{spelled_entries};
 ghost use Rattle.semantics.specs.Views.{names_of};
 
+use crate::entries::{Entries, ShownEntry};
 use crate::rows::Rows;
 use crate::text::put_each;
 use crate::thread_status::{ThreadStatus, put_standings};
 use arrayvec::ArrayVec;
 use itoa::Buffer;
-use semantics::{Entry, EntryKind, ObjectId, Printed};
+use semantics::{ObjectId, Printed};
 use sinks::{Sink, SinkFailed, put_all, put_pieces};
 
 /// Appends a number in decimal.
@@ -89,37 +90,40 @@ fn put_clearing<S: Sink>(sink: &mut S, names: &[ObjectId]) -> Result<(), SinkFai
 fn put_entry<S: Sink>(
     sink: &mut S,
     text: &mut ArrayVec<u8, 4096>,
-    entry: &Entry,
+    entry: ShownEntry,
 ) -> Result<(), SinkFailed>
     requires can_fail { CanFail (S.written sink.old) }
     requires room { array_vec_len text.old + 5 ≤ 4096 }
-    ensures { Gathers (S.written sink.old) (S.written sink.new) result text.old.items text.new.items (codes " " ++ entry_text entry.now) }
+    ensures { Gathers (S.written sink.old) (S.written sink.new) result text.old.items text.new.items (codes " " ++ entry_text (entry_shown entry.entry)) }
 {
-    match entry.kind() {
-        EntryKind::Step { thread, refused } => {
-            push_step(text, *thread, *refused);
+    match entry {
+        ShownEntry::Step { thread, refused } => {
+            push_step(text, thread, refused);
             Ok(())
         }
-        EntryKind::Clearing(names) => {
+        ShownEntry::Clearing(objects) => {
             put_all(sink, text.as_slice())?;
             text.clear();
-            put_clearing(sink, names)
+            put_clearing(sink, objects)
         }
     }
 }
 
 /// Puts the words of the entries, each after a space. Those of steps are gathered, and put 4,096 bytes or a few fewer at a time.
-fn put_entries<S: Sink>(sink: &mut S, entries: &[Entry]) -> Result<(), SinkFailed>
+fn put_entries<S: Sink, E: Entries>(sink: &mut S, entries: &E) -> Result<(), SinkFailed>
     requires { CanFail (S.written sink.old) }
-    ensures { Writes (S.written sink.old) (S.written sink.new) result (spelled_entries entries.now) }
+    ensures { Writes (S.written sink.old) (S.written sink.new) result (spelled_entries (E.entries entries.now)) }
 {
     let mut text = ArrayVec::<u8, 4096>::new();
-    for entry in entries {
+    let mut clearings = 0;
+    for place in 0..entries.len() {
         if text.remaining_capacity() < 5 {
             put_all(sink, text.as_slice())?;
             text.clear();
         }
-        put_entry(sink, &mut text, entry)?;
+        let shown = entries.entry(place, clearings);
+        put_entry(sink, &mut text, shown)?;
+        clearings += shown.clearings();
     }
     put_all(sink, text.as_slice())
 }
@@ -141,9 +145,9 @@ pub fn write_report<S: Sink, R: Rows>(
 }
 
 /// Writes the line of the journal.
-pub fn write_journal<S: Sink>(sink: &mut S, entries: &[Entry]) -> Result<(), SinkFailed>
+pub fn write_journal<S: Sink, E: Entries>(sink: &mut S, entries: &E) -> Result<(), SinkFailed>
     requires { CanFail (S.written sink.old) }
-    ensures { Writes (S.written sink.old) (S.written sink.new) result (journal_line entries.now) }
+    ensures { Writes (S.written sink.old) (S.written sink.new) result (journal_line (E.entries entries.now)) }
 {
     put_all(sink, b"journal")?;
     put_entries(sink, entries)?;
@@ -153,16 +157,16 @@ pub fn write_journal<S: Sink>(sink: &mut S, entries: &[Entry]) -> Result<(), Sin
 /// Writes the report of these numbers, threads and rows, and then the line of the journal, and flushes the sink.
 ///
 /// On `Ok` every byte has gone on to the sink's writer. It allocates nothing.
-pub fn write_run<S: Sink, R: Rows>(
+pub fn write_run<S: Sink, R: Rows, E: Entries>(
     sink: &mut S,
     printed: &[Printed],
     standings: &[ThreadStatus<'_>],
     rows: &R,
-    entries: &[Entry],
+    entries: &E,
 ) -> Result<(), SinkFailed>
     requires { CanFail (S.written sink.old) }
     ensures text { Writes (S.written sink.old) (S.written sink.new) result
-        (report_text (report_with printed.now standings.now (R.rows rows.now)) ++ journal_line entries.now) }
+        (report_text (report_with printed.now standings.now (R.rows rows.now)) ++ journal_line (E.entries entries.now)) }
     ensures none_waits { OnOk result ((S.written sink.new).waiting ≡ 0) }
 {
     write_report(sink, printed, standings, rows)?;

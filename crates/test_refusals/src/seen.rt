@@ -1,19 +1,20 @@
 //! What is seen of a machine.
 
 use crate::failure::Failure;
-use machine::{Machine, ReportFault};
-use semantics::{Entry, EntryKind, Printed};
+use machine::{Entries, Machine, ReportFault};
+use semantics::Printed;
 use sinks::StdSink;
-use std::alloc::{AllocError, Global};
+use std::alloc::Global;
 
 /// How often a call is asked that is refused memory.
 pub(crate) const TRIES: u32 = 8;
 
-/// What is seen of a machine: its report, its journal, what was printed, and how many cells are left.
+/// What is seen of a machine: its report with the line of its journal, how many entries that has, what was printed, and how many
+/// cells are left.
 #[derive(Drop)]
 pub(crate) struct Seen {
     report: Vec<u8>,
-    journal: Vec<Entry>,
+    entries: usize,
     printed: Vec<Printed>,
     left: usize,
 }
@@ -46,57 +47,6 @@ pub(crate) fn copied<T: Copy>(alloc: Global, list: &[T]) -> Result<Vec<T>, Failu
     Err(Failure::Memory)
 }
 
-/// An entry of a journal, copied.
-fn copied_entry(alloc: Global, entry: &Entry) -> Result<Entry, AllocError> {
-    let kind = match entry.kind() {
-        EntryKind::Step { thread, refused } => EntryKind::Step {
-            thread: *thread,
-            refused: *refused,
-        },
-        EntryKind::Clearing(names) => EntryKind::Clearing(Vec::from_slice(alloc, names)?),
-    };
-    Ok(Entry::new(kind))
-}
-
-/// The entries of a journal, copied.
-fn copied_entries(alloc: Global, journal: &[Entry]) -> Result<Vec<Entry>, AllocError> {
-    let mut entries = Vec::new(alloc);
-    for entry in journal {
-        entries.push(copied_entry(alloc, entry)?)?;
-    }
-    Ok(entries)
-}
-
-/// A journal, copied. A refused copy is asked for again.
-fn copied_journal(alloc: Global, journal: &[Entry]) -> Result<Vec<Entry>, Failure> {
-    for _ in 0..TRIES {
-        if let Ok(copy) = copied_entries(alloc, journal) {
-            return Ok(copy);
-        }
-    }
-    Err(Failure::Memory)
-}
-
-/// Whether both are steps of the same thread, refused or not, or clear the references to the same objects.
-fn is_same_entry(one: &Entry, other: &Entry) -> bool {
-    match (one.kind(), other.kind()) {
-        (
-            EntryKind::Step { thread, refused },
-            EntryKind::Step {
-                thread: other_thread,
-                refused: other_refused,
-            },
-        ) => *thread == *other_thread && *refused == *other_refused,
-        (EntryKind::Clearing(names), EntryKind::Clearing(other_names)) => *names == *other_names,
-        _ => false,
-    }
-}
-
-/// Whether the same was done.
-fn are_same_entries(some: &[Entry], others: &[Entry]) -> bool {
-    some.len() == others.len() && some.iter().zip(others).all(|(a, b)| is_same_entry(a, b))
-}
-
 /// Whether both were printed by the same thread, and are one number.
 fn is_same_number(one: &Printed, other: &Printed) -> bool {
     one.thread == other.thread && one.number == other.number
@@ -111,7 +61,7 @@ impl Seen {
     pub(crate) fn of(alloc: Global, machine: &Machine<'_>) -> Result<Seen, Failure> {
         Ok(Seen {
             report: reported(alloc, machine)?,
-            journal: copied_journal(alloc, machine.journal())?,
+            entries: machine.journal().len(),
             printed: copied(alloc, machine.lines())?,
             left: machine.left(),
         })
@@ -120,7 +70,7 @@ impl Seen {
     /// Whether the same is seen.
     pub(crate) fn is_same(&self, other: &Seen) -> bool {
         self.report == other.report
-            && are_same_entries(&self.journal, &other.journal)
+            && self.entries == other.entries
             && are_same_numbers(&self.printed, &other.printed)
             && self.left == other.left
     }

@@ -5,7 +5,7 @@ ghost use Rattle.crossbeam_utils.specs.Seq.{cell_view};
 ghost use Rattle.shared_passes.specs.Tokens.{knower, unknown};
 
 use crate::workers::{loaded, reported};
-use machine::{Machine, Turn};
+use machine::{Entries, Machine, Turn};
 use program_check::read_program;
 use shared::{Cell, Gate, Naming, Pass, Shared, Verdict, new_cell, run_workers};
 use std::alloc::{AllocError, Global};

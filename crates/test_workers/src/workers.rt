@@ -5,7 +5,7 @@ ghost use Rattle.crossbeam_utils.specs.Seq.{cell_view};
 ghost use Rattle.shared_passes.specs.Tokens.{knower, unknown};
 
 use lower::lower;
-use machine::{Machine, Turn};
+use machine::{Entries, Machine, Turn};
 use program_check::read_program;
 use region_rules::Checked;
 use shared::{Cell, Gate, Naming, Pass, Shared, Verdict, new_cell, run_workers};

@@ -1,6 +1,6 @@
 //! Sinks that take few bytes at a time, or fail.
 
-use report::{NoRows, ThreadStatus, write_journal, write_report, write_run};
+use report::{Listed, NoRows, ThreadStatus, write_journal, write_report, write_run};
 use semantics::{Entry, EntryKind, ObjectId, Printed};
 use sinks::{Sink, SinkFailed, StdSink};
 use std::alloc::{AllocError, Global};
@@ -150,7 +150,7 @@ fn byte_by_byte(rt: HostRuntime) -> Result<(), Fail> {
         failures: 0,
     };
     let entries = entries(rt.alloc())?;
-    write_run(&mut sink, &PRINTED, &STANDINGS, &NoRows, &entries)?;
+    write_run(&mut sink, &PRINTED, &STANDINGS, &NoRows, &Listed(&entries))?;
     assert!(rt; sink.taken.as_slice() == TEXT);
     Ok(())
 }
@@ -164,7 +164,13 @@ fn a_failing_sink_has_a_beginning(rt: HostRuntime) -> Result<(), Fail> {
             room,
             failures: 0,
         };
-        let failed = write_run(&mut sink, &PRINTED, &STANDINGS, &NoRows, &entries).is_err();
+        let failed = write_run(
+            &mut sink,
+            &PRINTED,
+            &STANDINGS,
+            &NoRows,
+            &Listed(&entries),
+        ).is_err();
         assert!(rt; failed && sink.failures == 1 && sink.taken.as_slice() == &TEXT[..room]);
     }
     Ok(())
@@ -176,7 +182,7 @@ fn write_text<W: Write>(sink: &mut StdSink<W>, entries: &[Entry]) -> Result<(), 
         return Err(SinkFailed);
     }
     write_report(sink, &PRINTED, &STANDINGS, &NoRows)?;
-    write_journal(sink, entries)?;
+    write_journal(sink, &Listed(entries))?;
     sink.flush()
 }
 

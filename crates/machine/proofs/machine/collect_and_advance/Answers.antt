@@ -88,7 +88,7 @@ unreachable-requires c =
 pub returns-clause-advances : goal.returns-clause-advances
 returns-clause-advances c =
     let s = still (goal.at.returns-clause-advances c).After-push_clearing in
-    let before : c.reserve.new.self.entries ≡ c.args.journal.now.entries = c.reserve.ensures.same in
+    let before : c.reserve_clearing.new.self.entries ≡ c.args.journal.now.entries = c.reserve_clearing.ensures.same in
     record {
       cleared = names_of c.in_ok-cleared.cleared.items;
       advances = record {
@@ -107,5 +107,5 @@ returns-clause-advances c =
         follow = refl;
       };
       entries = c.push_clearing.ensures.entries ∙ ap (λ (j : List Entry). j ++ clearing_of (names_of c.in_ok-cleared.cleared.items)) before;
-      room = omega (arith, c.in_ok-reserve.ensures.room, c.push_clearing.ensures.room);
+      room = omega (arith, c.in_ok-reserve_clearing.ensures.room, c.push_clearing.ensures.room);
     }

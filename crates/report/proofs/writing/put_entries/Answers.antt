@@ -1,32 +1,41 @@
-use Rattle.std.proofs.Common.{◌≡◌, ℕ, ◌+◌, ◌<◌, ◌≤◌, List, [], ◌++◌, length, get_or, drop, Result, Ok, Err, refl, sym, ap, subst, ◌∙◌, append_assoc}
+use Rattle.std.proofs.Common.{◌≡◌, ℕ, ◌+◌, ◌≤◌, List, [], ◌++◌, length, drop, Some, Result, Ok, Err, refl, sym, ap, subst, ◌∙◌, append_assoc, arith}
 use Rattle.std.specs.Prelude.{codes}
+use Rattle.std.specs.Prelude.{slice_get}
+use Rattle.std.proofs.lemmas.Option.{get_or_from_slice_get, slice_get_within}
 use Rattle.std.proofs.lemmas.Result.{err_from_is_err_and}
 use Rattle.semantics.specs.Journal.{Entry}
 use Rattle.semantics.specs.JournalText.{entry_text}
 use Rattle.semantics.specs.JournalText.{spelled_entries}
-use Rattle.report.specs.RunText.{IsGathered}
+use Rattle.report.specs.RunText.{IsGathered, entry_shown}
 use Rattle.sinks.specs.Sink.{Written, AppendsText, StopsWithin, Writes}
 use Rattle.sinks.proofs.Puts.{PutSoFar, goes_on, is_all, stops, flat_map-at, flat_map-past}
+use Rattle.report.proofs.Clearings.{clearings_so_far, no_more_clearings}
 use Rattle.report.proofs.writing.put_entries.Goals as goal
 use Rattle.report.proofs.writing.put_entries.Goals.{then-remaining_capacity-lt5+in_ok-put_all, else-remaining_capacity-lt5}
 
+-- the words from an entry on
+from_here : (entries : List Entry) (i : ℕ) (e : Entry) → slice_get entries i ≡ Some e → spelled_entries (drop i entries) ≡ (codes " " ++ entry_text e) ++ spelled_entries (drop (i + 1) entries)
+from_here entries i e at =
+    flat_map-at (λ x. codes " " ++ entry_text x) entries i e (slice_get_within entries i e at)
+    ∙ ap (λ (x : Entry). (codes " " ++ entry_text x) ++ spelled_entries (drop (i + 1) entries)) (get_or_from_slice_get entries i e e at)
+
 -- one entry more was gathered
-gathers : (old now after : Written) (entries : List Entry) (i : ℕ) (d : Entry) (text next : List ℕ) → i < length entries → PutSoFar old now (spelled_entries entries) (text ++ spelled_entries (drop i entries))
-    → IsGathered now after text next (codes " " ++ entry_text (get_or entries i d)) → PutSoFar old after (spelled_entries entries) (next ++ spelled_entries (drop (i + 1) entries))
-gathers old now after entries i d text next h s e =
-    let word : List ℕ = codes " " ++ entry_text (get_or entries i d) in
+gathers : (old now after : Written) (entries : List Entry) (i : ℕ) (e : Entry) (text next : List ℕ) → slice_get entries i ≡ Some e → PutSoFar old now (spelled_entries entries) (text ++ spelled_entries (drop i entries))
+    → IsGathered now after text next (codes " " ++ entry_text e) → PutSoFar old after (spelled_entries entries) (next ++ spelled_entries (drop (i + 1) entries))
+gathers old now after entries i e text next found s got =
+    let word : List ℕ = codes " " ++ entry_text e in
     let rest : List ℕ = spelled_entries (drop (i + 1) entries) in
-    let at : spelled_entries (drop i entries) ≡ word ++ rest = flat_map-at (λ x. codes " " ++ entry_text x) entries i d h in
-    goes_on old now after (spelled_entries entries) (text ++ spelled_entries (drop i entries)) e.part (next ++ rest) s
-    (ap (λ (r : List ℕ). text ++ r) at ∙ sym (append_assoc text word rest) ∙ ap (λ (t : List ℕ). t ++ rest) (sym e.rest) ∙ append_assoc e.part next rest) e.put
+    let at : spelled_entries (drop i entries) ≡ word ++ rest = from_here entries i e found in
+    goes_on old now after (spelled_entries entries) (text ++ spelled_entries (drop i entries)) got.part (next ++ rest) s
+    (ap (λ (r : List ℕ). text ++ r) at ∙ sym (append_assoc text word rest) ∙ ap (λ (t : List ℕ). t ++ rest) (sym got.rest) ∙ append_assoc got.part next rest) got.put
 
 -- the sink failed on the way to it
-gathers_not : (old now after : Written) (entries : List Entry) (i : ℕ) (d : Entry) (text : List ℕ) → i < length entries → PutSoFar old now (spelled_entries entries) (text ++ spelled_entries (drop i entries))
-    → StopsWithin now after (text ++ (codes " " ++ entry_text (get_or entries i d))) → StopsWithin old after (spelled_entries entries)
-gathers_not old now after entries i d text h s p =
-    let word : List ℕ = codes " " ++ entry_text (get_or entries i d) in
+gathers_not : (old now after : Written) (entries : List Entry) (i : ℕ) (e : Entry) (text : List ℕ) → slice_get entries i ≡ Some e → PutSoFar old now (spelled_entries entries) (text ++ spelled_entries (drop i entries))
+    → StopsWithin now after (text ++ (codes " " ++ entry_text e)) → StopsWithin old after (spelled_entries entries)
+gathers_not old now after entries i e text found s p =
+    let word : List ℕ = codes " " ++ entry_text e in
     let rest : List ℕ = spelled_entries (drop (i + 1) entries) in
-    let at : spelled_entries (drop i entries) ≡ word ++ rest = flat_map-at (λ x. codes " " ++ entry_text x) entries i d h in
+    let at : spelled_entries (drop i entries) ≡ word ++ rest = from_here entries i e found in
     stops old now after (spelled_entries entries) (text ++ spelled_entries (drop i entries)) (text ++ word) rest s (ap (λ (r : List ℕ). text ++ r) at ∙ sym (append_assoc text word rest)) p
 
 -- what was gathered was put
@@ -46,36 +55,54 @@ puts_last old now next (Err x) entries i text h s p =
 pub returns-in_err-put_all : goal.returns-in_err-put_all
 returns-in_err-put_all g c =
     let p = err_from_is_err_and c.from_residual.result c.from_residual.ensures.1 in
-    rw p.1 (stops _ _ _ _ _ c.loop-entry.text.items (spelled_entries (drop c.loop-entry.entry-index c.args.entries.now)) c.loop-entry.invariant refl (rw c.as_slice.ensures.value at c.in_err-put_all.ensures))
+    rw p.1 (stops _ _ _ _ _ c.loop-place.text.items (spelled_entries (drop c.loop-place.place (g.E.Entries.entries c.args.entries.now))) c.loop-place.invariant.so_far refl (rw c.as_slice.ensures.value at c.in_err-put_all.ensures))
 
 -- what was put by then, before the entry
-pub loop-entry-preserved : goal.loop-entry-preserved
-loop-entry-preserved g c =
+pub loop-place-preserved : goal.loop-place-preserved
+loop-place-preserved g c =
     let w = g.S.Sink.written in
-    let rest : List ℕ = spelled_entries (drop c.loop-entry.entry-index c.args.entries.now) in
-    let so_far : PutSoFar (w c.args.sink.now) (w c.if-remaining_capacity-lt5.sink) (spelled_entries c.args.entries.now) (c.if-remaining_capacity-lt5.text.items ++ rest) =
+    let rest : List ℕ = spelled_entries (drop c.loop-place.place (g.E.Entries.entries c.args.entries.now)) in
+    let so_far : PutSoFar (w c.args.sink.now) (w c.if-remaining_capacity-lt5.sink) (spelled_entries (g.E.Entries.entries c.args.entries.now)) (c.if-remaining_capacity-lt5.text.items ++ rest) =
     elim c.if-remaining_capacity-lt5.branch [
       | then-remaining_capacity-lt5+in_ok-put_all v ↦
-          rw (v.sink-is, v.text-is) (put_on (w c.args.sink.now) (w c.loop-entry.sink) (w v.put_all.new.sink) (spelled_entries c.args.entries.now) c.loop-entry.text.items rest v.clear.new.self.items
-          c.loop-entry.invariant (rw v.as_slice.ensures.value at v.in_ok-put_all.ensures) v.clear.ensures)
-      | else-remaining_capacity-lt5 v ↦ rw (v.sink-is, v.text-is) c.loop-entry.invariant
+          rw (v.sink-is, v.text-is) (put_on (w c.args.sink.now) (w c.loop-place.sink) (w v.put_all.new.sink) (spelled_entries (g.E.Entries.entries c.args.entries.now)) c.loop-place.text.items rest v.clear.new.self.items
+          c.loop-place.invariant.so_far (rw v.as_slice.ensures.value at v.in_ok-put_all.ensures) v.clear.ensures)
+      | else-remaining_capacity-lt5 v ↦ rw (v.sink-is, v.text-is) c.loop-place.invariant.so_far
     ] in
-    gathers (w c.args.sink.now) (w c.if-remaining_capacity-lt5.sink) (w c.put_entry.new.sink) c.args.entries.now c.loop-entry.entry-index c.entry-item.result c.if-remaining_capacity-lt5.text.items c.put_entry.new.text.items c.loop-entry-test.true so_far (rw c.entry-item.is at c.in_ok-put_entry.ensures)
+    let more = clearings_so_far (g.E.Entries.entries c.args.entries.now) c.loop-place.place (entry_shown c.entry-shown.result) c.entry-shown.ensures in
+    record {
+      before = omega (arith, more, c.loop-place.invariant.before, c.clearings-clearings.ensures);
+      so_far =
+          gathers (w c.args.sink.now) (w c.if-remaining_capacity-lt5.sink) (w c.put_entry.new.sink) (g.E.Entries.entries c.args.entries.now) c.loop-place.place (entry_shown c.entry-shown.result) c.if-remaining_capacity-lt5.text.items c.put_entry.new.text.items c.entry-shown.ensures so_far c.in_ok-put_entry.ensures;
+    }
 
 pub returns-in_err-put_entry : goal.returns-in_err-put_entry
 returns-in_err-put_entry g c =
     let w = g.S.Sink.written in
     let p = err_from_is_err_and c.from_residual-in_err-put_entry.result c.from_residual-in_err-put_entry.ensures.1 in
-    let rest : List ℕ = spelled_entries (drop c.loop-entry.entry-index c.args.entries.now) in
-    let so_far : PutSoFar (w c.args.sink.now) (w c.if-remaining_capacity-lt5.sink) (spelled_entries c.args.entries.now) (c.if-remaining_capacity-lt5.text.items ++ rest) =
+    let rest : List ℕ = spelled_entries (drop c.loop-place.place (g.E.Entries.entries c.args.entries.now)) in
+    let so_far : PutSoFar (w c.args.sink.now) (w c.if-remaining_capacity-lt5.sink) (spelled_entries (g.E.Entries.entries c.args.entries.now)) (c.if-remaining_capacity-lt5.text.items ++ rest) =
     elim c.if-remaining_capacity-lt5.branch [
       | then-remaining_capacity-lt5+in_ok-put_all v ↦
-          rw (v.sink-is, v.text-is) (put_on (w c.args.sink.now) (w c.loop-entry.sink) (w v.put_all.new.sink) (spelled_entries c.args.entries.now) c.loop-entry.text.items rest v.clear.new.self.items
-          c.loop-entry.invariant (rw v.as_slice.ensures.value at v.in_ok-put_all.ensures) v.clear.ensures)
-      | else-remaining_capacity-lt5 v ↦ rw (v.sink-is, v.text-is) c.loop-entry.invariant
+          rw (v.sink-is, v.text-is) (put_on (w c.args.sink.now) (w c.loop-place.sink) (w v.put_all.new.sink) (spelled_entries (g.E.Entries.entries c.args.entries.now)) c.loop-place.text.items rest v.clear.new.self.items
+          c.loop-place.invariant.so_far (rw v.as_slice.ensures.value at v.in_ok-put_all.ensures) v.clear.ensures)
+      | else-remaining_capacity-lt5 v ↦ rw (v.sink-is, v.text-is) c.loop-place.invariant.so_far
     ] in
-    rw p.1 (gathers_not (w c.args.sink.now) (w c.if-remaining_capacity-lt5.sink) (w c.put_entry.new.sink) c.args.entries.now c.loop-entry.entry-index c.entry-item.result c.if-remaining_capacity-lt5.text.items c.loop-entry-test.true so_far (rw c.entry-item.is at c.in_err-put_entry.ensures))
+    rw p.1 (gathers_not (w c.args.sink.now) (w c.if-remaining_capacity-lt5.sink) (w c.put_entry.new.sink) (g.E.Entries.entries c.args.entries.now) c.loop-place.place (entry_shown c.entry-shown.result) c.if-remaining_capacity-lt5.text.items c.entry-shown.ensures so_far c.in_err-put_entry.ensures)
+
+pub overflow_add-clearings : goal.overflow_add-clearings
+overflow_add-clearings g c =
+    let entries = g.E.Entries.entries c.args.entries.now in
+    omega (
+      arith,
+      clearings_so_far entries c.loop-place.place (entry_shown c.entry-shown.result) c.entry-shown.ensures,
+      no_more_clearings entries (c.loop-place.place + 1),
+      c.loop-place.invariant.before,
+      c.clearings-clearings.ensures,
+      c.loop-place-test.true,
+      c.len-place-end.type_inv,
+    )
 
 pub returns : goal.returns
 returns g c =
-    puts_last _ _ _ c.put_all-2.result c.args.entries.now c.loop-entry.entry-index c.loop-entry.text.items c.loop-entry-test.false c.loop-entry.invariant (rw c.as_slice-2.ensures.value at c.put_all-2.ensures)
+    puts_last _ _ _ c.put_all-2.result (g.E.Entries.entries c.args.entries.now) c.loop-place.place c.loop-place.text.items (omega (arith, c.loop-place-test.false, c.len-place-end.ensures)) c.loop-place.invariant.so_far (rw c.as_slice-2.ensures.value at c.put_all-2.ensures)

@@ -1,11 +1,9 @@
-use Rattle.std.proofs.Common.{◌≡◌, ◌++◌, List, ℕ, [], refl, sym, ap, ◌∙◌, subst, append_assoc, append-nil}
+use Rattle.std.proofs.Common.{◌≡◌, ◌++◌, List, ℕ, [], sym, ap, ◌∙◌, subst, append-nil}
 use Rattle.std.specs.Prelude.{codes, Result, Ok, Err}
 use Rattle.std.proofs.lemmas.Result.{err_from_is_err_and}
-use Rattle.semantics.specs.declared.journal.EntryKind.{EntryKind}
-use Rattle.semantics.specs.EntryViews.{kind_view}
 use Rattle.semantics.specs.JournalText.{entry_text}
-use Rattle.report.specs.RunText.{Gathers}
-use Rattle.sinks.specs.Sink.{Written, AppendsText, StopsWithin, Writes}
+use Rattle.report.specs.RunText.{entry_shown, Gathers}
+use Rattle.sinks.specs.Sink.{Written, AppendsText, Writes}
 use Rattle.sinks.proofs.Puts.{AppendsText-nil, Writes-then, StopsWithin-more}
 use Rattle.report.proofs.writing.put_entry.Goals as goal
 
@@ -17,7 +15,7 @@ put_both {T} {E} old now new (Err e) before after word p q none = Writes-then {T
 
 pub returns-in-Step : goal.returns-in-Step
 returns-in-Step g c =
-    let is = ap kind_view (sym c.in-Step.is) ∙ c.kind.ensures in
+    let is = ap entry_shown (sym c.in-Step.is) in
     record {
       part = [];
       put = AppendsText-nil (g.S.Sink.written c.args.sink.now);
@@ -27,10 +25,10 @@ returns-in-Step g c =
 pub returns-in_err-put_all-in-Clearing : goal.returns-in_err-put_all-in-Clearing
 returns-in_err-put_all-in-Clearing g c =
     let p = err_from_is_err_and c.from_residual.result c.from_residual.ensures.1 in
-    rw p.1 (StopsWithin-more _ _ c.args.text.now.items (codes " " ++ entry_text c.args.entry.now) (rw c.as_slice.ensures.value at c.in_err-put_all-in-Clearing.ensures))
+    rw p.1 (StopsWithin-more _ _ c.args.text.now.items (codes " " ++ entry_text (entry_shown c.args.entry)) (rw c.as_slice.ensures.value at c.in_err-put_all-in-Clearing.ensures))
 
 pub returns-in_ok-put_all-in-Clearing : goal.returns-in_ok-put_all-in-Clearing
 returns-in_ok-put_all-in-Clearing g c =
-    let is = ap kind_view (sym c.in-Clearing.is) ∙ c.kind.ensures in
-    put_both _ _ _ c.put_clearing.result c.args.text.now.items c.clear.new.self.items (codes " " ++ entry_text c.args.entry.now)
-    (rw c.as_slice.ensures.value at c.in_ok-put_all-in-Clearing.ensures) (subst (λ e. Writes (g.S.Sink.written c.put_all.new.sink) (g.S.Sink.written c.put_clearing.new.sink) c.put_clearing.result (codes " " ++ entry_text e)) is (rw c.deref.ensures.value at c.put_clearing.ensures)) c.clear.ensures
+    let is = ap entry_shown (sym c.in-Clearing.is) in
+    put_both _ _ _ c.put_clearing.result c.args.text.now.items c.clear.new.self.items (codes " " ++ entry_text (entry_shown c.args.entry))
+    (rw c.as_slice.ensures.value at c.in_ok-put_all-in-Clearing.ensures) (subst (λ e. Writes (g.S.Sink.written c.put_all.new.sink) (g.S.Sink.written c.put_clearing.new.sink) c.put_clearing.result (codes " " ++ entry_text e)) is c.put_clearing.ensures) c.clear.ensures

@@ -17,7 +17,7 @@ collect_blocks-requires c = subst (λ (ts : List Thread). AreReferred c.self.ins
 pub invariant_of-self : goal.invariant_of-self
 invariant_of-self c =
     let i = c.self.inside in
-    subst (λ (j : List Entry). Corresponds i.program i.world i.store i.threads.items i.printed.items i.stop j) (sym c.reserve.ensures.same) c.self.invariant
+    subst (λ (j : List Entry). Corresponds i.program i.world i.store i.threads.items i.printed.items i.stop j) (sym c.reserve_clearing.ensures.same) c.self.invariant
 
 -- the objects whose weak references were cleared
 abbrev cleared : After-push_clearing → List ℕ
@@ -28,7 +28,7 @@ collected c = subst (λ (ts : List Thread). AreCollected c.self.inside.store ts 
 
 -- they are told
 told : (c : After-push_clearing) → c.push_clearing.new.self.entries ≡ c.self.inside.journal.entries ++ clearing_of (cleared c)
-told c = c.push_clearing.ensures.entries ∙ ap (λ (j : List Entry). j ++ clearing_of (cleared c)) c.reserve.ensures.same
+told c = c.push_clearing.ensures.entries ∙ ap (λ (j : List Entry). j ++ clearing_of (cleared c)) c.reserve_clearing.ensures.same
 
 pub invariant_of-self-2 : goal.invariant_of-self-2
 invariant_of-self-2 c =
