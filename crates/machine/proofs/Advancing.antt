@@ -1,6 +1,6 @@
 -- A step that is asked for again after a collection takes no host memory either: a clearing changes none that makes objects.
 use Rattle.std.proofs.Common.{◌≡◌, ◌≢◌, ◌++◌, ℕ, zero, suc, ◌+◌, ◌<◌, false, true, List, [], ◌∷◌, set, Some, refl, sym, ap, ◌∙◌, subst, arith}
-use Rattle.std.specs.Prelude.{slice_get, slice_index_or, Result, IfOk}
+use Rattle.std.specs.Prelude.{slice_get, slice_index_or}
 use Rattle.std.proofs.lemmas.Option.{get_or_from_slice_get}
 use Rattle.syntax.specs.Views.{unit_tree}
 use Rattle.compact.proofs.Tight.{get_map}
@@ -14,7 +14,6 @@ use Rattle.semantics.specs.ThreadStep.{thread_step, waits}
 use Rattle.semantics.specs.WeakArguments.{WeakAreTaken}
 use Rattle.semantics.specs.WeakReferences.{with_cleared}
 use Rattle.semantics.proofs.ClearedMade.{made_stays, waits_stays}
-use Rattle.semantics.specs.Thread as source
 use Rattle.semantics.specs.Thread.{Shared}
 use Rattle.semantics.specs.World.{World, loaded_objects}
 use Rattle.semantics_safety.specs.Owners.{ThreadOwners, owners_after}
@@ -26,17 +25,14 @@ use Rattle.machine_steps.specs.declared.fault.StepFault.TheVariants.{Memory, NoR
 use Rattle.semantics.specs.declared.event.Ending.TheVariants.{Unfinished}
 use Rattle.machine_threads.specs.declared.thread.Thread.{Thread}
 use Rattle.machine_steps.specs.Executes.{IsHindered, IsSteady, cells_made, in_use_with}
-use Rattle.machine_threads.specs.ThreadAgrees.{ThreadAgrees}
 use Rattle.heap.specs.Heap.{left_of}
 use Rattle.machine_collections.specs.Clearing.{AreCleared, clearing_of}
 use Rattle.machine_collections.specs.Moving.{AreCollected, moved_thread}
-use Rattle.machine_steps.specs.declared.advance.Advanced.{Advanced}
-use Rattle.machine.specs.Run.{CanAdvance, Corresponds, LacksRoom, acquired}
+use Rattle.machine.specs.Run.{CanAdvance, Corresponds, LacksRoom}
 use Rattle.machine.proofs.Collected.{stands_after, state_after}
 use Rattle.machine.proofs.OwnerSteps.{Found}
 use Rattle.machine.proofs.Steps.{made_is, no_room_yet, shared_agrees, steady, the_thread, waits_here}
-use Rattle.machine.proofs.TakenBuffers.{others, parted}
-use Rattle.machine_steps.proofs.Acquisitions.{store_taken}
+use Rattle.machine.proofs.TakenBuffers.{others}
 use Rattle.std.proofs.Common.{length}
 
 -- nothing changes where what is there is put

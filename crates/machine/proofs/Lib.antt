@@ -1,7 +1,7 @@
 pub mod Crosses
 pub mod TakenBuffers
 pub mod KeptThreads
-pub mod Entries
+pub mod Notes
 pub mod OwnerSteps
 pub mod Reports
 pub mod Collected

@@ -1,10 +1,9 @@
 -- A step of the machine is a step of the state that its journal leads to.
-use Rattle.std.proofs.Common.{◌≡◌, ℕ, suc, ◌<◌, ◌≤◌, ◌-◌, Bool, true, false, List, [], ◌∷◌, ◌++◌, ◌+◌, get_or, length, drop, arith, inl, inr, length-append, Option, Some, None, refl, sym, ap, ◌∙◌, subst}
+use Rattle.std.proofs.Common.{◌≡◌, ℕ, suc, ◌<◌, ◌≤◌, ◌-◌, Bool, true, false, List, [], ◌∷◌, ◌++◌, ◌+◌, get_or, length, drop, arith, inl, inr, Option, Some, None, refl, sym, ap, ◌∙◌, subst}
 use Rattle.std.specs.Prelude.{slice_get, slice_set, is_none, is_some, not, ◌&&◌}
 use Rattle.std.specs.Option.{option_map}
 use Rattle.std.proofs.Math.ListN.{length-set}
 use Rattle.std.proofs.lemmas.Option.{slice_get_read}
-use Rattle.syntax.specs.declared.unit.Item.{Item}
 use Rattle.syntax.specs.Views.{unit_tree}
 use Rattle.class_rules.specs.Class.{Classes}
 use Rattle.semantics.specs.Journal.{Entry, Step}
@@ -50,13 +49,13 @@ use Rattle.machine_steps.specs.Advances.{Advances, AdvancesAlways, HoldsAlways, 
 use Rattle.machine_steps.specs.Moved.{IsSilent}
 use Rattle.machine_steps.specs.declared.advance.Advanced.{Advanced}
 use Rattle.machine_steps.specs.declared.advance.Advanced.TheVariants as advanced
-use Rattle.machine.specs.Run.{Run, acquired, Corresponds, LacksRoom, entry_of, event_of, is_refused, turn_at_rest, HasEnded}
+use Rattle.machine.specs.Run.{Run, acquired, Corresponds, LacksRoom, event_of, is_refused, turn_at_rest, HasEnded}
 use Rattle.machine.proofs.KeptThreads.{changed}
 use Rattle.machine.proofs.TakenBuffers.{in_use_same, joined, others, own_viewed, parted, set_there, taken}
 use Rattle.machine_steps.proofs.Acquisitions.{store_taken}
 use Rattle.semantics_typing.specs.Objects.{IsTypedThread}
 use Rattle.semantics_typing.proofs.Lists.{all_get}
-use Rattle.machine.proofs.Entries.{steps_more}
+use Rattle.machine.proofs.Notes.{steps_more}
 use Rattle.machine.proofs.OwnerSteps.{Found, found, owner_elsewhere, owner_here, owners_stepped}
 use Rattle.semantics_safety.specs.Owners.{AllOwners, ThreadOwners, after_advance, owners_after, with_owners}
 

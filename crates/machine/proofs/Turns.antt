@@ -1,7 +1,6 @@
 -- What a turn comes to in which the thread can step.
-use Rattle.std.proofs.Common.{◌≡◌, ℕ, zero, suc, ◌-◌, ◌<◌, ◌≤◌, Bool, true, false, Option, Some, None, [], ◌∷◌, ◌++◌, List, length, refl, sym, ap, ◌∙◌, subst, arith, inl, inr, ⊎_elim, ◌⊎◌, append-nil}
-use Rattle.std.specs.Prelude.{slice_get, is_some}
-use Rattle.std.specs.Option.{option_map}
+use Rattle.std.proofs.Common.{◌≡◌, ℕ, zero, suc, ◌<◌, ◌≤◌, true, false, Option, Some, None, [], ◌∷◌, ◌++◌, List, length, refl, sym, ap, ◌∙◌, subst, arith, inl, inr, ⊎_elim, ◌⊎◌, append-nil}
+use Rattle.std.specs.Prelude.{slice_get}
 use Rattle.heap.specs.Heap.{Space, left_of}
 use Rattle.heap.specs.Layout.{Layout, layout_of}
 use Rattle.code_meaning.specs.Lowered.{Lowered}

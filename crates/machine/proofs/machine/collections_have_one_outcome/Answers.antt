@@ -1,6 +1,6 @@
 use Rattle.std.proofs.Common.{◌≡◌, ◌⊎◌, ◌++◌, ℕ, Bool, true, false, inl, inr, List, Contains, refl, sym, ap, ◌∙◌, subst}
 use Rattle.std.proofs.lemmas.Bool.{false≢true}
-use Rattle.heap.specs.Layout.{Extent, Layout}
+use Rattle.heap.specs.Layout.{Layout}
 use Rattle.semantics.specs.Reachable.{Reachable, is_in}
 use Rattle.semantics.specs.State.{State, views}
 use Rattle.semantics.specs.WeakReferences.{lost}

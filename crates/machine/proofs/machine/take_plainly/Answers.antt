@@ -1,7 +1,7 @@
-use Rattle.std.proofs.Common.{◌≡◌, ℕ, false, ◌+◌, ◌<◌, ◌∷◌, [], Some, None, refl, sym, ap, ◌∙◌, subst, arith}
+use Rattle.std.proofs.Common.{◌≡◌, ℕ, false, ◌+◌, ◌<◌, Some, None, sym, ap, ◌∙◌, subst, arith}
 use Rattle.semantics.specs.declared.event.Event.TheVariants as event
-use Rattle.semantics.specs.Journal.{Step, steps_in}
-use Rattle.machine.proofs.Entries.{steps_more}
+use Rattle.semantics.specs.Journal.{steps_in}
+use Rattle.machine.proofs.Notes.{steps_more}
 use Rattle.machine.specs.Run.{WentOn}
 use Rattle.machine.proofs.FreeSteps.{none_taken, one_more, stands_now}
 use Rattle.machine.proofs.Steps.{StepsFreely}

@@ -1,5 +1,5 @@
 use Rattle.std.proofs.lemmas.List.{with_items_is, places}
-use Rattle.std.proofs.Common.{rules, ◌≡◌, ℕ, suc, ◌-◌, ◌<◌, false, [], ◌∷◌, ◌++◌, List, length, refl, sym, ap, ◌∙◌, subst, arith}
+use Rattle.std.proofs.Common.{rules, ◌≡◌, ℕ, suc, ◌-◌, ◌<◌, false, [], ◌∷◌, ◌++◌, List, refl, sym, ap, ◌∙◌, subst, arith}
 use Rattle.std.specs.Prelude.{Result, Ok, Err, OnErr, IsSome}
 use Rattle.syntax.specs.declared.unit.Item.{Item}
 use Rattle.semantics.specs.Journal.{Entry, Step, steps_in}
