@@ -17,7 +17,8 @@ pub enum ShownEntry<'a> {
 
 impl ShownEntry<'_> {
     /// How many clearings it is: one or none.
-    pub(crate) fn clearings(self) -> usize
+    #[inline(always)]
+    pub fn clearings(self) -> usize
         ensures { result ≡ clearings_in (entry_shown self.entry ∷ []) }
     {
         match self {

@@ -40,6 +40,7 @@ fn push_number(text: &mut ArrayVec<u8, 4096>, number: u8)
 }
 
 /// Appends the word of a step, after a space.
+#[inline(always)]
 fn push_step(text: &mut ArrayVec<u8, 4096>, thread: u8, refused: bool)
     requires { array_vec_len text.old + 5 ≤ 4096 }
     ensures { text.new.items ≡ text.old.items ++ (codes " " ++ entry_text (Step thread refused)) }
@@ -86,7 +87,25 @@ fn put_clearing<S: Sink>(sink: &mut S, names: &[ObjectId]) -> Result<(), SinkFai
     }
 }
 
+/// Puts what was gathered, and then the word of a clearing of weak references to these objects, after a space.
+/// It stands apart, so that a step's word takes no more instructions than without clearings.
+#[inline(never)]
+fn put_after<S: Sink>(
+    sink: &mut S,
+    text: &mut ArrayVec<u8, 4096>,
+    objects: &[ObjectId],
+) -> Result<(), SinkFailed>
+    requires { CanFail (S.written sink.old) }
+    ensures { Gathers (S.written sink.old) (S.written sink.new) result text.old.items text.new.items
+        (codes " " ++ entry_text (Clearing (names_of objects.now))) }
+{
+    put_all(sink, text.as_slice())?;
+    text.clear();
+    put_clearing(sink, objects)
+}
+
 /// Puts the word of an entry after a space: a step's is gathered, and a clearing's put after what was gathered.
+#[inline(always)]
 fn put_entry<S: Sink>(
     sink: &mut S,
     text: &mut ArrayVec<u8, 4096>,
@@ -101,11 +120,7 @@ fn put_entry<S: Sink>(
             push_step(text, thread, refused);
             Ok(())
         }
-        ShownEntry::Clearing(objects) => {
-            put_all(sink, text.as_slice())?;
-            text.clear();
-            put_clearing(sink, objects)
-        }
+        ShownEntry::Clearing(objects) => put_after(sink, text, objects),
     }
 }
 
