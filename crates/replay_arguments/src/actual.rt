@@ -9,7 +9,7 @@ ghost use Rattle.jni.specs.Prototype.{ParameterKind as Kind};
 ghost use Rattle.jni.specs.Table.{function_value, parameter_value};
 ghost use Rattle.semantics.specs.Arguments.{actuals, address_given, field_argument, field_given, look_up, look_up_expression, mode_given, mode_of, named_variable, number_given, object_given, reference_argument, reference_given, text_given, variable_given};
 ghost use Rattle.semantics.specs.CallEffects.{level_of};
-ghost use Rattle.semantics.specs.Sight.{Sight, held_field, held_reference};
+ghost use Rattle.semantics.specs.Sight.{Sight, held_field};
 ghost use Rattle.semantics.specs.Task.{Given, NumberOperand};
 ghost use Rattle.semantics.specs.Thread.{Shared as SharedOfThreads};
 ghost use Rattle.semantics.specs.Views.{mode_view, name_of};
@@ -22,7 +22,7 @@ use class_rules::ClassId;
 use classes::fields::FieldId;
 pub use jni::ReleaseMode;
 use jni::{JniFunction, ParameterKind};
-use replay_terms::{Content, Operand, StaticReference, Term, Value, Variables, as_argument};
+use replay_terms::{Content, Operand, StaticReference, Term, Value, Variables, held_reference};
 use semantics::{Level, NO_OBJECT, ObjectId};
 use std::alloc::{AllocError, Global};
 use syntax::{Argument, Constant, Expr, Name};
@@ -200,30 +200,11 @@ fn reference_argument<'a>(shared: &Shared<'_>, variables: &Variables<'a>, e: &'a
     ensures { actual_view result ≡ reference_argument (sight_in (shared_view shared.now) variables.now) (expr_tree e.now) }
 {
     match e {
-        Expr::Variable(name) => Actual::Reference(Some(name), held_by(shared, variables, name)),
+        Expr::Variable(name) => {
+            let held = held_reference(&shared.statics, variables, name);
+            Actual::Reference(Some(name), held)
+        }
         _ => Actual::Reference(None, StaticReference::Empty),
-    }
-}
-
-/// What a local reference or a static holds.
-fn held_by(shared: &Shared<'_>, variables: &Variables<'_>, name: &Name) -> StaticReference
-    ensures { held_view result ≡ held_reference (lookup name.now (variables_view variables.now)) (lookup name.now shared.now.statics) }
-{
-    match variables.content_of(name) {
-        None => match shared.statics.held(name) {
-            Some(held) => as_argument(held),
-            None => StaticReference::Empty,
-        },
-        Some(content) => match content {
-            Content::Reference {
-                object: Some(object),
-                ..
-            } => StaticReference::Live(*object),
-            Content::Reference { object: None, .. } | Content::Number(_) => StaticReference::Empty,
-            Content::Field(_) | Content::Array(_, _) => StaticReference::Empty,
-            Content::Buffer(_) | Content::Copy { .. } => StaticReference::Empty,
-            Content::View { .. } => StaticReference::Empty,
-        },
     }
 }
 

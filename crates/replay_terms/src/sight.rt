@@ -4,14 +4,14 @@ ghost use Rattle.std.specs.Prelude.{◌≡◌, [], IsTrue, false, length, slice_
 ghost use Rattle.std.specs.Option.{option_map};
 ghost use Rattle.base.specs.Bytes.{lookup};
 ghost use Rattle.semantics.specs.Heap.{Heap, numbers_of};
-ghost use Rattle.semantics.specs.Sight.{scalar, seen, elements_of, in_range, variable_is_null, holds_null};
+ghost use Rattle.semantics.specs.Sight.{scalar, seen, elements_of, held_reference, in_range, variable_is_null, holds_null};
 ghost use Rattle.semantics.specs.Term.{IsNull, done, index_of, element_value, reduce};
 ghost use Rattle.semantics.specs.Value.{outcome_map, outcome_then, Int, Truth};
 ghost use Rattle.semantics.specs.Variable.{Statics};
 ghost use Rattle.semantics.specs.Views.{IsWithin};
-ghost use Rattle.replay_terms.specs.Views.{value_view, evaluated_view, indexed_view, content_view, variables_view, if_there, negated, place_in, shown_numbers};
+ghost use Rattle.replay_terms.specs.Views.{value_view, evaluated_view, indexed_view, content_view, held_view, variables_view, if_there, negated, place_in, shown_numbers};
 
-use crate::statics::{Statics, is_empty};
+use crate::statics::{StaticReference, Statics, as_argument, is_empty};
 use crate::value::{Evaluated, Value, truth};
 use crate::variable::{Content, Variables, held_number};
 use semantics::{ObjectId, Objects, Trap};
@@ -31,6 +31,32 @@ pub fn number_in(variables: &Variables<'_>, name: &Name) -> Evaluated
             | Content::Copy { .. }
             | Content::View { .. }
             | Content::Array(_, _) => Evaluated::Stuck,
+        },
+    }
+}
+
+/// What a local reference or a static is as an argument.
+pub fn held_reference(
+    statics: &Statics<'_>,
+    variables: &Variables<'_>,
+    name: &Name,
+) -> StaticReference
+    ensures { held_view result ≡ held_reference (lookup name.now (variables_view variables.now)) (lookup name.now statics.now) }
+{
+    match variables.content_of(name) {
+        None => match statics.held(name) {
+            Some(held) => as_argument(held),
+            None => StaticReference::Empty,
+        },
+        Some(content) => match content {
+            Content::Reference {
+                object: Some(object),
+                ..
+            } => StaticReference::Live(*object),
+            Content::Reference { object: None, .. } | Content::Number(_) => StaticReference::Empty,
+            Content::Field(_) | Content::Array(_, _) => StaticReference::Empty,
+            Content::Buffer(_) | Content::Copy { .. } => StaticReference::Empty,
+            Content::View { .. } => StaticReference::Empty,
         },
     }
 }

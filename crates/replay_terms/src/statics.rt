@@ -8,8 +8,8 @@ ghost use Rattle.semantics.specs.Reachable.{is_in};
 ghost use Rattle.semantics.specs.Sight.{static_is_null};
 ghost use Rattle.semantics.specs.Start.{null_statics};
 ghost use Rattle.semantics.specs.Value.{Gives};
-ghost use Rattle.semantics.specs.Variable.{as_argument, assign};
-ghost use Rattle.semantics.specs.Views.{names_of};
+ghost use Rattle.semantics.specs.Variable.{as_argument, as_reference, assign};
+ghost use Rattle.semantics.specs.Views.{name_of, names_of};
 ghost use Rattle.semantics.specs.WeakReferences.{cleared, cleared_statics, weakly_held};
 ghost use Rattle.replay_terms.specs.Views.{assign_all, by_name, held_view, statics_view};
 
@@ -52,7 +52,7 @@ pub(crate) fn is_empty(held: StaticReference) -> bool
 }
 
 /// What an argument is that a static holds: of a weak reference its object, and NULL where it was cleared.
-pub fn as_argument(held: StaticReference) -> StaticReference
+pub(crate) fn as_argument(held: StaticReference) -> StaticReference
     ensures { held_view result ≡ as_argument (held_view held) }
 {
     match held {
@@ -61,6 +61,17 @@ pub fn as_argument(held: StaticReference) -> StaticReference
         StaticReference::Empty => held,
         StaticReference::Live(_) => held,
         StaticReference::Deleted => held,
+    }
+}
+
+/// The object that what is held is, if it is one.
+pub fn as_reference(held: StaticReference) -> Option<ObjectId>
+    ensures { name_of result ≡ as_reference (held_view held) }
+{
+    match held {
+        StaticReference::Live(name) => Some(name),
+        StaticReference::Empty | StaticReference::Weakly(_) => None,
+        StaticReference::Cleared | StaticReference::Deleted => None,
     }
 }
 
