@@ -7,7 +7,6 @@ use Rattle.syntax.specs.declared.stmt.Stmt.{Stmt}
 use Rattle.syntax.specs.Tree.{SourceUnit}
 use Rattle.syntax.specs.Views.{expr_tree, block_tree}
 use Rattle.class_rules.specs.Class.{Classes}
-use Rattle.semantics.specs.CallEffects.{NoResult}
 use Rattle.semantics.specs.Return.{return_step}
 use Rattle.semantics.specs.Heap.{Heap}
 use Rattle.semantics.specs.Task.{Task, Loop, tasks_of}
@@ -17,6 +16,7 @@ use Rattle.semantics.specs.Thread as thread
 use Rattle.semantics.specs.ThreadStep.{step_within, with_tasks}
 use Rattle.replay_steps.specs.declared.activation.Outer.{Outer}
 use Rattle.replay_steps.specs.declared.activation.Work.{Work}
+use Rattle.replay_tasks.specs.declared.outcome.CallResult.{CallResult}
 use Rattle.replay_tasks.specs.declared.outcome.End.{End}
 use Rattle.replay_tasks.specs.declared.outcome.End.TheVariants as end
 use Rattle.replay_tasks.specs.declared.outcome.Outcome.{Outcome}
@@ -26,7 +26,7 @@ use Rattle.semantics.specs.Variable.{Statics}
 use Rattle.replay_terms.specs.declared.term.Term.TheVariants as term
 use Rattle.replay_terms.specs.declared.value.Value.TheVariants as value
 use Rattle.replay_steps.specs.Activations.{tasks_from, tasks_around, tasks_after, tasks_left, thread_in, advance_by, Advances, HasBegun, AreSet, BegunInRange, OuterInRange, IsInRange}
-use Rattle.replay_tasks.specs.Outcomes.{variable_step, Holds, LeavesVariables, LeavesIf}
+use Rattle.replay_tasks.specs.Outcomes.{result_view, variable_step, Holds, LeavesVariables, LeavesIf}
 use Rattle.replay_steps.specs.Steps.{Scene, Sees, Does, in_scene, left_by}
 use Rattle.replay_tasks.specs.Tasks.{branch_task, task_view, end_view, statements_in, tasks_of_statements, EndInRange, StatementsInRange, TaskInRange, OutcomeInRange}
 use Rattle.replay_tasks.proofs.EffectLemmas.{block_tasks}
@@ -155,7 +155,7 @@ module _ (refused : Bool) (before between : Scene) (statics : Statics) (heap : H
       by_outcome (outcome.Makes T x n) none t = none between.shared (with_tasks (within t) rest) (holds t rest)
       by_outcome (outcome.Enters block e) none t = absurd (let bad = none between.shared (with_tasks (within t) rest) (holds t rest) in cc)
       by_outcome outcome.Ends none t = absurd (let bad = none between.shared (with_tasks (within t) rest) (holds t rest) in cc)
-      by_outcome outcome.Returned none t = absurd (let bad = none between.shared (with_tasks (within t) rest) (holds t rest) in cc)
+      by_outcome (outcome.Returned given) none t = absurd (let bad = none between.shared (with_tasks (within t) rest) (holds t rest) in cc)
       by_outcome (outcome.Trapped trap line) none t = absurd (let bad = none between.shared (with_tasks (within t) rest) (holds t rest) in cc)
       by_outcome outcome.Impossible none t = refl
 
@@ -174,9 +174,9 @@ module _ (refused : Bool) (before between : Scene) (statics : Statics) (heap : H
     set took leaves same = leaves between.shared (with_tasks (within t) rest) (holds t rest) ∙ tasks_are Quiet rest same
 
     -- a step that leaves the call does not change the statics or the objects
-    returned : OnVariables outcome.Returned → (u : Thread) → return_step before.thread between.shared u NoResult ≡ return_step before.thread shared' u NoResult
-    returned leaves u =
-        ap (λ (s' : Shared). return_step before.thread s' u NoResult) (ap (shared_of between.shared) (leaves between.shared (with_tasks (within t) rest) (holds t rest)))
+    returned : (given : CallResult) → OnVariables (outcome.Returned given) → (u : Thread) → return_step before.thread between.shared u (result_view given) ≡ return_step before.thread shared' u (result_view given)
+    returned given leaves u =
+        ap (λ (s' : Shared). return_step before.thread s' u (result_view given)) (ap (shared_of between.shared) (leaves between.shared (with_tasks (within t) rest) (holds t rest)))
 
     left_with : (o : Option TaskInMemory) → new.task ≡ o → new.rest ≡ old.rest → new.outer.items ≡ old.outer.items → tasks_left new ≡ tasks_from o rest
     left_with o task' rest' outer' = left_is new o old.rest old.outer.items task' rest' outer'
@@ -203,7 +203,7 @@ module _ (refused : Bool) (before between : Scene) (statics : Statics) (heap : H
     left_in (outcome.Makes T x n) leaves a = set (outcome.Makes T x n) leaves (left_with None a.task a.rest a.outer)
     left_in (outcome.Enters block e) leaves a = left_alone Quiet ((tasks_of_statements (statements_in block) ++ end_view e ∷ []) ++ rest) leaves (entered (statements_in block) e a.task a.rest a.outer)
     left_in outcome.Ends leaves a = left_alone Quiet rest leaves (left_with None a.task a.rest a.outer)
-    left_in outcome.Returned leaves a = returned leaves (within t)
+    left_in (outcome.Returned given) leaves a = returned given leaves (within t)
     left_in (outcome.Trapped trap line) leaves a = left_alone (Trapped (trap_view trap) line) (task_view left ∷ rest) leaves (left_with (Some left) a.task a.rest a.outer)
     left_in outcome.Impossible leaves a = refl
 
@@ -240,7 +240,7 @@ module _ (begun new : Work) (after : TaskInMemory) (known : IsInRange begun) (kn
       let o : Outer = record { end = e; rest = begun.rest } in
       built None (statements_in block) (begun.outer.items ++ o ∷ []) a.task a.rest a.outer tt (entered_in_range block h.0) (outer_joined begun.outer.items o known.outer h.1 known.rest)
   range_after outcome.Ends h a = built None begun.rest begun.outer.items a.task a.rest a.outer tt known.rest known.outer
-  range_after outcome.Returned h a = built (Some after) begun.rest begun.outer.items a.task a.rest a.outer known_after known.rest known.outer
+  range_after (outcome.Returned given) h a = built (Some after) begun.rest begun.outer.items a.task a.rest a.outer known_after known.rest known.outer
   range_after (outcome.Trapped trap line) h a = built (Some after) begun.rest begun.outer.items a.task a.rest a.outer known_after known.rest known.outer
   range_after outcome.Impossible h a = built (Some after) begun.rest begun.outer.items a.task a.rest a.outer known_after known.rest known.outer
 

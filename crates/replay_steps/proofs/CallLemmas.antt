@@ -301,7 +301,7 @@ as_it_is t vs frames pending held framed is =
     ∙ ap (λ (r : Reference). let u : Thread = record t { variables = vs; frames = frames; pending = r } in u) is
 
 -- the result goes into the current frame
-in_received : (kind : ResultKind) (g : Given) (t : Thread) (vs : Variables) (frames : List Frame) (pending : Reference) → received kind (given_view g) (in_locals t vs frames pending) ≡ in_locals t vs (frames_with kind (given_view g) frames) pending
+pub in_received : (kind : ResultKind) (g : Given) (t : Thread) (vs : Variables) (frames : List Frame) (pending : Reference) → received kind (given_view g) (in_locals t vs frames pending) ≡ in_locals t vs (frames_with kind (given_view g) frames) pending
 in_received NewLocal given.Nothing t vs frames pending = refl
 in_received NewLocal given.Null t vs frames pending = refl
 in_received NewLocal (given.Number z) t vs frames pending = refl

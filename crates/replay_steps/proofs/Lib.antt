@@ -4,3 +4,4 @@ mod CallLemmas
 mod Invocations
 mod ActivationLemmas
 mod WaitLemmas
+mod CallerLemmas

@@ -1,9 +1,7 @@
 -- A task that is no call does to a thread what its effect does.
 use Rattle.std.proofs.Common.{◌≡◌, ℕ, Bool, true, false, List, ◌∷◌, Option, Some, refl, sym, ap, ◌∙◌}
 use Rattle.std.specs.Prelude.{if◌then◌else◌}
-use Rattle.semantics.specs.CallEffects.{CallResult, NoResult}
-use Rattle.semantics.specs.Effect.{Effect, Returns, effect_of}
-use Rattle.semantics.specs.Return.{return_by}
+use Rattle.semantics.specs.Effect.{effect_of}
 use Rattle.semantics.specs.Sight.{Sight}
 use Rattle.semantics.specs.Task.{Task}
 use Rattle.semantics.specs.Object.{Reference}
@@ -13,17 +11,12 @@ use Rattle.semantics.specs.Variable.{Variables}
 use Rattle.replay_tasks.specs.declared.outcome.Outcome.{Outcome}
 use Rattle.replay_tasks.specs.declared.outcome.Outcome.TheVariants as outcome
 use Rattle.replay_tasks.specs.declared.task.Task.{Task as TaskInMemory}
-use Rattle.replay_tasks.specs.Effects.{effect_by, HasEffect, IsReturns}
+use Rattle.replay_tasks.specs.Effects.{effect_by, HasEffect}
 use Rattle.replay_steps.specs.Steps.{Scene, Sees, in_scene, left_by, Does}
 use Rattle.replay_tasks.specs.Tasks.{task_view}
 use Rattle.replay_arguments.specs.Shares.{sight_in}
 use Rattle.semantics.specs.EventViews.{trap_view}
 use Rattle.replay_terms.specs.Views.{variables_view}
-
--- what the result of a return is
-returns_given : (e : Effect) → IsReturns e → (given : CallResult) × (e ≡ Returns given)
-returns_given (Returns given) h = (given, refl)
-returns_given e h = absurd h
 
 -- what a thread can see, where it is so
 pub sees_so : (scene : Scene) (t : Thread) → Sees scene t → sight_of scene.shared t ≡ sight_in scene.shared scene.variables
@@ -65,16 +58,6 @@ module _ (scene : Scene) (old new : TaskInMemory) where
       ∙ left t rest has
       ∙ unchanged t rest took sees
 
-  -- a return, whatever its result is, since the thread has no callers
-  by_return : IsReturns (effect_of sight (task_view old)) → Does false scene old outcome.Returned scene new
-  by_return h = λ unit t rest sees has.
-      let is = returns_given (effect_of sight (task_view old)) h in
-      ap (λ (view : Sight). after_effect scene.classes in_use k shared t rest (effect_of view (task_view old))) (sees_so scene t sees)
-      ∙ ap (after_effect scene.classes in_use k shared t rest) is.1
-      ∙ ap (return_by k shared t is.0) sees.alone
-      ∙ sym (ap (return_by k shared t NoResult) sees.alone)
-      ∙ unchanged t rest outcome.Returned sees
-
   -- a task does what its effect does
   pub does : (took : Outcome) → HasEffect sight old took new → Does false scene old took scene new
   does outcome.Stays h = by_effect outcome.Stays h (λ t rest has. refl)
@@ -88,7 +71,7 @@ module _ (scene : Scene) (old new : TaskInMemory) where
   does (outcome.Makes T x n) h = by_effect (outcome.Makes T x n) h (λ t rest has. refl)
   does (outcome.Enters block e) h = by_effect (outcome.Enters block e) h (λ t rest has. refl)
   does outcome.Ends h = by_effect outcome.Ends h (λ t rest has. refl)
-  does outcome.Returned h = by_return h
+  does (outcome.Returned given) h = by_effect (outcome.Returned given) h (λ t rest has. refl)
   does (outcome.Trapped trap line) h = by_effect (outcome.Trapped trap line) h.0 (λ t rest has.
       ap (λ (u : Thread). Advances shared u (Trapped (trap_view trap) line)) (same_thread t (task_view old ∷ rest) has)
       ∙ ap (λ (u : Task). Advances shared (with_tasks t (u ∷ rest)) (Trapped (trap_view trap) line)) (sym h.1))
@@ -100,11 +83,6 @@ module _ (scene : Scene) (old new : TaskInMemory) where
       ap (λ (view : Sight). after_refused_effect scene.classes in_use k shared t rest (effect_of view (task_view old))) (sees_so scene t sees)
       ∙ ap (after_refused_effect scene.classes in_use k shared t rest) h
       ∙ none t rest
-
-  return_without : IsReturns (effect_of sight (task_view old)) → Does true scene old outcome.Impossible scene new
-  return_without h = λ unit t rest sees has.
-      ap (λ (view : Sight). after_refused_effect scene.classes in_use k shared t rest (effect_of view (task_view old))) (sees_so scene t sees)
-      ∙ ap (after_refused_effect scene.classes in_use k shared t rest) (returns_given (effect_of sight (task_view old)) h).1
 
   -- a task that is no call has no object that can be refused
   pub does_without : (took : Outcome) → HasEffect sight old took new → Does true scene old outcome.Impossible scene new
@@ -119,7 +97,7 @@ module _ (scene : Scene) (old new : TaskInMemory) where
   does_without (outcome.Makes T x n) h = by_refusal (outcome.Makes T x n) h (λ t rest. refl)
   does_without (outcome.Enters block e) h = by_refusal (outcome.Enters block e) h (λ t rest. refl)
   does_without outcome.Ends h = by_refusal outcome.Ends h (λ t rest. refl)
-  does_without outcome.Returned h = return_without h
+  does_without (outcome.Returned given) h = by_refusal (outcome.Returned given) h (λ t rest. refl)
   does_without (outcome.Trapped trap line) h = by_refusal (outcome.Trapped trap line) h.0 (λ t rest. refl)
   does_without outcome.Impossible h = by_refusal outcome.Impossible h (λ t rest. refl)
 

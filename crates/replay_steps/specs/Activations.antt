@@ -5,7 +5,6 @@ use Rattle.syntax.specs.declared.stmt.Block.{Block as BlockInMemory}
 use Rattle.syntax.specs.declared.stmt.Stmt.{Stmt as StmtInMemory}
 use Rattle.syntax.specs.Tree.{SourceUnit}
 use Rattle.syntax.specs.Views.{expr_tree, block_tree, stmt_tree}
-use Rattle.semantics.specs.CallEffects.{NoResult}
 use Rattle.semantics.specs.Return.{return_step}
 use Rattle.semantics.specs.Heap.{Heap}
 use Rattle.semantics.specs.Task.{Task, Loop, task_of}
@@ -23,7 +22,7 @@ use Rattle.replay_tasks.specs.declared.outcome.Outcome.{Outcome}
 use Rattle.replay_tasks.specs.declared.outcome.Outcome.TheVariants as outcome
 use Rattle.replay_tasks.specs.declared.task.Task.{Task as TaskInMemory}
 use Rattle.replay_steps.specs.Steps.{Scene, in_scene, scene_at, Sees, Does}
-use Rattle.replay_tasks.specs.Outcomes.{variable_step, LeavesVariables, LeavesIf}
+use Rattle.replay_tasks.specs.Outcomes.{result_view, variable_step, LeavesVariables, LeavesIf}
 use Rattle.replay_tasks.specs.Tasks.{branch_task, task_view, end_view, statements_in, tasks_of_statements, StatementsInRange, TaskInRange, EndInRange}
 use Rattle.replay_terms.specs.declared.term.Term.TheVariants as term
 use Rattle.replay_terms.specs.declared.value.Value.TheVariants as value
@@ -76,7 +75,7 @@ thread_in t tasks scene = with_tasks (in_scene t scene) tasks
 -- what a step leaves, where this is what thread k is then
 abbrev pub advance_by : (k : ℕ) → Shared → Thread → Outcome → Advance
 advance_by k s t (outcome.Printed z) = thread.Advances s t (PrintedNumber z)
-advance_by k s t outcome.Returned = return_step k s t NoResult
+advance_by k s t (outcome.Returned given) = return_step k s t (result_view given)
 advance_by k s t (outcome.Trapped trap line) = thread.Advances s t (Trapped (trap_view trap) line)
 advance_by k s t outcome.Impossible = NoAdvance
 advance_by k s t took = thread.Advances s t Quiet
@@ -113,7 +112,7 @@ pub record HasTurned (line : ℕ) (test : ExprInMemory) (body : BlockInMemory) (
 -- the task that is begun, after a step
 abbrev pub task_after : Option TaskInMemory → Outcome → Option TaskInMemory
 task_after task outcome.Stays = task
-task_after task outcome.Returned = task
+task_after task (outcome.Returned given) = task
 task_after task (outcome.Trapped trap line) = task
 task_after task outcome.Impossible = task
 task_after task (outcome.Tests line zero b other) = Some (branch_task line (term.Done (value.Truth zero)) b other)

@@ -1,4 +1,5 @@
 pub mod Steps
 pub mod Calls
 pub mod Activations
+pub mod Callers
 pub mod Waits

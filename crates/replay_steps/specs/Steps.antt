@@ -3,7 +3,6 @@ use Rattle.std.specs.Prelude.{◌≡◌, ℕ, Bool, List, [], ◌∷◌, ◌++�
 use Rattle.syntax.specs.Tree.{SourceUnit}
 use Rattle.syntax.specs.Views.{block_tree}
 use Rattle.class_rules.specs.Class.{Classes}
-use Rattle.semantics.specs.CallEffects.{NoResult}
 use Rattle.semantics.specs.Return.{return_step}
 use Rattle.semantics.specs.Object.{Reference}
 use Rattle.semantics.specs.Task.{Task, Branch}
@@ -19,7 +18,7 @@ use Rattle.replay_terms.specs.Views.{in_use_view}
 use Rattle.replay_tasks.specs.declared.outcome.Outcome.{Outcome}
 use Rattle.replay_tasks.specs.declared.outcome.Outcome.TheVariants as outcome
 use Rattle.replay_tasks.specs.declared.task.Task.{Task as TaskInMemory}
-use Rattle.replay_tasks.specs.Outcomes.{else_tree, variable_step}
+use Rattle.replay_tasks.specs.Outcomes.{else_tree, result_view, variable_step}
 use Rattle.replay_tasks.specs.Tasks.{task_view, end_view, statements_in, tasks_of_statements}
 use Rattle.semantics.specs.EventViews.{trap_view}
 use Rattle.semantics.specs.Views.{name_of}
@@ -57,12 +56,11 @@ scene_of turn s locals pending =
 abbrev pub scene_at : Turn → SharedInMemory → Locals → Option ObjectId → Scene
 scene_at turn shared locals pending = scene_of turn (shared_view shared) locals pending
 
--- a thread has these variables, these frames and this pending exception, and no callers
+-- a thread has these variables, these frames and this pending exception
 pub record Sees (scene : Scene) (t : Thread) : Type 0 where
   pub variables : t.variables ≡ variables_view scene.variables
   pub frames : t.frames ≡ scene.frames
   pub pending : t.pending ≡ scene.pending
-  pub alone : t.callers ≡ []
 
 -- a thread so that it has them
 abbrev pub in_scene : Thread → Scene → Thread
@@ -78,7 +76,7 @@ left_by k s t rest (outcome.Enters block e) new = Advances s
 left_by k s t rest outcome.Ends new = Advances s (with_tasks t rest) Quiet
 left_by k s t rest (outcome.Tests line zero b other) new = Advances s
     (with_tasks t (Branch line (Done (Truth zero)) (block_tree b.now) (else_tree line other) ∷ rest)) Quiet
-left_by k s t rest outcome.Returned new = return_step k s t NoResult
+left_by k s t rest (outcome.Returned given) new = return_step k s t (result_view given)
 left_by k s t rest (outcome.Trapped trap line) new = Advances s
     (with_tasks t (task_view new ∷ rest)) (Trapped (trap_view trap) line)
 left_by k s t rest outcome.Impossible new = NoAdvance

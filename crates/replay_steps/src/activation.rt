@@ -63,7 +63,7 @@ impl Drop for Activation<'_> {
 }
 
 /// Puts a task in the place of the one that is begun.
-fn put_task<'a>(place: &mut Option<Task<'a>>, task: Option<Task<'a>>)
+pub(crate) fn put_task<'a>(place: &mut Option<Task<'a>>, task: Option<Task<'a>>)
     ensures { place.new ≡ task.entry }
 {
     drop(mem::replace(place, task));
@@ -103,7 +103,7 @@ fn begin_first<'a>(alloc: Global, work: &mut Work<'a>) -> Result<(), AllocError>
 
 /// Begins the block's next statement, where none is begun.
 #[inline(always)]
-fn begin<'a>(alloc: Global, work: &mut Work<'a>) -> Result<(), AllocError>
+pub(crate) fn begin<'a>(alloc: Global, work: &mut Work<'a>) -> Result<(), AllocError>
     requires { IsInRange work.old }
     ensures tasks { IfOk result (λ _. tasks_left work.new ≡ tasks_left work.old) }
     ensures range { IfOk result (λ _. IsInRange work.new) }
@@ -214,7 +214,7 @@ fn set_tasks<'a>(work: &mut Work<'a>, outcome: Outcome<'a>) -> Result<(), AllocE
     ensures { IfOk result (λ _. AreSet work.old outcome.entry work.new) }
 {
     match outcome {
-        Outcome::Stays | Outcome::Returned | Outcome::Trapped { .. } | Outcome::Impossible => {}
+        Outcome::Stays | Outcome::Returned(_) | Outcome::Trapped { .. } | Outcome::Impossible => {}
         Outcome::Enters(block, end) => enter_block(work, block, end)?,
         Outcome::Printed(_) | Outcome::Sets(_, _) | Outcome::SetsNull(_) => {
             put_task(&mut work.task, None);

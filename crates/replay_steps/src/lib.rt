@@ -2,9 +2,11 @@
 #![tactic(auto)]
 
 mod activation;
+mod callers;
 mod invoke;
 mod step;
 mod wait;
 
 pub use activation::{Activation, Outer, Work, advance, work_of};
+pub use callers::resume;
 pub use wait::waits;

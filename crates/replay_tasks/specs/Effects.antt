@@ -9,7 +9,7 @@ use Rattle.replay_terms.specs.declared.reduction.Reduction.{Reduction as Reducti
 use Rattle.replay_terms.specs.declared.reduction.Reduction.TheVariants as reduction
 use Rattle.replay_tasks.specs.declared.task.Task.{Task as TaskInMemory}
 use Rattle.replay_tasks.specs.declared.task.Task.TheVariants as task
-use Rattle.replay_tasks.specs.Outcomes.{target_view}
+use Rattle.replay_tasks.specs.Outcomes.{result_view, target_view}
 use Rattle.replay_tasks.specs.Tasks.{task_view, end_view, statements_in, tasks_of_statements}
 use Rattle.semantics.specs.EventViews.{trap_view}
 use Rattle.replay_terms.specs.Views.{value_view}
@@ -33,7 +33,7 @@ effect_by (outcome.SetsElement x i z) new = SetsElement x.now i z
 effect_by (outcome.Makes T x n) new = MakesArray (element_value T) x.now n
 effect_by (outcome.Enters block e) new = Becomes (tasks_of_statements (statements_in block) ++ end_view e ∷ [])
 effect_by outcome.Ends new = Becomes []
-effect_by outcome.Returned new = NoEffect
+effect_by (outcome.Returned given) new = Returns (result_view given)
 effect_by (outcome.Trapped trap line) new = TrapsAt (trap_view trap) line
 effect_by outcome.Impossible new = NoEffect
 
@@ -55,16 +55,10 @@ IsEvaluation (task.Print e) = Unit {0}
 IsEvaluation (task.ReturnValue e) = Unit {0}
 IsEvaluation t = ⊥
 
--- a call ends with some result
-abbrev pub IsReturns : Effect → Type 0
-IsReturns (Returns given) = Unit {0}
-IsReturns e = ⊥
-
 -- where this can be seen, what a step in memory did is the effect of the task, which is no call
 abbrev pub HasEffect : Sight → TaskInMemory → Outcome → TaskInMemory → Type 0
 HasEffect sight old (outcome.Gives to g) new = ⊥
 HasEffect sight old (outcome.Lends to b) new = ⊥
 HasEffect sight old (outcome.Tests line zero b other) new = ⊥
-HasEffect sight old outcome.Returned new = IsReturns (effect_of sight (task_view old))
 HasEffect sight old (outcome.Trapped trap line) new = (effect_of sight (task_view old) ≡ TrapsAt (trap_view trap) line) × (task_view new ≡ task_view old)
 HasEffect sight old took new = effect_of sight (task_view old) ≡ effect_by took new

@@ -6,13 +6,16 @@ use Rattle.syntax.specs.declared.stmt.Block.{Block as BlockInMemory}
 use Rattle.syntax.specs.Tree.{Block, End}
 use Rattle.syntax.specs.Views.{block_tree}
 use Rattle.base.specs.Element.{ElementType, element_value}
-use Rattle.semantics.specs.CallEffects.{BufferResult, NullResult}
+use Rattle.semantics.specs.CallEffects.{CallResult, NoResult, BufferResult, NullResult, ReferenceResult, ScalarResult}
 use Rattle.semantics.specs.CallStep.{put, is_zero}
 use Rattle.semantics.specs.Heap.{Heap}
 use Rattle.semantics.specs.Task.{VariableKind, ScalarKind, ReferenceKind, FieldKind, BufferKind, Target, Declared, Assigned, Tested, Dropped}
 use Rattle.semantics.specs.Thread.{Thread, Shared, Quiet, Advance, Advances, NoAdvance}
 use Rattle.semantics.specs.ThreadStep.{set_variable, set_element}
+use Rattle.semantics.specs.Views.{name_of}
 use Rattle.semantics.specs.Variable.{Variable, Scalar, Elements, LocalArray, Statics}
+use Rattle.replay_tasks.specs.declared.outcome.CallResult.{CallResult as ResultInMemory}
+use Rattle.replay_tasks.specs.declared.outcome.CallResult.TheVariants as result
 use Rattle.replay_tasks.specs.declared.outcome.Outcome.{Outcome}
 use Rattle.replay_tasks.specs.declared.outcome.Outcome.TheVariants as outcome
 use Rattle.replay_tasks.specs.declared.outcome.Target.{Target as TargetInMemory}
@@ -34,6 +37,12 @@ abbrev pub target_view : TargetInMemory → Target
 target_view (target.Declared kind x) = Declared (kind_view kind) x.now
 target_view (target.Assigned x) = Assigned x.now
 target_view target.Dropped = Dropped
+
+-- what a call gives that returns
+abbrev pub result_view : ResultInMemory → CallResult
+result_view result.Nothing = NoResult
+result_view (result.Number v) = ScalarResult (value_view v)
+result_view (result.Reference r) = ReferenceResult (name_of r)
 
 -- the block of an `else`, which may be missing in an `if` of this line
 abbrev pub else_tree : ℕ → Option (Bor BlockInMemory) → Block

@@ -8,8 +8,8 @@ mod statements;
 mod step;
 mod task;
 
-pub use outcome::{End, Outcome, Purpose, Target, VariableKind};
-pub use put::set_variables;
+pub use outcome::{CallResult, End, Outcome, Purpose, Target, VariableKind};
+pub use put::{put_given, set_variables};
 pub use statements::Statements;
 pub use step::{plain_step, reduced};
 pub use task::{

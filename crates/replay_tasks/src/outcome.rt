@@ -6,7 +6,7 @@ ghost use Rattle.semantics.specs.Task.{kind_of};
 ghost use Rattle.replay_tasks.specs.Outcomes.{kind_view};
 
 use replay_terms::{Given, Lent, Value};
-use semantics::Trap;
+use semantics::{ObjectId, Trap};
 use syntax::{Block, ElementType, Expr, Name, VariableType};
 
 /// What a declaration makes.
@@ -50,6 +50,15 @@ pub enum End<'a> {
     },
 }
 
+/// What a call gives that returns.
+#[derive(Clone, Copy)]
+pub enum CallResult {
+    Nothing,
+    Number(Value),
+    /// NULL or an object, by its name.
+    Reference(Option<ObjectId>),
+}
+
 /// What a step of a task did.
 #[derive(Clone, Copy)]
 pub enum Outcome<'a> {
@@ -88,8 +97,8 @@ pub enum Outcome<'a> {
     Enters(Option<&'a Block>, End<'a>),
     /// It is over: a way of an `if` has ended, or a loop.
     Ends,
-    /// The call is over.
-    Returned,
+    /// The call is over, and gives this.
+    Returned(CallResult),
     /// The machine stops, by a statement of this line.
     Trapped {
         trap: Trap,

@@ -91,7 +91,7 @@ fn declare<'a>(
 
 /// Puts what a call gave, or NULL, where it belongs.
 #[tactic(auto, using(crate::proofs::PutLemmas::put_rules))]
-fn put<'a>(
+pub fn put_given<'a>(
     statics: &mut Statics<'a>,
     frames: usize,
     variables: &mut Variables<'a>,
@@ -258,8 +258,8 @@ pub fn set_variables<'a>(
 {
     match outcome {
         Outcome::Sets(name, value) => variables.set(name, Content::Number(value))?,
-        Outcome::SetsNull(target) => put(statics, frames, variables, target, Given::Null)?,
-        Outcome::Gives(target, given) => put(statics, frames, variables, target, given)?,
+        Outcome::SetsNull(target) => put_given(statics, frames, variables, target, Given::Null)?,
+        Outcome::Gives(target, given) => put_given(statics, frames, variables, target, given)?,
         Outcome::Lends(target, buffer) => {
             lend(alloc, store, statics, frames, variables, target, buffer)?;
         }
@@ -277,7 +277,7 @@ pub fn set_variables<'a>(
         }
         Outcome::Stays | Outcome::Printed(_) | Outcome::Enters(_, _) | Outcome::Ends => {}
         Outcome::Tests { .. } => {}
-        Outcome::Returned | Outcome::Trapped { .. } | Outcome::Impossible => {}
+        Outcome::Returned(_) | Outcome::Trapped { .. } | Outcome::Impossible => {}
     }
     Ok(true)
 }

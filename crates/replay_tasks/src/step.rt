@@ -10,11 +10,11 @@ ghost use Rattle.replay_tasks.specs.Effects.{HasEffect, HasWays, IsAssignment, I
 ghost use Rattle.replay_tasks.specs.Tasks.{element_task, ExprInRange, BlockInRange, ElseInRange, TaskInRange, OutcomeInRange, IsPlain};
 ghost use Rattle.replay_terms.specs.Views.{NumbersInRange, variables_view};
 
-use crate::outcome::{End, Outcome};
+use crate::outcome::{CallResult, End, Outcome};
 use crate::task::{Assignment, Choice, ElementAssignment, Evaluation, Iteration, Task};
 use replay_terms::{
-    Evaluated, Indexed, Reduction, Statics, Term, Value, Variables, constant, number_in, place_in,
-    put_term, reduce,
+    Evaluated, Indexed, Reduction, Statics, Term, Value, Variables, as_reference, constant,
+    held_reference, number_in, place_in, put_term, reduce,
 };
 use semantics::Objects;
 use syntax::Name;
@@ -218,20 +218,25 @@ fn return_value<'a, O: Objects>(
     ensures range { OutcomeInRange result }
 {
     match &mut e.term {
-        Term::Done(_) => Outcome::Returned,
+        Term::Done(value) => Outcome::Returned(CallResult::Number(*value)),
         Term::Named(c) => match constant(*c) {
             Evaluated::Gives(value) => {
                 put_term(&mut e.term, Term::Done(value));
                 Outcome::Stays
             }
-            Evaluated::Traps(_) | Evaluated::Stuck => Outcome::Returned,
+            Evaluated::Traps(_) | Evaluated::Stuck => {
+                Outcome::Returned(CallResult::Reference(None))
+            }
         },
         Term::Read(name) => match number_in(variables, name) {
             Evaluated::Gives(value) => {
                 put_term(&mut e.term, Term::Done(value));
                 Outcome::Stays
             }
-            Evaluated::Traps(_) | Evaluated::Stuck => Outcome::Returned,
+            Evaluated::Traps(_) | Evaluated::Stuck => {
+                let held = held_reference(statics, variables, name);
+                Outcome::Returned(CallResult::Reference(as_reference(held)))
+            }
         },
         t => reduced(e.line, reduce(objects, statics, variables, t)),
     }
@@ -323,7 +328,7 @@ pub fn plain_step<'a, O: Objects>(
             len: *size,
         },
         Task::Branch(_) | Task::Loop(_) => take_way(objects, statics, variables, task),
-        Task::Return => Outcome::Returned,
+        Task::Return => Outcome::Returned(CallResult::Nothing),
         Task::Invoke(_) => unreachable!(),
     }
 }

@@ -15,11 +15,13 @@ use Rattle.semantics.specs.Object.{Reference}
 use Rattle.semantics.specs.Views.{name_of}
 use Rattle.semantics.specs.declared.object_id.ObjectId.{ObjectId}
 use Rattle.semantics.specs.Activation.{enter, entered, entry_advance, entered_function}
-use Rattle.semantics.specs.CallEffects.{NoResult}
+use Rattle.semantics.specs.CallEffects.{CallResult}
 use Rattle.semantics.specs.Return.{ending_after, monitors_after, calls_after, return_by, return_step}
 use Rattle.semantics.specs.ThreadStep.{next_effect, thread_step, step_within}
 use Rattle.replay_steps.specs.declared.activation.Activation.{Activation}
 use Rattle.replay_threads.specs.declared.thread.Thread.{Thread as ThreadInMemory}
+use Rattle.replay_tasks.specs.Outcomes.{result_view}
+use Rattle.replay_tasks.specs.declared.outcome.CallResult.{CallResult as ResultInMemory}
 use Rattle.replay_tasks.specs.declared.outcome.Outcome.TheVariants as outcome
 use Rattle.replay_steps.specs.Activations.{tasks_left, thread_in, advance_by, Advances}
 use Rattle.replay_steps.specs.Steps.{Scene, Sees, scene_with}
@@ -30,13 +32,13 @@ use Rattle.semantics.specs.declared.event.Event.{Event as EventInMemory}
 use Rattle.replay_threads.specs.Threads.{IsEntered, HasNoEntry, ThreadStands, ThreadWaits, WorkInRange, WorkStands, EndsStep, HasLeft, Leaves, StepIs, event_of, tasks_in}
 
 -- a call that didn't return goes on
-pub goes_on : (k : ℕ) (shared : Shared) (t : ThreadInMemory) (o : Outcome) (took : Option EventInMemory) → (o ≡ outcome.Returned → ⊥) → took ≡ event_of o → EndsStep k shared t o took shared t
-goes_on k shared t outcome.Returned took none is = absurd (none refl)
+pub goes_on : (k : ℕ) (shared : Shared) (t : ThreadInMemory) (o : Outcome) (took : Option EventInMemory) → ((given : ResultInMemory) → o ≡ outcome.Returned given → ⊥) → took ≡ event_of o → EndsStep k shared t o took shared t
+goes_on k shared t (outcome.Returned given) took none is = absurd (none given refl)
 goes_on k shared t o took none is = (is, refl, refl)
 
 -- what is known of it stays known
 pub ended_range : (k : ℕ) (shared last : Shared) (t : ThreadInMemory) (new : Activation) (o : Outcome) (took : Option EventInMemory) (left : ThreadInMemory) → t.activation ≡ Some new → EndsStep k shared t o took last left → WorkInRange (Some new) → WorkInRange left.activation
-ended_range k shared last t new outcome.Returned took left is e known = subst WorkInRange (sym e.1.activation) tt
+ended_range k shared last t new (outcome.Returned given) took left is e known = subst WorkInRange (sym e.1.activation) tt
 ended_range k shared last t new o took left is e known = subst (λ (u : ThreadInMemory). WorkInRange u.activation) (sym e.1) (subst WorkInRange (sym is) known)
 
 module _ (unit : SourceUnit) (classes : Classes) (in_use : BuffersInUse) (k : ℕ) where
@@ -44,11 +46,11 @@ module _ (unit : SourceUnit) (classes : Classes) (in_use : BuffersInUse) (k : �
   abbrev thread_after : Ending → List Invocation → Thread
   thread_after e calls = record { calls = calls_after e calls; callers = []; tasks = None; variables = []; frames = []; pending = None; ending = e }
 
-  left_by : (m last : Shared) (s : Thread) (e : Ending) (calls : List Invocation) (pending : Reference) → s.callers ≡ [] → s.calls ≡ calls → s.pending ≡ pending → e ≡ ending_after m.heap pending calls
-      → last ≡ record m { monitors = monitors_after e k m.monitors } → return_step k m s NoResult ≡ AdvancesTo last (thread_after e calls) Quiet
-  left_by m last s e calls pending alone is there stood given_up =
+  left_by : (m last : Shared) (s : Thread) (given : CallResult) (e : Ending) (calls : List Invocation) (pending : Reference) → s.callers ≡ [] → s.calls ≡ calls → s.pending ≡ pending → e ≡ ending_after m.heap pending calls
+      → last ≡ record m { monitors = monitors_after e k m.monitors } → return_step k m s given ≡ AdvancesTo last (thread_after e calls) Quiet
+  left_by m last s given e calls pending alone is there stood given_up =
       let same : ending_after m.heap s.pending s.calls ≡ e = ap (λ (r : Reference). ending_after m.heap r s.calls) there ∙ ap (ending_after m.heap pending) is ∙ sym stood in
-      ap (return_by k m s NoResult) alone
+      ap (return_by k m s given) alone
       ∙ ap (λ (f : Ending). let t : Thread = thread_after f s.calls in let r : Shared = record m { monitors = monitors_after f k m.monitors } in AdvancesTo r t Quiet) same
       ∙ ap (λ (r : Shared). let t : Thread = thread_after e s.calls in AdvancesTo r t Quiet) (sym given_up)
       ∙ ap (λ (cs : List Invocation). let t : Thread = thread_after e cs in AdvancesTo last t Quiet) is
@@ -80,7 +82,7 @@ module _ (unit : SourceUnit) (classes : Classes) (in_use : BuffersInUse) (k : �
     work = subst (λ (o : Option Activation). WorkStands o s) is h.work
 
     sees : Sees before s
-    sees = record { variables = work.0; frames = work.1; pending = h.pending; alone = h.alone }
+    sees = record { variables = work.0; frames = work.1; pending = h.pending }
 
     advances_so : (o : Outcome) → Advances refused before a.work o end' new.work → thread_step unit classes in_use k shared s refused ≡ advance_by k after next o
     advances_so o does = ap (step_within unit classes in_use k shared s refused) has_tasks ∙ does unit s sees has_tasks
@@ -94,7 +96,7 @@ module _ (unit : SourceUnit) (classes : Classes) (in_use : BuffersInUse) (k : �
       stands = record { calls = h.calls; alone = h.alone; loads = h.loads; tasks = refl; work = (refl, refl); pending = refl; ending = h.ending };
     }
 
-    pub goes : (o : Outcome) → (o ≡ outcome.Returned → ⊥) → Advances refused before a.work o end' new.work
+    pub goes : (o : Outcome) → ((given : ResultInMemory) → o ≡ outcome.Returned given → ⊥) → Advances refused before a.work o end' new.work
         → StepIs unit classes after stepped (event_of o) (thread_step unit classes in_use k shared s refused)
     goes outcome.Stays other does = on Quiet (advances_so outcome.Stays does)
     goes (outcome.Printed z) other does = on (PrintedNumber z) (advances_so (outcome.Printed z) does)
@@ -107,18 +109,18 @@ module _ (unit : SourceUnit) (classes : Classes) (in_use : BuffersInUse) (k : �
     goes (outcome.Makes T x n) other does = on Quiet (advances_so (outcome.Makes T x n) does)
     goes (outcome.Enters block e) other does = on Quiet (advances_so (outcome.Enters block e) does)
     goes outcome.Ends other does = on Quiet (advances_so outcome.Ends does)
-    goes outcome.Returned other does = absurd (other refl)
+    goes (outcome.Returned given) other does = absurd (other given refl)
     goes (outcome.Trapped trap line) other does = on (Trapped (trap_view trap) line) (advances_so (outcome.Trapped trap line) does)
     goes outcome.Impossible other does = advances_so outcome.Impossible does
 
     -- the call is over
-    pub returns : (last : Shared) (left : ThreadInMemory) → Advances refused before a.work outcome.Returned end' new.work → HasLeft k after stepped last left
+    pub returns : (given : ResultInMemory) (last : Shared) (left : ThreadInMemory) → Advances refused before a.work (outcome.Returned given) end' new.work → HasLeft k after stepped last left
         → Leaves unit classes last left Quiet (thread_step unit classes in_use k shared s refused)
-    returns last left does over =
+    returns given last left does over =
         let e : Ending = ending_view left.ending in
         record {
           next = thread_after e t.calls.now;
-          advances = advances_so outcome.Returned does ∙ left_by after last next e t.calls.now (name_of pending) h.alone h.calls refl over.ending over.shared;
+          advances = advances_so (outcome.Returned given) does ∙ left_by after last next (result_view given) e t.calls.now (name_of pending) h.alone h.calls refl over.ending over.shared;
           stands = record {
             calls = sym over.calls;
             alone = refl;
@@ -133,11 +135,11 @@ module _ (unit : SourceUnit) (classes : Classes) (in_use : BuffersInUse) (k : �
     -- what a step of the call did is the thread's step
     pub ended_step : (o : Outcome) (took : Option EventInMemory) (last : Shared) (left : ThreadInMemory) → EndsStep k after stepped o took last left → Advances refused before a.work o end' new.work
         → StepIs unit classes last left took (thread_step unit classes in_use k shared s refused)
-    ended_step outcome.Returned took last left e does = rw e.0 (returns last left does e.1)
+    ended_step (outcome.Returned given) took last left e does = rw e.0 (returns given last left does e.1)
     ended_step o took last left e does =
         let taken = thread_step unit classes in_use k shared s refused in
         subst (λ (x : Shared). StepIs unit classes x left took taken) (sym e.2)
-        (subst (λ (w : Option EventInMemory). StepIs unit classes after left w taken) (sym e.0) (subst (λ (u : ThreadInMemory). StepIs unit classes after u (event_of o) taken) (sym e.1) (goes o (λ r. absurd (cc)) does)))
+        (subst (λ (w : Option EventInMemory). StepIs unit classes after left w taken) (sym e.0) (subst (λ (u : ThreadInMemory). StepIs unit classes after u (event_of o) taken) (sym e.1) (goes o (λ g r. absurd (cc)) does)))
 
   -- the entry into the next call
   pub enters : (shared : Shared) (t : ThreadInMemory) (call : Invocation) (rest : List Invocation) (o : Option Activation) (s : Thread) → IsEntered unit classes call o → t.activation ≡ None → t.calls.now ≡ call ∷ rest → ThreadStands unit classes t s
@@ -196,4 +198,4 @@ module _ (classes : Classes) (k : ℕ) (shared : Shared) (t : ThreadInMemory) wh
       → ThreadWaits classes k shared t answer
   waits_as a answer is tells = λ unit s h range.
       let work : WorkStands (Some a) s = subst (λ (o : Option Activation). WorkStands o s) is h.work in
-      tells (record { copied = 0; views = 0 }) (subst WorkInRange is range) s (record { variables = work.0; frames = work.1; pending = h.pending; alone = h.alone }) (h.tasks ∙ ap tasks_in is)
+      tells (record { copied = 0; views = 0 }) (subst WorkInRange is range) s (record { variables = work.0; frames = work.1; pending = h.pending }) (h.tasks ∙ ap tasks_in is)

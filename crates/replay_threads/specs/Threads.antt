@@ -100,7 +100,7 @@ pub record HasLeft (k : ℕ) (s : Shared) (old : ThreadInMemory) (after : Shared
 
 -- what others see of what a call in progress did, which was left if it returned
 abbrev pub EndsStep : (k : ℕ) → Shared → ThreadInMemory → Outcome → Option EventInMemory → Shared → ThreadInMemory → Type 0
-EndsStep k shared old outcome.Returned took after new = (took ≡ Some event.Quiet) × HasLeft k shared old after new
+EndsStep k shared old (outcome.Returned given) took after new = (took ≡ Some event.Quiet) × HasLeft k shared old after new
 EndsStep k shared old o took after new = (took ≡ event_of o) × (new ≡ old) × (after ≡ shared)
 
 -- a thread in memory stands for one of the language

@@ -249,7 +249,7 @@ fn event_of(outcome: Outcome<'_>) -> Option<Event>
         Outcome::SetsElement { .. } => Some(Event::Quiet),
         Outcome::Tests { .. } | Outcome::Makes { .. } => Some(Event::Quiet),
         Outcome::Enters(_, _) => Some(Event::Quiet),
-        Outcome::Ends | Outcome::Returned => Some(Event::Quiet),
+        Outcome::Ends | Outcome::Returned(_) => Some(Event::Quiet),
         Outcome::Printed(z) => Some(Event::Printed(z)),
         Outcome::Trapped { trap, line } => Some(Event::Trapped { trap, line }),
         Outcome::Impossible => None,
@@ -299,7 +299,7 @@ fn end_step(
     ensures { EndsStep k (shared_view shared.old) thread.old outcome.entry result (shared_view shared.new) thread.new }
 {
     match outcome {
-        Outcome::Returned => {
+        Outcome::Returned(_) => {
             leave(shared, k, thread);
             Some(Event::Quiet)
         }

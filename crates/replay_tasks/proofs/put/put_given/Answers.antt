@@ -5,7 +5,7 @@ use Rattle.semantics.specs.Variable.{Variable, assign}
 use Rattle.replay_terms.specs.Views.{given_view, content_view, variables_view}
 use Rattle.replay_terms.proofs.VariableLemmas.{assigned_again}
 use Rattle.replay_tasks.proofs.PutLemmas.{assigned_leaves}
-use Rattle.replay_tasks.proofs.put.put.Goals as goal
+use Rattle.replay_tasks.proofs.put.put_given.Goals as goal
 
 pub returns-in-None-filled : goal.returns-in-None-filled
 returns-in-None-filled c = λ heap s t h.
