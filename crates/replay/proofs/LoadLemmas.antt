@@ -12,7 +12,7 @@ use Rattle.semantics.specs.Views.{name_of}
 use Rattle.replay_threads.specs.declared.thread.Thread.{Thread as ThreadInMemory}
 use Rattle.replay.specs.Loading.{first_line, IsWaiting, AddsWaiting, AreWaiting}
 use Rattle.replay_threads.specs.States.{AreInRange, EachInRange, ThreadsStand}
-use Rattle.replay_threads.specs.Threads.{ThreadStands, WorkInRange, WorkStands, tasks_in}
+use Rattle.replay_threads.specs.Threads.{AreCalling, CallersStand, ThreadInRange, ThreadStands, WorkInRange, WorkStands, last_first, tasks_in}
 use Rattle.semantics.specs.EventViews.{ending_view}
 use Rattle.replay_steps.specs.declared.activation.Activation.{Activation}
 
@@ -85,7 +85,7 @@ module _ (unit : SourceUnit) (classes : Classes) where
   stands_waiting : (t : ThreadInMemory) (calls : List Invocation) → IsWaiting t calls → refused_calls unit classes calls ≡ [] → ThreadStands unit classes t (waiting_thread calls)
   stands_waiting t calls h none = record {
     calls = sym h.same;
-    alone = refl;
+    callers = subst (λ (xs : List Activation). CallersStand (last_first xs) []) (sym h.alone) tt;
     loads = subst (λ (cs : List Invocation). IsTrue (list_all (call_loads unit classes) cs)) (sym h.same) (all_pass (call_loads unit classes) calls none);
     tasks = ap tasks_in (sym h.idle);
     work = subst (λ (o : Option Activation). WorkStands o (waiting_thread calls)) (sym h.idle) (refl, refl);
@@ -118,7 +118,13 @@ more_waiting items i v old new at adds before rest h =
 each_waiting : (ts : List ThreadInMemory) (threads : List (List Invocation)) → AreWaiting ts threads → EachInRange ts
 each_waiting [] threads h = tt
 each_waiting (t ∷ ts) [] h = absurd h
-each_waiting (t ∷ ts) (c ∷ cs) h = (subst WorkInRange (sym h.0.idle) tt, each_waiting ts cs h.1)
+each_waiting (t ∷ ts) (c ∷ cs) h =
+    let first : ThreadInRange t = record {
+      work = subst WorkInRange (sym h.0.idle) tt;
+      callers = subst (λ (xs : List Activation). AreCalling (last_first xs)) (sym h.0.alone) tt;
+      few = omega (arith, ap (λ (xs : List Activation). length xs) h.0.alone);
+    } in
+    (first, each_waiting ts cs h.1)
 
 pub waiting_range : (ts : List ThreadInMemory) (threads : List (List Invocation)) → AreWaiting ts threads → length ts ≤ 8 → AreInRange ts
 waiting_range ts threads h few = record { few = few; each = each_waiting ts threads h }

@@ -12,6 +12,7 @@ first_line calls = slice_get (map (λ (c : Invocation). c.line) calls) 0
 pub record IsWaiting (t : ThreadInMemory) (calls : List Invocation) : Type 0 where
   pub same : t.calls.now ≡ calls
   pub idle : t.activation ≡ None
+  pub alone : t.callers.items ≡ []
   pub calm : t.pending ≡ None
   pub unended : t.ending ≡ Unfinished
 

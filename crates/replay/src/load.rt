@@ -88,34 +88,43 @@ fn first_fault(
 }
 
 /// A thread before its first call.
-fn waiting<'a>(calls: &'a [Call]) -> Thread<'a>
+fn waiting<'a>(alloc: Global, calls: &'a [Call]) -> Thread<'a>
     ensures { IsWaiting result calls.entry.now }
 {
     Thread {
         calls,
         activation: None,
+        callers: Vec::new(alloc),
         pending: None,
         ending: Ending::Unfinished,
     }
 }
 
 /// Adds a thread before its first call.
-fn push_waiting<'a>(threads: &mut Vec<Thread<'a>>, calls: &'a [Call]) -> Result<(), AllocError>
+fn push_waiting<'a>(
+    alloc: Global,
+    threads: &mut Vec<Thread<'a>>,
+    calls: &'a [Call],
+) -> Result<(), AllocError>
     ensures { IfOk result (λ _. AddsWaiting threads.old.items calls.entry.now threads.new.items) }
 {
-    threads.push(waiting(calls))?;
+    threads.push(waiting(alloc, calls))?;
     Ok(())
 }
 
 /// Puts the threads before their first calls into an empty list.
 #[inline]
-fn add_waiting<'a>(threads: &mut Vec<Thread<'a>>, world: &'a World) -> Result<(), AllocError>
+fn add_waiting<'a>(
+    alloc: Global,
+    threads: &mut Vec<Thread<'a>>,
+    world: &'a World,
+) -> Result<(), AllocError>
     requires { threads.old.items ≡ [] }
     ensures waiting { IfOk result (λ _. AreWaiting threads.new.items world.entry.now.threads) }
     ensures few { IfOk result (λ _. length threads.new.items ≤ 8) }
 {
     for calls in world.threads() {
-        push_waiting(threads, calls)?;
+        push_waiting(alloc, threads, calls)?;
     }
     Ok(())
 }
@@ -126,7 +135,7 @@ fn waiting_threads<'a>(alloc: Global, world: &'a World) -> Result<Vec<Thread<'a>
     ensures few { IfOk result (λ threads. length threads.items ≤ 8) }
 {
     let mut threads = Vec::new(alloc);
-    add_waiting(&mut threads, world)?;
+    add_waiting(alloc, &mut threads, world)?;
     Ok(threads)
 }
 

@@ -1,7 +1,7 @@
 -- What the buffers of threads take together.
-use Rattle.std.proofs.Common.{◌≡◌, ℕ, ◌+◌, ◌<◌, List, [], ◌∷◌, length, drop, get_or, refl, sym, ap, ◌∙◌}
+use Rattle.std.proofs.Common.{◌≡◌, ℕ, ◌+◌, ◌≤◌, List, [], ◌∷◌, length, drop, refl, sym, ap, ◌∙◌}
 use Rattle.std.specs.Prelude.{sum_by, flat_map}
-use Rattle.std.proofs.lemmas.List.{drop_more, length-append}
+use Rattle.std.proofs.lemmas.List.{drop_all, length-append}
 use Rattle.std.proofs.lemmas.List.Concat.{flat_map-cons}
 use Rattle.std.proofs.lemmas.List.Sums.{sum_by-cons}
 use Rattle.base.specs.Bytes.{Identifier}
@@ -24,22 +24,28 @@ total_viewed ((x, v) ∷ vs) =
     ∙ sym (length-append (viewed v) others)
     ∙ ap (λ (l : List ℕ). length l) (sym (flat_map-cons (λ (w : Identifier × Variable). viewed w.1) (x, v) vs))
 
-module _ (ts : List Thread) where
-  -- what the threads from a place on take
+module _ {X : Type 0} (copies : X → ℕ) (views : X → List ℕ) (xs : List X) where
+  -- what those from a place on take
   abbrev pub copied_from : ℕ → ℕ
-  copied_from i = sum_by copied_in (drop i ts)
+  copied_from i = sum_by copies (drop i xs)
 
   abbrev pub viewed_from : ℕ → ℕ
-  viewed_from i = length (flat_map viewed_in (drop i ts))
+  viewed_from i = length (flat_map views (drop i xs))
 
-  pub copied_next : (i : ℕ) (t : Thread) → i < length ts → copied_from i ≡ copied_in (get_or ts i t) + copied_from (i + 1)
-  copied_next i t low = ap (sum_by copied_in) (drop_more ts i t low) ∙ sum_by-cons copied_in (get_or ts i t) (drop (i + 1) ts)
+  pub copied_next : (i : ℕ) (x : X) → drop i xs ≡ x ∷ drop (i + 1) xs → copied_from i ≡ copies x + copied_from (i + 1)
+  copied_next i x here = ap (sum_by copies) here ∙ sum_by-cons copies x (drop (i + 1) xs)
 
-  pub viewed_next : (i : ℕ) (t : Thread) → i < length ts → viewed_from i ≡ length (viewed_in (get_or ts i t)) + viewed_from (i + 1)
-  viewed_next i t low =
-      ap (λ (us : List Thread). length (flat_map viewed_in us)) (drop_more ts i t low)
-      ∙ ap (λ (l : List ℕ). length l) (flat_map-cons viewed_in (get_or ts i t) (drop (i + 1) ts))
-      ∙ length-append (viewed_in (get_or ts i t)) (flat_map viewed_in (drop (i + 1) ts))
+  pub viewed_next : (i : ℕ) (x : X) → drop i xs ≡ x ∷ drop (i + 1) xs → viewed_from i ≡ length (views x) + viewed_from (i + 1)
+  viewed_next i x here =
+      ap (λ (ys : List X). length (flat_map views ys)) here
+      ∙ ap (λ (l : List ℕ). length l) (flat_map-cons views x (drop (i + 1) xs))
+      ∙ length-append (views x) (flat_map views (drop (i + 1) xs))
+
+  -- past the last nothing is taken
+  pub none_past : (i : ℕ) → length xs ≤ i → (copied_from i ≡ 0) × (viewed_from i ≡ 0)
+  none_past i past =
+      let none : drop i xs ≡ [] = drop_all i xs past in
+      (ap (sum_by copies) none, ap (λ (ys : List X). length (flat_map views ys)) none)
 
 -- all of them together
 pub in_use_so : (ts : List Thread) (copied views : ℕ) → copied ≡ sum_by copied_in ts → views ≡ length (flat_map viewed_in ts) → record { copied = copied; views = views } ≡ in_use_by ts

@@ -1,5 +1,7 @@
 pub mod NamesOnce
 mod ThreadLemmas
+mod CallerLists
+mod AddedNames
 pub mod StateLemmas
 mod StandingLemmas
 mod BufferLemmas

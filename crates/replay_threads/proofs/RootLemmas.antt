@@ -16,9 +16,11 @@ use Rattle.replay_threads.specs.declared.state.State.{State as StateInMemory}
 use Rattle.replay_threads.specs.declared.thread.Thread.{Thread as ThreadInMemory}
 use Rattle.replay_arguments.specs.Shares.{shared_view}
 use Rattle.replay_objects.specs.Monitors.{owned_objects}
-use Rattle.replay_threads.specs.Rows.{thread_names, activation_names, root_names}
+use Rattle.replay_threads.specs.Rows.{thread_names, activation_names, call_names, root_names}
 use Rattle.replay_threads.specs.States.{Stands, ThreadsStand, viewed_in}
-use Rattle.replay_threads.specs.Threads.{ThreadStands, WorkStands}
+use Rattle.replay_threads.specs.Threads.{ThreadStands, WorkStands, last_first}
+use Rattle.replay_steps.specs.Callers.{CallerStands}
+use Rattle.replay_threads.proofs.CallerLists.{names_same}
 use Rattle.replay_threads.proofs.StateLemmas.{viewed_same}
 
 -- ---- what a thread refers to
@@ -27,11 +29,15 @@ frame_names : (o : Option Activation) (s : Thread) → WorkStands o s → flat_m
 frame_names None s h = ap (λ (fs : List Frame). flat_map (λ (f : Frame). f.references) fs) h.1
 frame_names (Some a) s h = ap (λ (fs : List Frame). flat_map (λ (f : Frame). f.references) fs) h.1
 
+caller_names : (a : Activation) (c : Caller) → CallerStands a c → call_names a ≡ frame_roots c.frames
+caller_names a c h = ap frame_roots (sym h.frames)
+
 names_are : (unit : SourceUnit) (classes : Classes) (t : ThreadInMemory) (s : Thread) → ThreadStands unit classes t s → thread_roots s ≡ thread_names t
 names_are unit classes t s h =
-    ap (λ (l : List Caller). flat_map (λ (c : Caller). frame_roots c.frames) l ++ frame_roots s.frames ++ option_to_list s.pending) h.alone
-    ∙ ap (λ (l : List ℕ). l ++ option_to_list s.pending) (frame_names t.activation s h.work)
-    ∙ ap (λ (r : Reference). activation_names t.activation ++ option_to_list r) h.pending
+    let callers = flat_map call_names (last_first t.callers.items) in
+    ap (λ (l : List ℕ). l ++ frame_roots s.frames ++ option_to_list s.pending) (sym (names_same call_names (λ (c : Caller). frame_roots c.frames) caller_names (last_first t.callers.items) s.callers h.callers))
+    ∙ ap (λ (l : List ℕ). callers ++ l ++ option_to_list s.pending) (frame_names t.activation s h.work)
+    ∙ ap (λ (r : Reference). callers ++ activation_names t.activation ++ option_to_list r) h.pending
 
 module _ (unit : SourceUnit) (classes : Classes) where
   all_names : (ts : List ThreadInMemory) (ss : List Thread) → ThreadsStand unit classes ts ss → flat_map thread_roots ss ≡ flat_map thread_names ts

@@ -8,8 +8,7 @@ use Rattle.std.proofs.lemmas.List.Sums.{sum_by-cons}
 use Rattle.std.proofs.lemmas.List.{length-map, take_all}
 use Rattle.std.proofs.lemmas.List.FromFn.{length-enumerate_from}
 use Rattle.std.proofs.lemmas.Option.{slice_get-map}
-use Rattle.base.specs.Bytes.{Identifier}
-use Rattle.semantics.specs.Variable.{Variable, Variables, copied_length, viewed}
+use Rattle.semantics.specs.Variable.{Variables}
 use Rattle.replay_steps.specs.declared.activation.Activation.{Activation}
 use Rattle.std.specs.List.{enumerate_from}
 use Rattle.std.specs.Borrow.{Bor}
@@ -39,8 +38,10 @@ use Rattle.semantics.specs.declared.event.Event.{Event}
 use Rattle.semantics.specs.declared.event.Event.TheVariants as event
 use Rattle.semantics.specs.declared.event.Stop.{Stop as StopInMemory}
 use Rattle.semantics.specs.EventViews.{ending_view, printed_after, stop_after, stop_view, trap_view}
-use Rattle.replay_threads.specs.States.{ThreadsStand, AreInRange, Stands, variables_of, copied_in, viewed_in, in_use_by, Leads, standing_in, standings_of, EachInRange}
-use Rattle.replay_threads.specs.Threads.{ThreadStands, ThreadWaits, WorkInRange, WorkStands, StepIs, TakesStep}
+use Rattle.replay_threads.specs.States.{ThreadsStand, AreInRange, Stands, call_copies, call_views, variables_of, copied_in, viewed_in, in_use_by, Leads, standing_in, standings_of, EachInRange}
+use Rattle.replay_threads.specs.Threads.{ThreadInRange, ThreadStands, ThreadWaits, WorkStands, StepIs, TakesStep, last_first}
+use Rattle.replay_steps.specs.Callers.{CallerStands}
+use Rattle.replay_threads.proofs.CallerLists.{counts_same, names_same}
 use Rattle.replay_threads.proofs.StandingLemmas.{numbered_at, taken_more}
 
 -- ---- where nobody owns a monitor
@@ -106,15 +107,23 @@ module _ (unit : SourceUnit) (classes : Classes) where
   variables_same None s h = sym h.0
   variables_same (Some a) s h = sym h.0
 
-  -- a thread's buffers are those of its call in progress
+  -- what a caller has in its variables
+  caller_copies : (a : Activation) (c : Caller) → CallerStands a c → call_copies a ≡ lengths_copied c.variables
+  caller_copies a c h = ap lengths_copied (sym h.variables)
+
+  caller_views : (a : Activation) (c : Caller) → CallerStands a c → call_views a ≡ objects_viewed c.variables
+  caller_views a c h = ap objects_viewed (sym h.variables)
+
+  -- a thread's buffers are those of its calls
   own_copies : (t : ThreadInMemory) (s : Thread) → ThreadStands unit classes t s → copied_in t ≡ copied_by s
   own_copies t s h =
-      omega (arith, ap lengths_copied (variables_same t.activation s h.work), ap (λ (l : List Caller). sum_by (λ (c : Caller). lengths_copied c.variables) l + lengths_copied s.variables) h.alone)
+      ap (λ n. n + lengths_copied (variables_of t.activation)) (counts_same call_copies (λ (c : Caller). lengths_copied c.variables) caller_copies (last_first t.callers.items) s.callers h.callers)
+      ∙ ap (λ (vs : Variables). sum_by (λ (c : Caller). lengths_copied c.variables) s.callers + lengths_copied vs) (variables_same t.activation s h.work)
 
   own_views : (t : ThreadInMemory) (s : Thread) → ThreadStands unit classes t s → viewed_in t ≡ viewed_by s
   own_views t s h =
-      ap objects_viewed (variables_same t.activation s h.work)
-      ∙ ap (λ (l : List Caller). flat_map (λ (c : Caller). objects_viewed c.variables) l ++ objects_viewed s.variables) (sym h.alone)
+      ap (λ (l : List ℕ). l ++ objects_viewed (variables_of t.activation)) (names_same call_views (λ (c : Caller). objects_viewed c.variables) caller_views (last_first t.callers.items) s.callers h.callers)
+      ∙ ap (λ (vs : Variables). flat_map (λ (c : Caller). objects_viewed c.variables) s.callers ++ objects_viewed vs) (variables_same t.activation s h.work)
 
   copied_same : (ts : List ThreadInMemory) (ss : List Thread) → ThreadsStand unit classes ts ss → sum_by copied_in ts ≡ sum_by copied_by ss
   copied_same [] [] h = refl
@@ -142,21 +151,21 @@ in_use_same unit w m s h =
     ap (λ n. let u : BuffersInUse = record { copied = n; views = length (flat_map viewed_in m.threads.items) } in u) (copied_same unit w.classes m.threads.items s.threads h.threads)
     ∙ ap (λ (l : List ℕ). let u : BuffersInUse = record { copied = copied s; views = length l } in u) (viewed_same unit w.classes m.threads.items s.threads h.threads)
 
--- the work of one thread is in range
-each_at : (ts : List ThreadInMemory) (i : ℕ) (t : ThreadInMemory) → EachInRange ts → slice_get ts i ≡ Some t → WorkInRange t.activation
+-- what is known of one thread
+each_at : (ts : List ThreadInMemory) (i : ℕ) (t : ThreadInMemory) → EachInRange ts → slice_get ts i ≡ Some t → ThreadInRange t
 each_at [] i t h e = absurd (cc)
-each_at (x ∷ ts) zero t h e = let same : x ≡ t = cc in subst (λ (y : ThreadInMemory). WorkInRange y.activation) same h.0
+each_at (x ∷ ts) zero t h e = let same : x ≡ t = cc in subst ThreadInRange same h.0
 each_at (x ∷ ts) (suc i) t h e = each_at ts i t h.1 e
 
-each_set : (ts : List ThreadInMemory) (i : ℕ) (t : ThreadInMemory) → EachInRange ts → WorkInRange t.activation → EachInRange (slice_set ts i t)
+each_set : (ts : List ThreadInMemory) (i : ℕ) (t : ThreadInMemory) → EachInRange ts → ThreadInRange t → EachInRange (slice_set ts i t)
 each_set [] i t h a = tt
 each_set (x ∷ ts) zero t h a = (a, h.1)
 each_set (x ∷ ts) (suc i) t h a = (h.0, each_set ts i t h.1 a)
 
-pub range_at : (ts : List ThreadInMemory) (i : ℕ) (t : ThreadInMemory) → AreInRange ts → slice_get ts i ≡ Some t → WorkInRange t.activation
+pub range_at : (ts : List ThreadInMemory) (i : ℕ) (t : ThreadInMemory) → AreInRange ts → slice_get ts i ≡ Some t → ThreadInRange t
 range_at ts i t range at = each_at ts i t range.each at
 
-pub range_set : (ts : List ThreadInMemory) (i : ℕ) (t : ThreadInMemory) → AreInRange ts → WorkInRange t.activation → AreInRange (slice_set ts i t)
+pub range_set : (ts : List ThreadInMemory) (i : ℕ) (t : ThreadInMemory) → AreInRange ts → ThreadInRange t → AreInRange (slice_set ts i t)
 range_set ts i t range work = record { few = omega (arith, range.few, length-set ts i t); each = each_set ts i t range.each work }
 
 -- ---- entries
@@ -248,7 +257,7 @@ module _ (unit : SourceUnit) (w : World) (m : StateInMemory) (s : State) (h : St
   blocked_as k i t classes answer counted at same tells =
       let f = found unit w.classes m.threads.items s.threads i t h.threads at in
       let here = subst (λ (c : Classes). ThreadWaits c k (shared_view m.shared) t answer) (same ∙ sym (ap (λ (v : World). v.classes) h.world)) tells in
-      here unit f.source f.stands (range_at m.threads.items i t range at)
+      here unit f.source f.stands (range_at m.threads.items i t range at).work
       ∙ ap (λ (x : Shared). waits w.classes k x f.source) (sym h.shared)
       ∙ sym (ap (is_waiting w.classes k s.shared) (ap (thread_at s) counted ∙ f.is))
 

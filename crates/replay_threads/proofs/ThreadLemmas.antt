@@ -1,5 +1,6 @@
 -- A thread in memory steps as the thread that it stands for.
-use Rattle.std.proofs.Common.{◌≡◌, ℕ, Bool, true, false, List, [], ◌∷◌, Option, Some, None, refl, sym, ap, ◌∙◌, IsTrue, subst}
+use Rattle.std.proofs.Common.{◌≡◌, ◌≤◌, ℕ, Bool, true, false, List, [], ◌∷◌, ◌++◌, length, Option, Some, None, refl, sym, ap, ◌∙◌, IsTrue, subst, arith}
+use Rattle.std.proofs.lemmas.List.{length-reverse, reverse-reverse}
 use Rattle.std.specs.List.{list_all}
 use Rattle.std.specs.Option.{option_map}
 use Rattle.semantics.specs.CallStep.{waits_with}
@@ -8,9 +9,10 @@ use Rattle.semantics.specs.World.{Invocation}
 use Rattle.semantics.specs.Load.{call_loads}
 use Rattle.std.proofs.lemmas.Bool.{and_parts}
 use Rattle.std.specs.Borrow.{Bor}
+use Rattle.std.specs.Global.{Vec}
 use Rattle.syntax.specs.Tree.{Function, SourceUnit}
 use Rattle.class_rules.specs.Class.{Classes}
-use Rattle.semantics.specs.Thread.{Thread, Shared, BuffersInUse, Event, Quiet, PrintedNumber, Trapped, Advances as AdvancesTo, NoAdvance, Ending, Unfinished, Ended, Uncaught}
+use Rattle.semantics.specs.Thread.{Caller, Thread, Shared, BuffersInUse, Event, Quiet, PrintedNumber, Trapped, Advances as AdvancesTo, NoAdvance, Ending, Unfinished, Ended, Uncaught}
 use Rattle.semantics.specs.Object.{Reference}
 use Rattle.semantics.specs.Views.{name_of}
 use Rattle.semantics.specs.declared.object_id.ObjectId.{ObjectId}
@@ -24,22 +26,79 @@ use Rattle.replay_tasks.specs.Outcomes.{result_view}
 use Rattle.replay_tasks.specs.declared.outcome.CallResult.{CallResult as ResultInMemory}
 use Rattle.replay_tasks.specs.declared.outcome.Outcome.TheVariants as outcome
 use Rattle.replay_steps.specs.Activations.{tasks_left, thread_in, advance_by, Advances}
+use Rattle.replay_steps.specs.Callers.{CallerStands, thread_at}
 use Rattle.replay_steps.specs.Steps.{Scene, Sees, scene_with}
 use Rattle.replay_steps.specs.Waits.{WaitsIn}
 use Rattle.semantics.specs.EventViews.{ending_view, trap_view}
 use Rattle.replay_tasks.specs.declared.outcome.Outcome.{Outcome}
 use Rattle.semantics.specs.declared.event.Event.{Event as EventInMemory}
-use Rattle.replay_threads.specs.Threads.{IsEntered, HasNoEntry, ThreadStands, ThreadWaits, WorkInRange, WorkStands, EndsStep, HasLeft, Leaves, StepIs, event_of, tasks_in}
+use Rattle.replay_threads.proofs.CallerLists.{last_is_first}
+use Rattle.replay_threads.specs.Threads.{AreCalling, CallersStand, IsEntered, HasNoEntry, HasResumed, HasReturned, ReturnsBy, ThreadInRange, ThreadStands, ThreadWaits, WorkInRange, WorkStands, EndsStep, HasLeft, Leaves, StepIs, event_of, last_first, tasks_in}
+
+-- where the last comes first there is none, as where the first does
+none_reversed : (xs : List Activation) → last_first xs ≡ [] → xs ≡ []
+none_reversed xs none = sym (reverse-reverse xs) ∙ ap last_first none
+
+-- the last caller was taken, and goes on
+pub taken_back : (k : ℕ) (shared last : Shared) (t : ThreadInMemory) (rest : Vec Activation) (given : CallResult) (a : Activation) (left : ThreadInMemory) → t.callers.items ≡ rest.items ++ a ∷ []
+    → HasResumed shared (record t { callers = rest }) given a (last_first rest.items) last left → HasReturned k shared t given last left
+taken_back k shared last t rest given a left is e =
+    subst (λ (xs : List Activation). ReturnsBy k shared t given xs last left) (sym (ap last_first is ∙ last_is_first rest.items a)) (record {
+      activation = e.activation;
+      is = e.is;
+      range = e.range;
+      resumes = e.resumes;
+      callers = e.callers;
+      calls = e.calls;
+      pending = e.pending;
+      ending = e.ending;
+    })
+
+-- there was none
+pub none_taken : (k : ℕ) (shared last : Shared) (t : ThreadInMemory) (rest : Vec Activation) (given : CallResult) (left : ThreadInMemory) → t.callers.items ≡ [] → rest.items ≡ []
+    → HasLeft k shared (record t { callers = rest }) last left → HasReturned k shared t given last left
+none_taken k shared last t rest given left is none e =
+    subst (λ (xs : List Activation). ReturnsBy k shared t given xs last left) (sym (ap last_first is)) (record {
+      activation = e.activation;
+      pending = e.pending;
+      ending = e.ending;
+      calls = e.calls;
+      callers = e.callers ∙ none ∙ sym is;
+      shared = e.shared;
+    })
 
 -- a call that didn't return goes on
 pub goes_on : (k : ℕ) (shared : Shared) (t : ThreadInMemory) (o : Outcome) (took : Option EventInMemory) → ((given : ResultInMemory) → o ≡ outcome.Returned given → ⊥) → took ≡ event_of o → EndsStep k shared t o took shared t
 goes_on k shared t (outcome.Returned given) took none is = absurd (none given refl)
 goes_on k shared t o took none is = (is, refl, refl)
 
--- what is known of it stays known
-pub ended_range : (k : ℕ) (shared last : Shared) (t : ThreadInMemory) (new : Activation) (o : Outcome) (took : Option EventInMemory) (left : ThreadInMemory) → t.activation ≡ Some new → EndsStep k shared t o took last left → WorkInRange (Some new) → WorkInRange left.activation
-ended_range k shared last t new (outcome.Returned given) took left is e known = subst WorkInRange (sym e.1.activation) tt
-ended_range k shared last t new o took left is e known = subst (λ (u : ThreadInMemory). WorkInRange u.activation) (sym e.1) (subst WorkInRange (sym is) known)
+-- what is known of a thread stays known, with another call in progress
+abbrev range_with : (t left : ThreadInMemory) → WorkInRange left.activation → AreCalling (last_first left.callers.items) → length left.callers.items ≤ length t.callers.items → ThreadInRange t → ThreadInRange left
+range_with t left work callers fewer known = record { work = work; callers = callers; few = omega (arith, fewer, known.few) }
+
+-- the same as long as it has all of its callers
+pub range_begun : (t left : ThreadInMemory) → left.callers.items ≡ t.callers.items → WorkInRange left.activation → ThreadInRange t → ThreadInRange left
+range_begun t left same work known =
+    range_with t left work (subst (λ (xs : List Activation). AreCalling (last_first xs)) (sym same) known.callers) (omega (arith, ap (λ (xs : List Activation). length xs) same)) known
+
+module _ (k : ℕ) (shared last : Shared) (t left : ThreadInMemory) (given : CallResult) (known : ThreadInRange t) where
+  range_returned : (xs : List Activation) → last_first t.callers.items ≡ xs → ReturnsBy k shared t given xs last left → ThreadInRange left
+  range_returned [] is e = range_begun t left e.callers (subst WorkInRange (sym e.activation) tt) known
+  range_returned (a ∷ xs) is e =
+      let callers = subst AreCalling is known.callers in
+      let fewer : length left.callers.items ≤ length t.callers.items = omega (
+        arith,
+        ap (λ (bs : List Activation). length bs) is,
+        ap (λ (bs : List Activation). length bs) e.callers,
+        length-reverse t.callers.items,
+        length-reverse left.callers.items,
+      ) in
+      range_with t left (subst WorkInRange (sym e.is) e.range) (subst AreCalling (sym e.callers) callers.1) fewer known
+
+-- what is known of it after its step
+pub ended_range : (k : ℕ) (shared last : Shared) (t : ThreadInMemory) (o : Outcome) (took : Option EventInMemory) (left : ThreadInMemory) → EndsStep k shared t o took last left → ThreadInRange t → ThreadInRange left
+ended_range k shared last t (outcome.Returned given) took left e known = range_returned k shared last t left (result_view given) known (last_first t.callers.items) refl e.1
+ended_range k shared last t o took left e known = subst ThreadInRange (sym e.1) known
 
 module _ (unit : SourceUnit) (classes : Classes) (in_use : BuffersInUse) (k : ℕ) where
   -- a thread after its call with this ending, and with these calls to come before
@@ -93,7 +152,7 @@ module _ (unit : SourceUnit) (classes : Classes) (in_use : BuffersInUse) (k : �
     on event does = record {
       next = next;
       advances = does;
-      stands = record { calls = h.calls; alone = h.alone; loads = h.loads; tasks = refl; work = (refl, refl); pending = refl; ending = h.ending };
+      stands = record { calls = h.calls; callers = h.callers; loads = h.loads; tasks = refl; work = (refl, refl); pending = refl; ending = h.ending };
     }
 
     pub goes : (o : Outcome) → ((given : ResultInMemory) → o ≡ outcome.Returned given → ⊥) → Advances refused before a.work o end' new.work
@@ -113,17 +172,17 @@ module _ (unit : SourceUnit) (classes : Classes) (in_use : BuffersInUse) (k : �
     goes (outcome.Trapped trap line) other does = on (Trapped (trap_view trap) line) (advances_so (outcome.Trapped trap line) does)
     goes outcome.Impossible other does = advances_so outcome.Impossible does
 
-    -- the call is over
-    pub returns : (given : ResultInMemory) (last : Shared) (left : ThreadInMemory) → Advances refused before a.work (outcome.Returned given) end' new.work → HasLeft k after stepped last left
+    -- the call is over, and so is what the thread called
+    ends : (given : ResultInMemory) (last : Shared) (left : ThreadInMemory) → s.callers ≡ [] → left.callers.items ≡ [] → Advances refused before a.work (outcome.Returned given) end' new.work → HasLeft k after stepped last left
         → Leaves unit classes last left Quiet (thread_step unit classes in_use k shared s refused)
-    returns given last left does over =
+    ends given last left alone none does over =
         let e : Ending = ending_view left.ending in
         record {
           next = thread_after e t.calls.now;
-          advances = advances_so (outcome.Returned given) does ∙ left_by after last next (result_view given) e t.calls.now (name_of pending) h.alone h.calls refl over.ending over.shared;
+          advances = advances_so (outcome.Returned given) does ∙ left_by after last next (result_view given) e t.calls.now (name_of pending) alone h.calls refl over.ending over.shared;
           stands = record {
             calls = sym over.calls;
-            alone = refl;
+            callers = subst (λ (xs : List Activation). CallersStand (last_first xs) []) (sym none) tt;
             loads = subst (λ (cs : List Invocation). IsTrue (list_all (call_loads unit classes) cs)) (sym over.calls) (loads_after e t.calls.now h.loads);
             tasks = ap tasks_in (sym over.activation);
             work = subst (λ (o : Option Activation). WorkStands o (thread_after e t.calls.now)) (sym over.activation) (refl, refl);
@@ -132,10 +191,41 @@ module _ (unit : SourceUnit) (classes : Classes) (in_use : BuffersInUse) (k : �
           };
         }
 
+    -- the call is over, and its caller goes on
+    back : (given : ResultInMemory) (last : Shared) (left : ThreadInMemory) (caller : Activation) (xs : List Activation) (c : Caller) (cs : List Caller) → s.callers ≡ c ∷ cs → CallerStands caller c → CallersStand xs cs
+        → Advances refused before a.work (outcome.Returned given) end' new.work → HasResumed after stepped (result_view given) caller xs last left
+        → Leaves unit classes last left Quiet (thread_step unit classes in_use k shared s refused)
+    back given last left caller xs c cs called stands others does goes = record {
+      next = thread_at next cs goes.activation;
+      advances =
+          advances_so (outcome.Returned given) does
+          ∙ ap (return_by k after next (result_view given)) called
+          ∙ goes.resumes next c cs refl stands;
+      stands = record {
+        calls = h.calls ∙ ap (λ (b : Bor (List Invocation)). b.now) (sym goes.calls);
+        callers = subst (λ (bs : List Activation). CallersStand bs cs) (sym goes.callers) others;
+        loads = subst (λ (b : Bor (List Invocation)). IsTrue (list_all (call_loads unit classes) b.now)) (sym goes.calls) h.loads;
+        tasks = ap tasks_in (sym goes.is);
+        work = subst (λ (o : Option Activation). WorkStands o (thread_at next cs goes.activation)) (sym goes.is) (refl, refl);
+        pending = ap name_of (sym goes.pending);
+        ending = h.ending ∙ ap ending_view (sym goes.ending);
+      };
+    }
+
+    -- one of the two
+    returns : (given : ResultInMemory) (last : Shared) (left : ThreadInMemory) (xs : List Activation) (cs : List Caller) → last_first t.callers.items ≡ xs → s.callers ≡ cs → CallersStand xs cs
+        → Advances refused before a.work (outcome.Returned given) end' new.work → ReturnsBy k after stepped (result_view given) xs last left
+        → Leaves unit classes last left Quiet (thread_step unit classes in_use k shared s refused)
+    returns given last left [] [] is called stands does by =
+        ends given last left called (by.callers ∙ none_reversed t.callers.items is) does by
+    returns given last left [] (c ∷ cs) is called stands does by = absurd stands
+    returns given last left (x ∷ xs) [] is called stands does by = absurd stands
+    returns given last left (x ∷ xs) (c ∷ cs) is called stands does by = back given last left x xs c cs called stands.0 stands.1 does by
+
     -- what a step of the call did is the thread's step
     pub ended_step : (o : Outcome) (took : Option EventInMemory) (last : Shared) (left : ThreadInMemory) → EndsStep k after stepped o took last left → Advances refused before a.work o end' new.work
         → StepIs unit classes last left took (thread_step unit classes in_use k shared s refused)
-    ended_step (outcome.Returned given) took last left e does = rw e.0 (returns given last left does e.1)
+    ended_step (outcome.Returned given) took last left e does = rw e.0 (returns given last left (last_first t.callers.items) s.callers refl refl h.callers does e.1)
     ended_step o took last left e does =
         let taken = thread_step unit classes in_use k shared s refused in
         subst (λ (x : Shared). StepIs unit classes x left took taken) (sym e.2)
@@ -153,7 +243,7 @@ module _ (unit : SourceUnit) (classes : Classes) (in_use : BuffersInUse) (k : �
         ∙ ap (λ (p : Option ℕ). entry_advance shared (option_map (λ d. entered s rest e.function d call.arguments) p)) e.its_class;
     stands = record {
       calls = sym is;
-      alone = h.alone;
+      callers = h.callers;
       loads = subst (λ (cs : List Invocation). IsTrue (list_all (call_loads unit classes) cs)) (sym is) parts.1;
       tasks = ap Some (sym e.tasks) ∙ ap tasks_in (sym e.is);
       work = subst (λ (p : Option Activation). WorkStands p (entered s rest e.function e.class call.arguments)) (sym e.is) (sym e.variables, sym e.frames);

@@ -8,18 +8,24 @@ use Rattle.replay_objects.specs.Frames.{references_in}
 use Rattle.replay_objects.specs.Monitors.{owned_objects}
 use Rattle.replay_threads.specs.declared.thread.Thread.{Thread}
 use Rattle.replay_threads.specs.States.{viewed_in}
+use Rattle.replay_threads.specs.Threads.{last_first}
 
 abbrev pub pending_names : Option ℕ → List ℕ
 pending_names pending = option_to_list pending
 
--- the names in the frames of the call in progress, if there is one
+-- the names in the frames of a call
+abbrev pub call_names : Activation → List ℕ
+call_names a = references_in a.locals.frames
+
+-- those of the call in progress, if there is one
 abbrev pub activation_names : Option Activation → List ℕ
 activation_names None = []
-activation_names (Some a) = references_in a.locals.frames
+activation_names (Some a) = call_names a
 
--- the same, and that of the pending exception
+-- those of all calls of a thread, and that of the pending exception
 abbrev pub thread_names : Thread → List ℕ
-thread_names t = activation_names t.activation ++ pending_names (name_of t.pending)
+thread_names t =
+    flat_map call_names (last_first t.callers.items) ++ activation_names t.activation ++ pending_names (name_of t.pending)
 
 -- the names of global references, of those that threads refer to, of what they own, and of the objects of their views
 abbrev pub root_names : Shared → List Thread → List ℕ

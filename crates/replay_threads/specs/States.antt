@@ -1,5 +1,5 @@
 -- States that lie in memory, as those of the language, and what an entry does to one.
-use Rattle.std.specs.Prelude.{◌≡◌, ℕ, ◌+◌, ◌<◌, ◌≤◌, length, slice_get, sum_by, flat_map, is_some, Bool, true, false, List, [], ◌∷◌, map, Option, Some, None}
+use Rattle.std.specs.Prelude.{◌≡◌, ℕ, ◌+◌, ◌++◌, ◌<◌, ◌≤◌, length, slice_get, sum_by, flat_map, is_some, Bool, true, false, List, [], ◌∷◌, map, Option, Some, None}
 use Rattle.std.specs.List.{enumerate_from}
 use Rattle.std.specs.Option.{option_map, option_map_or}
 use Rattle.syntax.specs.Tree.{SourceUnit}
@@ -10,10 +10,9 @@ use Rattle.semantics.specs.Journal as entry
 use Rattle.semantics.specs.Journal.{Entry}
 use Rattle.semantics.specs.Report.{ThreadStanding}
 use Rattle.semantics.specs.World.{World}
-use Rattle.semantics.specs.Thread.{Thread, BuffersInUse}
-use Rattle.semantics.specs.Variable.{Variable, Variables, copied_length, viewed}
+use Rattle.semantics.specs.Thread.{BuffersInUse, Thread, lengths_copied, objects_viewed}
+use Rattle.semantics.specs.Variable.{Variables}
 use Rattle.semantics.specs.WeakReferences.{may_clear}
-use Rattle.base.specs.Bytes.{Identifier}
 use Rattle.replay_steps.specs.declared.activation.Activation.{Activation}
 use Rattle.semantics.specs.State.{State}
 use Rattle.semantics.specs.Step.{world_step, is_blocked, is_unfinished}
@@ -22,7 +21,7 @@ use Rattle.replay_threads.specs.declared.thread.Thread.{Thread as ThreadInMemory
 use Rattle.replay_threads.specs.declared.state.State.{State as StateInMemory}
 use Rattle.semantics.specs.EventViews.{ending_view, printed_after, stop_after, stop_view}
 use Rattle.replay_terms.specs.Views.{variables_view}
-use Rattle.replay_threads.specs.Threads.{ThreadStands, WorkInRange}
+use Rattle.replay_threads.specs.Threads.{ThreadInRange, ThreadStands, last_first}
 use Rattle.replay_arguments.specs.Shares.{shared_view}
 
 -- each thread in memory stands for the one of the same number
@@ -34,7 +33,7 @@ ThreadsStand unit classes ts ss = ⊥
 -- what is known of the calls in progress, as they stand in an accepted program
 abbrev pub EachInRange : List ThreadInMemory → Type 0
 EachInRange [] = Unit {0}
-EachInRange (t ∷ ts) = WorkInRange t.activation × EachInRange ts
+EachInRange (t ∷ ts) = ThreadInRange t × EachInRange ts
 
 -- the same of few threads
 pub record AreInRange (ts : List ThreadInMemory) : Type 0 where
@@ -98,21 +97,30 @@ TakesNone m k = (unit : SourceUnit) (refused : Bool) → TakesEntry unit m (entr
 
 -- ---- buffers
 
+-- the variables of a call
+abbrev pub variables_at : Activation → Variables
+variables_at a = variables_view a.locals.variables
+
+-- those of the call in progress
 abbrev pub variables_of : Option Activation → Variables
 variables_of None = []
-variables_of (Some a) = variables_view a.locals.variables
+variables_of (Some a) = variables_at a
 
--- the variables of the call in progress
-abbrev pub variables_in : ThreadInMemory → Variables
-variables_in t = variables_of t.activation
-
--- the lengths of its copied lists together
-abbrev pub copied_in : ThreadInMemory → ℕ
-copied_in t = sum_by (λ (v : Identifier × Variable). copied_length v.1) (variables_in t)
+-- the lengths of the copied lists of a call together
+abbrev pub call_copies : Activation → ℕ
+call_copies a = lengths_copied (variables_at a)
 
 -- the objects of its views
+abbrev pub call_views : Activation → List ℕ
+call_views a = objects_viewed (variables_at a)
+
+-- the lengths of the copied lists of a thread's calls together
+abbrev pub copied_in : ThreadInMemory → ℕ
+copied_in t = sum_by call_copies (last_first t.callers.items) + lengths_copied (variables_of t.activation)
+
+-- the objects of their views
 abbrev pub viewed_in : ThreadInMemory → List ℕ
-viewed_in t = flat_map (λ (v : Identifier × Variable). viewed v.1) (variables_in t)
+viewed_in t = flat_map call_views (last_first t.callers.items) ++ objects_viewed (variables_of t.activation)
 
 -- what the buffers of all threads together take
 abbrev pub in_use_by : List ThreadInMemory → BuffersInUse

@@ -1,6 +1,6 @@
 -- Threads that lie in memory, as those of the language, and what a step of one does.
-use Rattle.std.specs.Prelude.{◌≡◌, ℕ, Bool, true, false, List, [], ◌∷◌, map, filter_map, zip, Option, Some, None, IsTrue}
-use Rattle.std.specs.List.{list_all}
+use Rattle.std.specs.Prelude.{◌≡◌, ◌≤◌, ℕ, Bool, true, false, List, [], ◌∷◌, length, map, filter_map, reverse, zip, Option, Some, None, IsTrue}
+use Rattle.std.specs.List.{AllByRecursion, list_all}
 use Rattle.syntax.specs.declared.unit.Function.{Function}
 use Rattle.syntax.specs.Tree.{SourceUnit, Function as FunctionOfUnit}
 use Rattle.syntax.specs.Views.{function_tree}
@@ -11,7 +11,8 @@ use Rattle.semantics.specs.Return.{ending_after, calls_after, monitors_after}
 use Rattle.semantics.specs.Load.{call_loads}
 use Rattle.semantics.specs.World.{Invocation}
 use Rattle.semantics.specs.Task.{Task, tasks_of}
-use Rattle.semantics.specs.Thread.{Unfinished, Thread, Shared, BuffersInUse, Event, Advance, Advances, NoAdvance}
+use Rattle.semantics.specs.CallEffects.{CallResult}
+use Rattle.semantics.specs.Thread.{Unfinished, Caller, Thread, Shared, BuffersInUse, Event, Advance, Advances, NoAdvance}
 use Rattle.semantics.specs.ThreadStep.{thread_step, waits}
 use Rattle.semantics.specs.Value.{Int}
 use Rattle.semantics.specs.Variable.{Variable, Scalar, LocalRef}
@@ -21,6 +22,8 @@ use Rattle.replay_tasks.specs.declared.outcome.Outcome.{Outcome}
 use Rattle.replay_tasks.specs.declared.outcome.Outcome.TheVariants as outcome
 use Rattle.replay_threads.specs.declared.thread.Thread.{Thread as ThreadInMemory}
 use Rattle.replay_steps.specs.Activations.{tasks_left, IsAtStatement}
+use Rattle.replay_steps.specs.Callers.{CallerStands, IsCalling, Resumes}
+use Rattle.replay_tasks.specs.Outcomes.{result_view}
 use Rattle.replay_arguments.specs.declared.scene.Turn.{Turn}
 use Rattle.replay_terms.specs.Views.{in_use_view}
 use Rattle.semantics.specs.declared.event.Event.{Event as EventInMemory}
@@ -40,9 +43,33 @@ abbrev pub WorkStands : Option Activation → Thread → Type 0
 WorkStands None s = (s.variables ≡ []) × (s.frames ≡ [])
 WorkStands (Some a) s = (s.variables ≡ variables_view a.locals.variables) × (s.frames ≡ a.locals.frames)
 
+-- calls that wait for one that they made, the last one first
+abbrev pub last_first : List Activation → List Activation
+last_first callers = reverse callers
+
+-- each stands for the caller at the same place
+abbrev pub CallersStand : List Activation → List Caller → Type 0
+CallersStand [] [] = Unit {0}
+CallersStand (a ∷ xs) (c ∷ cs) = CallerStands a c × CallersStand xs cs
+CallersStand xs cs = ⊥
+
+-- ---- what is known of accepted programs
+
 abbrev pub WorkInRange : Option Activation → Type 0
 WorkInRange None = Unit {0}
 WorkInRange (Some a) = IsAtStatement a.work
+
+-- each of these waits for one that it made
+abbrev pub AreCalling : List Activation → Type 0
+AreCalling callers = AllByRecursion (λ (a : Activation). IsCalling a.work) callers
+
+-- the same of a thread, which has fewer than 64 calls
+pub record ThreadInRange (t : ThreadInMemory) : Type 0 where
+  pub work : WorkInRange t.activation
+  pub callers : AreCalling (last_first t.callers.items)
+  pub few : length t.callers.items ≤ 63
+
+-- ---- steps
 
 -- what a parameter with this argument holds
 abbrev pub argument_content : ObjectValue → Variable
@@ -96,17 +123,39 @@ pub record HasLeft (k : ℕ) (s : Shared) (old : ThreadInMemory) (after : Shared
   pub pending : new.pending ≡ None
   pub ending : ending_view new.ending ≡ ending_after s.heap (name_of old.pending) old.calls.now
   pub calls : new.calls.now ≡ calls_after (ending_view new.ending) old.calls.now
+  pub callers : new.callers.items ≡ old.callers.items
   pub shared : after ≡ record s { monitors = monitors_after (ending_view new.ending) k s.monitors }
+
+-- the last of a thread's callers goes on with what the call in progress returned, and these are those that are left
+pub record HasResumed (s : Shared) (old : ThreadInMemory) (given : CallResult) (caller : Activation) (left : List Activation)
+    (after : Shared) (new : ThreadInMemory) : Type 0 where
+  pub activation : Activation
+  pub is : new.activation ≡ Some activation
+  pub range : IsAtStatement activation.work
+  pub resumes : Resumes s (name_of old.pending) given caller after activation
+  pub callers : last_first new.callers.items ≡ left
+  pub calls : new.calls ≡ old.calls
+  pub pending : new.pending ≡ old.pending
+  pub ending : new.ending ≡ old.ending
+
+-- thread k returned, with these callers
+abbrev pub ReturnsBy : (k : ℕ) → Shared → ThreadInMemory → CallResult → List Activation → Shared → ThreadInMemory → Type 0
+ReturnsBy k s old given [] after new = HasLeft k s old after new
+ReturnsBy k s old given (caller ∷ callers) after new = HasResumed s old given caller callers after new
+
+-- the same with its own
+abbrev pub HasReturned : (k : ℕ) → Shared → ThreadInMemory → CallResult → Shared → ThreadInMemory → Type 0
+HasReturned k s old given after new = ReturnsBy k s old given (last_first old.callers.items) after new
 
 -- what others see of what a call in progress did, which was left if it returned
 abbrev pub EndsStep : (k : ℕ) → Shared → ThreadInMemory → Outcome → Option EventInMemory → Shared → ThreadInMemory → Type 0
-EndsStep k shared old (outcome.Returned given) took after new = (took ≡ Some event.Quiet) × HasLeft k shared old after new
+EndsStep k shared old (outcome.Returned given) took after new = (took ≡ Some event.Quiet) × HasReturned k shared old (result_view given) after new
 EndsStep k shared old o took after new = (took ≡ event_of o) × (new ≡ old) × (after ≡ shared)
 
 -- a thread in memory stands for one of the language
 pub record ThreadStands (unit : SourceUnit) (classes : Classes) (t : ThreadInMemory) (s : Thread) : Type 0 where
   pub calls : s.calls ≡ t.calls.now
-  pub alone : s.callers ≡ []
+  pub callers : CallersStand (last_first t.callers.items) s.callers
   pub loads : IsTrue (list_all (call_loads unit classes) t.calls.now)
   pub tasks : s.tasks ≡ tasks_in t.activation
   pub work : WorkStands t.activation s

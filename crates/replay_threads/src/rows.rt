@@ -1,8 +1,9 @@
 //! What threads refer to, for a report.
 
 ghost use Rattle.std.specs.Prelude.{◌≡◌, ◌++◌, IfOk, flat_map};
-ghost use Rattle.replay_threads.specs.Rows.{activation_names, pending_names, root_names, thread_names};
-ghost use Rattle.replay_threads.specs.States.{viewed_in};
+ghost use Rattle.replay_threads.specs.Rows.{activation_names, call_names, pending_names, root_names, thread_names};
+ghost use Rattle.replay_threads.specs.States.{call_views, viewed_in};
+ghost use Rattle.replay_threads.specs.Threads.{last_first};
 ghost use Rattle.replay_arguments.specs.Shares.{shared_view};
 ghost use Rattle.semantics.specs.Views.{name_of, names_of};
 
@@ -43,10 +44,25 @@ fn add_views(names: &mut Vec<ObjectId>, threads: &[Thread<'_>]) -> Result<(), Al
 fn push_views(names: &mut Vec<ObjectId>, thread: &Thread<'_>) -> Result<(), AllocError>
     ensures { IfOk result (λ _. names_of names.new.items ≡ names_of names.old.items ++ viewed_in thread.now) }
 {
+    add_call_views(names, &thread.callers)?;
     match &thread.activation {
         None => Ok(()),
         Some(activation) => activation.locals.variables.add_viewed(names),
     }
+}
+
+/// Adds the names of the objects that the views of these calls show, those of the last one first.
+fn add_call_views(names: &mut Vec<ObjectId>, callers: &[Activation<'_>]) -> Result<(), AllocError>
+    ensures { IfOk result (λ _. names_of names.new.items
+        ≡ names_of names.old.items ++ flat_map call_views (last_first callers.now)) }
+{
+    for done in 0..callers.len() {
+        callers[callers.len() - 1 - done]
+            .locals
+            .variables
+            .add_viewed(names)?;
+    }
+    Ok(())
 }
 
 /// Adds the names of the objects in the frames of threads, and of their pending exceptions.
@@ -63,8 +79,23 @@ fn add_threads(names: &mut Vec<ObjectId>, threads: &[Thread<'_>]) -> Result<(), 
 fn push_thread(names: &mut Vec<ObjectId>, thread: &Thread<'_>) -> Result<(), AllocError>
     ensures { IfOk result (λ _. names_of names.new.items ≡ names_of names.old.items ++ thread_names thread.now) }
 {
+    add_calls(names, &thread.callers)?;
     push_call(names, &thread.activation)?;
     push_pending(names, thread.pending)
+}
+
+/// Adds the names in the frames of these calls, those of the last one first.
+fn add_calls(names: &mut Vec<ObjectId>, callers: &[Activation<'_>]) -> Result<(), AllocError>
+    ensures { IfOk result (λ _. names_of names.new.items
+        ≡ names_of names.old.items ++ flat_map call_names (last_first callers.now)) }
+{
+    for done in 0..callers.len() {
+        callers[callers.len() - 1 - done]
+            .locals
+            .frames
+            .add_to(names)?;
+    }
+    Ok(())
 }
 
 /// Adds the names of the call in progress, if there is one.

@@ -1,6 +1,6 @@
 //! The state of a replay, and what an entry does to it.
 
-ghost use Rattle.std.specs.Prelude.{◌≡◌, [], IfOk, IfSome, IfNone, is_some, map, ◌≤◌, length};
+ghost use Rattle.std.specs.Prelude.{◌≡◌, ◌*◌, [], IfOk, IfSome, IfNone, is_some, map, ◌≤◌, flat_map, length, sum_by};
 ghost use Rattle.base.specs.Limits.{most_copied, most_views};
 ghost use Rattle.syntax.specs.Limits.{IsTree};
 ghost use Rattle.syntax.specs.Views.{unit_tree};
@@ -8,7 +8,9 @@ ghost use Rattle.type_rules.specs.SortRules.{IsSorted};
 ghost use Rattle.semantics.specs.Journal.{Step, Clearing};
 ghost use Rattle.semantics.specs.Views.{names_of};
 ghost use Rattle.syntax.specs.Tree.{SourceUnit};
-ghost use Rattle.replay_threads.specs.States.{AreInRange, IsLiveAt, TakesEntry, TakesNone, IsNoted, AreStandings, Waits, in_use_by, copied_in, viewed_in};
+ghost use Rattle.replay_threads.specs.States.{AreInRange, IsLiveAt, TakesEntry, TakesNone, IsNoted, AreStandings, Waits, call_copies, call_views, copied_in, in_use_by, variables_of, viewed_in};
+ghost use Rattle.replay_threads.specs.Threads.{ThreadInRange, last_first};
+ghost use Rattle.semantics.specs.Thread.{lengths_copied, objects_viewed};
 ghost use Rattle.replay_terms.specs.Views.{in_use_view};
 ghost use Rattle.report.specs.ThreadStatus.{standing_view};
 
@@ -16,6 +18,7 @@ use crate::clearing::may_clear;
 use crate::thread::{Thread, is_waiting, take_step};
 use functions::Functions;
 use replay_arguments::{Shared, Turn};
+use replay_steps::Activation;
 use replay_terms::BuffersInUse;
 use report::ThreadStatus;
 use report_objects::standing_of;
@@ -124,14 +127,32 @@ fn place_of(state: &State<'_>, k: u8) -> Option<usize>
     }
 }
 
-/// What the buffers of a thread take.
-fn taken_by(thread: &Thread<'_>) -> BuffersInUse
-    ensures copied { result.copied ≡ copied_in thread.now }
-    ensures views { result.views ≡ length (viewed_in thread.now) }
+/// What the buffers of these calls take together.
+fn taken_by_calls(callers: &[Activation<'_>]) -> BuffersInUse
+    requires { length callers.now ≤ 63 }
+    ensures copied { result.copied ≡ sum_by call_copies (last_first callers.now) }
+    ensures views { result.views ≡ length (flat_map call_views (last_first callers.now)) }
+    ensures within { result.copied ≤ 63 * most_copied }
+    ensures few { result.views ≤ 63 * most_views }
+{
+    let mut copied = 0;
+    let mut views = 0;
+    for done in 0..callers.len() {
+        let taken = callers[callers.len() - 1 - done].locals.variables.in_use();
+        copied += taken.copied;
+        views += taken.views;
+    }
+    BuffersInUse { copied, views }
+}
+
+/// What the buffers of the call in progress take, if there is one.
+fn taken_by_call(activation: &Option<Activation<'_>>) -> BuffersInUse
+    ensures copied { result.copied ≡ lengths_copied (variables_of activation.now) }
+    ensures views { result.views ≡ length (objects_viewed (variables_of activation.now)) }
     ensures within { result.copied ≤ most_copied }
     ensures few { result.views ≤ most_views }
 {
-    match &thread.activation {
+    match activation {
         Some(activation) => activation.locals.variables.in_use(),
         None => BuffersInUse {
             copied: 0,
@@ -140,9 +161,25 @@ fn taken_by(thread: &Thread<'_>) -> BuffersInUse
     }
 }
 
+/// What the buffers of a thread take.
+fn taken_by(thread: &Thread<'_>) -> BuffersInUse
+    requires { ThreadInRange thread.now }
+    ensures copied { result.copied ≡ copied_in thread.now }
+    ensures views { result.views ≡ length (viewed_in thread.now) }
+    ensures within { result.copied ≤ 64 * most_copied }
+    ensures few { result.views ≤ 64 * most_views }
+{
+    let others = taken_by_calls(&thread.callers);
+    let own = taken_by_call(&thread.activation);
+    BuffersInUse {
+        copied: others.copied + own.copied,
+        views: others.views + own.views,
+    }
+}
+
 /// What the buffers of all threads take together.
 fn buffers_in_use(threads: &[Thread<'_>]) -> BuffersInUse
-    requires { length threads.now ≤ 8 }
+    requires { AreInRange threads.now }
     ensures { in_use_view result ≡ in_use_by threads.now }
 {
     let mut copied = 0;

@@ -13,7 +13,9 @@ ghost use Rattle.semantics.specs.Variable.{LocalRef};
 ghost use Rattle.semantics.specs.Views.{name_of};
 ghost use Rattle.class_rules.specs.ClassIds.{number_of};
 ghost use Rattle.class_rules.specs.Grown.{IsGrown};
-ghost use Rattle.replay_threads.specs.Threads.{argument_content, BeginsNext, IsBegun, EndsStep, HasLeft, TakesTurn, ThreadWaits, WorkInRange, event_of};
+ghost use Rattle.replay_threads.specs.Threads.{argument_content, AreCalling, BeginsNext, IsBegun, EndsStep, HasLeft, HasResumed, HasReturned, TakesTurn, ThreadInRange, ThreadWaits, event_of, last_first};
+ghost use Rattle.replay_steps.specs.Callers.{IsCalling};
+ghost use Rattle.replay_tasks.specs.Outcomes.{result_view};
 ghost use Rattle.replay_tasks.specs.Tasks.{StatementsInRange};
 ghost use Rattle.syntax.specs.declared.stmt.Block.{out-Block};
 ghost use Rattle.replay_arguments.specs.Shares.{shared_view};
@@ -25,18 +27,21 @@ use classes::table::ClassTable;
 use functions::Functions;
 use replay_arguments::{Locals, Shared, Turn};
 use replay_objects::{Frames, Names, Store};
-use replay_steps::{Activation, advance, waits, work_of};
-use replay_tasks::Outcome;
+use replay_steps::{Activation, advance, resume, waits, work_of};
+use replay_tasks::{CallResult, Outcome};
 use replay_terms::{Content, Value, Variables};
 use semantics::{CALL_LEVEL, Ending, Event, ObjectId};
 use std::alloc::{AllocError, Global};
 use syntax::{Function, Parameter};
 use world_values::{Call, ObjectValue, World};
 
-/// A thread: the calls to come, the one in progress, the pending exception, and how it has ended.
+/// A thread: the calls to come, the one in progress, those from which it was made, the pending exception, and how it has
+/// ended.
 pub struct Thread<'a> {
     pub calls: &'a [Call],
     pub activation: Option<Activation<'a>>,
+    /// Each made the one after it, and the last one made the call in progress.
+    pub callers: Vec<Activation<'a>>,
     pub pending: Option<ObjectId>,
     pub ending: Ending,
 }
@@ -47,10 +52,12 @@ impl Drop for Thread<'_> {
         let Thread {
             calls: _,
             activation,
+            callers,
             pending: _,
             ending: _,
         } = self;
         drop(activation);
+        drop(callers);
     }
 }
 
@@ -221,9 +228,10 @@ fn enter<'a>(
     requires sorted { IsSorted (unit_tree functions.now) }
     requires classes { turn.classes.now ≡ world.now.classes }
     requires idle { thread.old.activation ≡ None }
+    requires range { ThreadInRange thread.old }
     ensures step { IfOk result (λ took. (shared : SharedOfThreads)
         → TakesTurn (unit_tree functions.now) turn.entry shared thread.old took shared thread.new) }
-    ensures range { IfOk result (λ _. WorkInRange thread.new.activation) }
+    ensures range { IfOk result (λ _. ThreadInRange thread.new) }
 {
     // An entry makes no object that could be refused.
     if turn.refused {
@@ -287,23 +295,66 @@ fn leave(shared: &mut Shared<'_>, k: u8, thread: &mut Thread<'_>)
     }
 }
 
+/// Lets the call go on that made the one in progress, which returned this.
+fn resume_caller<'a>(
+    alloc: Global,
+    shared: &mut Shared<'a>,
+    thread: &mut Thread<'a>,
+    caller: Activation<'a>,
+    returned: CallResult,
+) -> Result<(), AllocError>
+    requires { IsCalling caller.work }
+    ensures { IfOk result (λ _. HasResumed (shared_view shared.old) thread.old (result_view returned)
+        caller.entry (last_first thread.old.callers.items) (shared_view shared.new) thread.new) }
+{
+    let mut caller = caller;
+    resume(alloc, shared, thread.pending, &mut caller, returned)?;
+    put_activation(&mut thread.activation, Some(caller));
+    Ok(())
+}
+
+/// Returns from the call in progress of thread `k`: into the call that made it, or, where there is none, as the end of what
+/// the thread called.
+fn return_from<'a>(
+    alloc: Global,
+    shared: &mut Shared<'a>,
+    k: u8,
+    thread: &mut Thread<'a>,
+    returned: CallResult,
+) -> Result<(), AllocError>
+    requires { AreCalling (last_first thread.old.callers.items) }
+    ensures { IfOk result (λ _. HasReturned k (shared_view shared.old) thread.old (result_view returned)
+        (shared_view shared.new) thread.new) }
+{
+    match thread.callers.pop() {
+        Some(caller) => resume_caller(alloc, shared, thread, caller, returned),
+        None => {
+            leave(shared, k, thread);
+            Ok(())
+        }
+    }
+}
+
 /// Leaves the call in progress of thread `k` if it returned. Tells what others see of what it did; none where it did
 /// nothing that is possible.
 #[inline]
-fn end_step(
-    shared: &mut Shared<'_>,
+fn end_step<'a>(
+    alloc: Global,
+    shared: &mut Shared<'a>,
     k: u8,
-    thread: &mut Thread<'_>,
-    outcome: Outcome<'_>,
-) -> Option<Event>
-    ensures { EndsStep k (shared_view shared.old) thread.old outcome.entry result (shared_view shared.new) thread.new }
+    thread: &mut Thread<'a>,
+    outcome: Outcome<'a>,
+) -> Result<Option<Event>, AllocError>
+    requires { AreCalling (last_first thread.old.callers.items) }
+    ensures { IfOk result (λ took. EndsStep k (shared_view shared.old) thread.old outcome.entry took
+        (shared_view shared.new) thread.new) }
 {
     match outcome {
-        Outcome::Returned(_) => {
-            leave(shared, k, thread);
-            Some(Event::Quiet)
+        Outcome::Returned(returned) => {
+            return_from(alloc, shared, k, thread, returned)?;
+            Ok(Some(Event::Quiet))
         }
-        outcome => event_of(outcome),
+        outcome => Ok(event_of(outcome)),
     }
 }
 
@@ -336,14 +387,14 @@ pub(crate) fn take_step<'a>(
     requires sorted { IsSorted (unit_tree functions.now) }
     requires classes { turn.classes.now ≡ world.now.classes }
     requires grown { IsGrown turn.classes.now }
-    requires range { WorkInRange thread.old.activation }
+    requires range { ThreadInRange thread.old }
     ensures step { IfOk result (λ took. TakesTurn (unit_tree functions.now) turn.entry
         (shared_view shared.old) thread.old took (shared_view shared.new) thread.new) }
-    ensures range { IfOk result (λ _. WorkInRange thread.new.activation) }
+    ensures range { IfOk result (λ _. ThreadInRange thread.new) }
 {
     let Some(activation) = &mut thread.activation else {
         return enter(functions, world, turn, thread);
     };
     let outcome = advance(turn, shared, &mut thread.pending, activation)?;
-    Ok(end_step(shared, turn.thread, thread, outcome))
+    end_step(turn.alloc, shared, turn.thread, thread, outcome)
 }

@@ -1,21 +1,27 @@
-use Rattle.std.proofs.Common.{Option, length, sym, ap, ◌∙◌}
-use Rattle.replay_steps.specs.declared.activation.Activation.{Activation}
+use Rattle.std.proofs.Common.{List, length, ap, arith}
 use Rattle.std.specs.Prelude.{flat_map, sum_by}
-use Rattle.base.specs.Bytes.{Identifier}
-use Rattle.semantics.specs.Variable.{Variable, copied_length, viewed}
-use Rattle.replay_terms.specs.Views.{variables_view}
-use Rattle.replay_threads.specs.States.{variables_of}
-use Rattle.replay_threads.proofs.BufferLemmas.{total_copied, total_viewed}
+use Rattle.std.proofs.lemmas.List.{length-append}
+use Rattle.semantics.specs.Thread.{objects_viewed}
+use Rattle.replay_steps.specs.declared.activation.Activation.{Activation}
+use Rattle.replay_threads.specs.States.{call_copies, call_views, variables_of}
+use Rattle.replay_threads.specs.Threads.{last_first}
 use Rattle.replay_threads.proofs.state.taken_by.Goals as goal
 
-pub returns-in-Some-clause-copied : goal.returns-in-Some-clause-copied
-returns-in-Some-clause-copied c =
-    c.in_use.ensures.copied
-    ∙ total_copied (variables_view c.in-Some.activation.locals.variables)
-    ∙ ap (λ (o : Option Activation). sum_by (λ (v : Identifier × Variable). copied_length v.1) (variables_of o)) (sym c.in-Some.is)
+pub returns-clause-copied : goal.returns-clause-copied
+returns-clause-copied c = omega (
+  arith,
+  c.taken_by_calls-others.ensures.copied,
+  c.taken_by_call-own.ensures.copied,
+  ap (λ (l : List Activation). sum_by call_copies (last_first l)) c.deref.ensures.value,
+)
 
-pub returns-in-Some-clause-views : goal.returns-in-Some-clause-views
-returns-in-Some-clause-views c =
-    c.in_use.ensures.views
-    ∙ total_viewed (variables_view c.in-Some.activation.locals.variables)
-    ∙ ap (λ (o : Option Activation). length (flat_map (λ (v : Identifier × Variable). viewed v.1) (variables_of o))) (sym c.in-Some.is)
+pub returns-clause-views : goal.returns-clause-views
+returns-clause-views c =
+    let t = c.args.thread.now in
+    omega (
+      arith,
+      c.taken_by_calls-others.ensures.views,
+      c.taken_by_call-own.ensures.views,
+      ap (λ (l : List Activation). length (flat_map call_views (last_first l))) c.deref.ensures.value,
+      length-append (flat_map call_views (last_first t.callers.items)) (objects_viewed (variables_of t.activation)),
+    )

@@ -1,9 +1,9 @@
-use Rattle.std.proofs.Common.{true, false, sym, subst, ◌∙◌, rules}
+use Rattle.std.proofs.Common.{true, false, refl, sym, subst, ◌∙◌, rules}
 use Rattle.class_rules.specs.Class.{Classes}
 use Rattle.syntax.specs.Views.{unit_tree}
 use Rattle.replay_terms.specs.Views.{in_use_view}
 use Rattle.replay_threads.specs.Threads.{BeginsNext, WorkInRange}
-use Rattle.replay_threads.proofs.ThreadLemmas.{enters, no_next}
+use Rattle.replay_threads.proofs.ThreadLemmas.{enters, no_next, range_begun}
 use Rattle.replay_threads.proofs.thread.enter.Goals as goal
 
 pub returns-then-not-branch-clause-step : goal.returns-then-not-branch-clause-step
@@ -16,7 +16,7 @@ returns-then-not-branch-clause-step c = rw c.if-turn.false (λ shared s h live.
 pub returns-then-not-branch-clause-range : goal.returns-then-not-branch-clause-range
 returns-then-not-branch-clause-range c =
     let never = subst (λ b. BeginsNext (unit_tree c.args.functions.now) c.args.world.now.classes c.in-Some.call.now b c.args.thread.now.activation c.begin_next.new.place) c.if-not-branch.true c.in_ok-begin_next.ensures in
-    subst WorkInRange (sym (never.0 ∙ c.requires.idle)) tt
+    range_begun c.args.thread.now _ refl (subst WorkInRange (sym (never.0 ∙ c.requires.idle)) tt) c.requires.range
 
 pub returns-clause-step : goal.returns-clause-step
 returns-clause-step c = rw c.if-turn.false (λ shared s h live.
@@ -28,4 +28,4 @@ returns-clause-step c = rw c.if-turn.false (λ shared s h live.
 pub returns-clause-range : goal.returns-clause-range
 returns-clause-range c =
     let begun = subst (λ b. BeginsNext (unit_tree c.args.functions.now) c.args.world.now.classes c.in-Some.call.now b c.args.thread.now.activation c.begin_next.new.place) c.if-not-branch.false c.in_ok-begin_next.ensures in
-    subst WorkInRange (sym begun.is) begun.range
+    range_begun c.args.thread.now _ refl (subst WorkInRange (sym begun.is) begun.range) c.requires.range

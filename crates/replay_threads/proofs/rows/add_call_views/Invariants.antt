@@ -1,0 +1,11 @@
+use Rattle.std.proofs.Common.{◌≡◌, ◌++◌, drop}
+use Rattle.std.specs.Prelude.{flat_map}
+use Rattle.semantics.specs.Views.{names_of}
+use Rattle.replay_threads.specs.States.{call_views}
+use Rattle.replay_threads.specs.Threads.{last_first}
+use Rattle.replay_threads.proofs.rows.add_call_views.Given as goal
+
+abbrev pub invariant-loop-done : goal.invariant-loop-done
+invariant-loop-done l =
+    names_of l.names.items ++ flat_map call_views (drop l.done (last_first l.callers))
+    ≡ names_of l.fn.names.items ++ flat_map call_views (last_first l.callers)
