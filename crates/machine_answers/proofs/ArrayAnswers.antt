@@ -31,7 +31,7 @@ use Rattle.machine_answers.proofs.CallOperands.{only_text}
 use Rattle.machine_answers.proofs.TwoCalls.{TwoCalls, references, fields, all, brought, Asked, Works, Does, at, agrees, name_of, built_in_class, object_given_at, number_of, class_given, counted, reference_read, value_written, held_agrees}
 
 module _ (both : TwoCalls) where
-  open both use {p, w, store, pending, activation, call, others, k, shared, s, target, sound, args}
+  open both use {p, w, store, pending, activation, call, others, k, owner, shared, s, target, sound, args}
 
   pub answers_length : Asked both GetArrayLength → (answer : Answer) → Works both GetArrayLength answer → Does both GetArrayLength answer
   unfolding call_effect
@@ -63,7 +63,7 @@ module _ (both : TwoCalls) where
   answers_new_object_array h free answer is =
       let name = name_of both NewObjectArray h 1 in
       let class = class_given both NewObjectArray (IntNumber ∷ []) (Nullable ∷ []) refl h free in
-      let passed = has_passed p w store pending activation call others k shared s target NewObjectArray args h free in
+      let passed = has_passed p w store pending activation call others k owner shared s target NewObjectArray args h free in
       let plain : is_plain (class_kind w.classes (object_given args 1)) ≡ true = ap (λ (c : ℕ). is_plain (class_kind w.classes c)) (sym name) ∙ first_true (is_plain (class_kind w.classes (name_there store.heap (at both 1)))) (fits_there w.classes store.heap (at both 2) (name_there store.heap (at both 1))) passed in
       let array = sound.declares.arrays (object_given args 1) class.low class.high plain in
       let known = found_within w.classes (array_name (class_name w.classes (object_given args 1))) array.0 array.1 in

@@ -22,9 +22,9 @@ use Rattle.machine_answers.proofs.BufferAnswers.{answers_get_buffer, answers_rel
 use Rattle.machine_answers.proofs.ExceptionAnswers.{answers_throw, answers_throw_new, answers_occurred, answers_check, answers_clear, answers_fatal}
 use Rattle.machine_answers.proofs.MonitorAnswers.{answers_enter, answers_exit}
 
-module _ (p : Lowered) (w : World) (store : Store) (pending : Option ℕ) (activation : Activation) (call : Call) (others : Acquired) (k : ℕ) (shared : Shared) (s : Thread) (target : Target) (sound : IsSound w) (args : List Actual) where
+module _ (p : Lowered) (w : World) (store : Store) (pending : Option ℕ) (activation : Activation) (call : Call) (others : Acquired) (k owner : ℕ) (shared : Shared) (s : Thread) (target : Target) (sound : IsSound w) (args : List Actual) where
   abbrev both : TwoCalls
-  both = record { p = p; w = w; sound = sound; store = store; pending = pending; activation = activation; call = call; others = others; k = k; shared = shared; s = s; target = target; args = args }
+  both = record { p = p; w = w; sound = sound; store = store; pending = pending; activation = activation; call = call; others = others; k = k; owner = owner; shared = shared; s = s; target = target; args = args }
 
   -- the answer is what the call does
   pub answers : (f : JniFunction) → Asked both f → trap_of_call w.classes shared s target f args ≡ None → (answer : Answer) → Works both f answer → HasKey both f → IsHeld both f → Does both f answer

@@ -138,7 +138,7 @@ same_pending space None (Some n) h = absurd h
 same_pending space (Some a) None h = absurd h
 same_pending space (Some a) (Some n) h = refl
 
-module _ (p : Lowered) (w : World) (store : Store) (pending : Option ℕ) (activation : Activation) (call : Call) (others : Acquired) (k : ℕ) (shared : Shared) (s : Thread) (target : Target) (f : JniFunction) (args : List Actual) (h : IsAsked p w store pending activation call others k shared s target f args) where
+module _ (p : Lowered) (w : World) (store : Store) (pending : Option ℕ) (activation : Activation) (call : Call) (others : Acquired) (k owner : ℕ) (shared : Shared) (s : Thread) (target : Target) (f : JniFunction) (args : List Actual) (h : IsAsked p w store pending activation call others k owner shared s target f args) where
   pub objects_there : AreAddresses store.heap (references_of store activation) call.operands
   objects_there = all_addresses w.classes store.heap (references_of store activation) activation.slots.fields.items call.operands args h.given
 

@@ -37,7 +37,7 @@ use Rattle.machine_answers.proofs.CallOperands.{two_texts, second_field}
 use Rattle.machine_answers.proofs.TwoCalls.{TwoCalls, references, fields, brought, Asked, Works, Does, at, agrees, name_of, table_of, built_in_class, object_given_at, top_of, number_read, reference_read, value_written, held_agrees}
 
 module _ (both : TwoCalls) where
-  open both use {p, w, store, pending, activation, call, others, k, shared, s, target, sound, args}
+  open both use {p, w, store, pending, activation, call, others, k, owner, shared, s, target, sound, args}
 
   found_field : (o : Option FieldId) (answer : Answer) → IsFoundField w.classes o answer → IsAnswer w.classes (brought both) store.heap activation.locals GivesField shared s answer (found_field_effect shared s no_such_field_error o)
   found_field None answer is = subst (λ (x : Answer). IsAnswer w.classes (brought both) store.heap activation.locals GivesField shared s x (found_field_effect shared s no_such_field_error None)) (sym is) (refl, built_in_class both no_such_field_error (omega arith) (omega arith))
@@ -112,7 +112,7 @@ module _ (both : TwoCalls) where
   pub answers_get : (T : ElementType) → Asked both (GetField T) → trap_of_call w.classes shared s target (GetField T) args ≡ None → (answer : Answer) → Works both (GetField T) answer → Does both (GetField T) answer
   unfolding call_effect
   answers_get T h free answer is =
-      let missing = none_lacking p w store pending activation call others k shared s target (GetField T) args h free in
+      let missing = none_lacking p w store pending activation call others k owner shared s target (GetField T) args h free in
       let first = object_given_at both (GetField T) [] NonNull (FieldID ∷ []) tt refl refl h free in
       let place = place_of (GetField T) h (fielded (GetField T) [] NonNull h refl refl missing) in
       let name : object_given args 0 ≡ first.name = ap name_or_zero first.is in
@@ -121,7 +121,7 @@ module _ (both : TwoCalls) where
   pub answers_set : (T : ElementType) → Asked both (SetField T) → trap_of_call w.classes shared s target (SetField T) args ≡ None → (answer : Answer) → Works both (SetField T) answer → Does both (SetField T) answer
   unfolding call_effect
   answers_set T h free answer is =
-      let missing = none_lacking p w store pending activation call others k shared s target (SetField T) args h free in
+      let missing = none_lacking p w store pending activation call others k owner shared s target (SetField T) args h free in
       let first = object_given_at both (SetField T) [] NonNull (FieldID ∷ IntNumber ∷ []) tt refl refl h free in
       let place = place_of (SetField T) h (fielded (SetField T) (IntNumber ∷ []) NonNull h refl refl missing) in
       let name : object_given args 0 ≡ first.name = ap name_or_zero first.is in
@@ -133,7 +133,7 @@ module _ (both : TwoCalls) where
   pub answers_get_object : Asked both GetObjectField → trap_of_call w.classes shared s target GetObjectField args ≡ None → (answer : Answer) → Works both GetObjectField answer → Does both GetObjectField answer
   unfolding call_effect
   answers_get_object h free answer is =
-      let missing = none_lacking p w store pending activation call others k shared s target GetObjectField args h free in
+      let missing = none_lacking p w store pending activation call others k owner shared s target GetObjectField args h free in
       let first = object_given_at both GetObjectField [] NonNull (FieldID ∷ []) tt refl refl h free in
       let place = place_of GetObjectField h (fielded GetObjectField [] NonNull h refl refl missing) in
       let name : object_given args 0 ≡ first.name = ap name_or_zero first.is in
@@ -142,7 +142,7 @@ module _ (both : TwoCalls) where
   pub answers_set_object : Asked both SetObjectField → trap_of_call w.classes shared s target SetObjectField args ≡ None → (answer : Answer) → Works both SetObjectField answer → Does both SetObjectField answer
   unfolding call_effect
   answers_set_object h free answer is =
-      let missing = none_lacking p w store pending activation call others k shared s target SetObjectField args h free in
+      let missing = none_lacking p w store pending activation call others k owner shared s target SetObjectField args h free in
       let first = object_given_at both SetObjectField [] NonNull (FieldID ∷ Nullable ∷ []) tt refl refl h free in
       let place = place_of SetObjectField h (fielded SetObjectField (Nullable ∷ []) NonNull h refl refl missing) in
       let name : object_given args 0 ≡ first.name = ap name_or_zero first.is in
@@ -161,7 +161,7 @@ module _ (both : TwoCalls) where
 
   holder : (f : JniFunction) → Asked both f → Fielded f → Holder
   holder f h found =
-      let there = handle_of w.classes (fields both) call.operands 1 (handles_there p w store pending activation call others k shared s target f args h) found.handle found.at_handle in
+      let there = handle_of w.classes (fields both) call.operands 1 (handles_there p w store pending activation call others k owner shared s target f args h) found.handle found.at_handle in
       let same : (field_there w.classes (field_at (fields both) (operand_of call.operands 1))).class ≡ (field_given args 1).class = ap (λ (x : FieldId). x.class) (field_at_place w.classes store.heap (references both) (fields both) call.operands args 1 h.given) in
       let class : (field_given args 1).class ≡ found.handle.class.number = ap (λ (x : FieldId). x.class) (sym found.is_field) ∙ sym (class_of_field w.classes found.handle there) in
       let within = class_within w.classes found.handle there in
@@ -184,14 +184,14 @@ module _ (both : TwoCalls) where
   pub answers_get_static : (T : ElementType) → Asked both (GetStaticField T) → trap_of_call w.classes shared s target (GetStaticField T) args ≡ None → (answer : Answer) → Works both (GetStaticField T) answer → Does both (GetStaticField T) answer
   unfolding call_effect
   answers_get_static T h free answer is =
-      let missing = none_lacking p w store pending activation call others k shared s target (GetStaticField T) args h free in
+      let missing = none_lacking p w store pending activation call others k owner shared s target (GetStaticField T) args h free in
       let it = holder (GetStaticField T) h (fielded (GetStaticField T) [] ClassObject h refl refl missing) in
       subst (λ (x : Answer). Does both (GetStaticField T) x) (sym is) (refl, refl, number_read both (class_object store.loaded.items (Some (field_there w.classes (field_at (fields both) (operand_of call.operands 1))).class)) it.address (field_given args 1).class (field_given args 1).class (place_there w.classes (field_at (fields both) (operand_of call.operands 1)) (own_statics w.classes (field_there w.classes (field_at (fields both) (operand_of call.operands 1))).class)) (static_place w.classes (field_given args 1)) it.at_holder it.named_holder refl it.place h.store_agrees)
 
   pub answers_set_static : (T : ElementType) → Asked both (SetStaticField T) → trap_of_call w.classes shared s target (SetStaticField T) args ≡ None → (answer : Answer) → Works both (SetStaticField T) answer → Does both (SetStaticField T) answer
   unfolding call_effect
   answers_set_static T h free answer is =
-      let missing = none_lacking p w store pending activation call others k shared s target (SetStaticField T) args h free in
+      let missing = none_lacking p w store pending activation call others k owner shared s target (SetStaticField T) args h free in
       let it = holder (SetStaticField T) h (fielded (SetStaticField T) (IntNumber ∷ []) ClassObject h refl refl missing) in
       let number = kept (SetStaticField T) ClassObject T tt refl h in
       subst (λ (x : Answer). Does both (SetStaticField T) x) (sym is)
@@ -201,14 +201,14 @@ module _ (both : TwoCalls) where
   pub answers_get_static_object : Asked both GetStaticObjectField → trap_of_call w.classes shared s target GetStaticObjectField args ≡ None → (answer : Answer) → Works both GetStaticObjectField answer → Does both GetStaticObjectField answer
   unfolding call_effect
   answers_get_static_object h free answer is =
-      let missing = none_lacking p w store pending activation call others k shared s target GetStaticObjectField args h free in
+      let missing = none_lacking p w store pending activation call others k owner shared s target GetStaticObjectField args h free in
       let it = holder GetStaticObjectField h (fielded GetStaticObjectField [] ClassObject h refl refl missing) in
       subst (λ (x : Answer). Does both GetStaticObjectField x) (sym is) (refl, refl, reference_read both (class_object store.loaded.items (Some (field_there w.classes (field_at (fields both) (operand_of call.operands 1))).class)) it.address (field_given args 1).class (field_given args 1).class (place_there w.classes (field_at (fields both) (operand_of call.operands 1)) (own_statics w.classes (field_there w.classes (field_at (fields both) (operand_of call.operands 1))).class)) (static_place w.classes (field_given args 1)) it.at_holder it.named_holder refl it.place h.store_agrees)
 
   pub answers_set_static_object : Asked both SetStaticObjectField → trap_of_call w.classes shared s target SetStaticObjectField args ≡ None → (answer : Answer) → Works both SetStaticObjectField answer → Does both SetStaticObjectField answer
   unfolding call_effect
   answers_set_static_object h free answer is =
-      let missing = none_lacking p w store pending activation call others k shared s target SetStaticObjectField args h free in
+      let missing = none_lacking p w store pending activation call others k owner shared s target SetStaticObjectField args h free in
       let it = holder SetStaticObjectField h (fielded SetStaticObjectField (Nullable ∷ []) ClassObject h refl refl missing) in
       subst (λ (x : Answer). Does both SetStaticObjectField x) (sym is)
       (value_written both (class_object store.loaded.items (Some (field_there w.classes (field_at (fields both) (operand_of call.operands 1))).class)) it.address (field_given args 1).class (field_given args 1).class (place_there w.classes (field_at (fields both) (operand_of call.operands 1)) (own_statics w.classes (field_there w.classes (field_at (fields both) (operand_of call.operands 1))).class)) (static_place w.classes (field_given args 1)) (held_reference (at both 2)) (held_reference (at both 2)) (Refers (reference_given args 2)) (Refers (reference_given args 2))

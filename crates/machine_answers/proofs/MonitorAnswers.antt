@@ -31,7 +31,7 @@ use Rattle.machine_answers.proofs.CallOperands.{same_number}
 use Rattle.machine_answers.proofs.TwoCalls.{TwoCalls, brought, Asked, Works, Does, built_in_class, object_given_at, object_there}
 
 module _ (both : TwoCalls) where
-  open both use {p, w, store, pending, activation, call, others, k, shared, s, target, sound, args}
+  open both use {p, w, store, pending, activation, call, others, k, owner, shared, s, target, sound, args}
 
   -- thread k doesn't wait, so no other thread owns the object
   not_owned : (m : source_state.Monitor) → Asked both MonitorEnter → trap_of_call w.classes shared s target MonitorEnter args ≡ None → monitor_of shared.monitors (object_given args 0) ≡ Some m → m.owner ≡ k

@@ -55,7 +55,7 @@ deletes_static DeleteWeakGlobalRef = true
 deletes_static f = false
 
 module _ (both : TwoCalls) where
-  open both use {p, w, store, pending, activation, call, others, k, shared, s, target, sound, args}
+  open both use {p, w, store, pending, activation, call, others, k, owner, shared, s, target, sound, args}
 
   pub answers_find : Asked both FindClass → (answer : Answer) → Works both FindClass answer → Does both FindClass answer
   unfolding call_effect
@@ -114,7 +114,7 @@ module _ (both : TwoCalls) where
       let makeable : IsMakeable w.classes (object_given args 0) = record {
         low = class.low;
         high = class.high;
-        no_class = own_making w.classes (object_given args 0) (ap (λ (n : ℕ). not (has_own_making w.classes n)) (sym name) ∙ has_passed p w store pending activation call others k shared s target AllocObject args h free);
+        no_class = own_making w.classes (object_given args 0) (ap (λ (n : ℕ). not (has_own_making w.classes n)) (sym name) ∙ has_passed p w store pending activation call others k owner shared s target AllocObject args h free);
       } in
       subst (λ (x : Answer). Does both AllocObject x) (sym is)
       (refl, refl, refl, refl, record { object = ap (fresh_object w.classes) (sym name); makeable = subst (IsMakeable w.classes) (sym name) makeable })

@@ -43,7 +43,7 @@ use Rattle.machine_answers.proofs.CallOperands.{GivenObject, is_number_array}
 use Rattle.machine_answers.proofs.TwoCalls.{TwoCalls, references, fields, all, brought, Asked, Works, Does, at, object_of, built_in_class, object_given_at, object_there, counted}
 
 module _ (both : TwoCalls) where
-  open both use {p, w, store, pending, activation, call, others, k, shared, s, target, sound, args}
+  open both use {p, w, store, pending, activation, call, others, k, owner, shared, s, target, sound, args}
 
   -- a region of an object at an address, which has so many values, and the local array that the call names
   module _ (exception a m size : ℕ) (makeable : IsMakeable w.classes exception) (there : name_at store.heap a ≡ Some m) (count : length (values_at store.heap a) ≡ size) (agree : StoreAgrees p w store shared (all both)) (array : ArraySlots) (x : Identifier) (given : (brought both).array ≡ Some (x, array)) (has : HasElements activation.slots.numbers.items array (lookup x s.variables)) where
@@ -175,7 +175,7 @@ module _ (both : TwoCalls) where
       let object = object_of both (SetArrayRegion T) h g.object.address g.object.name g.object.named in
       let class : class_of shared.heap g.object.name ≡ object.0.class = ap (λ (o : Option Object). option_map_or (λ (x : Object). x.class) o 0) object.1 in
       let of_class : class_there store.heap g.object.address ≡ number_array T = is_number_array w.classes store.heap (references both) (fields both) T [] (IntNumber ∷ IntNumber ∷ ArrayVariable T ∷ []) call.operands g.object.address g.object.at
-      h.kinds (none_unfit p w store pending activation call others k shared s target (SetArrayRegion T) args h free) in
+      h.kinds (none_unfit p w store pending activation call others k owner shared s target (SetArrayRegion T) args h free) in
       let same : object.0.class ≡ number_array T = sym class ∙ sym (class_is w.classes store.heap (references both) (fields both) shared.heap h.store_agrees.heap.blocks g.object.address g.object.name g.object.named) ∙ of_class in
       (object.0, object.1, ap (element_type_of w.classes) same ∙ array_numbers w.classes sound.grown T)
 

@@ -47,7 +47,7 @@ use Rattle.machine_answers.proofs.CallTraps.{none_deleted, none_lacking, none_un
 use Rattle.machine_answers.proofs.LongTables.{classes_loaded, grown_long}
 use Rattle.machine_answers.proofs.CallOperands.{GivenObject, IsWordless, OnTop, count_is, few_there, class_object_is, object_at_place, on_top, is_class}
 
--- a call that the machine makes in thread k, and the source's
+-- a call that the machine makes in thread k, in its call of this number, and the source's
 pub record TwoCalls : Type 0 where
   pub p : Lowered
   pub w : World
@@ -58,13 +58,14 @@ pub record TwoCalls : Type 0 where
   pub call : Call
   pub others : Acquired
   pub k : ℕ
+  pub owner : ℕ
   pub shared : Shared
   pub s : Thread
   pub target : Target
   pub args : List Actual
 
 module _ (both : TwoCalls) where
-  open both use {p, w, store, pending, activation, call, others, k, shared, s, target, sound, args}
+  open both use {p, w, store, pending, activation, call, others, k, owner, shared, s, target, sound, args}
 
   abbrev pub references : References
   references = references_of store activation
@@ -80,11 +81,11 @@ module _ (both : TwoCalls) where
   in_use = in_use_of all
 
   abbrev pub brought : Brought
-  brought = brought_by store activation k in_use call args
+  brought = brought_by store activation k owner in_use call args
 
   -- what is asked of function f
   abbrev pub Asked : JniFunction → Type 0
-  Asked f = IsAsked p w store pending activation call others k shared s target f args
+  Asked f = IsAsked p w store pending activation call others k owner shared s target f args
 
   -- what is worked out for it
   abbrev pub Works : JniFunction → Answer → Type 0
@@ -125,8 +126,8 @@ module _ (both : TwoCalls) where
       → trap_of_call w.classes shared s target f args ≡ None → GivenObject w.classes store.heap references fields call.operands args (length before)
   object_given_at f before q after kind never are h free =
       object_at_place w.classes store.heap references fields before q after kind never call.operands args (subst (λ (l : List ParameterKind). AllZip OperandFits l call.operands) are h.kinds) h.given
-      (none_deleted p w store pending activation call others k shared s target f args h free)
-      (subst (λ (l : List ParameterKind). some_missing references fields l call.operands ≡ false) are (none_lacking p w store pending activation call others k shared s target f args h free))
+      (none_deleted p w store pending activation call others k owner shared s target f args h free)
+      (subst (λ (l : List ParameterKind). some_missing references fields l call.operands ≡ false) are (none_lacking p w store pending activation call others k owner shared s target f args h free))
 
   pub object_there : (g : GivenObject w.classes store.heap references fields call.operands args 0) → name_at store.heap g.address ≡ Some (object_given args 0)
   object_there g = g.named ∙ ap (λ (q : Reference). Some (name_or_zero q)) (sym g.is)
@@ -157,7 +158,7 @@ module _ (both : TwoCalls) where
       let class : class_of shared.heap given.name ≡ object.0.class = ap (λ (o : Option Object). option_map_or (λ (x : Object). x.class) o 0) object.1 in
       let of_class : class_there store.heap given.address ≡ class_class = is_class w.classes store.heap references fields before after call.operands given.address given.at
       (subst (λ (l : List ParameterKind). AllZip OperandFits l call.operands) are h.kinds)
-      (subst (λ (l : List ParameterKind). some_misfit w.classes store.heap references l call.operands ≡ false) are (none_unfit p w store pending activation call others k shared s target f args h free)) in
+      (subst (λ (l : List ParameterKind). some_misfit w.classes store.heap references l call.operands ≡ false) are (none_unfit p w store pending activation call others k owner shared s target f args h free)) in
       let same : object.0.class ≡ class_class = sym class ∙ sym (class_is w.classes store.heap references fields shared.heap h.store_agrees.heap.blocks given.address given.name given.named) ∙ of_class in
       let name : object_given args (length before) ≡ given.name = ap name_or_zero given.is in
       let low = low_name given.name object.0 object.1 in

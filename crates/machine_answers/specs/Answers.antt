@@ -83,17 +83,21 @@ pub record HoldsWeakly (s : Shared) (x : Identifier) (i : ℕ) (r : StaticRefere
 
 -- ---- what a call brings
 
--- the texts of a call, the local array that it names, what the slots of numbers and of buffers hold, and what all buffers take
+-- the texts of a call, the local array that it names, what the slots of numbers and of buffers hold, the thread that makes it, and what
+-- all buffers take
 pub record Brought : Type 0 where
   pub texts : List (List ℕ)
   pub array : Option (Identifier × LocalArray)
   pub numbers : List ℕ
   pub buffers : HeldBuffers
+  pub thread : ℕ
   pub in_use : BuffersInUse
 
--- what a call with these texts and slots brings, which names this local array, or none
-abbrev pub bringing : (texts : List (List ℕ)) → (numbers : List ℕ) → HeldBuffers → BuffersInUse → Option (Identifier × LocalArray) → Brought
-bringing texts numbers buffers in_use array = record { texts = texts; array = array; numbers = numbers; buffers = buffers; in_use = in_use }
+-- what a call of a thread with these texts and slots brings, which names this local array, or none
+abbrev pub bringing : (texts : List (List ℕ)) → (numbers : List ℕ) → HeldBuffers → (thread : ℕ) → BuffersInUse
+    → Option (Identifier × LocalArray) → Brought
+bringing texts numbers buffers thread in_use array =
+    record { texts = texts; array = array; numbers = numbers; buffers = buffers; thread = thread; in_use = in_use }
 
 -- an operand is a local array, and the argument at its place its name
 abbrev pub named_array : Option Operand → Option Actual → Option (Identifier × LocalArray)
@@ -217,7 +221,7 @@ IsAnswer classes brought space locals kind s t (answer.DeletesWeak i) effect = (
 IsAnswer classes brought space locals kind s t (answer.AcquiresCopy a) effect = IsBufferResult kind × IsCopyAcquired brought space s t a effect
 IsAnswer classes brought space locals kind s t (answer.AcquiresView a) effect = IsBufferResult kind × IsViewAcquired brought space s t a effect
 IsAnswer classes brought space locals kind s t (answer.Releases r) effect = (kind ≡ GivesNothing) × IsReleased brought space s t r effect
-IsAnswer classes brought space locals kind s t (answer.Enters o) effect = (kind ≡ GivesInt) × IsEntered brought.buffers.owner space s t o effect
-IsAnswer classes brought space locals kind s t (answer.Exits n) effect = (kind ≡ GivesInt) × IsExited brought.buffers.owner s t n effect
+IsAnswer classes brought space locals kind s t (answer.Enters o) effect = (kind ≡ GivesInt) × IsEntered brought.thread space s t o effect
+IsAnswer classes brought space locals kind s t (answer.Exits n) effect = (kind ≡ GivesInt) × IsExited brought.thread s t n effect
 IsAnswer classes brought space locals kind s t answer.RefusesFrames effect = (kind ≡ GivesInt) × (effect ≡ refuses_frames classes s t)
 IsAnswer classes brought space locals kind s t answer effect = ⊥

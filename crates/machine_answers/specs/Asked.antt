@@ -54,20 +54,20 @@ scene_of classes store activation k pending =
       thread = k;
     }
 
--- the buffers of a call of thread k
-abbrev pub buffers_of : Store → Activation → (k : ℕ) → HeldBuffers
-buffers_of store activation k = holding activation.slots.buffers.items store.elements k
+-- the buffers of a call of this number, which its copies have as their owner's
+abbrev pub buffers_of : Store → Activation → (owner : ℕ) → HeldBuffers
+buffers_of store activation owner = holding activation.slots.buffers.items store.elements owner
 
--- what a call of a function with these arguments brings, where all buffers take this
-abbrev pub brought_by : Store → Activation → (k : ℕ) → BuffersInUse → Call → List Actual → Brought
-brought_by store activation k in_use call args = bringing call.texts activation.slots.numbers.items
-    (buffers_of store activation k) in_use (array_given call.operands args)
+-- what a call of a function with these arguments brings, in a call of thread k of this number, where all buffers take this
+abbrev pub brought_by : Store → Activation → (k owner : ℕ) → BuffersInUse → Call → List Actual → Brought
+brought_by store activation k owner in_use call args = bringing call.texts activation.slots.numbers.items
+    (buffers_of store activation owner) k in_use (array_given call.operands args)
 
 -- Store, frames and pending exception of thread k agree with the source's, and each operand gives what the argument at its place is, and
 -- the target wants what the source's does. Objects and variables are typed. While the thread has a view, the function is critical, and a
 -- release names the object that its buffer came from. The thread doesn't wait for a monitor.
 pub record IsAsked (p : Lowered) (w : World) (store : Store) (pending : Option ℕ) (activation : Activation) (call : Call)
-    (others : Acquired) (k : ℕ) (shared : Shared) (s : Thread) (target : Target) (f : JniFunction)
+    (others : Acquired) (k owner : ℕ) (shared : Shared) (s : Thread) (target : Target) (f : JniFunction)
     (args : List Actual) : Type 0 where
   pub store_agrees : StoreAgrees p w store shared (beside others (acquired_by s))
   pub pending_agrees : ReferenceAgrees store.heap pending s.pending
@@ -78,7 +78,7 @@ pub record IsAsked (p : Lowered) (w : World) (store : Store) (pending : Option �
   pub fit : AllZip ActualFits (prototype f).parameters args
   pub given : AllZip (IsGiven w.classes store.heap (references_of store activation) activation.slots.fields.items) call.operands args
   pub arrays : AllZip (HasArray activation.slots.numbers.items s.variables) call.operands args
-  pub buffers : AllZip (HasBuffer store.heap (buffers_of store activation k) s.variables) call.operands args
+  pub buffers : AllZip (HasBuffer store.heap (buffers_of store activation owner) s.variables) call.operands args
   pub wanted : element_wanted call.target ≡ target_element s.variables target
   pub typed : AreTypedObjects w.classes shared.heap
   pub typed_variables : AreTypedVariables w.classes shared.heap s.variables

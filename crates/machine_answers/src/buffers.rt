@@ -112,7 +112,7 @@ pub fn acquire_copy(
     alloc: Global,
     heap: &Heap,
     elements: &mut Elements,
-    owner: u8,
+    owner: u16,
     object: Addr,
 ) -> Result<Buffer, AllocError>
     requires { IsAddress heap.now object }

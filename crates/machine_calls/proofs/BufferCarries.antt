@@ -73,7 +73,7 @@ not_below n m over = by_test (nat_lt n m) refl
     by_test true e = absurd (omega (arith, over, ltb-true n m e))
     by_test false e = refl
 
-module _ (p : Lowered) (w : World) (store : Store) (pending : Option ℕ) (locals : LocalTable) (kind : ResultKind) (others : Acquired) (k : ℕ) (shared : Shared) (s : Thread) (h : IsPossible p w store pending locals others shared s) (brought : Brought) where
+module _ (p : Lowered) (w : World) (store : Store) (pending : Option ℕ) (locals : LocalTable) (kind : ResultKind) (others : Acquired) (owner : ℕ) (shared : Shared) (s : Thread) (h : IsPossible p w store pending locals others shared s) (brought : Brought) where
   -- what the buffers of all threads take
   abbrev all : Acquired
   all = beside others (acquired_by s)
@@ -82,11 +82,11 @@ module _ (p : Lowered) (w : World) (store : Store) (pending : Option ℕ) (local
   Does a effect = IsAnswer w.classes brought store.heap locals kind shared s a effect
 
   abbrev pub Carries : Answer → CallEffect → Store → Given → Type 0
-  Carries a effect after g = CarriesOut p w store.heap locals a kind others k shared s effect false after pending locals g
+  Carries a effect after g = CarriesOut p w store.heap locals a kind others owner shared s effect false after pending locals g
 
   -- a thread that has the frames and the exception that it had, and objects that stay where they are
   pub effected : (a : Answer) (after : Store) (g : Given) (s' : Shared) (t : Thread) (c : CallResult) → t.frames ≡ s.frames → t.pending ≡ s.pending → s'.statics ≡ shared.statics → Keeps store.heap shared after.heap s'
-      → StoreAgrees p w after s' (beside others (beside (acquired_by t) (acquired_with c))) → ResultAgrees w.classes after k g kind c → Carries a (Leaves [] s' t c) after g
+      → StoreAgrees p w after s' (beside others (beside (acquired_by t) (acquired_with c))) → ResultAgrees w.classes after owner g kind c → Carries a (Leaves [] s' t c) after g
   effected a after g s' t c frames pends statics keeps agrees given = record {
     store_agrees = subst (λ (x : Shared). StoreAgrees p w after x (beside others (beside (acquired_by t) (acquired_with c)))) (sym same) agrees;
     keeps = subst (λ (x : Shared). Keeps store.heap shared after.heap x) (sym same) keeps;
@@ -116,7 +116,7 @@ module _ (p : Lowered) (w : World) (store : Store) (pending : Option ℕ) (local
         let used : brought.in_use.copied ≡ lengths store.elements = ap (λ (u : BuffersInUse). u.copied) uses ∙ sym h.store_agrees.buffers.copied in
         does.1.is ∙ ap gives_copy (ap (λ (n : ℕ). nat_le (n + length numbers) 65536) used ∙ e)
 
-    copied : (b : Buffer) (elements : List (Option OwnedNumbers)) → MakesCopy k numbers store.elements b elements → Carries (answer.AcquiresCopy a) effect (record store { elements = elements }) (given.Buffer b)
+    copied : (b : Buffer) (elements : List (Option OwnedNumbers)) → MakesCopy owner numbers store.elements b elements → Carries (answer.AcquiresCopy a) effect (record store { elements = elements }) (given.Buffer b)
     copied held.Null elements (over, same) =
         subst (λ (e : CallEffect). Carries (answer.AcquiresCopy a) e (record store { elements = elements }) (given.Buffer held.Null)) (sym (copy_is false (not_within (lengths store.elements + length numbers) 65536 over)))
         (subst (λ (l : List (Option OwnedNumbers)). Carries (answer.AcquiresCopy a) (gives_copy false) (record store { elements = l }) (given.Buffer held.Null)) (sym same)
@@ -127,11 +127,11 @@ module _ (p : Lowered) (w : World) (store : Store) (pending : Option ℕ) (local
         subst (λ (e : CallEffect). Carries (answer.AcquiresCopy a) e (record store { elements = elements }) (given.Buffer (held.Copy key))) (sym (copy_is true (le-leb (lengths store.elements + length numbers) 65536 within)))
         (effected (answer.AcquiresCopy a) (record store { elements = elements }) (given.Buffer (held.Copy key)) shared s (BufferResult (Copy does.1.name numbers)) refl refl refl (keeps_same store.heap shared)
         (agrees_copies p w store shared all h.store_agrees next elements
-        (taken_copy store.heap store.elements elements store.views (length shared.heap) k does.1.name numbers all next (beside_more others (acquired_by s) (Copy does.1.name numbers)) more h.store_agrees.buffers)) (does.0, gains.has))
+        (taken_copy store.heap store.elements elements store.views (length shared.heap) owner does.1.name numbers all next (beside_more others (acquired_by s) (Copy does.1.name numbers)) more h.store_agrees.buffers)) (does.0, gains.has))
     copied (held.View x) elements made = absurd made
 
-    pub acquires_copy : (b : Buffer) (elements : List (Option OwnedNumbers)) → MakesCopy k (map (cast_signed w32) (words_at store.heap a)) store.elements b elements → Carries (answer.AcquiresCopy a) effect (record store { elements = elements }) (given.Buffer b)
-    acquires_copy b elements made = copied b elements (subst (λ (l : List ℤ). MakesCopy k l store.elements b elements) (words_back (words_at store.heap a) numbers does.1.words) made)
+    pub acquires_copy : (b : Buffer) (elements : List (Option OwnedNumbers)) → MakesCopy owner (map (cast_signed w32) (words_at store.heap a)) store.elements b elements → Carries (answer.AcquiresCopy a) effect (record store { elements = elements }) (given.Buffer b)
+    acquires_copy b elements made = copied b elements (subst (λ (l : List ℤ). MakesCopy owner l store.elements b elements) (words_back (words_at store.heap a) numbers does.1.words) made)
 
   -- ---- a view
 
@@ -167,7 +167,7 @@ module _ (p : Lowered) (w : World) (store : Store) (pending : Option ℕ) (local
 
   -- ---- a release
 
-  module _ (r : Release) (effect : CallEffect) (does : Does (answer.Releases r) effect) (lists : brought.buffers.copies ≡ store.elements) (own : brought.buffers.owner ≡ k) where
+  module _ (r : Release) (effect : CallEffect) (does : Does (answer.Releases r) effect) (lists : brought.buffers.copies ≡ store.elements) (own : brought.buffers.owner ≡ owner) where
     abbrev x : Identifier
     x = does.1.variable
 
@@ -183,9 +183,9 @@ module _ (p : Lowered) (w : World) (store : Store) (pending : Option ℕ) (local
     abbrev at : lookup x s.variables ≡ Some (Elements type b)
     at = does.1.holds.is
 
-    agrees : BufferAgrees store.heap store.elements k r.held b
+    agrees : BufferAgrees store.heap store.elements owner r.held b
     agrees =
-        subst (λ (l : List (Option OwnedNumbers)). BufferAgrees store.heap l k r.held b) lists
+        subst (λ (l : List (Option OwnedNumbers)). BufferAgrees store.heap l owner r.held b) lists
         (subst (λ (o : ℕ). BufferAgrees store.heap brought.buffers.copies o r.held b) own
         (subst (λ (y : Buffer). BufferAgrees store.heap brought.buffers.copies brought.buffers.owner y b) (sym does.1.held) does.1.holds.agrees))
 
@@ -211,7 +211,7 @@ module _ (p : Lowered) (w : World) (store : Store) (pending : Option ℕ) (local
       pub elements : copied_elements (Some (Elements type c)) ≡ zs
       pub can : CanCopyBack store.elements r.object y store.heap
 
-    back_of : (y : Buffer) (c : variable.Buffer) → BufferAgrees store.heap store.elements k y c → IsCopyOf shared.heap n c → Back y c
+    back_of : (y : Buffer) (c : variable.Buffer) → BufferAgrees store.heap store.elements owner y c → IsCopyOf shared.heap n c → Back y c
     back_of held.Null NoBuffer agree is = absurd is
     back_of held.Null (Copy m zs) agree is = absurd agree
     back_of held.Null (View m) agree is = absurd agree
@@ -226,7 +226,7 @@ module _ (p : Lowered) (w : World) (store : Store) (pending : Option ℕ) (local
       many = is.1;
       space = ap (λ (o : Option OwnedNumbers). written_back store.heap r.object (option_map_or (λ (c : OwnedNumbers). c.numbers) o [])) agree;
       elements = refl;
-      can = (owned k zs, agree, omega (arith, is.1, as_long));
+      can = (owned owner zs, agree, omega (arith, is.1, as_long));
     }
 
     back : copies_back r.mode ≡ true → Back r.held b
@@ -238,10 +238,10 @@ module _ (p : Lowered) (w : World) (store : Store) (pending : Option ℕ) (local
     pub can_give_up : CanGiveUp r.held store.heap store.elements store.views
     can_give_up = by_buffer r.held b agrees at
       where
-        by_buffer : (y : Buffer) (c : variable.Buffer) → BufferAgrees store.heap store.elements k y c → lookup x s.variables ≡ Some (Elements type c) → CanGiveUp y store.heap store.elements store.views
+        by_buffer : (y : Buffer) (c : variable.Buffer) → BufferAgrees store.heap store.elements owner y c → lookup x s.variables ≡ Some (Elements type c) → CanGiveUp y store.heap store.elements store.views
         by_buffer held.Null c agree there = tt
         by_buffer (held.Copy key) NoBuffer agree there = absurd agree
-        by_buffer (held.Copy key) (Copy m zs) agree there = (owned k zs, agree)
+        by_buffer (held.Copy key) (Copy m zs) agree there = (owned owner zs, agree)
         by_buffer (held.Copy key) (View m) agree there = absurd agree
         by_buffer (held.View y) NoBuffer agree there = absurd agree
         by_buffer (held.View y) (Copy m zs) agree there = absurd agree
@@ -302,7 +302,7 @@ module _ (p : Lowered) (w : World) (store : Store) (pending : Option ℕ) (local
         pub names : (y m : ℕ) → name_at store_back.heap y ≡ Some m → name_at space y ≡ Some m
         pub layout : layout_of space ≡ layout_of store_back.heap
 
-      given_up : (y : Buffer) (c : variable.Buffer) → BufferAgrees store.heap store.elements k y c → lookup x s.variables ≡ Some (Elements type c) → GivesUp y store_back.heap store.elements store.views space elements views → LeavesStore
+      given_up : (y : Buffer) (c : variable.Buffer) → BufferAgrees store.heap store.elements owner y c → lookup x s.variables ≡ Some (Elements type c) → GivesUp y store_back.heap store.elements store.views space elements views → LeavesStore
       given_up held.Null (Copy m zs) agree there gives = absurd agree
       given_up held.Null (View m) agree there gives = absurd agree
       given_up (held.Copy key) NoBuffer agree there gives = absurd agree
@@ -324,7 +324,7 @@ module _ (p : Lowered) (w : World) (store : Store) (pending : Option ℕ) (local
           record {
             stands = subst (λ (z : Store). StoreAgrees p w z shared' next) (sym same)
                 (agrees_copies p w store_back shared' all before next elements
-                (left_copy store_back.heap elements store.elements store.views (length shared'.heap) k m zs next all (beside_freed others s x type (Copy m zs) there) (fewer (owned k zs) agree) before.buffers));
+                (left_copy store_back.heap elements store.elements store.views (length shared'.heap) owner m zs next all (beside_freed others s x type (Copy m zs) there) (fewer (owned owner zs) agree) before.buffers));
             names = λ z i e. ap (λ (t : Space). name_at t z) heap ∙ e;
             layout = ap layout_of heap;
           }
@@ -348,7 +348,7 @@ module _ (p : Lowered) (w : World) (store : Store) (pending : Option ℕ) (local
       after = record store { heap = space; elements = elements; views = views }
 
       -- nothing is given
-      no_result : (z : Store) → ResultAgrees w.classes z k given.Nothing kind NoResult
+      no_result : (z : Store) → ResultAgrees w.classes z owner given.Nothing kind NoResult
       no_result z = subst (λ (g : ResultKind). GivenAgrees w.classes z.heap g given.Nothing NoResult) (sym does.0) tt
 
       freed_as : (t : Bool) → copies_back r.mode ≡ t → (shared_back t).statics ≡ shared.statics → GivesUp r.held store_back.heap store.elements store.views space elements views → Carries (answer.Releases r) (Leaves [] (shared_back t) (with_freed s x) NoResult) after given.Nothing
@@ -376,11 +376,11 @@ module _ (p : Lowered) (w : World) (store : Store) (pending : Option ℕ) (local
 -- ---- other lists
 
 -- a list more leaves them
-pub copies_more : (k : ℕ) (zs : List ℤ) (a : ℕ) (b : Buffer) (before after : List (Option OwnedNumbers)) → MakesCopy k zs before b after → CopiesStay (answer.AcquiresCopy a) before after
-copies_more k zs a held.Null before after (over, same) key c there left = ap (λ (l : List (Option OwnedNumbers)). value_at l key) same ∙ there
-copies_more k zs a (held.Copy new) before after (within, gains, more) key c there left =
+pub copies_more : (owner : ℕ) (zs : List ℤ) (a : ℕ) (b : Buffer) (before after : List (Option OwnedNumbers)) → MakesCopy owner zs before b after → CopiesStay (answer.AcquiresCopy a) before after
+copies_more owner zs a held.Null before after (over, same) key c there left = ap (λ (l : List (Option OwnedNumbers)). value_at l key) same ∙ there
+copies_more owner zs a (held.Copy new) before after (within, gains, more) key c there left =
     gains.others key (λ e. let none : value_at before key ≡ None = ap (value_at before) e ∙ gains.was_free in let both : Some c ≡ None = sym there ∙ none in absurd (cc)) ∙ there
-copies_more k zs a (held.View y) before after made key c there left = absurd made
+copies_more owner zs a (held.View y) before after made key c there left = absurd made
 
 -- a list less does
 pub copies_fewer : (r : Release) (heap : Space) (before : List (Option OwnedNumbers)) (views : ℕ) (space : Space) (after : List (Option OwnedNumbers)) (views_after : ℕ) → MayGiveUp (gives_up r.mode) r.held heap before views space after views_after → CopiesStay (answer.Releases r) before after

@@ -69,22 +69,22 @@ use Rattle.machine_answers.specs.Copies.{space_with}
 use Rattle.machine_scenes.specs.declared.array_region.ArrayRegion.{ArrayRegion}
 
 -- what is carried out, by the answer's case
-module _ (p : Lowered) (w : World) (space : Space) (before : LocalTable) (kind : ResultKind) (others : Acquired) (k : ℕ) (shared : Shared) (s : Thread) (effect : CallEffect) (brought : Brought) where
-  pub by_answer : (a b : Answer) → a ≡ b → (refused : Bool) (store : Store) (pending : Option ℕ) (locals : LocalTable) (g : Given) → (IsAnswer w.classes brought space before kind shared s b effect → CarriesOut p w space before b kind others k shared s effect refused store pending locals g)
-      → IsAnswer w.classes brought space before kind shared s a effect → CarriesOut p w space before a kind others k shared s effect refused store pending locals g
+module _ (p : Lowered) (w : World) (space : Space) (before : LocalTable) (kind : ResultKind) (others : Acquired) (owner : ℕ) (shared : Shared) (s : Thread) (effect : CallEffect) (brought : Brought) where
+  pub by_answer : (a b : Answer) → a ≡ b → (refused : Bool) (store : Store) (pending : Option ℕ) (locals : LocalTable) (g : Given) → (IsAnswer w.classes brought space before kind shared s b effect → CarriesOut p w space before b kind others owner shared s effect refused store pending locals g)
+      → IsAnswer w.classes brought space before kind shared s a effect → CarriesOut p w space before a kind others owner shared s effect refused store pending locals g
   by_answer a b same refused store pending locals g f does =
-      subst (λ (x : Answer). CarriesOut p w space before x kind others k shared s effect refused store pending locals g) (sym same) (f (subst (λ (x : Answer). IsAnswer w.classes brought space before kind shared s x effect) same does))
+      subst (λ (x : Answer). CarriesOut p w space before x kind others owner shared s effect refused store pending locals g) (sym same) (f (subst (λ (x : Answer). IsAnswer w.classes brought space before kind shared s x effect) same does))
 
 -- a call that fails gives what it gives in the source
-failed_agrees : (classes : Classes) (store : Store) (k : ℕ) (kind : ResultKind) → ResultAgrees classes store k (failed kind) kind (failure kind)
-failed_agrees classes store k NewLocal = refl
-failed_agrees classes store k NewGlobal = (tt, tt, record { live = λ key e. absurd (cc); weak = λ key e. absurd (cc) })
-failed_agrees classes store k NewWeak = (tt, tt, record { live = λ key e. absurd (cc); weak = λ key e. absurd (cc) })
-failed_agrees classes store k GivesField = refl
-failed_agrees classes store k GivesFlag = refl
-failed_agrees classes store k GivesInt = (refl, record { sfits = omega arith })
-failed_agrees classes store k GivesNothing = tt
-failed_agrees classes store k (GivesBuffer access) = ((access, refl), refl)
+failed_agrees : (classes : Classes) (store : Store) (owner : ℕ) (kind : ResultKind) → ResultAgrees classes store owner (failed kind) kind (failure kind)
+failed_agrees classes store owner NewLocal = refl
+failed_agrees classes store owner NewGlobal = (tt, tt, record { live = λ key e. absurd (cc); weak = λ key e. absurd (cc) })
+failed_agrees classes store owner NewWeak = (tt, tt, record { live = λ key e. absurd (cc); weak = λ key e. absurd (cc) })
+failed_agrees classes store owner GivesField = refl
+failed_agrees classes store owner GivesFlag = refl
+failed_agrees classes store owner GivesInt = (refl, record { sfits = omega arith })
+failed_agrees classes store owner GivesNothing = tt
+failed_agrees classes store owner (GivesBuffer access) = ((access, refl), refl)
 
 -- which takes nothing
 failure_none : (kind : ResultKind) → acquired_with (failure kind) ≡ nothing_acquired
@@ -98,27 +98,27 @@ failure_none GivesNothing = refl
 failure_none (GivesBuffer access) = refl
 
 -- what is neither a buffer nor for a static
-result_agrees : (classes : Classes) (store : Store) (k : ℕ) (kind : ResultKind) (g : Given) (c : CallResult) → GivenAgrees classes store.heap kind g c → ResultAgrees classes store k g kind c
-result_agrees classes store k kind given.Nothing c h = h
-result_agrees classes store k kind (given.Number word) c h = h
-result_agrees classes store k kind (given.Reference a) c h = h
-result_agrees classes store k kind (given.FieldId f) c h = h
-result_agrees classes store k NewLocal (given.Global s) c h = absurd h
-result_agrees classes store k NewGlobal (given.Global s) c h = absurd h
-result_agrees classes store k NewWeak (given.Global s) c h = absurd h
-result_agrees classes store k GivesFlag (given.Global s) c h = absurd h
-result_agrees classes store k GivesInt (given.Global s) c h = absurd h
-result_agrees classes store k GivesField (given.Global s) c h = absurd h
-result_agrees classes store k GivesNothing (given.Global s) c h = absurd h
-result_agrees classes store k (GivesBuffer a) (given.Global s) c h = absurd h
-result_agrees classes store k NewLocal (given.Buffer b) c h = absurd h
-result_agrees classes store k NewGlobal (given.Buffer b) c h = absurd h
-result_agrees classes store k NewWeak (given.Buffer b) c h = absurd h
-result_agrees classes store k GivesFlag (given.Buffer b) c h = absurd h
-result_agrees classes store k GivesInt (given.Buffer b) c h = absurd h
-result_agrees classes store k GivesField (given.Buffer b) c h = absurd h
-result_agrees classes store k GivesNothing (given.Buffer b) c h = absurd h
-result_agrees classes store k (GivesBuffer a) (given.Buffer b) c h = absurd h
+result_agrees : (classes : Classes) (store : Store) (owner : ℕ) (kind : ResultKind) (g : Given) (c : CallResult) → GivenAgrees classes store.heap kind g c → ResultAgrees classes store owner g kind c
+result_agrees classes store owner kind given.Nothing c h = h
+result_agrees classes store owner kind (given.Number word) c h = h
+result_agrees classes store owner kind (given.Reference a) c h = h
+result_agrees classes store owner kind (given.FieldId f) c h = h
+result_agrees classes store owner NewLocal (given.Global s) c h = absurd h
+result_agrees classes store owner NewGlobal (given.Global s) c h = absurd h
+result_agrees classes store owner NewWeak (given.Global s) c h = absurd h
+result_agrees classes store owner GivesFlag (given.Global s) c h = absurd h
+result_agrees classes store owner GivesInt (given.Global s) c h = absurd h
+result_agrees classes store owner GivesField (given.Global s) c h = absurd h
+result_agrees classes store owner GivesNothing (given.Global s) c h = absurd h
+result_agrees classes store owner (GivesBuffer a) (given.Global s) c h = absurd h
+result_agrees classes store owner NewLocal (given.Buffer b) c h = absurd h
+result_agrees classes store owner NewGlobal (given.Buffer b) c h = absurd h
+result_agrees classes store owner NewWeak (given.Buffer b) c h = absurd h
+result_agrees classes store owner GivesFlag (given.Buffer b) c h = absurd h
+result_agrees classes store owner GivesInt (given.Buffer b) c h = absurd h
+result_agrees classes store owner GivesField (given.Buffer b) c h = absurd h
+result_agrees classes store owner GivesNothing (given.Buffer b) c h = absurd h
+result_agrees classes store owner (GivesBuffer a) (given.Buffer b) c h = absurd h
 
 -- what is no buffer takes nothing
 no_buffer : (classes : Classes) (space : Space) (kind : ResultKind) (g : Given) (b : variable.Buffer) → GivenAgrees classes space kind g (BufferResult b) → ⊥
@@ -138,13 +138,13 @@ get_below [] i h = absurd (omega (arith, h))
 get_below (x ∷ xs) zero h = (x, refl)
 get_below (x ∷ xs) (suc i) h = get_below xs i (omega (arith, h))
 
-module _ (p : Lowered) (w : World) (store : Store) (pending : Option ℕ) (locals : LocalTable) (kind : ResultKind) (others : Acquired) (k : ℕ) (shared : Shared) (s : Thread) (h : IsPossible p w store pending locals others shared s) (brought : Brought) where
+module _ (p : Lowered) (w : World) (store : Store) (pending : Option ℕ) (locals : LocalTable) (kind : ResultKind) (others : Acquired) (owner : ℕ) (shared : Shared) (s : Thread) (h : IsPossible p w store pending locals others shared s) (brought : Brought) where
   abbrev texts : List (List ℕ)
   texts = brought.texts
 
   -- what is left of an effect, with the frames as they were
   abbrev Carries : Answer → CallEffect → Bool → Store → Option ℕ → Given → Type 0
-  Carries a effect refused after pending' g = CarriesOut p w store.heap locals a kind others k shared s effect refused after pending' locals g
+  Carries a effect refused after pending' g = CarriesOut p w store.heap locals a kind others owner shared s effect refused after pending' locals g
 
   -- what the buffers of all threads take
   abbrev pub all : Acquired
@@ -175,7 +175,7 @@ module _ (p : Lowered) (w : World) (store : Store) (pending : Option ℕ) (local
     pending_agrees = error_there;
     frames_agree = h.frames_agree;
     left = λ key n level is left. is;
-    given_agrees = failed_agrees w.classes store k kind;
+    given_agrees = failed_agrees w.classes store owner kind;
     still = λ same. refl;
     could_refuse = λ e. makes;
     room = (short, refl);
@@ -211,7 +211,7 @@ module _ (p : Lowered) (w : World) (store : Store) (pending : Option ℕ) (local
         pending_agrees = h.pending_agrees;
         frames_agree = h.frames_agree;
         left = λ key n level is left. is;
-        given_agrees = result_agrees w.classes store k kind _ _ (it.agrees);
+        given_agrees = result_agrees w.classes store owner kind _ _ (it.agrees);
         still = λ same. refl;
         could_refuse = λ e. absurd (cc);
         room = nothing_asked store.heap;
@@ -229,7 +229,7 @@ module _ (p : Lowered) (w : World) (store : Store) (pending : Option ℕ) (local
         pending_agrees = reference_stays store.heap after.heap keeps.names pending s.pending h.pending_agrees;
         frames_agree = frames_stay store.heap after.heap keeps.names locals s.frames h.frames_agree;
         left = λ key n level is left. key_stays store.heap after.heap keeps.names locals key n level is;
-        given_agrees = result_agrees w.classes after k kind _ _ (subst (λ (k : ResultKind). GivenAgrees w.classes after.heap k given.Nothing NoResult) (sym it.kind_is) tt);
+        given_agrees = result_agrees w.classes after owner kind _ _ (subst (λ (of : ResultKind). GivenAgrees w.classes after.heap of given.Nothing NoResult) (sym it.kind_is) tt);
         still = λ same. ap (λ (x : Shared). x.statics) it.writes.is;
         could_refuse = λ e. absurd (cc);
         room = nothing_asked store.heap;
@@ -244,7 +244,7 @@ module _ (p : Lowered) (w : World) (store : Store) (pending : Option ℕ) (local
         pending_agrees = h.pending_agrees;
         frames_agree = h.frames_agree;
         left = λ key n level is left. is;
-        given_agrees = result_agrees w.classes store k kind _ _ (subst (λ (k : ResultKind). GivenAgrees w.classes store.heap k given.Nothing NoResult) (sym does.0) tt);
+        given_agrees = result_agrees w.classes store owner kind _ _ (subst (λ (of : ResultKind). GivenAgrees w.classes store.heap of given.Nothing NoResult) (sym does.0) tt);
         still = λ same. refl;
         could_refuse = λ e. absurd (cc);
         room = nothing_asked store.heap;
@@ -264,7 +264,7 @@ module _ (p : Lowered) (w : World) (store : Store) (pending : Option ℕ) (local
         pending_agrees = reference_stays store.heap after.heap keeps.names pending s.pending h.pending_agrees;
         frames_agree = frames_stay store.heap after.heap keeps.names locals s.frames h.frames_agree;
         left = λ key n level is left. key_stays store.heap after.heap keeps.names locals key n level is;
-        given_agrees = result_agrees w.classes after k kind _ _ (subst (λ (k : ResultKind). GivenAgrees w.classes after.heap k given.Nothing NoResult) (sym does.0) tt);
+        given_agrees = result_agrees w.classes after owner kind _ _ (subst (λ (of : ResultKind). GivenAgrees w.classes after.heap of given.Nothing NoResult) (sym does.0) tt);
         still = λ same. refl;
         could_refuse = λ e. absurd (cc);
         room = nothing_asked store.heap;
@@ -279,7 +279,7 @@ module _ (p : Lowered) (w : World) (store : Store) (pending : Option ℕ) (local
         pending_agrees = error_there;
         frames_agree = h.frames_agree;
         left = λ key n level is left. is;
-        given_agrees = result_agrees w.classes store k kind _ _ (subst (λ (k : ResultKind). GivenAgrees w.classes store.heap k (given.Number (2 ^ 32 - 4)) (ScalarResult (Int (negsuc 3)))) (sym int) (refl, record { sfits = omega arith }));
+        given_agrees = result_agrees w.classes store owner kind _ _ (subst (λ (of : ResultKind). GivenAgrees w.classes store.heap of (given.Number (2 ^ 32 - 4)) (ScalarResult (Int (negsuc 3)))) (sym int) (refl, record { sfits = omega arith }));
         still = λ same. refl;
         could_refuse = λ e. absurd (cc);
         room = nothing_asked store.heap;
@@ -294,15 +294,15 @@ module _ (p : Lowered) (w : World) (store : Store) (pending : Option ℕ) (local
 
   -- the frames become these, and nothing else changes
   framed : (a : Answer) (after : LocalTable) (gs : List source.Frame) (g : Given) (c : CallResult) (effect : CallEffect) → effect ≡ Leaves [] shared (record s { frames = gs }) c → FramesAgree store.heap after gs → Left a after → GivenAgrees w.classes store.heap kind g c
-      → CarriesOut p w store.heap locals a kind others k shared s effect false store pending after g
+      → CarriesOut p w store.heap locals a kind others owner shared s effect false store pending after g
   framed a after gs g c effect is agree left given_agrees =
-      subst (λ (e : CallEffect). CarriesOut p w store.heap locals a kind others k shared s e false store pending after g) (sym is) (record {
+      subst (λ (e : CallEffect). CarriesOut p w store.heap locals a kind others owner shared s e false store pending after g) (sym is) (record {
         store_agrees = agrees_yet store shared c (nothing_given w.classes store.heap kind g c given_agrees) h.store_agrees;
         keeps = subst (Keeps store.heap shared store.heap) (sym (same_heap shared)) (keeps_same store.heap shared);
         pending_agrees = h.pending_agrees;
         frames_agree = agree;
         left = left;
-        given_agrees = result_agrees w.classes store k kind g c given_agrees;
+        given_agrees = result_agrees w.classes store owner kind g c given_agrees;
         still = λ same. refl;
         could_refuse = λ e. absurd (cc);
         room = nothing_asked store.heap;
@@ -314,10 +314,10 @@ module _ (p : Lowered) (w : World) (store : Store) (pending : Option ℕ) (local
     decided b fits =
         is ∙ ap (λ (b : Bool). if b then Leaves [] shared (record s { frames = gs }) (ScalarResult (Int (pos 0))) else refuses_frames w.classes shared s) (sym (ap (λ (n : ℕ). nat_le n 1024) (same_capacities store.heap after gs agree)) ∙ fits)
 
-    had : Left a after → capacities after ≤ 1024 → CarriesOut p w store.heap locals a kind others k shared s effect false store pending after (given.Number 0)
+    had : Left a after → capacities after ≤ 1024 → CarriesOut p w store.heap locals a kind others owner shared s effect false store pending after (given.Number 0)
     had left fits =
         framed a after gs (given.Number 0) (ScalarResult (Int (pos 0))) effect (decided true (le-leb (capacities after) 1024 fits)) agree left
-        (subst (λ (k : ResultKind). GivenAgrees w.classes store.heap k (given.Number 0) (ScalarResult (Int (pos 0)))) (sym int) (refl, record { sfits = omega arith }))
+        (subst (λ (of : ResultKind). GivenAgrees w.classes store.heap of (given.Number 0) (ScalarResult (Int (pos 0)))) (sym int) (refl, record { sfits = omega arith }))
 
     not_had : 1024 < capacities after → Carries a effect false store (slice_get store.loaded.items (length w.classes)) (given.Number (2 ^ 32 - 4))
     not_had over = no_room a int effect (decided false (by_test (nat_le (capacities after) 1024) refl))
@@ -327,7 +327,7 @@ module _ (p : Lowered) (w : World) (store : Store) (pending : Option ℕ) (local
         by_test false e = refl
 
   module _ (more : ℕ) (effect : CallEffect) (does : Does (answer.Ensures more) effect) where
-    pub ensures : 0 < length locals.frames → capacities (tables.ensured locals more) ≤ 1024 → CarriesOut p w store.heap locals (answer.Ensures more) kind others k shared s effect false store pending (tables.ensured locals more) (given.Number 0)
+    pub ensures : 0 < length locals.frames → capacities (tables.ensured locals more) ≤ 1024 → CarriesOut p w store.heap locals (answer.Ensures more) kind others owner shared s effect false store pending (tables.ensured locals more) (given.Number 0)
     ensures there fits =
         had (answer.Ensures more) (tables.ensured locals more) (with_capacity more s.frames) (room_ensured store.heap locals s.frames more there h.frames_agree) does.0 effect does.1
         (λ key n level is left. key_ensured store.heap locals key n level is more there) fits
@@ -348,7 +348,7 @@ module _ (p : Lowered) (w : World) (store : Store) (pending : Option ℕ) (local
     abbrev new : List source.Frame
     new = record { capacity = capacity; references = [] } ∷ s.frames
 
-    pub pushes : capacities (tables.pushed locals capacity) ≤ 1024 → CarriesOut p w store.heap locals (answer.Pushes capacity) kind others k shared s effect false store pending (tables.pushed locals capacity) (given.Number 0)
+    pub pushes : capacities (tables.pushed locals capacity) ≤ 1024 → CarriesOut p w store.heap locals (answer.Pushes capacity) kind others owner shared s effect false store pending (tables.pushed locals capacity) (given.Number 0)
     pushes fits =
         had (answer.Pushes capacity) (tables.pushed locals capacity) new (frame_made store.heap locals s.frames capacity h.frames_agree) does.0 effect does.1
         (λ key n level is left. key_pushed store.heap locals key n level is capacity) fits
@@ -358,12 +358,12 @@ module _ (p : Lowered) (w : World) (store : Store) (pending : Option ℕ) (local
 
   module _ (a : Option ℕ) (effect : CallEffect) (does : Does (answer.Pops a) effect) where
     -- what was given, where the frames become these
-    ended : (after : LocalTable) → FramesAgree store.heap after (drop 1 s.frames) → Left (answer.Pops a) after → CarriesOut p w store.heap locals (answer.Pops a) kind others k shared s effect false store pending after (given.Reference a)
+    ended : (after : LocalTable) → FramesAgree store.heap after (drop 1 s.frames) → Left (answer.Pops a) after → CarriesOut p w store.heap locals (answer.Pops a) kind others owner shared s effect false store pending after (given.Reference a)
     ended after agree left =
         framed (answer.Pops a) after (drop 1 s.frames) (given.Reference a) (ReferenceResult does.1.0) effect does.1.2 agree left
-        (subst (λ (k : ResultKind). GivenAgrees w.classes store.heap k (given.Reference a) (ReferenceResult does.1.0)) (sym does.0) does.1.1)
+        (subst (λ (of : ResultKind). GivenAgrees w.classes store.heap of (given.Reference a) (ReferenceResult does.1.0)) (sym does.0) does.1.1)
 
-    pub pops : CarriesOut p w store.heap locals (answer.Pops a) kind others k shared s effect false store pending (popped locals) (given.Reference a)
+    pub pops : CarriesOut p w store.heap locals (answer.Pops a) kind others owner shared s effect false store pending (popped locals) (given.Reference a)
     pops = ended (popped locals) (frame_ended store.heap locals s.frames h.frames_agree) (λ key n level is apart. key_popped store.heap locals key n level is apart)
 
     -- without a frame there is none to end
@@ -372,12 +372,12 @@ module _ (p : Lowered) (w : World) (store : Store) (pending : Option ℕ) (local
         let no : s.frames ≡ [] = no_frames store.heap locals s.frames h.frames_agree none in
         ended locals (subst (FramesAgree store.heap locals) (no ∙ sym (ap (λ (gs : List source.Frame). drop 1 gs) no)) h.frames_agree) (λ key n level is apart. is)
 
-  pub deletes : (key : ℕ) (effect : CallEffect) → Does (answer.Deletes key) effect → CarriesOut p w store.heap locals (answer.Deletes key) kind others k shared s effect false store pending (tables.without locals key) given.Nothing
+  pub deletes : (key : ℕ) (effect : CallEffect) → Does (answer.Deletes key) effect → CarriesOut p w store.heap locals (answer.Deletes key) kind others owner shared s effect false store pending (tables.without locals key) given.Nothing
   deletes key effect (nothing, (n, level, there, is)) =
       framed (answer.Deletes key) (tables.without locals key) (without_local level n s.frames) given.Nothing NoResult effect is
       (reference_deleted store.heap locals s.frames key n level there h.frames_agree)
       (λ other m at its apart. key_deleted store.heap locals other m at its key apart)
-      (subst (λ (k : ResultKind). GivenAgrees w.classes store.heap k given.Nothing NoResult) (sym nothing) tt)
+      (subst (λ (of : ResultKind). GivenAgrees w.classes store.heap of given.Nothing NoResult) (sym nothing) tt)
 
   -- a global reference was made, or none for NULL
   pub makes_global : (globals : List (Option ℕ)) (held : StaticReference) (effect : CallEffect) (a : Option ℕ) (r : Reference) → kind ≡ NewGlobal → ReferenceAgrees store.heap a r → effect ≡ Leaves [] (record shared { globals = option_to_list r ++ shared.globals }) s (ReferenceResult r)
@@ -391,7 +391,7 @@ module _ (p : Lowered) (w : World) (store : Store) (pending : Option ℕ) (local
         pending_agrees = h.pending_agrees;
         frames_agree = h.frames_agree;
         left = λ key n level is left. is;
-        given_agrees = (subst (λ (k : ResultKind). IsForStatic k (ReferenceResult None)) (sym global) tt, subst (λ (x : StaticReference). HeldAgrees store.heap (held_of globals store.weaks x) Empty) (sym made.1) tt, record { live = λ key e. absurd (let clash : static.Empty ≡ static.Live key = sym made.1 ∙ e in cc); weak = λ key e. absurd (let clash : static.Empty ≡ static.Weakly key = sym made.1 ∙ e in cc) });
+        given_agrees = (subst (λ (of : ResultKind). IsForStatic of (ReferenceResult None)) (sym global) tt, subst (λ (x : StaticReference). HeldAgrees store.heap (held_of globals store.weaks x) Empty) (sym made.1) tt, record { live = λ key e. absurd (let clash : static.Empty ≡ static.Live key = sym made.1 ∙ e in cc); weak = λ key e. absurd (let clash : static.Empty ≡ static.Weakly key = sym made.1 ∙ e in cc) });
         still = λ same. refl;
         could_refuse = λ e. absurd (cc);
         room = nothing_asked store.heap;
@@ -405,7 +405,7 @@ module _ (p : Lowered) (w : World) (store : Store) (pending : Option ℕ) (local
         frames_agree = h.frames_agree;
         left = λ key n level is left. is;
         given_agrees = (
-          subst (λ (k : ResultKind). IsForStatic k (ReferenceResult (Some n))) (sym global) tt,
+          subst (λ (of : ResultKind). IsForStatic of (ReferenceResult (Some n))) (sym global) tt,
           subst (λ (x : StaticReference). HeldAgrees store.heap (held_of globals store.weaks x) (Live n)) (sym made.1) (subst (λ (o : Option ℕ). HeldAgrees store.heap (held_at o) (Live n)) (sym made.2.has) agrees),
           subst (IsFresh (record store { globals = globals })) (sym made.1) (fresh_global p w store shared all h.store_agrees globals made.0 a made.2),
         );
@@ -427,7 +427,7 @@ module _ (p : Lowered) (w : World) (store : Store) (pending : Option ℕ) (local
         pending_agrees = h.pending_agrees;
         frames_agree = h.frames_agree;
         left = λ key n level is left. is;
-        given_agrees = subst (λ (k : ResultKind). GivenAgrees w.classes store.heap k given.Nothing NoResult) (sym nothing) tt;
+        given_agrees = subst (λ (of : ResultKind). GivenAgrees w.classes store.heap of given.Nothing NoResult) (sym nothing) tt;
         still = λ same. absurd (subst IsStaticResult nothing same);
         could_refuse = λ e. absurd (cc);
         room = nothing_asked store.heap;
@@ -453,7 +453,7 @@ module _ (p : Lowered) (w : World) (store : Store) (pending : Option ℕ) (local
         pending_agrees = h.pending_agrees;
         frames_agree = h.frames_agree;
         left = λ key n level is left. is;
-        given_agrees = (subst (λ (k : ResultKind). IsForStatic k (WeakResult None)) (sym weak) tt, subst (λ (x : StaticReference). HeldAgrees store.heap (held_of store.globals weaks x) Empty) (sym made.1) tt, record { live = λ key e. absurd (let clash : static.Empty ≡ static.Live key = sym made.1 ∙ e in cc); weak = λ key e. absurd (let clash : static.Empty ≡ static.Weakly key = sym made.1 ∙ e in cc) });
+        given_agrees = (subst (λ (of : ResultKind). IsForStatic of (WeakResult None)) (sym weak) tt, subst (λ (x : StaticReference). HeldAgrees store.heap (held_of store.globals weaks x) Empty) (sym made.1) tt, record { live = λ key e. absurd (let clash : static.Empty ≡ static.Live key = sym made.1 ∙ e in cc); weak = λ key e. absurd (let clash : static.Empty ≡ static.Weakly key = sym made.1 ∙ e in cc) });
         still = λ same. refl;
         could_refuse = λ e. absurd (cc);
         room = nothing_asked store.heap;
@@ -466,7 +466,7 @@ module _ (p : Lowered) (w : World) (store : Store) (pending : Option ℕ) (local
         frames_agree = h.frames_agree;
         left = λ key n level is left. is;
         given_agrees = (
-          subst (λ (k : ResultKind). IsForStatic k (WeakResult (Some n))) (sym weak) tt,
+          subst (λ (of : ResultKind). IsForStatic of (WeakResult (Some n))) (sym weak) tt,
           subst (λ (x : StaticReference). HeldAgrees store.heap (held_of store.globals weaks x) (Weakly n)) (sym made.1) (subst (λ (o : Option (Option ℕ)). HeldAgrees store.heap (held_weakly o) (Weakly n)) (sym made.2.has) agrees),
           subst (IsFresh (record store { weaks = weaks })) (sym made.1) (fresh_weak p w store shared all h.store_agrees weaks made.0 a made.2),
         );
@@ -487,7 +487,7 @@ module _ (p : Lowered) (w : World) (store : Store) (pending : Option ℕ) (local
         pending_agrees = h.pending_agrees;
         frames_agree = h.frames_agree;
         left = λ key n level is left. is;
-        given_agrees = subst (λ (k : ResultKind). GivenAgrees w.classes store.heap k given.Nothing NoResult) (sym nothing) tt;
+        given_agrees = subst (λ (of : ResultKind). GivenAgrees w.classes store.heap of given.Nothing NoResult) (sym nothing) tt;
         still = λ same. absurd (subst IsStaticResult nothing same);
         could_refuse = λ e. absurd (cc);
         room = nothing_asked store.heap;
@@ -508,7 +508,7 @@ module _ (p : Lowered) (w : World) (store : Store) (pending : Option ℕ) (local
           pending_agrees = reference_stays store.heap after.heap names pending s.pending h.pending_agrees;
           frames_agree = frames_stay store.heap after.heap names locals s.frames h.frames_agree;
           left = λ key n level is left. key_stays store.heap after.heap names locals key n level is;
-          given_agrees = result_agrees w.classes after k kind _ _ (subst (λ (k : ResultKind). GivenAgrees w.classes after.heap k (given.Reference (Some a)) (ReferenceResult (Some (next_name shared.heap)))) (sym it.kind_is)
+          given_agrees = result_agrees w.classes after owner kind _ _ (subst (λ (of : ResultKind). GivenAgrees w.classes after.heap of (given.Reference (Some a)) (ReferenceResult (Some (next_name shared.heap)))) (sym it.kind_is)
               (making.made_named p w texts store after shared new it.object a all h.store_agrees made it.describes));
           still = λ same. refl;
           could_refuse = λ e. absurd (cc);
@@ -529,7 +529,7 @@ module _ (p : Lowered) (w : World) (store : Store) (pending : Option ℕ) (local
           pending_agrees = making.made_named p w texts store after shared (Fresh class) o a all h.store_agrees made described;
           frames_agree = frames_stay store.heap after.heap names locals s.frames h.frames_agree;
           left = λ key n level is left. key_stays store.heap after.heap names locals key n level is;
-          given_agrees = failed_agrees w.classes after k kind;
+          given_agrees = failed_agrees w.classes after owner kind;
           still = λ same. refl;
           could_refuse = λ e. absurd (cc);
           room = object_fits after (Fresh class) a made o described;
@@ -602,7 +602,7 @@ module _ (p : Lowered) (w : World) (store : Store) (pending : Option ℕ) (local
                 ∙ ap (λ (n : ℕ). Some (n + 1)) (length-append shared.heap (string ∷ []));
             frames_agree = frames_stay store.heap after.heap names locals s.frames h.frames_agree;
             left = λ key n level is left. key_stays store.heap after.heap names locals key n level is;
-            given_agrees = result_agrees w.classes after k kind _ _ (subst (λ (k : ResultKind). GivenAgrees w.classes after.heap k (given.Number 0) (ScalarResult (Int (pos 0)))) (sym does.0) (refl, record { sfits = omega arith }));
+            given_agrees = result_agrees w.classes after owner kind _ _ (subst (λ (of : ResultKind). GivenAgrees w.classes after.heap of (given.Number 0) (ScalarResult (Int (pos 0)))) (sym does.0) (refl, record { sfits = omega arith }));
             still = λ same. refl;
             could_refuse = λ e. absurd (cc);
             room = both_fit;
@@ -617,7 +617,7 @@ module _ (p : Lowered) (w : World) (store : Store) (pending : Option ℕ) (local
         pending_agrees = agrees;
         frames_agree = h.frames_agree;
         left = λ key n level is left. is;
-        given_agrees = result_agrees w.classes store k kind g c given_agrees;
+        given_agrees = result_agrees w.classes store owner kind g c given_agrees;
         still = λ same. refl;
         could_refuse = λ e. absurd (cc);
         room = nothing_asked store.heap;

@@ -105,10 +105,10 @@ module _ (classes : Classes) (brought : Brought) (space : Space) (locals : Local
   cells_made (answer.DeletesGlobal i) effect does = ap Cells does.1.3
   cells_made (answer.MakesWeak a) effect does = ap Cells does.1.2
   cells_made (answer.DeletesWeak i) effect does = ap Cells (does.1.3 ∙ weak_deleted shared s does.1.0 does.1.1 does.1.2.weak)
-  cells_made (answer.Enters o) effect does = ap Cells does.1.is ∙ of_enter brought.buffers.owner o.name (source.monitor_of shared.monitors o.name)
+  cells_made (answer.Enters o) effect does = ap Cells does.1.is ∙ of_enter brought.thread o.name (source.monitor_of shared.monitors o.name)
   cells_made (answer.Exits n) effect does =
       let it = does.1 in
-      ap Cells (it.is ∙ ap (exit_effect brought.buffers.owner shared s n) it.owned) ∙ of_exit brought.buffers.owner n it.monitor it.own
+      ap Cells (it.is ∙ ap (exit_effect brought.thread shared s n) it.owned) ∙ of_exit brought.thread n it.monitor it.own
 
 -- what changes references or frames makes nothing
 pub references_free : (classes : Classes) (texts : List (List ℕ)) (a : Answer) → is_of_references a ≡ true → cells_of classes texts a ≡ 0

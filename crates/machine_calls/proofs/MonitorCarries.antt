@@ -67,12 +67,12 @@ keeps_monitors space shared ss = record {
   few = omega arith;
 }
 
-module _ (p : Lowered) (w : World) (store : Store) (pending : Option ℕ) (locals : LocalTable) (kind : ResultKind) (others : Acquired) (k : ℕ) (shared : Shared) (s : Thread) (h : IsPossible p w store pending locals others shared s) (brought : Brought) (owner : brought.buffers.owner ≡ k) where
+module _ (p : Lowered) (w : World) (store : Store) (pending : Option ℕ) (locals : LocalTable) (kind : ResultKind) (others : Acquired) (k owner : ℕ) (shared : Shared) (s : Thread) (h : IsPossible p w store pending locals others shared s) (brought : Brought) (thread : brought.thread ≡ k) where
   abbrev Does : Answer → CallEffect → Type 0
   Does a effect = IsAnswer w.classes brought store.heap locals kind shared s a effect
 
   abbrev Carries : Answer → CallEffect → List Monitor → Type 0
-  Carries a effect ms = CarriesOut p w store.heap locals a kind others k shared s effect false (record store { monitors = ms }) pending locals (given.Number 0)
+  Carries a effect ms = CarriesOut p w store.heap locals a kind others owner shared s effect false (record store { monitors = ms }) pending locals (given.Number 0)
 
   -- other monitors, and 0 is given
   changed : (a : Answer) (effect : CallEffect) (ms : List Monitor) → kind ≡ GivesInt → fit.Does effect shared s ms → AreThere store.heap ms → Carries a effect ms
@@ -81,14 +81,14 @@ module _ (p : Lowered) (w : World) (store : Store) (pending : Option ℕ) (local
       let left_shared : Shared = record shared { monitors = does.monitors } in
       let all = beside others (acquired_by s) in
       subst (λ (e : CallEffect). Carries a e ms) (sym does.is)
-      (effected p w store pending locals kind others k shared s h brought a after (given.Number 0) left_shared s (ScalarResult (Int (pos 0))) refl refl refl (keeps_monitors store.heap shared does.monitors)
+      (effected p w store pending locals kind others owner shared s h brought a after (given.Number 0) left_shared s (ScalarResult (Int (pos 0))) refl refl refl (keeps_monitors store.heap shared does.monitors)
       (agrees_same p w after left_shared all (agrees_monitors p w store shared all h.store_agrees ms does.monitors does.agree there) (beside others (beside (acquired_by s) nothing_acquired)) (beside_nothing others (acquired_by s)))
       (subst (λ (r : ResultKind). GivenAgrees w.classes store.heap r (given.Number 0) (ScalarResult (Int (pos 0)))) (sym int) (refl, record { sfits = omega arith })))
 
   -- what `enter` ensures of the object that is entered
   module _ (o : Object) (effect : CallEffect) (does : Does (answer.Enters o) effect) where
     may : IsEntered k store.heap shared s o effect
-    may = subst (λ (j : ℕ). IsEntered j store.heap shared s o effect) owner does.1
+    may = subst (λ (j : ℕ). IsEntered j store.heap shared s o effect) thread does.1
 
     pub enters : (came : Enter) (ms : List Monitor) → came ≡ entering k (monitor_of store.monitors o.name) → (came ≡ Entered → ChangesAt store.monitors ms o.name (Some (entered o k (monitor_of store.monitors o.name)))) → AreOf (o ∷ map object_of store.monitors) ms → Carries (answer.Enters o) effect ms
     enters came ms is changes objects =
@@ -100,7 +100,7 @@ module _ (p : Lowered) (w : World) (store : Store) (pending : Option ℕ) (local
   -- what `exit` ensures of the object that is left
   module _ (n : ℕ) (effect : CallEffect) (does : Does (answer.Exits n) effect) where
     owned : IsExited k shared s n effect
-    owned = subst (λ (j : ℕ). IsExited j shared s n effect) owner does.1
+    owned = subst (λ (j : ℕ). IsExited j shared s n effect) thread does.1
 
     pub exits : (came : Exit) (ms : List Monitor) → came ≡ leaving k (monitor_of store.monitors n) → (came ≡ Left → ChangesAt store.monitors ms n (left (monitor_of store.monitors n))) → AreOf (map object_of store.monitors) ms → Carries (answer.Exits n) effect ms
     exits came ms is changes objects =

@@ -109,11 +109,11 @@ pub record IsFresh (store : Store) (s : StaticReference) : Type 0 where
   pub weak : (key : ℕ) → s ≡ static.Weakly key → IsSome (value_at store.weaks key)
       × ((i : ℕ) → slice_get store.statics.items i ≡ Some (static.Weakly key) → ⊥)
 
--- what thread k is given is the buffer of a result, or NULL
-abbrev pub BufferIsGiven : Store → (k : ℕ) → Buffer → CallResult → Type 0
-BufferIsGiven store k h (BufferResult b) = BufferAgrees store.heap store.elements k h b
-BufferIsGiven store k h NullResult = h ≡ buffer.Null
-BufferIsGiven store k h c = ⊥
+-- what a call of this number is given is the buffer of a result, whose copy is its own, or NULL
+abbrev pub BufferIsGiven : Store → (owner : ℕ) → Buffer → CallResult → Type 0
+BufferIsGiven store owner h (BufferResult b) = BufferAgrees store.heap store.elements owner h b
+BufferIsGiven store owner h NullResult = h ≡ buffer.Null
+BufferIsGiven store owner h c = ⊥
 
 -- a function of this kind of result, which goes into a static, gives this
 abbrev pub IsForStatic : ResultKind → CallResult → Type 0
@@ -123,12 +123,12 @@ IsForStatic NewWeak (WeakResult r) = Unit {0}
 IsForStatic NewWeak NullResult = Unit {0}
 IsForStatic kind c = ⊥
 
--- what a function of this kind of result gives to thread k, where that may be a buffer or for a static
-abbrev pub ResultAgrees : Classes → Store → (k : ℕ) → Given → ResultKind → CallResult → Type 0
-ResultAgrees classes store k (given.Buffer h) kind c = IsBufferResult kind × BufferIsGiven store k h c
-ResultAgrees classes store k (given.Global s) kind c = IsForStatic kind c
+-- what a function of this kind of result gives to a call of this number, where that may be a buffer or for a static
+abbrev pub ResultAgrees : Classes → Store → (owner : ℕ) → Given → ResultKind → CallResult → Type 0
+ResultAgrees classes store owner (given.Buffer h) kind c = IsBufferResult kind × BufferIsGiven store owner h c
+ResultAgrees classes store owner (given.Global s) kind c = IsForStatic kind c
     × HeldAgrees store.heap (held store.globals store.weaks s) (static_result c) × IsFresh store s
-ResultAgrees classes store k g kind c = GivenAgrees classes store.heap kind g c
+ResultAgrees classes store owner g kind c = GivenAgrees classes store.heap kind g c
 
 -- the number slots once an answer is carried out
 abbrev pub slots_after : Space → Answer → List ℕ → List ℕ
@@ -196,18 +196,18 @@ IsLeft (answer.Deletes deleted) frames key level = key ≢ deleted
 IsLeft (answer.Pops a) frames key level = level ≢ frames
 IsLeft a frames key level = Unit {0}
 
--- The store, the frames and the exception that is pending are those that the effect on thread k leaves, and what is given is what the
+-- The store, the frames and the exception that is pending are those that the effect on the call's thread leaves, and what is given is what the
 -- call gives; the buffers of other threads take what they did. Keys that the answer leaves are those of the same references. Only what
 -- makes objects can be refused, and only where they have no room.
 pub record CarriesOut (p : Lowered) (w : World) (old : Space) (before : LocalTable) (answer : Answer)
-    (kind : ResultKind) (others : Acquired) (k : ℕ) (shared : Shared) (s : Thread) (effect : CallEffect)
+    (kind : ResultKind) (others : Acquired) (owner : ℕ) (shared : Shared) (s : Thread) (effect : CallEffect)
     (refused : Bool) (store : Store) (pending : Option ℕ) (locals : LocalTable) (given : Given) : Type 0 where
   pub store_agrees : StoreAgrees p w store (shared_after w.classes refused shared effect) (acquired_after others kind refused s effect)
   pub keeps : Keeps old shared store.heap (shared_after w.classes refused shared effect)
   pub pending_agrees : ReferenceAgrees store.heap pending (pending_after w.classes refused shared s effect)
   pub frames_agree : FramesAgree store.heap locals (frames_left refused s effect)
   pub left : (key n level : ℕ) → IsKeyOf old before key n level → IsLeft answer (length before.frames) key level → IsKeyOf store.heap locals key n level
-  pub given_agrees : ResultAgrees w.classes store k given kind (result_after kind refused effect)
+  pub given_agrees : ResultAgrees w.classes store owner given kind (result_after kind refused effect)
   pub still : IsStaticResult kind → (shared_after w.classes refused shared effect).statics ≡ shared.statics
   pub could_refuse : refused ≡ true → makes_objects effect ≡ true
   pub room : GoesByRoom refused (sizes (made_by w.classes effect)) old store.heap
@@ -232,60 +232,61 @@ pub record IsPossible (p : Lowered) (w : World) (store : Store) (pending : Optio
 
 -- ---- what is carried out, of any call of the source that has the answer
 
--- a call of thread k that can be carried out has this answer
-abbrev pub HasAnswer : World → Store → (pending : Option ℕ) → Activation → Call → (k : ℕ) → Answer → Type 0
-HasAnswer w store pending activation call k a =
+-- a call of thread k, of the number that its copies have as their owner's, can be carried out and has this answer
+abbrev pub HasAnswer : World → Store → (pending : Option ℕ) → Activation → Call → (k owner : ℕ) → Answer → Type 0
+HasAnswer w store pending activation call k owner a =
     (p : Lowered) × (array : Option (Identifier × LocalArray)) × (others : Acquired) × (shared : Shared) × (s : Thread)
     × (effect : CallEffect) × IsPossible p w store pending activation.locals others shared s
     × IsAnswer w.classes (bringing (texts_in call.texts.items) activation.slots.numbers.items
-    (holding activation.slots.buffers.items store.elements k) (in_use_of (beside others (acquired_by s))) array)
+    (holding activation.slots.buffers.items store.elements owner) k (in_use_of (beside others (acquired_by s))) array)
     store.heap activation.locals (result_value call.result) shared s a effect
 
 -- what carrying it out leaves is what the call does
 abbrev pub CarriesOutAnswer : World → (old store : Store) → (pending left : Option ℕ) → (before after : Activation) → Call
-    → (k : ℕ) → Answer → Carried → Type 0
-CarriesOutAnswer w old store pending left before after call k a carried =
+    → (k owner : ℕ) → Answer → Carried → Type 0
+CarriesOutAnswer w old store pending left before after call k owner a carried =
     (p : Lowered) (array : Option (Identifier × LocalArray)) (others : Acquired) (shared : Shared) (s : Thread)
     (effect : CallEffect) → IsPossible p w old pending before.locals others shared s
     → IsAnswer w.classes (bringing (texts_in call.texts.items) before.slots.numbers.items
-    (holding before.slots.buffers.items old.elements k) (in_use_of (beside others (acquired_by s))) array)
+    (holding before.slots.buffers.items old.elements owner) k (in_use_of (beside others (acquired_by s))) array)
     old.heap before.locals (result_value call.result) shared s a effect
-    → CarriesOut p w old.heap before.locals a (result_value call.result) others k shared s effect
+    → CarriesOut p w old.heap before.locals a (result_value call.result) others owner shared s effect
     carried.refused store left after.locals carried.given
 
--- a call of thread k, which has these buffers, has an answer of buffers, and can be carried out
-abbrev pub HasAnswerOfBuffers : World → Store → (pending : Option ℕ) → LocalTable → List Buffer → (k : ℕ) → Answer → Type 0
-HasAnswerOfBuffers w store pending locals buffers k a =
+-- a call of thread k, which has these buffers and this number, has an answer of buffers, and can be carried out
+abbrev pub HasAnswerOfBuffers : World → Store → (pending : Option ℕ) → LocalTable → List Buffer → (k owner : ℕ) → Answer → Type 0
+HasAnswerOfBuffers w store pending locals buffers k owner a =
     (p : Lowered) × (kind : ResultKind) × (brought : Brought) × (others : Acquired) × (shared : Shared) × (s : Thread)
     × (effect : CallEffect) × IsPossible p w store pending locals others shared s
     × IsAnswer w.classes brought store.heap locals kind shared s a effect
-    × (brought.buffers ≡ holding buffers store.elements k) × (brought.in_use ≡ in_use_of (beside others (acquired_by s)))
+    × (brought.buffers ≡ holding buffers store.elements owner) × (brought.in_use ≡ in_use_of (beside others (acquired_by s)))
+    × (brought.thread ≡ k)
 
 -- what carrying that out leaves is what the call does
 abbrev pub CarriesOutBuffers : World → (old store : Store) → (pending left : Option ℕ) → (before locals : LocalTable)
-    → List Buffer → (k : ℕ) → Answer → Carried → Type 0
-CarriesOutBuffers w old store pending left before locals buffers k a carried =
+    → List Buffer → (k owner : ℕ) → Answer → Carried → Type 0
+CarriesOutBuffers w old store pending left before locals buffers k owner a carried =
     (p : Lowered) (kind : ResultKind) (brought : Brought) (others : Acquired) (shared : Shared) (s : Thread)
     (effect : CallEffect) → IsPossible p w old pending before others shared s
     → IsAnswer w.classes brought old.heap before kind shared s a effect
-    → brought.buffers ≡ holding buffers old.elements k → brought.in_use ≡ in_use_of (beside others (acquired_by s))
-    → CarriesOut p w old.heap before a kind others k shared s effect carried.refused store left locals carried.given
+    → brought.buffers ≡ holding buffers old.elements owner → brought.in_use ≡ in_use_of (beside others (acquired_by s))
+    → brought.thread ≡ k → CarriesOut p w old.heap before a kind others owner shared s effect carried.refused store left locals carried.given
 
 -- a call of thread k has an answer of monitors, and can be carried out
 abbrev pub HasAnswerOfMonitors : World → Store → (pending : Option ℕ) → LocalTable → (k : ℕ) → Answer → Type 0
 HasAnswerOfMonitors w store pending locals k a =
     (p : Lowered) × (kind : ResultKind) × (brought : Brought) × (others : Acquired) × (shared : Shared) × (s : Thread)
     × (effect : CallEffect) × IsPossible p w store pending locals others shared s
-    × IsAnswer w.classes brought store.heap locals kind shared s a effect × (brought.buffers.owner ≡ k)
+    × IsAnswer w.classes brought store.heap locals kind shared s a effect × (brought.thread ≡ k)
 
--- what carrying that out leaves is what the call does
+-- what carrying that out leaves is what the call does, whatever its number
 abbrev pub CarriesOutMonitors : World → (old store : Store) → (pending left : Option ℕ) → (before locals : LocalTable)
     → (k : ℕ) → Answer → Carried → Type 0
 CarriesOutMonitors w old store pending left before locals k a carried =
-    (p : Lowered) (kind : ResultKind) (brought : Brought) (others : Acquired) (shared : Shared) (s : Thread)
+    (p : Lowered) (kind : ResultKind) (brought : Brought) (others : Acquired) (owner : ℕ) (shared : Shared) (s : Thread)
     (effect : CallEffect) → IsPossible p w old pending before others shared s
-    → IsAnswer w.classes brought old.heap before kind shared s a effect → brought.buffers.owner ≡ k
-    → CarriesOut p w old.heap before a kind others k shared s effect carried.refused store left locals carried.given
+    → IsAnswer w.classes brought old.heap before kind shared s a effect → brought.thread ≡ k
+    → CarriesOut p w old.heap before a kind others owner shared s effect carried.refused store left locals carried.given
 
 -- a call has an answer of references, and can be carried out
 abbrev pub HasAnswerOfReferences : World → Store → (pending : Option ℕ) → LocalTable → Answer → Type 0
@@ -294,11 +295,11 @@ HasAnswerOfReferences w store pending locals a =
     × (effect : CallEffect) × IsPossible p w store pending locals others shared s
     × IsAnswer w.classes brought store.heap locals kind shared s a effect
 
--- what carrying that out leaves is what the call does, whichever thread makes it
+-- what carrying that out leaves is what the call does, whichever thread makes it and whatever its number
 abbrev pub CarriesOutReferences : World → (old store : Store) → (pending left : Option ℕ) → (before locals : LocalTable)
     → Answer → Carried → Type 0
 CarriesOutReferences w old store pending left before locals a carried =
-    (p : Lowered) (kind : ResultKind) (brought : Brought) (others : Acquired) (k : ℕ) (shared : Shared) (s : Thread)
+    (p : Lowered) (kind : ResultKind) (brought : Brought) (others : Acquired) (owner : ℕ) (shared : Shared) (s : Thread)
     (effect : CallEffect) → IsPossible p w old pending before others shared s
     → IsAnswer w.classes brought old.heap before kind shared s a effect
-    → CarriesOut p w old.heap before a kind others k shared s effect carried.refused store left locals carried.given
+    → CarriesOut p w old.heap before a kind others owner shared s effect carried.refused store left locals carried.given

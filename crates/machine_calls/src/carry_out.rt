@@ -50,9 +50,9 @@ pub fn has_room(classes: &ClassTable, texts: &[Vec<u8>], heap: &Heap, answer: &A
     }
 }
 
-/// Does to the store and to an activation's frames and slots what this call answers, in the thread of this number.
-/// An object or an exception is refused exactly where it has no room in the heap: then the OutOfMemoryError object is
-/// pending, and the call fails. Local arrays are in the number slots.
+/// Does to the store and to an activation's frames and slots what this call answers, in the thread of this number. What
+/// it copies has this owner. An object or an exception is refused exactly where it has no room in the heap: then the
+/// OutOfMemoryError object is pending, and the call fails. Local arrays are in the number slots.
 ///
 /// An error says that host memory for a frame, a global reference, weak or not, or a copy of elements was refused; then all is as
 /// before.
@@ -63,13 +63,14 @@ pub fn carry_out(
     activation: &mut Activation,
     call: &Call,
     thread: u8,
+    owner: u16,
     answer: Answer,
 ) -> Result<Carried, AllocError>
-    requires possible { HasAnswer world.now store.old pending.old activation.old call.now thread answer }
+    requires possible { HasAnswer world.now store.old pending.old activation.old call.now thread owner answer }
     requires few { store.old.births + 2 < 2 ^ 32 }
     requires runs { is_halt answer ≡ false }
     ensures carried { IfOk result (λ carried. CarriesOutAnswer world.now store.old store.new pending.old pending.new
-        activation.old activation.new call.now thread answer carried) }
+        activation.old activation.new call.now thread owner answer carried) }
     ensures slots { IfOk result (λ carried. activation.new.slots.numbers.items
         ≡ slots_after store.old.heap answer activation.old.slots.numbers.items) }
     ensures buffer_slots { IfOk result (λ carried. activation.new.slots.buffers.items
@@ -165,6 +166,7 @@ pub fn carry_out(
             &mut activation.locals,
             &mut activation.slots.buffers,
             thread,
+            owner,
             answer,
         ),
     }
@@ -179,12 +181,13 @@ fn carry_out_buffers(
     locals: &mut Locals,
     buffers: &mut [Buffer],
     thread: u8,
+    owner: u16,
     answer: Answer,
 ) -> Result<Carried, AllocError>
     requires of_buffers { is_of_buffers answer ≡ true }
-    requires possible { HasAnswerOfBuffers world.now store.old pending.old locals.old buffers.old thread answer }
+    requires possible { HasAnswerOfBuffers world.now store.old pending.old locals.old buffers.old thread owner answer }
     ensures carried { IfOk result (λ carried. CarriesOutBuffers world.now store.old store.new pending.old pending.new
-        locals.old locals.new buffers.old thread answer carried) }
+        locals.old locals.new buffers.old thread owner answer carried) }
     ensures slots { IfOk result (λ carried. buffers.new ≡ buffers_after answer buffers.old) }
     ensures copies { IfOk result (λ carried. CopiesStay answer store.old.elements store.new.elements) }
     ensures new_copy { IfOk result (λ carried. IsNewCopy store.old.elements carried.given) }
@@ -197,7 +200,7 @@ fn carry_out_buffers(
     match answer {
         Answer::AcquiresCopy(object) => {
             let alloc = *store.loaded.allocator();
-            let buffer = acquire_copy(alloc, &store.heap, &mut store.elements, thread, object)?;
+            let buffer = acquire_copy(alloc, &store.heap, &mut store.elements, owner, object)?;
             Ok(Carried {
                 given: Given::Buffer(buffer),
                 refused: false,

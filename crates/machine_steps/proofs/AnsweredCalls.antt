@@ -35,20 +35,20 @@ use Rattle.machine_calls.proofs.CellsMade.{cells_made as cells_answered}
 use Rattle.machine_steps.proofs.AskedCalls.{CalledAs, called, effect_is, cells_wanted, r, held, possible, owned_key, trap_is}
 
 -- the machine is at a call that no check stops
-module _ (p : Lowered) (w : World) (store : Store) (pending : Option ℕ) (call : Activation) (function : Call) (others : Acquired) (k : ℕ) (own : Owners) (shared : Shared) (s : Thread) (task : Task) (rest : List Task) (h : AtCall p w store pending call function others k own shared s task rest) (answer : Answer) (given : IsAnswered w store pending call k function answer) where
-  abbrev pub it : CalledAs p w store pending call h.code (call_view function) others k own shared s task rest (r p w store pending call function others k own shared s task rest h) (effect_of (sight_of shared s) task)
-  it = called p w store pending call function others k own shared s task rest h
+module _ (p : Lowered) (w : World) (store : Store) (pending : Option ℕ) (call : Activation) (function : Call) (others : Acquired) (k owner : ℕ) (own : Owners) (shared : Shared) (s : Thread) (task : Task) (rest : List Task) (h : AtCall p w store pending call function others k owner own shared s task rest) (answer : Answer) (given : IsAnswered w store pending call k function answer) where
+  abbrev pub it : CalledAs p w store pending call h.code (call_view function) others k owner own shared s task rest (r p w store pending call function others k owner own shared s task rest h) (effect_of (sight_of shared s) task)
+  it = called p w store pending call function others k owner own shared s task rest h
 
   abbrev in_use : BuffersInUse
   in_use = in_use_with others s
 
   -- what it brings
   abbrev pub brings : Brought
-  brings = brought_by store call k in_use (call_view function) it.args
+  brings = brought_by store call k owner in_use (call_view function) it.args
 
   -- no check stops the source's
   pub free : trap_of_call w.classes shared s it.target it.f it.args ≡ None
-  free = sym (trap_is p w store pending call function others k own shared s task rest h) ∙ given.free
+  free = sym (trap_is p w store pending call function others k owner own shared s task rest h) ∙ given.free
 
   pub worked : IsWorkedOut (scene_of w.classes store call k pending) (call_view function) it.f answer
   worked = subst (λ (x : JniFunction). IsWorkedOut (scene_of w.classes store call k pending) (call_view function) x answer) it.asked.same_function given.works
@@ -65,24 +65,24 @@ module _ (p : Lowered) (w : World) (store : Store) (pending : Option ℕ) (call 
     pub answered : IsAnswer w.classes brings store.heap call.locals kind shared s answer does
     answered =
         subst (λ (x : ResultKind). IsAnswer w.classes brings store.heap call.locals x shared s answer does) (sym kind_is)
-        (answers p w store pending call (call_view function) others k shared s it.target given.sound it.args it.f it.asked free answer worked
-        (owned_key p w store pending call function others k own shared s task rest h) (held p w store pending call function others k own shared s task rest h))
+        (answers p w store pending call (call_view function) others k owner shared s it.target given.sound it.args it.f it.asked free answer worked
+        (owned_key p w store pending call function others k owner own shared s task rest h) (held p w store pending call function others k owner own shared s task rest h))
 
     pub can_carry : IsPossible p w store pending call.locals others shared s
-    can_carry = possible p w store pending call function others k own shared s task rest h
+    can_carry = possible p w store pending call function others k owner own shared s task rest h
 
     -- its step makes what the answer makes
     pub cells_asked : cells_made shared (after_effect w.classes in_use k shared s rest (effect_of (sight_of shared s) task)) ≡ cells_of w.classes (texts_in function.texts.items) answer
     cells_asked =
         ap (λ (e : Effect). cells_made shared (after_effect w.classes in_use k shared s rest e)) it.is
-        ∙ cells_wanted p w store pending call function others k own shared s task rest h free
+        ∙ cells_wanted p w store pending call function others k owner own shared s task rest h free
         ∙ cells_answered w.classes brings store.heap call.locals kind shared s answer does answered
 
 -- the machine is at a call that stops it, all checks being passed
-module _ (p : Lowered) (w : World) (store : Store) (pending : Option ℕ) (call : Activation) (function : Call) (others : Acquired) (k : ℕ) (own : Owners) (shared : Shared) (s : Thread) (task : Task) (rest : List Task) (h : AtCall p w store pending call function others k own shared s task rest) (trap : Trap) (halted : IsAnswered w store pending call k function (answer.Halts trap)) where
+module _ (p : Lowered) (w : World) (store : Store) (pending : Option ℕ) (call : Activation) (function : Call) (others : Acquired) (k owner : ℕ) (own : Owners) (shared : Shared) (s : Thread) (task : Task) (rest : List Task) (h : AtCall p w store pending call function others k owner own shared s task rest) (trap : Trap) (halted : IsAnswered w store pending call k function (answer.Halts trap)) where
   -- so does the source's
-  pub halts : let it = called p w store pending call function others k own shared s task rest h in effect_of_call w.classes (in_use_with others s) k shared s it.line it.target it.f it.args rest ≡ Halts (trap_view trap)
+  pub halts : let it = called p w store pending call function others k owner own shared s task rest h in effect_of_call w.classes (in_use_with others s) k shared s it.line it.target it.f it.args rest ≡ Halts (trap_view trap)
   halts =
-      let it = called p w store pending call function others k own shared s task rest h in
-      effect_is p w store pending call function others k own shared s task rest h (free p w store pending call function others k own shared s task rest h (answer.Halts trap) halted)
-      ∙ answered p w store pending call function others k own shared s task rest h (answer.Halts trap) halted (prototype it.f).result (ap (λ (f : JniFunction). (prototype f).result) (sym it.asked.same_function))
+      let it = called p w store pending call function others k owner own shared s task rest h in
+      effect_is p w store pending call function others k owner own shared s task rest h (free p w store pending call function others k owner own shared s task rest h (answer.Halts trap) halted)
+      ∙ answered p w store pending call function others k owner own shared s task rest h (answer.Halts trap) halted (prototype it.f).result (ap (λ (f : JniFunction). (prototype f).result) (sym it.asked.same_function))

@@ -227,21 +227,21 @@ room_by kind locals left checked_frames space same agree room = tt
 -- ---- the call
 
 -- the first task is a call, whose arguments the operands give
-pub record CalledAs (p : Lowered) (w : World) (store : Store) (pending : Option ℕ) (call : Activation) (code : Listing) (function : Call) (others : Acquired) (k : ℕ) (own : Owners) (shared : Shared) (s : source.Thread) (task : Task) (rest : List Task)
-    (r : Ready p w.classes store.heap store.elements k call code (visible_to own shared s) s.frames task rest) (effect : Effect) : Type 0 where
+pub record CalledAs (p : Lowered) (w : World) (store : Store) (pending : Option ℕ) (call : Activation) (code : Listing) (function : Call) (others : Acquired) (k owner : ℕ) (own : Owners) (shared : Shared) (s : source.Thread) (task : Task) (rest : List Task)
+    (r : Ready p w.classes store.heap store.elements owner call code (visible_to own shared s) s.frames task rest) (effect : Effect) : Type 0 where
   pub line : ℕ
   pub target : Target
   pub f : JniFunction
   pub args : List Actual
   pub is : effect ≡ Calls line target f args
-  pub asked : IsAsked p w store pending call function others k shared s target f args
+  pub asked : IsAsked p w store pending call function others k owner shared s target f args
   pub same_line : function.line ≡ line
   pub operands : AllZip (IsOperand code r.known call.place call.stack (slots_of call r.meant) (visible_to own shared s)) function.operands args
   pub goes : TakesResult code r.known call.place call.stack (slots_of call r.meant) (visible_to own shared s) line function.target (prototype f).result target rest
   pub left : with_fewer (words_taken function.operands) (length call.stack) ≡ Some 0
   pub own_slots : HaveOwnSlots r.known
 
-module _ (p : Lowered) (w : World) (store : Store) (pending : Option ℕ) (call : Activation) (in_memory : InMemory) (others : Acquired) (k : ℕ) (own : Owners) (shared : Shared) (s : source.Thread) (task : Task) (rest : List Task) (h : AtCall p w store pending call in_memory others k own shared s task rest) where
+module _ (p : Lowered) (w : World) (store : Store) (pending : Option ℕ) (call : Activation) (in_memory : InMemory) (others : Acquired) (k owner : ℕ) (own : Owners) (shared : Shared) (s : source.Thread) (task : Task) (rest : List Task) (h : AtCall p w store pending call in_memory others k owner own shared s task rest) where
   abbrev pub function : Call
   function = call_view in_memory
 
@@ -249,22 +249,22 @@ module _ (p : Lowered) (w : World) (store : Store) (pending : Option ℕ) (call 
   abbrev in_use : BuffersInUse
   in_use = in_use_with others s
 
-  pub r : Ready p w.classes store.heap store.elements k call h.code (visible_to own shared s) s.frames task rest
-  r = ready p w.classes store.heap store.elements k call h.code (visible_to own shared s) s.frames task rest h.lowered h.of_function h.stands h.sees
+  pub r : Ready p w.classes store.heap store.elements owner call h.code (visible_to own shared s) s.frames task rest
+  r = ready p w.classes store.heap store.elements owner call h.code (visible_to own shared s) s.frames task rest h.lowered h.of_function h.stands h.sees
 
   possible_effect : effect_of (sight_of shared s) task ≢ NoEffect
   possible_effect e = h.steady.possible (task ∷ rest) h.tasks (ap (next_effect shared s) h.tasks ∙ e)
 
   abbrev pub Called : Effect → Type 0
-  Called effect = CalledAs p w store pending call h.code function others k own shared s task rest r effect
+  Called effect = CalledAs p w store pending call h.code function others k owner own shared s task rest r effect
 
   called_by : (line : ℕ) (target : Target) (f : JniFunction) (args : List Actual) → CallsFunction h.code r.known call.place call.stack (slots_of call r.meant) (visible_to own shared s) line target f args rest → effect_of (sight_of shared s) task ≡ Calls line target f args → Called (Calls line target f args)
   called_by line target f args c step =
       let same : c.call ≡ function = let both : instr.Call c.call ≡ instr.Call function = cc (h.at, c.at) in cc in
       let operands = subst (λ (x : Call). AllZip (IsOperand h.code r.known call.place call.stack (slots_of call r.meant) (visible_to own shared s)) x.operands args) same c.given in
       let goes = subst (λ (x : Call). TakesResult h.code r.known call.place call.stack (slots_of call r.meant) (visible_to own shared s) line x.target (prototype f).result target rest) same c.goes in
-      let owned = operands_owned p w.classes store.heap store.elements k call h.code own shared s task rest r line target f args function.operands step (h.steady.owned task rest h.tasks) operands in
-      let given = all_given p w.classes store.heap store.elements k call h.code (visible_to own shared s) s.frames task rest r (all_held store.globals store.weaks store.statics.items) h.shares.statics function.operands args owned operands in
+      let owned = operands_owned p w.classes store.heap store.elements owner call h.code own shared s task rest r line target f args function.operands step (h.steady.owned task rest h.tasks) operands in
+      let given = all_given p w.classes store.heap store.elements owner call h.code (visible_to own shared s) s.frames task rest r (all_held store.globals store.weaks store.statics.items) h.shares.statics function.operands args owned operands in
       record {
         line = line;
         target = target;
@@ -281,8 +281,8 @@ module _ (p : Lowered) (w : World) (store : Store) (pending : Option ℕ) (call 
           fit = c.fit;
           given = given;
           arrays = arrays_held h.code r.known call.place call.stack (slots_of call r.meant) own shared s r.shows function.operands args operands;
-          buffers = buffers_there p w.classes store.heap store.elements k call h.code own shared s s.frames task rest r function.operands args operands;
-          wanted = element_there p w.classes store.heap store.elements k call h.code own shared s s.frames task rest r line function.target (prototype f).result target goes;
+          buffers = buffers_there p w.classes store.heap store.elements owner call h.code own shared s s.frames task rest r function.operands args operands;
+          wanted = element_there p w.classes store.heap store.elements owner call h.code own shared s s.frames task rest r line function.target (prototype f).result target goes;
           typed = h.steady.objects;
           typed_variables = h.steady.variables;
           critical = λ views. subst MayMeetView (invoked (sight_of shared s) task line target f args step).is (h.steady.view task rest h.tasks views);
@@ -301,7 +301,7 @@ module _ (p : Lowered) (w : World) (store : Store) (pending : Option ℕ) (call 
       }
 
   pub called : Called (effect_of (sight_of shared s) task)
-  called = call_cases p w.classes store.heap store.elements k call h.code (visible_to own shared s) s.frames task rest r possible_effect (instr.Call function) h.at function refl (λ (e : Effect). effect_of (sight_of shared s) task ≡ e → Called e) called_by refl
+  called = call_cases p w.classes store.heap store.elements owner call h.code (visible_to own shared s) s.frames task rest r possible_effect (instr.Call function) h.at function refl (λ (e : Effect). effect_of (sight_of shared s) task ≡ e → Called e) called_by refl
 
   -- the step is the call
   pub next_is : next_effect shared s s.tasks ≡ Calls called.line called.target called.f called.args
@@ -311,12 +311,12 @@ module _ (p : Lowered) (w : World) (store : Store) (pending : Option ℕ) (call 
   pub trap_is : trap_at w store pending call k in_memory ≡ trap_of_call w.classes shared s called.target called.f called.args
   trap_is =
       (λ i. trap_found (scene_of w.classes store call k pending) (has_room (locals_after (called.asked.same_function i) call.locals)) (element_wanted function.target) (called.asked.same_function i) in_memory.operands.items)
-      ∙ found_is p w store pending call function others k shared s called.target called.f called.args called.asked
+      ∙ found_is p w store pending call function others k owner shared s called.target called.f called.args called.asked
 
   -- the key that DeleteLocalRef is given
-  pub deleted : called.f ≡ DeleteLocalRef → DeletesKey p w.classes store.heap store.elements k call h.code own shared s task rest r function.operands called.args
+  pub deleted : called.f ≡ DeleteLocalRef → DeletesKey p w.classes store.heap store.elements owner call h.code own shared s task rest r function.operands called.args
   deleted deletes =
-      deletes_key p w.classes store.heap store.elements k call h.code own shared s task rest r called.line called.target called.f called.args function.operands called.is (h.steady.owned task rest h.tasks) called.operands
+      deletes_key p w.classes store.heap store.elements owner call h.code own shared s task rest r called.line called.target called.f called.args function.operands called.is (h.steady.owned task rest h.tasks) called.operands
       (subst (λ (f : JniFunction). AllZip OperandFits (prototype f).parameters function.operands) deletes called.asked.kinds)
 
   pub owned_key : called.f ≡ DeleteLocalRef → OwnKey store.heap call.locals (key_at (references_of store call) (operand_of function.operands 0)) (reference_given called.args 0) (level_of (lookup (variable_given called.args 0) s.variables))
@@ -328,15 +328,15 @@ module _ (p : Lowered) (w : World) (store : Store) (pending : Option ℕ) (call 
   -- the static whose reference ends
   pub held : deletes_static called.f ≡ true → (i : ℕ) → operand_of function.operands 0 ≡ operand.Static i → HeldStatic store.heap (references_of store call) shared (variable_given called.args 0) i
   held deletes i at =
-      static_held p w.classes store.heap store.elements k call h.code own shared s task rest r (all_held store.globals store.weaks store.statics.items) h.shares.statics function.operands called.args i called.operands at
+      static_held p w.classes store.heap store.elements owner call h.code own shared s task rest r (all_held store.globals store.weaks store.statics.items) h.shares.statics function.operands called.args i called.operands at
 
   -- its slot is there
   pub has_target : HasTarget in_memory.target call
-  has_target = target_there p w.classes store.heap store.elements k call h.code (visible_to own shared s) s.frames task rest r called.line function.target (prototype called.f).result called.target called.goes
+  has_target = target_there p w.classes store.heap store.elements owner call h.code (visible_to own shared s) s.frames task rest r called.line function.target (prototype called.f).result called.target called.goes
 
   -- and so is the flag's
   pub has_told : HasTold (told_slot (slice_get in_memory.operands.items 1)) (length call.slots.numbers.items)
-  has_told = told_there p w.classes store.heap store.elements k call h.code own shared s s.frames task rest r function.operands called.args called.operands
+  has_told = told_there p w.classes store.heap store.elements owner call h.code own shared s s.frames task rest r function.operands called.args called.operands
 
   -- its static is there, as long as there are as many
   pub has_static : (statics : ℕ) → length shared.statics ≡ statics → HasStatic in_memory.target statics
@@ -361,7 +361,7 @@ module _ (p : Lowered) (w : World) (store : Store) (pending : Option ℕ) (call 
     source_room : (prototype called.f).result ≡ NewLocal → is_full (slice_get (source_frames_after called.f s.frames) 0) ≡ false
     source_room local =
         full_where store.heap (locals_after called.f call.locals) (source_frames_after called.f s.frames) (frames_after_agree store.heap called.f call.locals s.frames r.frames_agree)
-        ∙ by_kind (prototype called.f).result (has_room (locals_after called.f call.locals)) local (room_left p w store pending call function others k shared s called.target called.f called.args called.asked free)
+        ∙ by_kind (prototype called.f).result (has_room (locals_after called.f call.locals)) local (room_left p w store pending call function others k owner shared s called.target called.f called.args called.asked free)
       where
         by_kind : (kind : ResultKind) (b : Bool) → kind ≡ NewLocal → (puts_local kind && not b) ≡ false → not b ≡ false
         by_kind NewLocal b local h = h
@@ -379,7 +379,7 @@ module _ (p : Lowered) (w : World) (store : Store) (pending : Option ℕ) (call 
 
   -- a local reference has room in the frames that the call leaves
   pub room_after : (free : trap_of_call w.classes shared s called.target called.f called.args ≡ None) (refused : Bool) (store' : Store) (pending' : Option ℕ) (locals : LocalTable) (g : Given) (answer : Answer)
-      → CarriesOut p w store.heap call.locals answer (prototype called.f).result others k shared s (call_effect w.classes in_use k shared s called.args called.f) refused store' pending' locals g → HasRoom (prototype called.f).result locals
+      → CarriesOut p w store.heap call.locals answer (prototype called.f).result others owner shared s (call_effect w.classes in_use k shared s called.args called.f) refused store' pending' locals g → HasRoom (prototype called.f).result locals
   room_after free refused store' pending' locals g answer carried = room_by (prototype called.f).result locals (frames_left refused s (call_effect w.classes in_use k shared s called.args called.f)) (source_frames_after called.f s.frames) store'.heap
       (λ local. left_is w.classes in_use k shared s called.args called.f local refused carried.could_refuse) carried.frames_agree (source_room free)
 
@@ -390,9 +390,9 @@ module _ (p : Lowered) (w : World) (store : Store) (pending : Option ℕ) (call 
 
   -- the call stops the machine
   pub traps : (trap : Trap) (line : ℕ) → line ≡ function.line → effect_of_call w.classes in_use k shared s called.line called.target called.f called.args rest ≡ Halts (trap_view trap)
-      → Executes p w store store others k own shared s rest call pending (effect_of (sight_of shared s) task) (Did (event.Trapped trap line))
+      → Executes p w store store others k owner own shared s rest call pending (effect_of (sight_of shared s) task) (Did (event.Trapped trap line))
   traps trap line same found =
-      subst (λ (e : Effect). GoesOn p w store store others k own shared s rest call pending e false (event.Trapped trap line)) (sym called.is) (record {
+      subst (λ (e : Effect). GoesOn p w store store others k owner own shared s rest call pending e false (event.Trapped trap line)) (sym called.is) (record {
         next_shared = shared;
         next = s;
         steps =
@@ -401,7 +401,7 @@ module _ (p : Lowered) (w : World) (store : Store) (pending : Option ℕ) (call 
         store_agrees = h.shares;
         keeps = keeps_same store.heap shared;
         keeps_copies = λ key c there other. there;
-        work = subst (λ (o : Option (List Task)). WorkAgrees p w.classes store.heap store.elements k (visible_to own shared s) (Some call) s.frames o) (sym h.tasks) h.stands;
+        work = subst (λ (o : Option (List Task)). WorkAgrees p w.classes store.heap store.elements owner (visible_to own shared s) (Some call) s.frames o) (sym h.tasks) h.stands;
         pending_agrees = h.pending_agrees;
         views = h.views;
         calls = refl;

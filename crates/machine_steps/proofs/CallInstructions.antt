@@ -112,15 +112,15 @@ told_before target kind told g call after h = record {
   buffers = h.buffers;
 }
 
-module _ (p : Lowered) (w : World) (store : Store) (pending : Option ℕ) (call : Activation) (in_memory : InMemory) (others : Acquired) (k : ℕ) (own : Owners) (shared : Shared) (s : source.Thread) (task : Task) (rest : List Task) (h : AtCall p w store pending call in_memory others k own shared s task rest) where
+module _ (p : Lowered) (w : World) (store : Store) (pending : Option ℕ) (call : Activation) (in_memory : InMemory) (others : Acquired) (k owner : ℕ) (own : Owners) (shared : Shared) (s : source.Thread) (task : Task) (rest : List Task) (h : AtCall p w store pending call in_memory others k owner own shared s task rest) where
   abbrev function : Call
   function = call_view in_memory
 
-  abbrev r : Ready p w.classes store.heap store.elements k call h.code (visible_to own shared s) s.frames task rest
-  r = ready_at p w store pending call in_memory others k own shared s task rest h
+  abbrev r : Ready p w.classes store.heap store.elements owner call h.code (visible_to own shared s) s.frames task rest
+  r = ready_at p w store pending call in_memory others k owner own shared s task rest h
 
-  abbrev called : CalledAs p w store pending call h.code function others k own shared s task rest r (effect_of (sight_of shared s) task)
-  called = called_at p w store pending call in_memory others k own shared s task rest h
+  abbrev called : CalledAs p w store pending call h.code function others k owner own shared s task rest r (effect_of (sight_of shared s) task)
+  called = called_at p w store pending call in_memory others k owner own shared s task rest h
 
   abbrev kind : ResultKind
   kind = (prototype called.f).result
@@ -135,11 +135,11 @@ module _ (p : Lowered) (w : World) (store : Store) (pending : Option ℕ) (call 
   told_of f args x b is = absurd (let clash : (prototype f).result ≡ GivesBuffer b.0 = b.1 in cc)
 
   told_holds : IsBufferResult kind → (x : Identifier) → told_variable ≡ Some x → HoldsNoBuffer (lookup x s.variables)
-  told_holds b x is = h.steady.free x (subst (SetsWhole x) (sym (next_is p w store pending call in_memory others k own shared s task rest h)) (inr (told_of called.f called.args x b is)))
+  told_holds b x is = h.steady.free x (subst (SetsWhole x) (sym (next_is p w store pending call in_memory others k owner own shared s task rest h)) (inr (told_of called.f called.args x b is)))
 
   -- and so does the target
   target_holds : (x : Identifier) → is_target called.target x ≡ true → HoldsNoBuffer (lookup x s.variables)
-  target_holds x target = h.steady.free x (subst (SetsWhole x) (sym (next_is p w store pending call in_memory others k own shared s task rest h)) (inl target))
+  target_holds x target = h.steady.free x (subst (SetsWhole x) (sym (next_is p w store pending call in_memory others k owner own shared s task rest h)) (inl target))
 
   -- where nothing is given nothing is a target
   no_target : (d : Destination) (kind : ResultKind) (target : Target) (x : Identifier) → kind ≡ GivesNothing → TakesResult h.code r.known call.place call.stack (slots_of call r.meant) (visible_to own shared s) called.line d kind target rest → is_target target x ≡ true → ⊥
@@ -153,13 +153,13 @@ module _ (p : Lowered) (w : World) (store : Store) (pending : Option ℕ) (call 
 
   module _ (answer : Answer) (works : IsWorkedOut (scene_of w.classes store call k pending) function called.f answer) where
     abbrev left_own : Owners
-    left_own = owners_left p w store pending call in_memory others k own shared s task rest h answer works
+    left_own = owners_left p w store pending call in_memory others k owner own shared s task rest h answer works
 
-    abbrev owners : LeavesOwners p w store pending call in_memory others k own shared s task rest h called.f answer
-    owners = leaves_owners p w store pending call in_memory others k own shared s task rest h answer works
+    abbrev owners : LeavesOwners p w store pending call in_memory others k owner own shared s task rest h called.f answer
+    owners = leaves_owners p w store pending call in_memory others k owner own shared s task rest h answer works
 
     abbrev Shown : CallResult → Variables → List ℕ → List HeldBuffer → Type 0
-    Shown c vs numbers slots = ShowsLeft p w store pending call in_memory others k own shared s task rest h answer works c vs numbers slots
+    Shown c vs numbers slots = ShowsLeft p w store pending call in_memory others k owner own shared s task rest h answer works c vs numbers slots
 
     -- ---- the call with fewer owners, and with these slots, stands for the thread with these variables
     module _ (sound : IsSound w) (c : CallResult) (vs : Variables) (numbers : Vec ℕ) (slots : Vec HeldBuffer) (left : Shown c vs numbers.items slots.items) (count : length slots.items ≡ length call.slots.buffers.items) where
@@ -169,7 +169,7 @@ module _ (p : Lowered) (w : World) (store : Store) (pending : Option ℕ) (call 
       abbrev thread_left : source.Thread
       thread_left = record s { variables = vs }
 
-      left_stands : CallStands p w.classes store.heap store.elements k call_left (visible_to left_own shared thread_left) s.frames (task ∷ rest)
+      left_stands : CallStands p w.classes store.heap store.elements owner call_left (visible_to left_own shared thread_left) s.frames (task ∷ rest)
       left_stands = record {
         code = h.code;
         of_function = h.of_function;
@@ -190,29 +190,29 @@ module _ (p : Lowered) (w : World) (store : Store) (pending : Option ℕ) (call 
       left_sees : SeesBuffers (visible_to left_own shared thread_left) left.buffers
       left_sees =
           let few : store.heap.cells ≤ 1048576 = omega (arith, h.shares.cells, sound.cells) in
-          sees_buffers left_own shared thread_left left.buffers (elements_fit p w store shared (beside others (acquired_by s)) h.shares k slots.items left.buffers few left.agree left.small)
+          sees_buffers left_own shared thread_left left.buffers (elements_fit p w store shared (beside others (acquired_by s)) h.shares owner slots.items left.buffers few left.agree left.small)
 
       left_sees_stands : SeesBuffers (visible_to left_own shared thread_left) left_stands.meant.buffers
       unfolding left_stands
       left_sees_stands = left_sees
 
-      left_ready : Ready p w.classes store.heap store.elements k call_left h.code (visible_to left_own shared thread_left) s.frames task rest
-      left_ready = ready p w.classes store.heap store.elements k call_left h.code (visible_to left_own shared thread_left) s.frames task rest h.lowered h.of_function left_stands left_sees_stands
+      left_ready : Ready p w.classes store.heap store.elements owner call_left h.code (visible_to left_own shared thread_left) s.frames task rest
+      left_ready = ready p w.classes store.heap store.elements owner call_left h.code (visible_to left_own shared thread_left) s.frames task rest h.lowered h.of_function left_stands left_sees_stands
 
       left_owners : left_ready.meant.owners ≡ owners.owners
       unfolding left_ready left_stands
-      left_owners = ready_owners p w.classes store.heap store.elements k call_left h.code (visible_to left_own shared thread_left) s.frames task rest h.lowered h.of_function left_stands left_sees_stands
+      left_owners = ready_owners p w.classes store.heap store.elements owner call_left h.code (visible_to left_own shared thread_left) s.frames task rest h.lowered h.of_function left_stands left_sees_stands
 
       left_known : left_ready.known ≡ r.known
       unfolding left_ready left_stands
-      left_known = ready_known p w.classes store.heap store.elements k call_left h.code (visible_to left_own shared thread_left) s.frames task rest h.lowered h.of_function left_stands left_sees_stands
+      left_known = ready_known p w.classes store.heap store.elements owner call_left h.code (visible_to left_own shared thread_left) s.frames task rest h.lowered h.of_function left_stands left_sees_stands
 
       -- as many buffers
       left_count : length left_ready.meant.buffers ≡ length r.meant.buffers
       left_count =
-          buffers_count store.heap store.elements k slots.items left_ready.meant.buffers left_ready.holds.buffers
+          buffers_count store.heap store.elements owner slots.items left_ready.meant.buffers left_ready.holds.buffers
           ∙ count
-          ∙ sym (buffers_count store.heap store.elements k call.slots.buffers.items r.meant.buffers r.holds.buffers)
+          ∙ sym (buffers_count store.heap store.elements owner call.slots.buffers.items r.meant.buffers r.holds.buffers)
 
       -- where the result goes is there for these too
       abbrev Goes : (line : ℕ) → Destination → ResultKind → Target → Type 0
@@ -236,7 +236,7 @@ module _ (p : Lowered) (w : World) (store : Store) (pending : Option ℕ) (call 
       goes_same : vs ≡ s.variables → Goes called.line function.target kind called.target
       goes_same same =
           let is : effect_of (sight_of shared thread_left) task ≡ Calls called.line called.target called.f called.args = ap (λ (us : Variables). effect_of (sight_of shared (record s { variables = us })) task) same ∙ called.is in
-          call_cases p w.classes store.heap store.elements k call_left h.code (visible_to left_own shared thread_left) s.frames task rest left_ready (λ none. let clash : Calls called.line called.target called.f called.args ≡ NoEffect = sym is ∙ none in cc) (instr.Call function) h.at function refl GoesThere goes_by called.line called.target called.f called.args is
+          call_cases p w.classes store.heap store.elements owner call_left h.code (visible_to left_own shared thread_left) s.frames task rest left_ready (λ none. let clash : Calls called.line called.target called.f called.args ≡ NoEffect = sym is ∙ none in cc) (instr.Call function) h.at function refl GoesThere goes_by called.line called.target called.f called.args is
 
       abbrev Went : Destination → ResultKind → Target → Type 0
       Went d kind target = TakesResult h.code r.known call.place call.stack (slots_of call r.meant) (visible_to own shared s) called.line d kind target rest
@@ -302,8 +302,8 @@ module _ (p : Lowered) (w : World) (store : Store) (pending : Option ℕ) (call 
           by_kept (inr (inr told)) = subst (λ (us : Variables). HoldsNoBuffer (lookup x us)) (sym told.1) (told_free told_variable x c s.variables (target_holds x target))
 
       -- the buffers in slots stand for what they did, where an answer left their lists
-      left_buffered : (store' : Store) → ((a n : ℕ) → name_at store.heap a ≡ Some n → name_at store'.heap a ≡ Some n) → CopiesStay answer store.elements store'.elements → BuffersAgree store'.heap store'.elements k slots.items left_ready.meant.buffers
-      left_buffered store' names copies = buffers_stay store.heap store'.heap store.elements store'.elements k names slots.items left_ready.meant.buffers left_ready.holds.buffers (λ i key l at has. copies key l has (left.left i key at))
+      left_buffered : (store' : Store) → ((a n : ℕ) → name_at store.heap a ≡ Some n → name_at store'.heap a ≡ Some n) → CopiesStay answer store.elements store'.elements → BuffersAgree store'.heap store'.elements owner slots.items left_ready.meant.buffers
+      left_buffered store' names copies = buffers_stay store.heap store'.heap store.elements store'.elements owner names slots.items left_ready.meant.buffers left_ready.holds.buffers (λ i key l at has. copies key l has (left.left i key at))
 
     -- ---- what carrying out the answer leaves
 
@@ -314,14 +314,14 @@ module _ (p : Lowered) (w : World) (store : Store) (pending : Option ℕ) (call 
     effect = call_effect w.classes in_use k shared s called.args called.f
 
     abbrev Does : Type 0
-    Does = IsAnswer w.classes (brought_by store call k in_use function called.args) store.heap call.locals kind shared s answer effect
+    Does = IsAnswer w.classes (brought_by store call k owner in_use function called.args) store.heap call.locals kind shared s answer effect
 
     -- a function that gives a buffer leaves the variables as they were
     untold_same : (refused : Bool) → is_halt answer ≡ false → Does → IsBufferResult kind → variables_left refused s effect ≡ s.variables
     untold_same true runs does b = refl
-    untold_same false runs does b = by_answer (kept_or_copied w.classes (brought_by store call k in_use function called.args) store.heap call.locals kind shared s answer effect runs does)
+    untold_same false runs does b = by_answer (kept_or_copied w.classes (brought_by store call k owner in_use function called.args) store.heap call.locals kind shared s answer effect runs does)
       where
-        by_answer : AreKept w.classes (brought_by store call k in_use function called.args) store.heap call.locals kind shared s answer effect ⊎ (Copied w.classes (brought_by store call k in_use function called.args) store.heap call.locals kind shared s answer effect ⊎ Released w.classes (brought_by store call k in_use function called.args) store.heap call.locals kind shared s answer effect)
+        by_answer : AreKept w.classes (brought_by store call k owner in_use function called.args) store.heap call.locals kind shared s answer effect ⊎ (Copied w.classes (brought_by store call k owner in_use function called.args) store.heap call.locals kind shared s answer effect ⊎ Released w.classes (brought_by store call k owner in_use function called.args) store.heap call.locals kind shared s answer effect)
             → variables_left false s effect ≡ s.variables
         by_answer (inl it) = it.0
         by_answer (inr (inl it)) = absurd (let clash : GivesNothing ≡ GivesBuffer b.0 = sym it.nothing ∙ b.1 in cc)
@@ -333,7 +333,7 @@ module _ (p : Lowered) (w : World) (store : Store) (pending : Option ℕ) (call 
     stepped false t next h = h
     stepped true t next h = h
 
-    module _ (sound : IsSound w) (runs : is_halt answer ≡ false) (free : trap_of_call w.classes shared s called.target called.f called.args ≡ None) (does : Does) (refused : Bool) (store' : Store) (pending' : Option ℕ) (locals : LocalTable) (g : Given) (carried : CarriesOut p w store.heap call.locals answer kind others k shared s effect refused store' pending' locals g)
+    module _ (sound : IsSound w) (runs : is_halt answer ≡ false) (free : trap_of_call w.classes shared s called.target called.f called.args ≡ None) (does : Does) (refused : Bool) (store' : Store) (pending' : Option ℕ) (locals : LocalTable) (g : Given) (carried : CarriesOut p w store.heap call.locals answer kind others owner shared s effect refused store' pending' locals g)
         (stacked : AreStacked locals) (copies : CopiesStay answer store.elements store'.elements) (new_copy : IsNewCopy store.elements g) (numbers : Vec ℕ) (slots : Vec HeldBuffer) (numbers_are : numbers.items ≡ slots_after store.heap answer call.slots.numbers.items) (slots_are : slots.items ≡ buffers_after answer call.slots.buffers.items) where
       abbrev gave : CallResult
       gave = result_after kind refused effect
@@ -358,26 +358,26 @@ module _ (p : Lowered) (w : World) (store : Store) (pending : Option ℕ) (call 
           let numbers_left : told_numbers.items ≡ told_with told g (slots_after store.heap answer call.slots.numbers.items) = with_told_is told g numbers ∙ ap (told_with told g) numbers_are in
           subst (λ (l : List ℕ). Shown gave told_variables l slots.items) (sym numbers_left)
           (subst (Shown gave told_variables (told_with told g (slots_after store.heap answer call.slots.numbers.items))) (sym slots_are)
-          (shows_left p w store pending call in_memory others k own shared s task rest h answer works refused store' g runs does carried.could_refuse carried.given_agrees))
+          (shows_left p w store pending call in_memory others k owner own shared s task rest h answer works refused store' g runs does carried.could_refuse carried.given_agrees))
 
       -- what the variable that is told of a buffer was
       told_taken : taken_by told_variables ≡ taken_by untold
       told_taken =
           told_nothing told_variable gave untold
           (λ b x is at.
-          let buffer = gives_buffer w.classes store' k kind g gave b carried.given_agrees is in
+          let buffer = gives_buffer w.classes store' owner kind g gave b carried.given_agrees is in
           subst (λ (us : Variables). HoldsNoBuffer (lookup x us)) (sym (untold_same refused runs does buffer)) (told_holds buffer x at))
 
       -- each view that is left in a slot is a variable's
       told_viewed : AreViewed store'.heap slots.items (record s { variables = told_variables })
       told_viewed =
-          views_stay store.heap store'.heap store.elements k slots.items left_shown.buffers (record s { variables = told_variables }) (record s { variables = told_variables }) carried.keeps.names left_shown.agree.agree refl
+          views_stay store.heap store'.heap store.elements owner slots.items left_shown.buffers (record s { variables = told_variables }) (record s { variables = told_variables }) carried.keeps.names left_shown.agree.agree refl
           (views_same store.heap (buffers_after answer call.slots.buffers.items) slots.items (record s { variables = untold }) (record s { variables = told_variables }) slots_are told_taken
-          (views_left p w store pending call in_memory others k own shared s task rest h answer works refused runs does carried.could_refuse))
+          (views_left p w store pending call in_memory others k owner own shared s task rest h answer works refused runs does carried.could_refuse))
 
       -- what was carried out and received is what the source's call leaves
       pub goes_on : (after : Activation) (statics : Vec StaticReference) → Receives function.target kind told g (record call { locals = locals; slots = record call.slots { numbers = numbers; buffers = slots } }) after
-          → statics.items ≡ statics_with function.target g store'.statics.items → GoesOn p w store (record store' { statics = statics }) others k own shared s rest after pending' (effect_of (sight_of shared s) task) refused event.Quiet
+          → statics.items ≡ statics_with function.target g store'.statics.items → GoesOn p w store (record store' { statics = statics }) others k owner own shared s rest after pending' (effect_of (sight_of shared s) task) refused event.Quiet
       goes_on after statics received put =
           let next = shared_after w.classes refused shared effect in
           let left = frames_left refused s effect in
@@ -386,31 +386,31 @@ module _ (p : Lowered) (w : World) (store : Store) (pending : Option ℕ) (call 
           let ready_left = left_ready sound gave told_variables told_numbers slots left_shown count in
           let keyed = keys_left store.heap store'.heap call.locals locals call.slots.references.items ready_left.meant.references ready_left.meant.owners ready_left.holds.keys
           (λ i key n level at_key owned is. carried.left key n level is (owners.left i key level at_key (subst (λ (l : List (Option ℕ)). slice_get l i ≡ Some (Some level)) (left_owners sound gave told_variables told_numbers slots left_shown count) owned))) in
-          let ends = finishes p w store.heap store.elements store' others k left_own shared next carried.keeps (record s { variables = told_variables }) (record call { slots = record call.slots { numbers = told_numbers; buffers = slots } }) h.code task rest ready_left called.line called.f called.args locals stacked
-          (room_after p w store pending call in_memory others k own shared s task rest h free refused store' pending' locals g answer carried) keyed (left_buffered sound gave told_variables told_numbers slots left_shown count store' carried.keeps.names copies) told_viewed left carried.frames_agree q g gave untold refl told_taken carried.store_agrees carried.given_agrees
-          (λ b is. small_given w.classes (brought_by store call k in_use function called.args) store.heap call.locals kind shared s answer effect refused b (gives_buffer w.classes store' k kind g gave b carried.given_agrees is) does is)
-          (λ b j key is copy at. new_apart store.heap store.elements k slots.items ready_left.meant.buffers b ready_left.holds.buffers (subst (IsNewCopy store.elements) is new_copy) j key copy at)
+          let ends = finishes p w store.heap store.elements store' others owner left_own shared next carried.keeps (record s { variables = told_variables }) (record call { slots = record call.slots { numbers = told_numbers; buffers = slots } }) h.code task rest ready_left called.line called.f called.args locals stacked
+          (room_after p w store pending call in_memory others k owner own shared s task rest h free refused store' pending' locals g answer carried) keyed (left_buffered sound gave told_variables told_numbers slots left_shown count store' carried.keeps.names copies) told_viewed left carried.frames_agree q g gave untold refl told_taken carried.store_agrees carried.given_agrees
+          (λ b is. small_given w.classes (brought_by store call k owner in_use function called.args) store.heap call.locals kind shared s answer effect refused b (gives_buffer w.classes store' owner kind g gave b carried.given_agrees is) does is)
+          (λ b j key is copy at. new_apart store.heap store.elements owner slots.items ready_left.meant.buffers b ready_left.holds.buffers (subst (IsNewCopy store.elements) is new_copy) j key copy at)
           carried.still function h.at called.left after statics function.target called.target
           (λ local x level old is at.
-          h.steady.declared called.line x called.f called.args level old (next_is p w store pending call in_memory others k own shared s task rest h ∙ ap (λ (t : Target). Calls called.line t called.f called.args) is) local (was_there sound gave told_variables told_numbers slots left_shown count local x (LocalRef level old) at)
+          h.steady.declared called.line x called.f called.args level old (next_is p w store pending call in_memory others k owner own shared s task rest h ∙ ap (λ (t : Target). Calls called.line t called.f called.args) is) local (was_there sound gave told_variables told_numbers slots left_shown count local x (LocalRef level old) at)
           ∙ ap (λ (fs : List source.Frame). length fs) (sym (left_frames local)))
           (left_free sound gave told_variables told_numbers slots left_shown count) refl (goes_left sound gave told_variables told_numbers slots left_shown count)
           (told_before function.target kind told g (record call { locals = locals; slots = record call.slots { numbers = numbers; buffers = slots } }) after received) put in
-          let steps = step_leaves w.classes in_use k shared s called.line called.target called.f called.args rest refused effect (effect_is p w store pending call in_memory others k own shared s task rest h free)
-          (stays_with w.classes (brought_by store call k in_use function called.args) store.heap call.locals kind shared s answer effect runs does) carried.could_refuse in
-          subst (λ (e : Effect). GoesOn p w store (record store' { statics = statics }) others k own shared s rest after pending' e refused event.Quiet) (sym called.is) (record {
+          let steps = step_leaves w.classes in_use k shared s called.line called.target called.f called.args rest refused effect (effect_is p w store pending call in_memory others k owner own shared s task rest h free)
+          (stays_with w.classes (brought_by store call k owner in_use function called.args) store.heap call.locals kind shared s answer effect runs does) carried.could_refuse in
+          subst (λ (e : Effect). GoesOn p w store (record store' { statics = statics }) others k owner own shared s rest after pending' e refused event.Quiet) (sym called.is) (record {
             next_shared = ends.now;
             next = going called.line called.f called.args ends.tasks s left q gave ends.variables;
             steps = stepped refused (going called.line called.f called.args ends.tasks s left q gave ends.variables) ends.now (◌∙◌ {c = source.Advances ends.now (going called.line called.f called.args ends.tasks s left q gave ends.variables) source.Quiet} steps ends.steps);
             store_agrees = ends.store_agrees;
             keeps = ends.keeps;
-            keeps_copies = keeps_others w.classes (brought_by store call k in_use function called.args) store.heap call.locals kind shared s answer effect store'.elements does copies;
+            keeps_copies = keeps_others w.classes (brought_by store call k owner in_use function called.args) store.heap call.locals kind shared s answer effect store'.elements does copies;
             work = ends.stands;
             pending_agrees = carried.pending_agrees;
             views = ends.views;
             calls = refl {a = s.calls};
             ending = refl {a = s.ending};
             short = λ was.
-                subst (λ (n : ℕ). IsShortOf n store.heap store'.heap) (sym (cells_wanted p w store pending call in_memory others k own shared s task rest h free))
+                subst (λ (n : ℕ). IsShortOf n store.heap store'.heap) (sym (cells_wanted p w store pending call in_memory others k owner own shared s task rest h free))
                 (subst (λ (b : Bool). GoesByRoom b (sizes (made_by w.classes effect)) store.heap store'.heap) was carried.room);
           })

@@ -98,8 +98,8 @@ stays_with classes brought space locals kind shared s answer (Halts trap) runs h
     no_halt answers.RefusesFrames runs h = let e = h.1 in cc
     no_halt (answers.AcquiresCopy a) runs h = let e = h.1.is in cc
     no_halt (answers.AcquiresView a) runs h = let e = h.1.is in cc
-    no_halt (answers.Enters o) runs h = subst (StaysBut s) (sym h.1.is) (stays_entered brought.buffers.owner shared s o.name (source.monitor_of shared.monitors o.name))
-    no_halt (answers.Exits n) runs h = subst (StaysBut s) (sym h.1.is) (stays_exited brought.buffers.owner shared s n (source.monitor_of shared.monitors n))
+    no_halt (answers.Enters o) runs h = subst (StaysBut s) (sym h.1.is) (stays_entered brought.thread shared s o.name (source.monitor_of shared.monitors o.name))
+    no_halt (answers.Exits n) runs h = subst (StaysBut s) (sym h.1.is) (stays_exited brought.thread shared s n (source.monitor_of shared.monitors n))
     no_halt (answers.Releases r) runs h = no_halt_of_release h.1.mode h.1.is
       where
         no_halt_of_release : (mode : ReleaseMode) → Halts trap ≡ release_effect shared s h.1.name h.1.variable mode → ⊥
@@ -134,8 +134,8 @@ stays_with classes brought space locals kind shared s (answers.Deletes key) (Lea
 stays_with classes brought space locals kind shared s answers.RefusesFrames (Leaves made s' t' c) runs h = subst (StaysBut s) (sym h.1) refl
 stays_with classes brought space locals kind shared s (answers.AcquiresCopy a) (Leaves made s' t' c) runs h = subst (StaysBut s) (sym h.1.is) refl
 stays_with classes brought space locals kind shared s (answers.AcquiresView a) (Leaves made s' t' c) runs h = subst (StaysBut s) (sym h.1.is) refl
-stays_with classes brought space locals kind shared s (answers.Enters o) (Leaves made s' t' c) runs h = subst (StaysBut s) (sym h.1.is) (stays_entered brought.buffers.owner shared s o.name (source.monitor_of shared.monitors o.name))
-stays_with classes brought space locals kind shared s (answers.Exits n) (Leaves made s' t' c) runs h = subst (StaysBut s) (sym h.1.is) (stays_exited brought.buffers.owner shared s n (source.monitor_of shared.monitors n))
+stays_with classes brought space locals kind shared s (answers.Enters o) (Leaves made s' t' c) runs h = subst (StaysBut s) (sym h.1.is) (stays_entered brought.thread shared s o.name (source.monitor_of shared.monitors o.name))
+stays_with classes brought space locals kind shared s (answers.Exits n) (Leaves made s' t' c) runs h = subst (StaysBut s) (sym h.1.is) (stays_exited brought.thread shared s n (source.monitor_of shared.monitors n))
 stays_with classes brought space locals kind shared s (answers.Releases r) (Leaves made s' t' c) runs h = subst (StaysBut s) (sym h.1.is) (stays_released h.1.mode)
   where
     stays_released : (mode : ReleaseMode) → StaysBut s (release_effect shared s h.1.name h.1.variable mode)

@@ -13,7 +13,7 @@ use Rattle.heap.specs.Heap.{Space, values_at}
 use Rattle.heap.specs.declared.value.Value.{Value}
 use Rattle.jni.specs.Access.{Access, ElementsCopy, ArrayView, CharsCopy, CharsView}
 use Rattle.jni.specs.JniFunction.{JniFunction, DeleteGlobalRef, DeleteWeakGlobalRef, DeleteLocalRef, EnsureLocalCapacity, FindClass, GetArrayRegion, GetBuffer, GetFieldID, GetObjectArrayElement, GetStaticFieldID, GetStringRegion, MonitorEnter, MonitorExit, NewArray, NewObjectArray, PushLocalFrame, ReleaseBuffer, SetArrayRegion, SetField, SetObjectArrayElement, SetObjectField, SetStaticField, SetStaticObjectField, prototype}
-use Rattle.jni.specs.Prototype.{ParameterKind, BufferVariable, IsCopy, Mode, ResultKind, GivesNothing, owner}
+use Rattle.jni.specs.Prototype.{ParameterKind, BufferVariable, IsCopy, Mode, ResultKind, GivesNothing, owner as owner_kind}
 use Rattle.semantics.specs.Arguments.{Actual, ReleaseMode, CopyBackAndFree, CopyBack, FreeUncopied, mode_given, object_given, variable_given, variable_in_actual, address_given, address_in_actual}
 use Rattle.semantics.specs.CallEffects.{CallEffect, CallResult, NoResult, NullResult, ScalarResult, ReferenceResult, WeakResult, FieldResult, BufferResult, begun_with, freed, release_effect}
 use Rattle.semantics.specs.CallStep.{makes_objects, tell_copy}
@@ -351,15 +351,15 @@ module _ (scene : Scene) (function : Call) (release : Release) where
 
 -- ---- the call
 
-module _ (p : Lowered) (w : World) (store : Store) (pending : Option ℕ) (call : Activation) (in_memory : InMemory) (others : Acquired) (k : ℕ) (own : Owners) (shared : Shared) (s : source.Thread) (task : Task) (rest : List Task) (h : AtCall p w store pending call in_memory others k own shared s task rest) where
+module _ (p : Lowered) (w : World) (store : Store) (pending : Option ℕ) (call : Activation) (in_memory : InMemory) (others : Acquired) (k owner : ℕ) (own : Owners) (shared : Shared) (s : source.Thread) (task : Task) (rest : List Task) (h : AtCall p w store pending call in_memory others k owner own shared s task rest) where
   abbrev function : Call
   function = call_view in_memory
 
-  abbrev r : Ready p w.classes store.heap store.elements k call h.code (visible_to own shared s) s.frames task rest
-  r = ready_at p w store pending call in_memory others k own shared s task rest h
+  abbrev r : Ready p w.classes store.heap store.elements owner call h.code (visible_to own shared s) s.frames task rest
+  r = ready_at p w store pending call in_memory others k owner own shared s task rest h
 
-  abbrev called : CalledAs p w store pending call h.code function others k own shared s task rest r (effect_of (sight_of shared s) task)
-  called = called_at p w store pending call in_memory others k own shared s task rest h
+  abbrev called : CalledAs p w store pending call h.code function others k owner own shared s task rest r (effect_of (sight_of shared s) task)
+  called = called_at p w store pending call in_memory others k owner own shared s task rest h
 
   -- what the source's call does
   abbrev effect : CallEffect
@@ -370,18 +370,18 @@ module _ (p : Lowered) (w : World) (store : Store) (pending : Option ℕ) (call 
 
   module _ (answer : Answer) (works : IsWorkedOut (scene_of w.classes store call k pending) function called.f answer) where
     abbrev own_left : Owners
-    own_left = left_own p w store pending call in_memory others k own shared s task rest h answer works
+    own_left = left_own p w store pending call in_memory others k owner own shared s task rest h answer works
 
     -- the slots with these numbers and these buffers, for which the others stand as they did
     abbrev pub left_slots : List ℕ → List source_variable.Buffer → Slots
-    left_slots numbers buffers = record { numbers = numbers; references = r.meant.references; owners = (leaves_owners p w store pending call in_memory others k own shared s task rest h answer works).owners; fields = r.meant.fields; buffers = buffers }
+    left_slots numbers buffers = record { numbers = numbers; references = r.meant.references; owners = (leaves_owners p w store pending call in_memory others k owner own shared s task rest h answer works).owners; fields = r.meant.fields; buffers = buffers }
 
     -- What slots show of the thread with these variables, once the answer is carried out, its result is this, and `isCopy` is told: number
     -- slots and buffers as they lie there, with what the buffers stand for. Lists are those of before.
     pub record ShowsLeft (c : CallResult) (vs : Variables) (numbers : List ℕ) (slots : List HeldBuffer) : Type 0 where
       pub buffers : List source_variable.Buffer
       pub shows : Shows h.code r.known (visible_to own_left shared (record s { variables = vs })) (left_slots numbers buffers)
-      pub agree : BuffersAgree store.heap store.elements k slots buffers
+      pub agree : BuffersAgree store.heap store.elements owner slots buffers
       pub small : AllByRecursion IsSmallCopy buffers
       -- no list that the answer ends is left in a slot
       pub left : (i key : ℕ) → slice_get slots i ≡ Some (held.Copy key) → LeavesCopy answer key
@@ -405,10 +405,10 @@ module _ (p : Lowered) (w : World) (store : Store) (pending : Option ℕ) (call 
     abbrev Effect : JniFunction → CallEffect
     Effect f = call_effect w.classes (in_use_with others s) k shared s called.args f
 
-    frees_by : (release : Release) (access : Access) (more : List ParameterKind) → called.f ≡ ReleaseBuffer access → Fits (owner access ∷ BufferVariable access ∷ more) → IsWorkedOut (scene_of w.classes store call k pending) function (ReleaseBuffer access) (answers.Releases release)
+    frees_by : (release : Release) (access : Access) (more : List ParameterKind) → called.f ≡ ReleaseBuffer access → Fits (owner_kind access ∷ BufferVariable access ∷ more) → IsWorkedOut (scene_of w.classes store call k pending) function (ReleaseBuffer access) (answers.Releases release)
         → (mode : ReleaseMode) → mode_of access (operand_of function.operands 2) ≡ mode_code mode → Effect (ReleaseBuffer access) ≡ release_effect shared s (object_given called.args 0) (variable_given called.args 1) mode → Frees release
     frees_by release access more same kinds is mode coded does =
-        let b = given_buffer store.heap (buffers_of store call k) s.variables access (owner access) more function.operands called.args kinds called.asked.buffers in
+        let b = given_buffer store.heap (buffers_of store call owner) s.variables access (owner_kind access) more function.operands called.args kinds called.asked.buffers in
         let it = release_is (scene_of w.classes store call k pending) function release call.slots.buffers.items _ (operand_of function.operands 1) (mode_of access (operand_of function.operands 2)) is in
         let slot : release.slot ≡ b.slot = it.0 ∙ ap slot_of b.at in
         let named = buffer_known h.code r.known call.place call.stack (slots_of call r.meant) (visible_to own shared s) function.operands called.args called.operands b.slot b.at in
@@ -426,7 +426,7 @@ module _ (p : Lowered) (w : World) (store : Store) (pending : Option ℕ) (call 
     unfolding call_effect
     frees_as release (ElementsCopy T) same kinds is =
         frees_by release (ElementsCopy T) (Mode ∷ []) same kinds is (mode_given called.args 2)
-        (given_mode w.classes store.heap (references_of store call) call.slots.fields.items T (owner (ElementsCopy T)) (BufferVariable (ElementsCopy T)) function.operands called.args kinds called.asked.given) refl
+        (given_mode w.classes store.heap (references_of store call) call.slots.fields.items T (owner_kind (ElementsCopy T)) (BufferVariable (ElementsCopy T)) function.operands called.args kinds called.asked.given) refl
     frees_as release ArrayView same kinds is = frees_by release ArrayView (Mode ∷ []) same kinds is FreeUncopied refl refl
     frees_as release CharsCopy same kinds is = frees_by release CharsCopy [] same kinds is FreeUncopied refl refl
     frees_as release CharsView same kinds is = frees_by release CharsView [] same kinds is FreeUncopied refl refl
@@ -444,7 +444,7 @@ module _ (p : Lowered) (w : World) (store : Store) (pending : Option ℕ) (call 
     Shown vs numbers buffers = Shows h.code r.known (visible_to own_left shared (record s { variables = vs })) (left_slots numbers buffers)
 
     as_before : Shown s.variables call.slots.numbers.items r.meant.buffers
-    as_before = (leaves_owners p w store pending call in_memory others k own shared s task rest h answer works).shows
+    as_before = (leaves_owners p w store pending call in_memory others k owner own shared s task rest h answer works).shows
 
     same_shown : (vs : Variables) (numbers : List ℕ) (buffers : List source_variable.Buffer) → vs ≡ s.variables → numbers ≡ call.slots.numbers.items → buffers ≡ r.meant.buffers → Shown vs numbers buffers
     same_shown vs numbers buffers same_variables same_numbers same_buffers =
@@ -470,16 +470,16 @@ module _ (p : Lowered) (w : World) (store : Store) (pending : Option ℕ) (call 
         by_mode FreeUncopied coded does = with_these _ true (ap (variables_left false s) does) (ap gives_up coded) freed_here
 
     abbrev Does : Type 0
-    Does = IsAnswer w.classes (brought_by store call k (in_use_with others s) function called.args) store.heap call.locals kind shared s answer effect
+    Does = IsAnswer w.classes (brought_by store call k owner (in_use_with others s) function called.args) store.heap call.locals kind shared s answer effect
 
     abbrev WasCopied : Type 0
-    WasCopied = Copied w.classes (brought_by store call k (in_use_with others s) function called.args) store.heap call.locals kind shared s answer effect
+    WasCopied = Copied w.classes (brought_by store call k owner (in_use_with others s) function called.args) store.heap call.locals kind shared s answer effect
 
     abbrev WasReleased : Type 0
-    WasReleased = Released w.classes (brought_by store call k (in_use_with others s) function called.args) store.heap call.locals kind shared s answer effect
+    WasReleased = Released w.classes (brought_by store call k owner (in_use_with others s) function called.args) store.heap call.locals kind shared s answer effect
 
     abbrev WasKept : Type 0
-    WasKept = AreKept w.classes (brought_by store call k (in_use_with others s) function called.args) store.heap call.locals kind shared s answer effect
+    WasKept = AreKept w.classes (brought_by store call k owner (in_use_with others s) function called.args) store.heap call.locals kind shared s answer effect
 
     copied_shown : WasCopied → Shown (variables_left false s effect) (slots_after store.heap answer call.slots.numbers.items) (meant_after answer r.meant.buffers)
     copied_shown it =
@@ -514,7 +514,7 @@ module _ (p : Lowered) (w : World) (store : Store) (pending : Option ℕ) (call 
         let shown = r.shows.each x (record { sort = Buffer f.type f.writable; index = release.slot }) f.there in
         let variable = buffer_by_kind (lookup x s.variables) f.type shown.kind in
         let same : variable.0 ≡ shown.buffer = sym (ap held_buffer variable.1) ∙ shown.is in
-        views_freed store.heap store.elements k call.slots.buffers.items r.meant.buffers release.slot x f.type shown.buffer s (record s { variables = vs }) r.holds.buffers.agree shown.there
+        views_freed store.heap store.elements owner call.slots.buffers.items r.meant.buffers release.slot x f.type shown.buffer s (record s { variables = vs }) r.holds.buffers.agree shown.there
         (variable.1 ∙ ap (λ (b : source_variable.Buffer). Some (Elements f.type b)) same) is h.views
 
     abbrev ViewedIf : Release → Bool → Type 0
@@ -564,14 +564,14 @@ module _ (p : Lowered) (w : World) (store : Store) (pending : Option ℕ) (call 
 
     -- each view in slots is one of a variable's
     pub views_left : (refused : Bool) → is_halt answer ≡ false → Does → (refused ≡ true → makes_objects effect ≡ true) → AreViewed store.heap (buffers_after answer call.slots.buffers.items) (record s { variables = variables_left refused s effect })
-    views_left refused runs does could = (carried refused could (kept_or_copied w.classes (brought_by store call k (in_use_with others s) function called.args) store.heap call.locals kind shared s answer effect runs does)).views
+    views_left refused runs does could = (carried refused could (kept_or_copied w.classes (brought_by store call k owner (in_use_with others s) function called.args) store.heap call.locals kind shared s answer effect runs does)).views
 
     -- ---- and once it is told
 
     flag_or_none : IsBufferResult kind → TellsFlag h.code r.known call.place call.stack (slots_of call r.meant) (visible_to own shared s) function.operands called.args ⊎ TellsNothing h.code r.known call.place call.stack (slots_of call r.meant) (visible_to own shared s) function.operands called.args
     flag_or_none buffer =
         let by = gets_buffer called.f buffer in
-        flag_given h.code r.known call.place call.stack (slots_of call r.meant) (visible_to own shared s) (owner by.0) function.operands called.args
+        flag_given h.code r.known call.place call.stack (slots_of call r.meant) (visible_to own shared s) (owner_kind by.0) function.operands called.args
         (subst (λ (f : JniFunction). AllZip OperandFits (prototype f).parameters function.operands) by.1 called.asked.kinds)
         (subst (λ (f : JniFunction). AllZip ActualFits (prototype f).parameters called.args) by.1 called.asked.fit) called.operands
 
@@ -600,28 +600,28 @@ module _ (p : Lowered) (w : World) (store : Store) (pending : Option ℕ) (call 
 
     released_there : Does → (release : Release) → answer ≡ answers.Releases release → slice_get call.slots.buffers.items release.slot ≡ Some release.held
     released_there does release is =
-        let d = subst (λ (a : Answer). IsAnswer w.classes (brought_by store call k (in_use_with others s) function called.args) store.heap call.locals kind shared s a effect) is does in
+        let d = subst (λ (a : Answer). IsAnswer w.classes (brought_by store call k owner (in_use_with others s) function called.args) store.heap call.locals kind shared s a effect) is does in
         d.1.holds.there ∙ ap (λ (b : HeldBuffer). Some b) (sym d.1.held)
 
     pub shows_left : (refused : Bool) (after : Store) (g : Given) → is_halt answer ≡ false
-        → IsAnswer w.classes (brought_by store call k (in_use_with others s) function called.args) store.heap call.locals kind shared s answer effect
-        → (refused ≡ true → makes_objects effect ≡ true) → ResultAgrees w.classes after k g kind (result_after kind refused effect)
+        → IsAnswer w.classes (brought_by store call k owner (in_use_with others s) function called.args) store.heap call.locals kind shared s answer effect
+        → (refused ≡ true → makes_objects effect ≡ true) → ResultAgrees w.classes after owner g kind (result_after kind refused effect)
         → ShowsLeft (result_after kind refused effect) (tell_copy (address_given called.args 1) (result_after kind refused effect) (variables_left refused s effect))
         (told_with (told_slot (slice_get function.operands 1)) g (slots_after store.heap answer call.slots.numbers.items)) (buffers_after answer call.slots.buffers.items)
     shows_left refused after g runs does could agrees =
-        by_told (carried refused could (kept_or_copied w.classes (brought_by store call k (in_use_with others s) function called.args) store.heap call.locals kind shared s answer effect runs does))
-        (what_told w.classes after k kind g (result_after kind refused effect) agrees)
+        by_told (carried refused could (kept_or_copied w.classes (brought_by store call k owner (in_use_with others s) function called.args) store.heap call.locals kind shared s answer effect runs does))
+        (what_told w.classes after owner kind g (result_after kind refused effect) agrees)
       where
-        by_told : Carried (variables_left refused s effect) → Told w.classes after k kind g (result_after kind refused effect)
+        by_told : Carried (variables_left refused s effect) → Told w.classes after owner kind g (result_after kind refused effect)
             → ShowsLeft (result_after kind refused effect) (tell_copy (address_given called.args 1) (result_after kind refused effect) (variables_left refused s effect))
             (told_with (told_slot (slice_get function.operands 1)) g (slots_after store.heap answer call.slots.numbers.items)) (buffers_after answer call.slots.buffers.items)
         by_told there told = record {
           buffers = meant_after answer r.meant.buffers;
           shows = ⊎_elim (λ t. none_told (variables_left refused s effect) (slots_after store.heap answer call.slots.numbers.items) (meant_after answer r.meant.buffers) there.shows g (result_after kind refused effect) t)
               (λ t. flag_told (variables_left refused s effect) (slots_after store.heap answer call.slots.numbers.items) (meant_after answer r.meant.buffers) there.shows g (result_after kind refused effect) t.1.0 t.1.1 t.0) told;
-          agree = agree_after store.heap store.elements k call.slots.buffers.items r.meant.buffers answer r.holds.buffers;
-          small = small_after store.heap store.elements k call.slots.buffers.items r.meant.buffers answer r.holds.small;
-          left = lists_left store.heap store.elements k call.slots.buffers.items r.meant.buffers answer r.holds.buffers (released_there does);
+          agree = agree_after store.heap store.elements owner call.slots.buffers.items r.meant.buffers answer r.holds.buffers;
+          small = small_after store.heap store.elements owner call.slots.buffers.items r.meant.buffers answer r.holds.small;
+          left = lists_left store.heap store.elements owner call.slots.buffers.items r.meant.buffers answer r.holds.buffers (released_there does);
           kept = ⊎_elim (λ t. ⊎_elim (λ same. inl (t.variables (address_given called.args 1) (variables_left refused s effect) ∙ same)) (λ nothing. inr (inl nothing)) there.kept)
               (λ t. ⊎_elim (λ same. inr (inr (t.0, ap (tell_copy (address_given called.args 1) (result_after kind refused effect)) same))) (λ nothing. inr (inl nothing)) there.kept) told;
         }

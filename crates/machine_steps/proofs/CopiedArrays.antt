@@ -211,6 +211,6 @@ module _ (classes : Classes) (brought : Brought) (space : Space) (locals : Local
   kept_or_copied (answers.DeletesWeak i) effect runs h = inl (ap (variables_left false s) (h.1.3 ∙ weak_deleted shared s h.1.0 h.1.1 h.1.2.weak), λ numbers. refl, λ buffers. refl, λ buffers. refl)
   kept_or_copied (answers.AcquiresCopy a) effect runs h = inl (ap (variables_left false s) h.1.is, λ numbers. refl, λ buffers. refl, λ buffers. refl)
   kept_or_copied (answers.AcquiresView a) effect runs h = inl (ap (variables_left false s) h.1.is, λ numbers. refl, λ buffers. refl, λ buffers. refl)
-  kept_or_copied (answers.Enters o) effect runs h = inl (ap (variables_left false s) h.1.is ∙ of_enter brought.buffers.owner o.name (source.monitor_of shared.monitors o.name), λ numbers. refl, λ buffers. refl, λ buffers. refl)
-  kept_or_copied (answers.Exits n) effect runs h = inl (ap (variables_left false s) h.1.is ∙ of_exit brought.buffers.owner n (source.monitor_of shared.monitors n), λ numbers. refl, λ buffers. refl, λ buffers. refl)
+  kept_or_copied (answers.Enters o) effect runs h = inl (ap (variables_left false s) h.1.is ∙ of_enter brought.thread o.name (source.monitor_of shared.monitors o.name), λ numbers. refl, λ buffers. refl, λ buffers. refl)
+  kept_or_copied (answers.Exits n) effect runs h = inl (ap (variables_left false s) h.1.is ∙ of_exit brought.thread n (source.monitor_of shared.monitors n), λ numbers. refl, λ buffers. refl, λ buffers. refl)
   kept_or_copied (answers.Releases r) effect runs h = inr (inr (record { release = r; is = refl; nothing = h.0; released = h.1 }))

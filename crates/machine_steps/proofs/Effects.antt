@@ -231,8 +231,8 @@ module _ (p : Lowered) (classes : Classes) (space : Space) (copies : List (Optio
 
 -- ---- what an instruction did
 
-module _ (p : Lowered) (w : World) (store : Store) (others : Acquired) (k : ℕ) (own : Owners) (shared : Shared) (s : source.Thread) (shares : StoreAgrees p w store shared (beside others (acquired_by s))) (pending : Option ℕ) (pends : ReferenceAgrees store.heap pending s.pending) (call : Activation) (code : Listing) (task : Task) (rest : List Task)
-    (r : Ready p w.classes store.heap store.elements k call code (visible_to own shared s) s.frames task rest) (tasks_are : s.tasks ≡ Some (task ∷ rest)) (views : AreViewed store.heap call.slots.buffers.items s) (steady : IsSteady w.classes own shared s) (i : Instr) (at : slice_get code.instrs call.place ≡ Some i) where
+module _ (p : Lowered) (w : World) (store : Store) (others : Acquired) (k owner : ℕ) (own : Owners) (shared : Shared) (s : source.Thread) (shares : StoreAgrees p w store shared (beside others (acquired_by s))) (pending : Option ℕ) (pends : ReferenceAgrees store.heap pending s.pending) (call : Activation) (code : Listing) (task : Task) (rest : List Task)
+    (r : Ready p w.classes store.heap store.elements owner call code (visible_to own shared s) s.frames task rest) (tasks_are : s.tasks ≡ Some (task ∷ rest)) (views : AreViewed store.heap call.slots.buffers.items s) (steady : IsSteady w.classes own shared s) (i : Instr) (at : slice_get code.instrs call.place ≡ Some i) where
   abbrev classes : Classes
   classes = w.classes
 
@@ -259,7 +259,7 @@ module _ (p : Lowered) (w : World) (store : Store) (others : Acquired) (k : ℕ)
   -- an instruction on the stack and the number slots alone
   module _ (after : Activation) (e : Event) (way : Plain) (stack numbers : List ℕ) (is : plain_of i call.stack call.slots.numbers.items ≡ Some (way, stack, numbers))
       (m : HasMoved call after (end_of_way call.place way) stack (record (values_in call) { numbers = numbers })) (way_seen : WayIsSeen way e) where
-    becomes : IsPlain i → (tasks : List Task) → GoesOn code r.known call.place call.stack held seen (tasks ++ rest) → agrees.GoesOn p w store store others k own shared s rest after pending (Becomes tasks) false e
+    becomes : IsPlain i → (tasks : List Task) → GoesOn code r.known call.place call.stack held seen (tasks ++ rest) → agrees.GoesOn p w store store others k owner own shared s rest after pending (Becomes tasks) false e
     becomes works tasks h =
         let same : h.here ≡ i = cc (h.at, at) in
         let plain_is : plain_of i call.stack call.slots.numbers.items ≡ Some (h.way, h.after, call.slots.numbers.items) = plain_works seen held i call.stack h.way h.after works (subst (λ (j : Instr). Works seen held j call.stack h.way h.after) same h.works) in
@@ -272,8 +272,8 @@ module _ (p : Lowered) (w : World) (store : Store) (others : Acquired) (k : ℕ)
         record {
           next = next;
           steps = ap (λ (v : Event). source.Advances shared next (event_view v)) (sym (quiet_at_end call.place way (λ q. StandsFor code h.names q stack (tasks ++ rest)) e end way_seen));
-          work = stands_at p classes space store.elements k call code seen s.frames task rest r after (end_of_way call.place way) stack (record (values_in call) { numbers = numbers }) r.meant h.names (visible_to own shared next) (tasks ++ rest)
-              (depth_at_end code call.place way (length stack) (λ q. StandsFor code h.names q stack (tasks ++ rest)) (leads p classes space store.elements k call code seen s.frames task rest r i at way stack numbers is) end) m (holds_with p classes space store.elements k call code seen s.frames task rest r numbers)
+          work = stands_at p classes space store.elements owner call code seen s.frames task rest r after (end_of_way call.place way) stack (record (values_in call) { numbers = numbers }) r.meant h.names (visible_to own shared next) (tasks ++ rest)
+              (depth_at_end code call.place way (length stack) (λ q. StandsFor code h.names q stack (tasks ++ rest)) (leads p classes space store.elements owner call code seen s.frames task rest r i at way stack numbers is) end) m (holds_with p classes space store.elements owner call code seen s.frames task rest r numbers)
               (at_end call.place way (λ q. StandsFor code h.names q stack (tasks ++ rest)) end)
               (subst (λ (ns : List ℕ). Shows code h.names (visible_to own shared next) (record { numbers = ns; references = r.meant.references; owners = r.meant.owners; fields = r.meant.fields; buffers = r.meant.buffers })) numbers_are h.shows);
           next_shared = shared;
@@ -288,7 +288,7 @@ module _ (p : Lowered) (w : World) (store : Store) (others : Acquired) (k : ℕ)
         }
 
     writes : (did : Effect) (changed : Visible → Type 0) → Writes code r.known call.place call.stack held seen changed rest → (vs : _) → after_effect classes (in_use_with others s) k shared s rest did ≡ source.Advances shared (record s { tasks = Some rest; variables = vs }) source.Quiet
-        → changed (visible_to own shared (record s { tasks = Some rest; variables = vs })) → taken_by vs ≡ taken_by s.variables → agrees.owners_left did (event_view e) (length s.frames) own vs ≡ own → agrees.GoesOn p w store store others k own shared s rest after pending did false e
+        → changed (visible_to own shared (record s { tasks = Some rest; variables = vs })) → taken_by vs ≡ taken_by s.variables → agrees.owners_left did (event_view e) (length s.frames) own vs ≡ own → agrees.GoesOn p w store store others k owner own shared s rest after pending did false e
     writes did changed h vs steps shown taken left =
         let same : h.here ≡ i = cc (h.at, at) in
         let plain_is : plain_of i call.stack call.slots.numbers.items ≡ Some (plain.Next, [], h.numbers) = subst (λ (j : Instr). plain_of j call.stack call.slots.numbers.items ≡ Some (plain.Next, [], h.numbers)) same h.plain in
@@ -297,13 +297,13 @@ module _ (p : Lowered) (w : World) (store : Store) (others : Acquired) (k : ℕ)
         let numbers_are : h.numbers ≡ numbers = same_numbers _ _ _ _ _ _ (sym plain_is ∙ is) in
         let quiet : e ≡ event.Quiet = subst (λ (w : Plain). WayIsSeen w e) way_is way_seen in
         let next : source.Thread = record s { tasks = Some rest; variables = vs } in
-        let end : LeadsInside code.instrs call.place plain.Next (length stack) = subst (λ (w : Plain). LeadsInside code.instrs call.place w (length stack)) way_is (leads p classes space store.elements k call code seen s.frames task rest r i at way stack numbers is) in
+        let end : LeadsInside code.instrs call.place plain.Next (length stack) = subst (λ (w : Plain). LeadsInside code.instrs call.place w (length stack)) way_is (leads p classes space store.elements owner call code seen s.frames task rest r i at way stack numbers is) in
         record {
           next = next;
           steps = steps ∙ ap (λ (v : Event). source.Advances shared next (event_view v)) (sym quiet);
-          work = subst (λ (o : Owners). CallStands p classes space store.elements k after (visible_to o shared next) s.frames rest) (sym left)
-              (stands_at p classes space store.elements k call code seen s.frames task rest r after (call.place + 1) stack (record (values_in call) { numbers = numbers }) r.meant h.names (visible_to own shared next) rest end.words
-              (subst (λ (w : Plain). HasMoved call after (end_of_way call.place w) stack (record (values_in call) { numbers = numbers })) way_is m) (holds_with p classes space store.elements k call code seen s.frames task rest r numbers)
+          work = subst (λ (o : Owners). CallStands p classes space store.elements owner after (visible_to o shared next) s.frames rest) (sym left)
+              (stands_at p classes space store.elements owner call code seen s.frames task rest r after (call.place + 1) stack (record (values_in call) { numbers = numbers }) r.meant h.names (visible_to own shared next) rest end.words
+              (subst (λ (w : Plain). HasMoved call after (end_of_way call.place w) stack (record (values_in call) { numbers = numbers })) way_is m) (holds_with p classes space store.elements owner call code seen s.frames task rest r numbers)
               (subst (λ (st : List ℕ). StandsFor code h.names (call.place + 1) st rest) after_is h.stands)
               (subst (λ (ns : List ℕ). Shows code h.names (visible_to own shared next) (record { numbers = ns; references = r.meant.references; owners = r.meant.owners; fields = r.meant.fields; buffers = r.meant.buffers })) numbers_are (h.shows (visible_to own shared next) shown)));
           next_shared = shared;
@@ -318,7 +318,7 @@ module _ (p : Lowered) (w : World) (store : Store) (others : Acquired) (k : ℕ)
           short = λ e. absurd (cc);
         }
 
-    traps : IsPlain i → (reason : Trap) (line : ℕ) → Stops code r.known call.place call.stack held seen reason line → agrees.GoesOn p w store store others k own shared s rest after pending (TrapsAt reason line) false e
+    traps : IsPlain i → (reason : Trap) (line : ℕ) → Stops code r.known call.place call.stack held seen reason line → agrees.GoesOn p w store store others k owner own shared s rest after pending (TrapsAt reason line) false e
     traps works reason line h =
         let same : h.here ≡ i = cc (h.at, at) in
         let plain_is : plain_of i call.stack call.slots.numbers.items ≡ Some (plain.Trap h.trap line, call.stack, call.slots.numbers.items) = plain_works seen held i call.stack (plain.Trap h.trap line) call.stack works (subst (λ (j : Instr). Works seen held j call.stack (plain.Trap h.trap line) call.stack) same h.works) in
@@ -327,15 +327,15 @@ module _ (p : Lowered) (w : World) (store : Store) (others : Acquired) (k : ℕ)
         let numbers_are : call.slots.numbers.items ≡ numbers = same_numbers _ _ _ _ _ _ (sym plain_is ∙ is) in
         let seen_trap : WayIsSeen (plain.Trap h.trap line) e = subst (λ (w : Plain). WayIsSeen w e) way_is way_seen in
         let trap_is : reason ≡ trap_view seen_trap.0 = sym h.is ∙ sym seen_trap.1 in
-        let stands : CallStands p classes space store.elements k after seen s.frames (task ∷ rest) =
-        stands_at p classes space store.elements k call code seen s.frames task rest r after call.place stack (record (values_in call) { numbers = numbers }) r.meant r.known seen (task ∷ rest) (r.depth ∙ ap (λ (st : List ℕ). Some (length st)) after_is)
-        (subst (λ (w : Plain). HasMoved call after (end_of_way call.place w) stack (record (values_in call) { numbers = numbers })) way_is m) (holds_with p classes space store.elements k call code seen s.frames task rest r numbers)
+        let stands : CallStands p classes space store.elements owner after seen s.frames (task ∷ rest) =
+        stands_at p classes space store.elements owner call code seen s.frames task rest r after call.place stack (record (values_in call) { numbers = numbers }) r.meant r.known seen (task ∷ rest) (r.depth ∙ ap (λ (st : List ℕ). Some (length st)) after_is)
+        (subst (λ (w : Plain). HasMoved call after (end_of_way call.place w) stack (record (values_in call) { numbers = numbers })) way_is m) (holds_with p classes space store.elements owner call code seen s.frames task rest r numbers)
         (subst (λ (st : List ℕ). StandsFor code r.known call.place st (task ∷ rest)) after_is r.stands)
         (subst (λ (ns : List ℕ). Shows code r.known seen (record { numbers = ns; references = r.meant.references; owners = r.meant.owners; fields = r.meant.fields; buffers = r.meant.buffers })) numbers_are r.shows) in
         record {
           next = s;
           steps = ap (λ (t : Trap). source.Advances shared s (source.Trapped t line)) trap_is ∙ ap (λ (v : Event). source.Advances shared s (event_view v)) (sym seen_trap.2);
-          work = subst (λ (o : Option (List Task)). WorkAgrees p classes space store.elements k seen (Some after) s.frames o) (sym tasks_are) stands;
+          work = subst (λ (o : Option (List Task)). WorkAgrees p classes space store.elements owner seen (Some after) s.frames o) (sym tasks_are) stands;
           next_shared = shared;
           store_agrees = shares;
           keeps = keeps_same space shared;
@@ -348,17 +348,17 @@ module _ (p : Lowered) (w : World) (store : Store) (others : Acquired) (k : ℕ)
         }
 
     sets_element : (x : Identifier) (j : ℕ) (z : ℤ) (t : ElementType) → seen.array_type x ≡ Some t → Writes code r.known call.place call.stack held seen (IsElementSet seen t x j z) rest → SetsWhatIsThere seen.sight (SetsElement x j z)
-        → agrees.GoesOn p w store store others k own shared s rest after pending (SetsElement x j z) false e
+        → agrees.GoesOn p w store store others k owner own shared s rest after pending (SetsElement x j z) false e
     sets_element x j z t type h there =
         let array = array_of (lookup x s.variables) t type in
         let v : Variable = LocalArray t (slice_set array.0 j (convert t z)) in
         writes (SetsElement x j z) (IsElementSet seen t x j z) h (assign x v s.variables) (ap (set_element shared (with_tasks s rest) x j z) array.1)
         (is_element_set own own shared s (record s { tasks = Some rest; variables = assign x v s.variables }) x (λ y other. refl) t array.0 j z there.0 array.1 there.1 refl) (assigned_same x v s.variables (sym (ap copied_there array.1)) (sym (ap viewed_there array.1))) refl
 
-    pub plain_executes : Executes p w store store others k own shared s rest after pending (effect_of (sight_of shared s) task) (Did e)
+    pub plain_executes : Executes p w store store others k owner own shared s rest after pending (effect_of (sight_of shared s) task) (Did e)
     plain_executes =
         let works : IsPlain i = plain_instr i call.stack call.slots.numbers.items (way, stack, numbers) is in
-        does_cases code r.known call.place call.stack held seen rest (λ effect. Allowed effect → Executes p w store store others k own shared s rest after pending effect (Did e))
+        does_cases code r.known call.place call.stack held seen rest (λ effect. Allowed effect → Executes p w store store others k owner own shared s rest after pending effect (Did e))
         (λ tasks h allowed. becomes works tasks h)
         (λ x v h allowed. writes (Sets x v) (IsSet seen x v) h (assign x (Scalar v) s.variables) refl (is_set own own shared s (record s { tasks = Some rest; variables = assign x (Scalar v) s.variables }) x (λ y other. refl) v refl) (assigned_nothing x (Scalar v) s.variables refl refl (allowed.1 x refl)) refl)
         (λ target h. absurd (let same : i ≡ instr.StoreNull h.variable = cc (at, h.at) in subst IsPlain same works))
@@ -374,9 +374,9 @@ module _ (p : Lowered) (w : World) (store : Store) (others : Acquired) (k : ℕ)
 
   -- a test of NULL
   pub test_executes : (variable : NullableVariable) (equal : Bool) (after : Activation) → i ≡ instr.TestNull variable equal → HasMoved call after (call.place + 1) (truth_word (beq (is_null (references_of store call) call.slots.fields.items call.slots.buffers.items variable) equal) ∷ call.stack) (values_in call)
-      → Executes p w store store others k own shared s rest after pending (effect_of (sight_of shared s) task) (Did event.Quiet)
+      → Executes p w store store others k owner own shared s rest after pending (effect_of (sight_of shared s) task) (Did event.Quiet)
   test_executes variable equal after is m =
-      other_cases p classes space store.elements k call code seen s.frames task rest r possible_here i at (λ effect. Executes p w store store others k own shared s rest after pending effect (Did event.Quiet)) (λ plain. subst IsPlain is plain)
+      other_cases p classes space store.elements owner call code seen s.frames task rest r possible_here i at (λ effect. Executes p w store store others k owner own shared s rest after pending effect (Did event.Quiet)) (λ plain. subst IsPlain is plain)
       (λ test tasks h. goes tasks h)
       (λ target h same. absurd (let both : instr.StoreNull h.variable ≡ instr.TestNull variable equal = sym same ∙ is in cc))
       (λ x n z h same. absurd (let both : instr.StoreBuffer (element_of h.type) h.slot h.line ≡ instr.TestNull variable equal = sym same ∙ is in cc))
@@ -385,11 +385,11 @@ module _ (p : Lowered) (w : World) (store : Store) (others : Acquired) (k : ℕ)
       (λ returns. absurd (subst IsReturn is returns))
       (λ test reason line h works. absurd (let v = subst (λ (j : Instr). Works seen held j call.stack (plain.Trap h.trap line) call.stack) is works in let clash : plain.Trap h.trap line ≡ plain.Next = v.2 in cc))
     where
-      goes : (tasks : List Task) → GoesOn code r.known call.place call.stack held seen (tasks ++ rest) → agrees.GoesOn p w store store others k own shared s rest after pending (Becomes tasks) false event.Quiet
+      goes : (tasks : List Task) → GoesOn code r.known call.place call.stack held seen (tasks ++ rest) → agrees.GoesOn p w store store others k owner own shared s rest after pending (Becomes tasks) false event.Quiet
       goes tasks h =
           let same : h.here ≡ instr.TestNull variable equal = cc (h.at, at, is) in
           let v = subst (λ (j : Instr). Works seen held j call.stack h.way h.after) same h.works in
-          let null : is_null (references_of store call) call.slots.fields.items call.slots.buffers.items variable ≡ v.0 = variable_null_agrees classes space store.elements k (references_of store call) call.slots.fields.items call.slots.buffers.items seen held variable v.0 r.holds.keys shares.statics r.holds.fields r.holds.buffers v.1 in
+          let null : is_null (references_of store call) call.slots.fields.items call.slots.buffers.items variable ≡ v.0 = variable_null_agrees classes space store.elements owner (references_of store call) call.slots.fields.items call.slots.buffers.items seen held variable v.0 r.holds.keys shares.statics r.holds.fields r.holds.buffers v.1 in
           let words : h.after ≡ truth_word (beq (is_null (references_of store call) call.slots.fields.items call.slots.buffers.items variable) equal) ∷ call.stack = v.3 ∙ ap (λ (b : Bool). truth_word (beq b equal) ∷ call.stack) (sym null) in
           let next : source.Thread = with_tasks s (tasks ++ rest) in
           let stack : List ℕ = truth_word (beq (is_null (references_of store call) call.slots.fields.items call.slots.buffers.items variable) equal) ∷ call.stack in
@@ -398,9 +398,9 @@ module _ (p : Lowered) (w : World) (store : Store) (others : Acquired) (k : ℕ)
           record {
             next = next;
             steps = refl;
-            work = stands_at p classes space store.elements k call code seen s.frames task rest r after (call.place + 1) stack (values_in call) r.meant h.names (visible_to own shared next) (tasks ++ rest)
-                (depth_behind p classes space store.elements k call code seen s.frames task rest r i at (length stack) (λ leaves. subst Leaves is leaves)
-                (ap (λ (j : Instr). depth_after j (length call.stack)) is ∙ one_more (length call.stack) (subst (λ (j : Instr). IsSome (depth_after j (length call.stack))) is (room p classes space store.elements k call code seen s.frames task rest r i at)))) m r.holds end h.shows;
+            work = stands_at p classes space store.elements owner call code seen s.frames task rest r after (call.place + 1) stack (values_in call) r.meant h.names (visible_to own shared next) (tasks ++ rest)
+                (depth_behind p classes space store.elements owner call code seen s.frames task rest r i at (length stack) (λ leaves. subst Leaves is leaves)
+                (ap (λ (j : Instr). depth_after j (length call.stack)) is ∙ one_more (length call.stack) (subst (λ (j : Instr). IsSome (depth_after j (length call.stack))) is (room p classes space store.elements owner call code seen s.frames task rest r i at)))) m r.holds end h.shows;
             next_shared = shared;
             store_agrees = shares;
             keeps = keeps_same space shared;
@@ -414,9 +414,9 @@ module _ (p : Lowered) (w : World) (store : Store) (others : Acquired) (k : ℕ)
 
   -- NULL is stored
   pub store_executes : (variable : NullableVariable) (after : Activation) (statics : Vec StaticReference) → i ≡ instr.StoreNull variable → statics.items ≡ nulled_statics variable store.statics.items → HasMoved call after (call.place + 1) call.stack (nulled_slots variable (values_in call))
-      → Executes p w store (record store { statics = statics }) others k own shared s rest after pending (effect_of (sight_of shared s) task) (Did event.Quiet)
+      → Executes p w store (record store { statics = statics }) others k owner own shared s rest after pending (effect_of (sight_of shared s) task) (Did event.Quiet)
   store_executes variable after statics is nulled_are m =
-      other_cases p classes space store.elements k call code seen s.frames task rest r possible_here i at (λ effect. Allowed effect → Executes p w store (record store { statics = statics }) others k own shared s rest after pending effect (Did event.Quiet)) (λ plain. subst IsPlain is plain)
+      other_cases p classes space store.elements owner call code seen s.frames task rest r possible_here i at (λ effect. Allowed effect → Executes p w store (record store { statics = statics }) others k owner own shared s rest after pending effect (Did event.Quiet)) (λ plain. subst IsPlain is plain)
       (λ test tasks h. absurd (subst LooksAtSlots is test))
       (λ target h same allowed. stores target h allowed.1 (let both : instr.StoreNull h.variable ≡ instr.StoreNull variable = sym same ∙ is in cc))
       (λ x n z h same. absurd (let both : instr.StoreBuffer (element_of h.type) h.slot h.line ≡ instr.StoreNull variable = sym same ∙ is in cc))
@@ -426,21 +426,21 @@ module _ (p : Lowered) (w : World) (store : Store) (others : Acquired) (k : ℕ)
       (λ test reason line h works. absurd (subst LooksAtSlots is test))
       allowed_here
     where
-      stores : (target : Target) (h : StoresNull code r.known call.place call.stack held seen target rest) → ((x : Identifier) → SetsWhole x (SetsNull target) → HoldsNoBuffer (lookup x s.variables)) → h.variable ≡ variable → agrees.GoesOn p w store (record store { statics = statics }) others k own shared s rest after pending (SetsNull target) false event.Quiet
+      stores : (target : Target) (h : StoresNull code r.known call.place call.stack held seen target rest) → ((x : Identifier) → SetsWhole x (SetsNull target) → HoldsNoBuffer (lookup x s.variables)) → h.variable ≡ variable → agrees.GoesOn p w store (record store { statics = statics }) others k owner own shared s rest after pending (SetsNull target) false event.Quiet
       stores target h free same =
           let kind = kind_of_target code r.known call.place call.stack held seen target in
           let null = puts_null own shared s rest code r.known call.place call.stack held target h.name h.is h.takes free in
           let next : source.Thread = record s { tasks = Some rest; variables = null.variables } in
           let now : Shared = record shared { statics = lower.nulled_statics kind h.name shared.statics } in
           let stored = subst (λ (v : NullableVariable). IsStoredIn code r.known call.place call.stack held seen v kind h.name) same h.stored in
-          let nulled = nulled_agree classes space store.elements k call.locals call.slots.references.items call.slots.fields.items call.slots.buffers.items held variable r.holds.keys r.holds.fields r.holds.buffers r.holds.small in
+          let nulled = nulled_agree classes space store.elements owner call.locals call.slots.references.items call.slots.fields.items call.slots.buffers.items held variable r.holds.keys r.holds.fields r.holds.buffers r.holds.small in
           let m' : HasMoved call after (call.place + 1) [] (record (nulled_slots variable (values_in call)) { numbers = (lower.with_null variable held).numbers }) =
           record { function = m.function; place = m.place; stack = m.stack ∙ h.empty; numbers = m.numbers ∙ sym nulled.numbers; references = m.references; fields = m.fields; buffers = m.buffers; locals = m.locals } in
           record {
             next = next;
             steps = null.steps;
-            work = stands_at p classes space store.elements k call code seen s.frames task rest r after (call.place + 1) [] (record (nulled_slots variable (values_in call)) { numbers = (lower.with_null variable held).numbers }) (record r.meant { references = (lower.with_null variable held).references; fields = (lower.with_null variable held).fields; buffers = (lower.with_null variable held).buffers }) h.names (visible_to own now next) rest
-                (depth_behind p classes space store.elements k call code seen s.frames task rest r i at 0 (λ leaves. subst Leaves is leaves) (ap (λ (j : Instr). depth_after j (length call.stack)) is ∙ ap (λ (st : List ℕ). Some (length st)) h.empty)) m' (record { keys = nulled.references; fields = nulled.fields; buffers = nulled.buffers_agree; small = nulled.small }) h.stands
+            work = stands_at p classes space store.elements owner call code seen s.frames task rest r after (call.place + 1) [] (record (nulled_slots variable (values_in call)) { numbers = (lower.with_null variable held).numbers }) (record r.meant { references = (lower.with_null variable held).references; fields = (lower.with_null variable held).fields; buffers = (lower.with_null variable held).buffers }) h.names (visible_to own now next) rest
+                (depth_behind p classes space store.elements owner call code seen s.frames task rest r i at 0 (λ leaves. subst Leaves is leaves) (ap (λ (j : Instr). depth_after j (length call.stack)) is ∙ ap (λ (st : List ℕ). Some (length st)) h.empty)) m' (record { keys = nulled.references; fields = nulled.fields; buffers = nulled.buffers_agree; small = nulled.small }) h.stands
                 (null_shows code h.names (visible_to own now next) held variable (subst (λ (v : NullableVariable). Shows code h.names (visible_to own now next) (lower.with_null v held)) same (h.shows (visible_to own now next) null.nulled)));
             next_shared = now;
             store_agrees = store_same p w (record store { statics = statics }) now others s.variables null.variables null.taken (store_nulled p w store shared (beside others (acquired_by s)) shares own code r.known call.place call.stack held s statics h.name variable kind stored nulled_are);
@@ -456,9 +456,9 @@ module _ (p : Lowered) (w : World) (store : Store) (others : Acquired) (k : ℕ)
 
   -- a print
   pub put_executes : (word : ℕ) (after : Activation) (stack : List ℕ) → i ≡ instr.PutJint → call.stack ≡ word ∷ stack → HasMoved call after (call.place + 1) stack (values_in call)
-      → Executes p w store store others k own shared s rest after pending (effect_of (sight_of shared s) task) (Did (event.Printed (cast_signed w32 word)))
+      → Executes p w store store others k owner own shared s rest after pending (effect_of (sight_of shared s) task) (Did (event.Printed (cast_signed w32 word)))
   put_executes word after stack put top m =
-      other_cases p classes space store.elements k call code seen s.frames task rest r possible_here i at (λ effect. Executes p w store store others k own shared s rest after pending effect (Did (event.Printed (cast_signed w32 word)))) (λ plain. subst IsPlain put plain)
+      other_cases p classes space store.elements owner call code seen s.frames task rest r possible_here i at (λ effect. Executes p w store store others k owner own shared s rest after pending effect (Did (event.Printed (cast_signed w32 word)))) (λ plain. subst IsPlain put plain)
       (λ test tasks h. absurd (subst LooksAtSlots put test))
       (λ target h same. absurd (let both : instr.StoreNull h.variable ≡ instr.PutJint = sym same ∙ put in cc))
       (λ x n z h same. absurd (let both : instr.StoreBuffer (element_of h.type) h.slot h.line ≡ instr.PutJint = sym same ∙ put in cc))
@@ -467,7 +467,7 @@ module _ (p : Lowered) (w : World) (store : Store) (others : Acquired) (k : ℕ)
       (λ returns. absurd (subst IsReturn put returns))
       (λ test reason line h works. absurd (subst LooksAtSlots put test))
     where
-      prints : (z : ℤ) → PrintsTop code r.known call.place call.stack held seen z rest → agrees.GoesOn p w store store others k own shared s rest after pending (Prints z) false (event.Printed (cast_signed w32 word))
+      prints : (z : ℤ) → PrintsTop code r.known call.place call.stack held seen z rest → agrees.GoesOn p w store store others k owner own shared s rest after pending (Prints z) false (event.Printed (cast_signed w32 word))
       prints z h =
           let words : word ≡ h.word = cc (top, h.top) in
           let nothing : [] ≡ stack = cc (top, h.top) in
@@ -475,8 +475,8 @@ module _ (p : Lowered) (w : World) (store : Store) (others : Acquired) (k : ℕ)
           record {
             next = with_tasks s rest;
             steps = ap (λ (n : ℤ). source.Advances shared (with_tasks s rest) (source.PrintedNumber n)) number;
-            work = stands_at p classes space store.elements k call code seen s.frames task rest r after (call.place + 1) stack (values_in call) r.meant r.known seen rest
-                (depth_behind p classes space store.elements k call code seen s.frames task rest r i at (length stack) (λ leaves. subst Leaves put leaves) (ap (λ (j : Instr). depth_after j (length call.stack)) put ∙ ap (λ (st : List ℕ). depth_after instr.PutJint (length st)) top)) m r.holds
+            work = stands_at p classes space store.elements owner call code seen s.frames task rest r after (call.place + 1) stack (values_in call) r.meant r.known seen rest
+                (depth_behind p classes space store.elements owner call code seen s.frames task rest r i at (length stack) (λ leaves. subst Leaves put leaves) (ap (λ (j : Instr). depth_after j (length call.stack)) put ∙ ap (λ (st : List ℕ). depth_after instr.PutJint (length st)) top)) m r.holds
                 (subst (λ (st : List ℕ). StandsFor code r.known (call.place + 1) st rest) nothing h.stands) r.shows;
             next_shared = shared;
             store_agrees = shares;
@@ -490,9 +490,9 @@ module _ (p : Lowered) (w : World) (store : Store) (others : Acquired) (k : ℕ)
           }
 
   -- a return
-  pub return_executes : IsReturn i → (after : Activation) → Executes p w store store others k own shared s rest after pending (effect_of (sight_of shared s) task) Returned
+  pub return_executes : IsReturn i → (after : Activation) → Executes p w store store others k owner own shared s rest after pending (effect_of (sight_of shared s) task) Returned
   return_executes is after =
-      other_cases p classes space store.elements k call code seen s.frames task rest r possible_here i at (λ effect. Executes p w store store others k own shared s rest after pending effect Returned) (no_return i is)
+      other_cases p classes space store.elements owner call code seen s.frames task rest r possible_here i at (λ effect. Executes p w store store others k owner own shared s rest after pending effect Returned) (no_return i is)
       (λ test tasks h. absurd (no_return_test i is test))
       (λ target h same. absurd (subst IsReturn same is))
       (λ x n z h same. absurd (subst IsReturn same is))

@@ -146,8 +146,8 @@ written_store p w store shared all k key zs place z there h = record {
 
 -- ---- steps
 
-module _ (p : Lowered) (w : World) (store : Store) (others : Acquired) (k : ℕ) (own : Owners) (shared : Shared) (s : source.Thread) (shares : StoreAgrees p w store shared (beside others (acquired_by s))) (pending : Option ℕ) (pends : ReferenceAgrees store.heap pending s.pending) (call : Activation) (code : Listing) (task : Task) (rest : List Task)
-    (r : Ready p w.classes store.heap store.elements k call code (visible_to own shared s) s.frames task rest) (tasks_are : s.tasks ≡ Some (task ∷ rest)) (views : AreViewed store.heap call.slots.buffers.items s) (steady : IsSteady w.classes own shared s) (i : Instr) (at : slice_get code.instrs call.place ≡ Some i) where
+module _ (p : Lowered) (w : World) (store : Store) (others : Acquired) (k owner : ℕ) (own : Owners) (shared : Shared) (s : source.Thread) (shares : StoreAgrees p w store shared (beside others (acquired_by s))) (pending : Option ℕ) (pends : ReferenceAgrees store.heap pending s.pending) (call : Activation) (code : Listing) (task : Task) (rest : List Task)
+    (r : Ready p w.classes store.heap store.elements owner call code (visible_to own shared s) s.frames task rest) (tasks_are : s.tasks ≡ Some (task ∷ rest)) (views : AreViewed store.heap call.slots.buffers.items s) (steady : IsSteady w.classes own shared s) (i : Instr) (at : slice_get code.instrs call.place ≡ Some i) where
   abbrev classes : Classes
   classes = w.classes
 
@@ -170,14 +170,14 @@ module _ (p : Lowered) (w : World) (store : Store) (others : Acquired) (k : ℕ)
       by_slot : (o : Option variable.Buffer) → slice_get r.meant.buffers slot ≡ o → option_map (λ (b : variable.Buffer). elements_in b seen.numbers) o ≡ Some zs → words_held store (buffer_there call.slots.buffers.items slot) ≡ map (λ z. cast_unsigned w32 z) zs
       by_slot None there e = absurd (cc (e))
       by_slot (Some b) there e =
-          let it = buffer_held space store.elements k call.slots.buffers.items r.meant.buffers slot b r.holds.buffers there in
+          let it = buffer_held space store.elements owner call.slots.buffers.items r.meant.buffers slot b r.holds.buffers there in
           let same : elements_in b seen.numbers ≡ zs = cc (e) in
           ap (words_held store) (there_is call.slots.buffers.items slot it.0 it.1)
-          ∙ words_are p w store shared all shares k it.0 b it.2
+          ∙ words_are p w store shared all shares owner it.0 b it.2
           ∙ ap (λ (l : List ℤ). map (λ z. cast_unsigned w32 z) l) same
 
   -- a trap leaves all as it was
-  past : (reason : Trap) (line : ℕ) (after : Activation) (e : Event) → after ≡ call → e ≡ event.Trapped OutOfRange line → reason ≡ value.OutOfRange → agrees.GoesOn p w store store others k own shared s rest after pending (TrapsAt reason line) false e
+  past : (reason : Trap) (line : ℕ) (after : Activation) (e : Event) → after ≡ call → e ≡ event.Trapped OutOfRange line → reason ≡ value.OutOfRange → agrees.GoesOn p w store store others k owner own shared s rest after pending (TrapsAt reason line) false e
   past reason line after e same trapped is = record {
     next_shared = shared;
     next = s;
@@ -185,8 +185,8 @@ module _ (p : Lowered) (w : World) (store : Store) (others : Acquired) (k : ℕ)
     store_agrees = shares;
     keeps = keeps_same space shared;
     keeps_copies = λ key c there other. there;
-    work = subst (λ (o : Option (List Task)). WorkAgrees p classes space store.elements k seen (Some after) s.frames o) (sym tasks_are)
-        (stands_at p classes space store.elements k call code seen s.frames task rest r after call.place call.stack (values_in call) r.meant r.known seen (task ∷ rest) r.depth
+    work = subst (λ (o : Option (List Task)). WorkAgrees p classes space store.elements owner seen (Some after) s.frames o) (sym tasks_are)
+        (stands_at p classes space store.elements owner call code seen s.frames task rest r after call.place call.stack (values_in call) r.meant r.known seen (task ∷ rest) r.depth
         (subst (λ (a : Activation). HasMoved call a call.place call.stack (values_in call)) (sym same) (record { function = refl; place = refl; stack = refl; numbers = refl; references = refl; fields = refl; buffers = refl; locals = refl }))
         r.holds r.stands r.shows);
     views = subst (λ (a : Activation). AreViewed space a.slots.buffers.items s) (sym same) views;
@@ -207,11 +207,11 @@ module _ (p : Lowered) (w : World) (store : Store) (others : Acquired) (k : ℕ)
         (ap (λ (l : List ℕ). slice_get l index) (slot_words slot zs elements) ∙ slice_get-map (λ z. cast_unsigned w32 z) zs index ∙ ap (option_map (λ z. cast_unsigned w32 z)) found)
         (did index stack top)
 
-    reads : (tasks : List Task) (h : GoesOn code r.known call.place call.stack held seen (tasks ++ rest)) (stack : List ℕ) → call.stack ≡ stack → Works seen held (instr.LoadBuffer slot line) stack h.way h.after → agrees.GoesOn p w store store others k own shared s rest after pending (Becomes tasks) false e
+    reads : (tasks : List Task) (h : GoesOn code r.known call.place call.stack held seen (tasks ++ rest)) (stack : List ℕ) → call.stack ≡ stack → Works seen held (instr.LoadBuffer slot line) stack h.way h.after → agrees.GoesOn p w store store others k owner own shared s rest after pending (Becomes tasks) false e
     reads tasks h [] top works = absurd (cc (works))
     reads tasks h (index ∷ stack) top works = by_element (slice_get works.0 index) refl works.2
       where
-        by_element : (o : Option ℤ) → slice_get works.0 index ≡ o → Loads line index stack o h.way h.after → agrees.GoesOn p w store store others k own shared s rest after pending (Becomes tasks) false e
+        by_element : (o : Option ℤ) → slice_get works.0 index ≡ o → Loads line index stack o h.way h.after → agrees.GoesOn p w store store others k owner own shared s rest after pending (Becomes tasks) false e
         by_element None found loads = absurd (subst (λ (u : Plain). AtEnd (λ q. StandsFor code h.names q h.after (tasks ++ rest)) call.place u) loads.0 h.stands)
         by_element (Some z) found loads =
             let m = loaded index stack works.0 top works.1 (Some z) found in
@@ -226,8 +226,8 @@ module _ (p : Lowered) (w : World) (store : Store) (others : Acquired) (k : ℕ)
               store_agrees = shares;
               keeps = keeps_same space shared;
               keeps_copies = λ key c there other. there;
-              work = stands_at p classes space store.elements k call code seen s.frames task rest r after (call.place + 1) words (values_in call) r.meant h.names (visible_to own shared next) (tasks ++ rest)
-                  (depth_behind p classes space store.elements k call code seen s.frames task rest r i at (length words) (λ leaves. subst Leaves is leaves) (ap (λ (j : Instr). depth_after j (length call.stack)) is ∙ ap (λ (st : List ℕ). depth_after (instr.LoadBuffer slot line) (length st)) top))
+              work = stands_at p classes space store.elements owner call code seen s.frames task rest r after (call.place + 1) words (values_in call) r.meant h.names (visible_to own shared next) (tasks ++ rest)
+                  (depth_behind p classes space store.elements owner call code seen s.frames task rest r i at (length words) (λ leaves. subst Leaves is leaves) (ap (λ (j : Instr). depth_after j (length call.stack)) is ∙ ap (λ (st : List ℕ). depth_after (instr.LoadBuffer slot line) (length st)) top))
                   m.0 r.holds end h.shows;
               views = subst (λ (l : List HeldBuffer). AreViewed space l s) (sym m.0.buffers) views;
               pending_agrees = pends;
@@ -237,11 +237,11 @@ module _ (p : Lowered) (w : World) (store : Store) (others : Acquired) (k : ℕ)
             }
 
     load_past : (reason : Trap) (at_line : ℕ) (h : Stops code r.known call.place call.stack held seen reason at_line) (stack : List ℕ) → call.stack ≡ stack → Works seen held (instr.LoadBuffer slot line) stack (plain.Trap h.trap at_line) stack
-        → agrees.GoesOn p w store store others k own shared s rest after pending (TrapsAt reason at_line) false e
+        → agrees.GoesOn p w store store others k owner own shared s rest after pending (TrapsAt reason at_line) false e
     load_past reason at_line h [] top works = absurd (cc (works))
     load_past reason at_line h (index ∷ stack) top works = by_element (slice_get works.0 index) refl works.2
       where
-        by_element : (o : Option ℤ) → slice_get works.0 index ≡ o → Loads line index stack o (plain.Trap h.trap at_line) (index ∷ stack) → agrees.GoesOn p w store store others k own shared s rest after pending (TrapsAt reason at_line) false e
+        by_element : (o : Option ℤ) → slice_get works.0 index ≡ o → Loads line index stack o (plain.Trap h.trap at_line) (index ∷ stack) → agrees.GoesOn p w store store others k owner own shared s rest after pending (TrapsAt reason at_line) false e
         by_element (Some z) found loads = absurd (let clash : plain.Trap h.trap at_line ≡ plain.Next = loads.0 in cc)
         by_element None found loads =
             let m = loaded index stack works.0 top works.1 None found in
@@ -249,9 +249,9 @@ module _ (p : Lowered) (w : World) (store : Store) (others : Acquired) (k : ℕ)
             let traps : h.trap ≡ plain_trap.OutOfRange = let both : plain.Trap h.trap at_line ≡ plain.Trap plain_trap.OutOfRange line = loads.0 in cc in
             past reason at_line after e m.0 (m.1 ∙ ap (λ (n : ℕ). event.Trapped OutOfRange n) lines) (sym h.is ∙ ap trap_of traps)
 
-    pub load_executes : Executes p w store store others k own shared s rest after pending (effect_of (sight_of shared s) task) (Did e)
+    pub load_executes : Executes p w store store others k owner own shared s rest after pending (effect_of (sight_of shared s) task) (Did e)
     load_executes =
-        other_cases p classes space store.elements k call code seen s.frames task rest r (possible_here p w store others k own shared s shares pending pends call code task rest r tasks_are views steady i at) i at (λ effect. Executes p w store store others k own shared s rest after pending effect (Did e)) (λ plain. subst IsPlain is plain)
+        other_cases p classes space store.elements owner call code seen s.frames task rest r (possible_here p w store others k owner own shared s shares pending pends call code task rest r tasks_are views steady i at) i at (λ effect. Executes p w store store others k owner own shared s rest after pending effect (Did e)) (λ plain. subst IsPlain is plain)
         (λ test tasks h. reads tasks h call.stack refl (let same : h.here ≡ instr.LoadBuffer slot line = cc (h.at, at, is) in subst (λ (j : Instr). Works seen held j call.stack h.way h.after) same h.works))
         (λ target h same. absurd (let both : instr.StoreNull h.variable ≡ instr.LoadBuffer slot line = sym same ∙ is in cc))
         (λ x n z h same. absurd (let both : instr.StoreBuffer (element_of h.type) h.slot h.line ≡ instr.LoadBuffer slot line = sym same ∙ is in cc))
@@ -266,7 +266,7 @@ module _ (p : Lowered) (w : World) (store : Store) (others : Acquired) (k : ℕ)
       (did : (word index : ℕ) (stack : List ℕ) → call.stack ≡ word ∷ index ∷ stack
       → StoresElement line stack (nat_lt index (length (words_held store (buffer_there call.slots.buffers.items slot)))) store (buffer_there call.slots.buffers.items slot) index (element_word element word) store' call after e) where
     abbrev Wrote : Effect → Type 0
-    Wrote effect = agrees.GoesOn p w store store' others k own shared s rest after pending effect false e
+    Wrote effect = agrees.GoesOn p w store store' others k owner own shared s rest after pending effect false e
 
     -- past the end nothing is written
     store_past : (reason : Trap) (at_line : ℕ) (h : Stops code r.known call.place call.stack held seen reason at_line) (stack : List ℕ) → call.stack ≡ stack → Works seen held (instr.StoreBuffer element slot line) stack (plain.Trap h.trap at_line) stack → Wrote (TrapsAt reason at_line)
@@ -280,7 +280,7 @@ module _ (p : Lowered) (w : World) (store : Store) (others : Acquired) (k : ℕ)
         let m = subst (λ (b : Bool). StoresElement line stack b store (buffer_there call.slots.buffers.items slot) index (element_word element word) store' call after e) none (did word index stack top) in
         let lines : line ≡ at_line = let both : plain.Trap h.trap at_line ≡ plain.Trap plain_trap.OutOfRange line = works.1 in cc in
         let traps : h.trap ≡ plain_trap.OutOfRange = let both : plain.Trap h.trap at_line ≡ plain.Trap plain_trap.OutOfRange line = works.1 in cc in
-        subst (λ (st : Store). agrees.GoesOn p w store st others k own shared s rest after pending (TrapsAt reason at_line) false e) (sym m.0)
+        subst (λ (st : Store). agrees.GoesOn p w store st others k owner own shared s rest after pending (TrapsAt reason at_line) false e) (sym m.0)
         (past reason at_line after e m.1.0 (m.1.1 ∙ ap (λ (n : ℕ). event.Trapped OutOfRange n) lines) (sym h.is ∙ ap trap_of traps))
       where
         outside : (zs : List ℤ) (index : ℕ) → slice_get zs index ≡ None → nat_lt index (length zs) ≡ false
@@ -305,15 +305,15 @@ module _ (p : Lowered) (w : World) (store : Store) (others : Acquired) (k : ℕ)
       word_is = ap (λ (t : ElementOfCode). element_word t (cast_unsigned w32 z)) elements_are ∙ element_words h.type z h.fits
 
       -- the slot of the buffer
-      it : (g : HeldBuffer) × (slice_get call.slots.buffers.items h.slot ≡ Some g) × BufferAgrees space store.elements k g (seen.buffer x)
-      it = buffer_held space store.elements k call.slots.buffers.items r.meant.buffers h.slot (seen.buffer x) r.holds.buffers h.there
+      it : (g : HeldBuffer) × (slice_get call.slots.buffers.items h.slot ≡ Some g) × BufferAgrees space store.elements owner g (seen.buffer x)
+      it = buffer_held space store.elements owner call.slots.buffers.items r.meant.buffers h.slot (seen.buffer x) r.holds.buffers h.there
 
       buffer_is : buffer_there call.slots.buffers.items slot ≡ it.0
       buffer_is = ap (buffer_there call.slots.buffers.items) slots_are ∙ there_is call.slots.buffers.items h.slot it.0 it.1
 
       inside : nat_lt j (length (words_held store it.0)) ≡ true
       inside =
-          ap (λ (l : List ℕ). nat_lt j (length l)) (words_are p w store shared all shares k it.0 (seen.buffer x) it.2)
+          ap (λ (l : List ℕ). nat_lt j (length l)) (words_are p w store shared all shares owner it.0 (seen.buffer x) it.2)
           ∙ ap (nat_lt j) (length-map (elements_in (seen.buffer x) seen.numbers) (λ z. cast_unsigned w32 z))
           ∙ lt-ltb j (length (elements_in (seen.buffer x) seen.numbers)) h.inside
 
@@ -329,7 +329,7 @@ module _ (p : Lowered) (w : World) (store : Store) (others : Acquired) (k : ℕ)
       variable_is = buffer_by_kind (lookup x s.variables) h.type h.kind
 
       depth : depth_at code.instrs (call.place + 1) ≡ Some 0
-      depth = depth_behind p classes space store.elements k call code seen s.frames task rest r i at 0 (λ leaves. subst Leaves is leaves) (ap (λ (g : Instr). depth_after g (length call.stack)) is ∙ ap (λ (st : List ℕ). depth_after (instr.StoreBuffer element slot line) (length st)) h.operands)
+      depth = depth_behind p classes space store.elements owner call code seen s.frames task rest r i at 0 (λ leaves. subst Leaves is leaves) (ap (λ (g : Instr). depth_after g (length call.stack)) is ∙ ap (λ (st : List ℕ). depth_after (instr.StoreBuffer element slot line) (length st)) h.operands)
 
       -- of a copy
       copy_written : (key n : ℕ) (zs : List ℤ) → it.0 ≡ held_as.Copy key → seen.buffer x ≡ Copy n zs → Wrote (SetsElement x j z)
@@ -340,30 +340,30 @@ module _ (p : Lowered) (w : World) (store : Store) (others : Acquired) (k : ℕ)
           let back : cast_signed w32 (cast_unsigned w32 number) ≡ number = to_z-of_z {w = w32} (convert_fits h.type z) in
           let store_is : store' ≡ record store { elements = written store.elements key j number } =
           wrote.0 ∙ ap (λ (b : HeldBuffer). with_word store b j (cast_unsigned w32 number)) of ∙ ap (λ (y : ℤ). let st : Store = record store { elements = written store.elements key j y } in st) back in
-          let list : value_at store.elements key ≡ Some (owned k zs) = subst (λ (g : HeldBuffer). BufferAgrees space store.elements k g (Copy n zs)) of (subst (λ (b : variable.Buffer). BufferAgrees space store.elements k it.0 b) is_copy it.2) in
+          let list : value_at store.elements key ≡ Some (owned owner zs) = subst (λ (g : HeldBuffer). BufferAgrees space store.elements owner g (Copy n zs)) of (subst (λ (b : variable.Buffer). BufferAgrees space store.elements owner it.0 b) is_copy it.2) in
           let was : lookup x s.variables ≡ Some (Elements h.type (Copy n zs)) = variable_is ∙ ap (λ (b : variable.Buffer). Some (Elements h.type b)) is_copy in
           let copies = written store.elements key j number in
           let slot_there : slice_get call.slots.buffers.items h.slot ≡ Some (held_as.Copy key) = it.1 ∙ ap (λ (g : HeldBuffer). Some g) of in
           let small : IsSmallCopy (Copy n zs) = all_there IsSmallCopy r.meant.buffers h.slot (Copy n zs) r.holds.small (h.there ∙ ap (λ (b : variable.Buffer). Some b) is_copy) in
           let buffers = slice_set r.meant.buffers h.slot new in
-          let agree : BuffersAgree space copies k call.slots.buffers.items buffers =
-          subst (λ (l : List HeldBuffer). BuffersAgree space copies k l buffers) (set_same call.slots.buffers.items h.slot (held_as.Copy key) slot_there)
-          (buffers_put space space store.elements copies k call.slots.buffers.items r.meant.buffers h.slot (held_as.Copy key) new r.holds.buffers (written_here store.elements k key zs list j number)
-          (λ m g c other there agrees. buffer_stays space space store.elements copies k g c (λ a name named. named) (λ key' numbers named found. written_elsewhere store.elements k key zs list j number key' numbers (λ same_key. other (r.holds.buffers.apart m h.slot key (there ∙ ap (λ (y : HeldBuffer). Some y) named ∙ ap (λ (y : ℕ). Some (held_as.Copy y)) same_key) slot_there)) found) agrees)
+          let agree : BuffersAgree space copies owner call.slots.buffers.items buffers =
+          subst (λ (l : List HeldBuffer). BuffersAgree space copies owner l buffers) (set_same call.slots.buffers.items h.slot (held_as.Copy key) slot_there)
+          (buffers_put space space store.elements copies owner call.slots.buffers.items r.meant.buffers h.slot (held_as.Copy key) new r.holds.buffers (written_here store.elements owner key zs list j number)
+          (λ m g c other there agrees. buffer_stays space space store.elements copies owner g c (λ a name named. named) (λ key' numbers named found. written_elsewhere store.elements owner key zs list j number key' numbers (λ same_key. other (r.holds.buffers.apart m h.slot key (there ∙ ap (λ (y : HeldBuffer). Some y) named ∙ ap (λ (y : ℕ). Some (held_as.Copy y)) same_key) slot_there)) found) agrees)
           (λ m key' other there same_key. other (r.holds.buffers.apart m h.slot key (there ∙ ap (λ (y : HeldBuffer). Some y) (sym same_key)) slot_there))) in
           let shown : Shows code h.names (visible_to own shared next) (record held { buffers = buffers }) =
           subst (λ (b : variable.Buffer). Shows code h.names (visible_to own shared next) (record held { buffers = slice_set r.meant.buffers h.slot b })) (ap (with_element h.type j z) is_copy)
           (h.shows (visible_to own shared next) (subst (λ (b : variable.Buffer). IsBufferSet seen h.type x b (visible_to own shared next)) (sym (ap (with_element h.type j z) is_copy)) (is_buffer_set own own shared s next x (λ y other. refl) h.type new refl))) in
-          subst (λ (st : Store). agrees.GoesOn p w store st others k own shared s rest after pending (SetsElement x j z) false e) (sym store_is) (record {
+          subst (λ (st : Store). agrees.GoesOn p w store st others k owner own shared s rest after pending (SetsElement x j z) false e) (sym store_is) (record {
             next_shared = shared;
             next = next;
             steps = ap (set_element shared (with_tasks s rest) x j z) was ∙ ap (λ (v : Event). source.Advances shared next (event_view v)) (sym wrote.1.1);
             store_agrees = store_same p w (record store { elements = copies }) shared others s.variables vs
                 (assigned_same x (Elements h.type new) s.variables (length-set zs j number ∙ sym (ap copied_there was)) (sym (ap viewed_there was)))
-                (written_store p w store shared all k key zs j number list shares);
+                (written_store p w store shared all owner key zs j number list shares);
             keeps = keeps_same space shared;
-            keeps_copies = written_keeps_copies store.elements k key zs list j number;
-            work = stands_in p classes space store.elements k call code seen s.frames task rest r space copies after (call.place + 1) [] (values_in call) (record r.meant { buffers = buffers }) h.names (visible_to own shared next) rest
+            keeps_copies = written_keeps_copies store.elements owner key zs list j number;
+            work = stands_in p classes space store.elements owner call code seen s.frames task rest r space copies after (call.place + 1) [] (values_in call) (record r.meant { buffers = buffers }) h.names (visible_to own shared next) rest
                 depth wrote.1.0 r.frames_agree
                 (record {
                   keys = r.holds.keys;
@@ -385,7 +385,7 @@ module _ (p : Lowered) (w : World) (store : Store) (others : Acquired) (k : ℕ)
       view_written a n of is_view =
           let now : Shared = record shared { heap = with_value_at shared.heap n j (Number number) } in
           let next : source.Thread = with_tasks s rest in
-          let named : name_at space a ≡ Some n = subst (λ (g : HeldBuffer). BufferAgrees space store.elements k g (View n)) of (subst (λ (b : variable.Buffer). BufferAgrees space store.elements k it.0 b) is_view it.2) in
+          let named : name_at space a ≡ Some n = subst (λ (g : HeldBuffer). BufferAgrees space store.elements owner g (View n)) of (subst (λ (b : variable.Buffer). BufferAgrees space store.elements owner it.0 b) is_view it.2) in
           let there : nat_lt j (length (words_held store (held_as.View a))) ≡ true = ap (λ (b : HeldBuffer). nat_lt j (length (words_held store b))) (sym of) ∙ inside in
           let writes : WritesAt space shared now a j (Word (cast_unsigned w32 number)) =
           record { name = n; there = named; value = Number number; agrees = (convert_fits h.type z, refl); within = omega (arith, ltb-true j (length (words_held store (held_as.View a))) there, length-map (values_at space a) word_of); is = refl } in
@@ -397,23 +397,23 @@ module _ (p : Lowered) (w : World) (store : Store) (others : Acquired) (k : ℕ)
           subst (λ (l : List variable.Buffer). Shows code h.names (visible_to own now next) (record held { buffers = l })) (set_same r.meant.buffers h.slot (View n) (h.there ∙ ap (λ (b : variable.Buffer). Some b) is_view))
           (subst (λ (b : variable.Buffer). Shows code h.names (visible_to own now next) (record held { buffers = slice_set r.meant.buffers h.slot b })) (ap (with_element h.type j z) is_view)
           (h.shows (visible_to own now next) (subst (λ (b : variable.Buffer). IsBufferSet seen h.type x b (visible_to own now next)) (sym (ap (with_element h.type j z) is_view)) (buffer_seen_still own shared s now.heap x h.type (View n) was)))) in
-          subst (λ (st : Store). agrees.GoesOn p w store st others k own shared s rest after pending (SetsElement x j z) false e) (sym store_is) (record {
+          subst (λ (st : Store). agrees.GoesOn p w store st others k owner own shared s rest after pending (SetsElement x j z) false e) (sym store_is) (record {
             next_shared = now;
             next = next;
             steps = ap (set_element shared (with_tasks s rest) x j z) was ∙ ap (λ (v : Event). source.Advances now next (event_view v)) (sym wrote.1.1);
             store_agrees = written_agrees p w store shared now a j (Word (cast_unsigned w32 number)) all shares writes;
             keeps = keeps;
             keeps_copies = λ key c found other. found;
-            work = stands_in p classes space store.elements k call code seen s.frames task rest r space' store.elements after (call.place + 1) [] (values_in call) r.meant h.names (visible_to own now next) rest
+            work = stands_in p classes space store.elements owner call code seen s.frames task rest r space' store.elements after (call.place + 1) [] (values_in call) r.meant h.names (visible_to own now next) rest
                 depth wrote.1.0 (frames_stay space space' keeps.names call.locals s.frames r.frames_agree)
                 (record {
                   keys = keys_stay space space' keeps.names call.locals call.slots.references.items r.meant.references r.meant.owners r.holds.keys;
                   fields = r.holds.fields;
-                  buffers = buffers_stay space space' store.elements store.elements k call.slots.buffers.items r.meant.buffers r.holds.buffers (λ m g c found agrees. buffer_stays space space' store.elements store.elements k g c keeps.names (λ key numbers g_is at_key. at_key) agrees);
+                  buffers = buffers_stay space space' store.elements store.elements owner call.slots.buffers.items r.meant.buffers r.holds.buffers (λ m g c found agrees. buffer_stays space space' store.elements store.elements owner g c keeps.names (λ key numbers g_is at_key. at_key) agrees);
                   small = r.holds.small;
                 })
                 h.stands shown;
-            views = subst (λ (l : List HeldBuffer). AreViewed space' l s) (sym wrote.1.0.buffers) (views_stay space space' store.elements k call.slots.buffers.items r.meant.buffers s s keeps.names r.holds.buffers.agree refl views);
+            views = subst (λ (l : List HeldBuffer). AreViewed space' l s) (sym wrote.1.0.buffers) (views_stay space space' store.elements owner call.slots.buffers.items r.meant.buffers s s keeps.names r.holds.buffers.agree refl views);
             pending_agrees = reference_stays space space' keeps.names pending s.pending pends;
             calls = refl;
             ending = refl;
@@ -421,7 +421,7 @@ module _ (p : Lowered) (w : World) (store : Store) (others : Acquired) (k : ℕ)
           })
 
       -- of either
-      buffer_written : (g : HeldBuffer) (b : variable.Buffer) → it.0 ≡ g → seen.buffer x ≡ b → BufferAgrees space store.elements k g b → Wrote (SetsElement x j z)
+      buffer_written : (g : HeldBuffer) (b : variable.Buffer) → it.0 ≡ g → seen.buffer x ≡ b → BufferAgrees space store.elements owner g b → Wrote (SetsElement x j z)
       buffer_written held_as.Null NoBuffer of of_source agrees = absurd (let none : j < length (elements_in NoBuffer seen.numbers) = subst (λ (c : variable.Buffer). j < length (elements_in c seen.numbers)) of_source h.inside in omega (arith, none))
       buffer_written held_as.Null (Copy n zs) of of_source agrees = absurd agrees
       buffer_written held_as.Null (View n) of of_source agrees = absurd agrees
@@ -441,9 +441,9 @@ module _ (p : Lowered) (w : World) (store : Store) (others : Acquired) (k : ℕ)
     no_work tasks h (word ∷ []) works = cc (works)
     no_work tasks h (word ∷ index ∷ stack) works = subst (λ (u : Plain). AtEnd (λ q. StandsFor code h.names q h.after (tasks ++ rest)) call.place u) works.1 h.stands
 
-    pub store_executes : Executes p w store store' others k own shared s rest after pending (effect_of (sight_of shared s) task) (Did e)
+    pub store_executes : Executes p w store store' others k owner own shared s rest after pending (effect_of (sight_of shared s) task) (Did e)
     store_executes =
-        other_cases p classes space store.elements k call code seen s.frames task rest r (possible_here p w store others k own shared s shares pending pends call code task rest r tasks_are views steady i at) i at (λ effect. Executes p w store store' others k own shared s rest after pending effect (Did e)) (λ plain. subst IsPlain is plain)
+        other_cases p classes space store.elements owner call code seen s.frames task rest r (possible_here p w store others k owner own shared s shares pending pends call code task rest r tasks_are views steady i at) i at (λ effect. Executes p w store store' others k owner own shared s rest after pending effect (Did e)) (λ plain. subst IsPlain is plain)
         (λ test tasks h. absurd (no_work tasks h call.stack (let same : h.here ≡ instr.StoreBuffer element slot line = cc (h.at, at, is) in subst (λ (j : Instr). Works seen held j call.stack h.way h.after) same h.works)))
         (λ target h same. absurd (let both : instr.StoreNull h.variable ≡ instr.StoreBuffer element slot line = sym same ∙ is in cc))
         (λ x j z h same. element_written x j z h same)

@@ -35,28 +35,28 @@ pub record Fetched (p : Lowered) (store : Store) (call : Activation) (i : Instr)
   pub few : store.heap.cells ≤ 1048576
 
 -- what is seen of buffers
-pub seeing : (p : Lowered) (w : World) (store : Store) (call : Activation) (pending : Option ℕ) (others : Acquired) (k : ℕ) (own : Owners) (shared : Shared) (s : Thread) (task : Task) (rest : List Task) (e : IsExecuting p w store call pending others k own shared s task rest) → store.heap.cells ≤ 1048576 → SeesBuffers (visible_to own shared s) e.stands.meant.buffers
-seeing p w store call pending others k own shared s task rest e few =
-    sees_buffers own shared s e.stands.meant.buffers (elements_fit p w store shared (beside others (acquired_by s)) e.store_agrees k call.slots.buffers.items e.stands.meant.buffers few e.stands.holds.buffers e.stands.holds.small)
+pub seeing : (p : Lowered) (w : World) (store : Store) (call : Activation) (pending : Option ℕ) (others : Acquired) (k owner : ℕ) (own : Owners) (shared : Shared) (s : Thread) (task : Task) (rest : List Task) (e : IsExecuting p w store call pending others k owner own shared s task rest) → store.heap.cells ≤ 1048576 → SeesBuffers (visible_to own shared s) e.stands.meant.buffers
+seeing p w store call pending others k owner own shared s task rest e few =
+    sees_buffers own shared s e.stands.meant.buffers (elements_fit p w store shared (beside others (acquired_by s)) e.store_agrees owner call.slots.buffers.items e.stands.meant.buffers few e.stands.holds.buffers e.stands.holds.small)
 
-pub ready_for : (p : Lowered) (w : World) (store : Store) (call : Activation) (i : Instr) (f : Fetched p store call i) (pending : Option ℕ) (others : Acquired) (k : ℕ) (own : Owners) (shared : Shared) (s : Thread) (task : Task) (rest : List Task) → IsExecuting p w store call pending others k own shared s task rest
-    → Ready p w.classes store.heap store.elements k call f.code (visible_to own shared s) s.frames task rest
-ready_for p w store call i f pending others k own shared s task rest e = ready p w.classes store.heap store.elements k call f.code (visible_to own shared s) s.frames task rest f.lowered f.of_function e.stands (seeing p w store call pending others k own shared s task rest e f.few)
+pub ready_for : (p : Lowered) (w : World) (store : Store) (call : Activation) (i : Instr) (f : Fetched p store call i) (pending : Option ℕ) (others : Acquired) (k owner : ℕ) (own : Owners) (shared : Shared) (s : Thread) (task : Task) (rest : List Task) → IsExecuting p w store call pending others k owner own shared s task rest
+    → Ready p w.classes store.heap store.elements owner call f.code (visible_to own shared s) s.frames task rest
+ready_for p w store call i f pending others k owner own shared s task rest e = ready p w.classes store.heap store.elements owner call f.code (visible_to own shared s) s.frames task rest f.lowered f.of_function e.stands (seeing p w store call pending others k owner own shared s task rest e f.few)
 
 -- the task has an effect
-pub possible : (p : Lowered) (w : World) (store : Store) (call : Activation) (pending : Option ℕ) (others : Acquired) (k : ℕ) (own : Owners) (shared : Shared) (s : Thread) (task : Task) (rest : List Task) → IsExecuting p w store call pending others k own shared s task rest → effect_of (sight_of shared s) task ≢ NoEffect
-possible p w store call pending others k own shared s task rest e none = e.steady.possible (task ∷ rest) e.tasks (ap (next_effect shared s) e.tasks ∙ none)
+pub possible : (p : Lowered) (w : World) (store : Store) (call : Activation) (pending : Option ℕ) (others : Acquired) (k owner : ℕ) (own : Owners) (shared : Shared) (s : Thread) (task : Task) (rest : List Task) → IsExecuting p w store call pending others k owner own shared s task rest → effect_of (sight_of shared s) task ≢ NoEffect
+possible p w store call pending others k owner own shared s task rest e none = e.steady.possible (task ∷ rest) e.tasks (ap (next_effect shared s) e.tasks ∙ none)
 
 -- the machine is at the instruction of a call
-pub at_call : (p : Lowered) (w : World) (store : Store) (pending : Option ℕ) (call : Activation) (i : Instr) (f : Fetched p store call i) (function : CallInMemory) → i ≡ instr.Call (call_view function) → (others : Acquired) (k : ℕ) (own : Owners) (shared : Shared) (s : Thread) (task : Task) (rest : List Task)
-    → IsExecuting p w store call pending others k own shared s task rest → AtCall p w store pending call function others k own shared s task rest
-at_call p w store pending call i f function is others k own shared s task rest e = record {
+pub at_call : (p : Lowered) (w : World) (store : Store) (pending : Option ℕ) (call : Activation) (i : Instr) (f : Fetched p store call i) (function : CallInMemory) → i ≡ instr.Call (call_view function) → (others : Acquired) (k owner : ℕ) (own : Owners) (shared : Shared) (s : Thread) (task : Task) (rest : List Task)
+    → IsExecuting p w store call pending others k owner own shared s task rest → AtCall p w store pending call function others k owner own shared s task rest
+at_call p w store pending call i f function is others k owner own shared s task rest e = record {
   lowered = f.lowered;
   tasks = e.tasks;
   shares = e.store_agrees;
   pending_agrees = e.pending_agrees;
   stands = e.stands;
-  sees = seeing p w store call pending others k own shared s task rest e f.few;
+  sees = seeing p w store call pending others k owner own shared s task rest e f.few;
   views = e.views;
   steady = e.steady;
   ready = e.ready;

@@ -34,15 +34,15 @@ use Rattle.std.specs.Str.{bytes_eq}
 use Rattle.machine_scenes.specs.Buffers.{Acquired}
 use Rattle.machine_steps.proofs.AskedCalls.{CalledAs, called as called_at, deleted, r as ready_at}
 
-module _ (p : Lowered) (w : World) (store : Store) (pending : Option ℕ) (call : Activation) (in_memory : InMemory) (others : Acquired) (k : ℕ) (own : Owners) (shared : Shared) (s : source.Thread) (task : Task) (rest : List Task) (h : AtCall p w store pending call in_memory others k own shared s task rest) where
+module _ (p : Lowered) (w : World) (store : Store) (pending : Option ℕ) (call : Activation) (in_memory : InMemory) (others : Acquired) (k owner : ℕ) (own : Owners) (shared : Shared) (s : source.Thread) (task : Task) (rest : List Task) (h : AtCall p w store pending call in_memory others k owner own shared s task rest) where
   abbrev function : Call
   function = call_view in_memory
 
-  abbrev r : Ready p w.classes store.heap store.elements k call h.code (visible_to own shared s) s.frames task rest
-  r = ready_at p w store pending call in_memory others k own shared s task rest h
+  abbrev r : Ready p w.classes store.heap store.elements owner call h.code (visible_to own shared s) s.frames task rest
+  r = ready_at p w store pending call in_memory others k owner own shared s task rest h
 
-  abbrev called : CalledAs p w store pending call h.code function others k own shared s task rest r (effect_of (sight_of shared s) task)
-  called = called_at p w store pending call in_memory others k own shared s task rest h
+  abbrev called : CalledAs p w store pending call h.code function others k owner own shared s task rest r (effect_of (sight_of shared s) task)
+  called = called_at p w store pending call in_memory others k owner own shared s task rest h
 
   -- owners that are left once function f has ended local references, and what shows them
   pub record LeavesOwners (f : JniFunction) (answer : Answer) : Type 0 where
@@ -57,7 +57,7 @@ module _ (p : Lowered) (w : World) (store : Store) (pending : Option ℕ) (call 
 
     delete_leaves : called.f ≡ DeleteLocalRef → Works DeleteLocalRef → LeavesOwners DeleteLocalRef answer
     delete_leaves e is =
-        let d = deleted p w store pending call in_memory others k own shared s task rest h e in
+        let d = deleted p w store pending call in_memory others k owner own shared s task rest h e in
         record {
           owners = slice_set r.meant.owners d.slot None;
           shows = subst (λ (x : Identifier). Shows h.code r.known (visible_to (λ y. if bytes_eq y x then None else own y) shared s) (slots_of call (record r.meant { owners = slice_set r.meant.owners d.slot None }))) (sym d.variable)
@@ -69,14 +69,14 @@ module _ (p : Lowered) (w : World) (store : Store) (pending : Option ℕ) (call 
         nothing : (level : ℕ) → ◌≡◌ {A = Option ℕ} None (Some level) → ⊥
         nothing level same = cc
 
-        in_others : (d : DeletesKey p w.classes store.heap store.elements k call h.code own shared s task rest r function.operands called.args) (i level : ℕ) → ((i ≡ d.slot) × (◌≡◌ {A = Option ℕ} None (Some level))) ⊎ ((i ≢ d.slot) × (slice_get r.meant.owners i ≡ Some (Some level))) → slice_get r.meant.owners i ≡ Some (Some level)
+        in_others : (d : DeletesKey p w.classes store.heap store.elements owner call h.code own shared s task rest r function.operands called.args) (i level : ℕ) → ((i ≡ d.slot) × (◌≡◌ {A = Option ℕ} None (Some level))) ⊎ ((i ≢ d.slot) × (slice_get r.meant.owners i ≡ Some (Some level))) → slice_get r.meant.owners i ≡ Some (Some level)
         in_others d i level (inl (same, none)) = absurd (nothing level none)
         in_others d i level (inr (other, at)) = at
 
-        answered : (d : DeletesKey p w.classes store.heap store.elements k call h.code own shared s task rest r function.operands called.args) (o : Option (Option ℕ)) → slice_get call.slots.references.items d.slot ≡ o → answer ≡ deletes (held_in o)
+        answered : (d : DeletesKey p w.classes store.heap store.elements owner call h.code own shared s task rest r function.operands called.args) (o : Option (Option ℕ)) → slice_get call.slots.references.items d.slot ≡ o → answer ≡ deletes (held_in o)
         answered d o at = is ∙ ap (λ (x : Operand). deletes (key_at (references_of store call) x)) d.is ∙ ap (λ (x : Option (Option ℕ)). deletes (held_in x)) at
 
-        by_key : (d : DeletesKey p w.classes store.heap store.elements k call h.code own shared s task rest r function.operands called.args) (o : Option (Option ℕ)) → slice_get call.slots.references.items d.slot ≡ o → (i key level : ℕ) → slice_get call.slots.references.items i ≡ Some (Some key)
+        by_key : (d : DeletesKey p w.classes store.heap store.elements owner call h.code own shared s task rest r function.operands called.args) (o : Option (Option ℕ)) → slice_get call.slots.references.items d.slot ≡ o → (i key level : ℕ) → slice_get call.slots.references.items i ≡ Some (Some key)
             → ((i ≡ d.slot) × (◌≡◌ {A = Option ℕ} None (Some level))) ⊎ ((i ≢ d.slot) × (slice_get r.meant.owners i ≡ Some (Some level))) → IsLeft answer (length call.locals.frames) key level
         by_key d o at i key level found (inl (same, none)) = absurd (nothing level none)
         by_key d None at i key level found (inr (other, owned)) = subst (λ (a : Answer). IsLeft a (length call.locals.frames) key level) (sym (answered d None at)) tt

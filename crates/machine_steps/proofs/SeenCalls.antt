@@ -27,21 +27,21 @@ use Rattle.machine_answers.proofs.CallTraps.{handles_there, has_passed, objects_
 use Rattle.machine_steps.specs.Invoked.{AtCall}
 use Rattle.machine_steps.proofs.AskedCalls.{CalledAs, called, r, trap_is}
 
-module _ (p : Lowered) (w : World) (store : Store) (pending : Option ℕ) (call : Activation) (in_memory : InMemory) (others : Acquired) (k : ℕ) (own : Owners) (shared : Shared) (s : Thread) (task : Task) (rest : List Task) (h : AtCall p w store pending call in_memory others k own shared s task rest)
+module _ (p : Lowered) (w : World) (store : Store) (pending : Option ℕ) (call : Activation) (in_memory : InMemory) (others : Acquired) (k owner : ℕ) (own : Owners) (shared : Shared) (s : Thread) (task : Task) (rest : List Task) (h : AtCall p w store pending call in_memory others k owner own shared s task rest)
     (monitors : List Monitor) (scene : Scene) (same : scene ≡ record (scene_of w.classes store call k pending) { monitors = monitors }) where
   abbrev function : Call
   function = call_view in_memory
 
-  abbrev it : CalledAs p w store pending call h.code function others k own shared s task rest (r p w store pending call in_memory others k own shared s task rest h) (effect_of (sight_of shared s) task)
-  it = called p w store pending call in_memory others k own shared s task rest h
+  abbrev it : CalledAs p w store pending call h.code function others k owner own shared s task rest (r p w store pending call in_memory others k owner own shared s task rest h) (effect_of (sight_of shared s) task)
+  it = called p w store pending call in_memory others k owner own shared s task rest h
 
   -- each operand is NULL or the address of a block
   pub addresses_seen : AreAddresses scene.space scene.references in_memory.operands.items
-  addresses_seen = subst (λ (x : Scene). AreAddresses x.space x.references in_memory.operands.items) (sym same) (objects_there p w store pending call function others k shared s it.target it.f it.args it.asked)
+  addresses_seen = subst (λ (x : Scene). AreAddresses x.space x.references in_memory.operands.items) (sym same) (objects_there p w store pending call function others k owner shared s it.target it.f it.args it.asked)
 
   -- or a handle of a field
   pub handles_seen : AreHandles scene.classes scene.fields in_memory.operands.items
-  handles_seen = subst (λ (x : Scene). AreHandles x.classes x.fields in_memory.operands.items) (sym same) (handles_there p w store pending call function others k shared s it.target it.f it.args it.asked)
+  handles_seen = subst (λ (x : Scene). AreHandles x.classes x.fields in_memory.operands.items) (sym same) (handles_there p w store pending call function others k owner shared s it.target it.f it.args it.asked)
 
   -- so is each object made at load
   pub loaded_seen : (i a : ℕ) → slice_get scene.loaded i ≡ Some a → IsAddress scene.space a
@@ -51,10 +51,10 @@ module _ (p : Lowered) (w : World) (store : Store) (pending : Option ℕ) (call 
   pub trap_seen : trap_found scene (has_room (locals_after (function_value in_memory.function) call.locals)) (element_wanted in_memory.target) (function_value in_memory.function) in_memory.operands.items ≡ trap_of_call w.classes shared s it.target it.f it.args
   trap_seen =
       ap (λ (x : Scene). trap_found x (has_room (locals_after (function_value in_memory.function) call.locals)) (element_wanted in_memory.target) (function_value in_memory.function) in_memory.operands.items) same
-      ∙ trap_is p w store pending call in_memory others k own shared s task rest h
+      ∙ trap_is p w store pending call in_memory others k owner own shared s task rest h
 
   -- where none is, the arguments go together
   pub passed_seen : trap_of_call w.classes shared s it.target it.f it.args ≡ None → arguments_fit scene in_memory.operands.items (element_wanted in_memory.target) (function_value in_memory.function) ≡ true
   passed_seen free =
       (λ i. arguments_fit (same i) in_memory.operands.items (element_wanted in_memory.target) (it.asked.same_function i))
-      ∙ has_passed p w store pending call function others k shared s it.target it.f it.args it.asked free
+      ∙ has_passed p w store pending call function others k owner shared s it.target it.f it.args it.asked free

@@ -92,7 +92,7 @@ module _ (p : Lowered) (w : World) (old : Store) (others : Acquired) (k : ℕ) (
   steps_by true task rest tasks = ap (step_within (unit_tree p.unit) w.classes (in_use_with others s) k shared s true) tasks
 
   -- an instruction but a return
-  pub did : (store : Store) (refused : Bool) (e : Event) (task : Task) (rest : List Task) → s.callers ≡ [] → s.tasks ≡ Some (task ∷ rest) → (after : Activation) (pending : Option ℕ) → GoesOn p w old store others k own.current shared s rest after pending (effect_of (sight_of shared s) task) refused e
+  pub did : (store : Store) (refused : Bool) (e : Event) (task : Task) (rest : List Task) → s.callers ≡ [] → s.tasks ≡ Some (task ∷ rest) → (after : Activation) (pending : Option ℕ) → GoesOn p w old store others k k own.current shared s rest after pending (effect_of (sight_of shared s) task) refused e
       → Advances p w old store others k own shared s (record t { call = Some after; pending = pending }) refused e
   did store refused e task rest alone is after pending g = record {
     next_shared = g.next_shared;

@@ -130,7 +130,7 @@ module _ (p : Lowered) (w : World) (store : Store) (others : Acquired) (k : ℕ)
   pub work : Working p w.classes store.heap store.elements k call (visible_to own shared s) s.frames s.tasks
   work = working p w.classes store.heap store.elements k (visible_to own shared s) s.frames t.call call s.tasks h.work is
 
-  pub would_execute : IsExecuting p w (store_unowned store) call t.pending others k own (unowned shared) s work.task work.rest
+  pub would_execute : IsExecuting p w (store_unowned store) call t.pending others k k own (unowned shared) s work.task work.rest
   would_execute = record {
     store_agrees = unowned_agrees p w store shared (beside others (acquired_by s)) shares;
     tasks = work.is;
@@ -150,8 +150,8 @@ module _ (p : Lowered) (w : World) (store : Store) (others : Acquired) (k : ℕ)
   place_there code lowered there few =
       let found = here p w.classes store.heap store.elements k call code (visible_to own shared s) s.frames work.task work.rest
       (ready p w.classes store.heap store.elements k call code (visible_to own shared s) s.frames work.task work.rest lowered there would_execute.stands
-      (seeing p w (store_unowned store) call t.pending others k own (unowned shared) s work.task work.rest would_execute few))
-      (possible p w (store_unowned store) call t.pending others k own (unowned shared) s work.task work.rest would_execute) in
+      (seeing p w (store_unowned store) call t.pending others k k own (unowned shared) s work.task work.rest would_execute few))
+      (possible p w (store_unowned store) call t.pending others k k own (unowned shared) s work.task work.rest would_execute) in
       slice_get_within code.instrs call.place found.0 found.1
 
   -- whether it waits is by its first task
@@ -159,7 +159,7 @@ module _ (p : Lowered) (w : World) (store : Store) (others : Acquired) (k : ℕ)
   waits_by = ap (λ (tasks : Option (List Task)). waits_with w.classes k shared s (next_effect shared s tasks)) (sym work.is)
 
   -- where it doesn't wait, it executes
-  pub executes : waits w.classes k shared s ≡ false → IsExecuting p w store call t.pending others k own shared s work.task work.rest
+  pub executes : waits w.classes k shared s ≡ false → IsExecuting p w store call t.pending others k k own shared s work.task work.rest
   executes free = record {
     store_agrees = shares;
     tasks = work.is;
@@ -171,9 +171,9 @@ module _ (p : Lowered) (w : World) (store : Store) (others : Acquired) (k : ℕ)
   }
 
   -- a call of which nothing is known yet but that it is there
-  pub may_wait : (i : Instr) (f : Fetched p (store_unowned store) call i) (function : InMemory) → i ≡ instr.Call (call_view function) → MayWait p w store t.pending call function others k own shared s work.task work.rest
+  pub may_wait : (i : Instr) (f : Fetched p (store_unowned store) call i) (function : InMemory) → i ≡ instr.Call (call_view function) → MayWait p w store t.pending call function others k k own shared s work.task work.rest
   may_wait i f function is = record {
-    at_call = at_call p w (store_unowned store) t.pending call i f function is others k own (unowned shared) s work.task work.rest would_execute;
+    at_call = at_call p w (store_unowned store) t.pending call i f function is others k k own (unowned shared) s work.task work.rest would_execute;
     monitors = shares.monitors;
   }
 
@@ -181,7 +181,7 @@ module _ (p : Lowered) (w : World) (store : Store) (others : Acquired) (k : ℕ)
   pub goes_on : (i : Instr) (f : Fetched p (store_unowned store) call i) → ((c : Call) → i ≡ instr.Call c → c.function ≡ MonitorEnter → ⊥) → waits w.classes k shared s ≡ false
   goes_on i f none =
       sym waits_by
-      ∙ waits_for_none p w.classes store.heap store.elements k call f.code own shared s work.task work.rest (ready_for p w (store_unowned store) call i f t.pending others k own (unowned shared) s work.task work.rest would_execute) i f.at none
+      ∙ waits_for_none p w.classes store.heap store.elements k call f.code own shared s work.task work.rest (ready_for p w (store_unowned store) call i f t.pending others k k own (unowned shared) s work.task work.rest would_execute) i f.at none
 
 -- ---- a call of MonitorEnter
 
@@ -197,9 +197,9 @@ busy_is k (Some m) (Some q) h = by_tests (eqb m.owner k) (nat_lt m.count 255) �
     by_tests true false = refl
     by_tests false few = refl
 
-module _ (p : Lowered) (w : World) (store : Store) (pending : Option ℕ) (call : Activation) (in_memory : InMemory) (others : Acquired) (k : ℕ) (own : Owners) (shared : Shared) (s : source.Thread) (task : Task) (rest : List Task) (h : MayWait p w store pending call in_memory others k own shared s task rest) (enters : function_value in_memory.function ≡ MonitorEnter) where
-  abbrev it : CalledAs p w (store_unowned store) pending call h.at_call.code (call_view in_memory) others k own (unowned shared) s task rest (ready_at p w (store_unowned store) pending call in_memory others k own (unowned shared) s task rest h.at_call) (effect_of (sight_of shared s) task)
-  it = called p w (store_unowned store) pending call in_memory others k own (unowned shared) s task rest h.at_call
+module _ (p : Lowered) (w : World) (store : Store) (pending : Option ℕ) (call : Activation) (in_memory : InMemory) (others : Acquired) (k owner : ℕ) (own : Owners) (shared : Shared) (s : source.Thread) (task : Task) (rest : List Task) (h : MayWait p w store pending call in_memory others k owner own shared s task rest) (enters : function_value in_memory.function ≡ MonitorEnter) where
+  abbrev it : CalledAs p w (store_unowned store) pending call h.at_call.code (call_view in_memory) others k owner own (unowned shared) s task rest (ready_at p w (store_unowned store) pending call in_memory others k owner own (unowned shared) s task rest h.at_call) (effect_of (sight_of shared s) task)
+  it = called p w (store_unowned store) pending call in_memory others k owner own (unowned shared) s task rest h.at_call
 
   enters_it : it.f ≡ MonitorEnter
   enters_it = sym it.asked.same_function ∙ enters
@@ -228,9 +228,9 @@ module _ (p : Lowered) (w : World) (store : Store) (pending : Option ℕ) (call 
         object_at_place w.classes store.heap (references_of store call) call.slots.fields.items [] NonNull [] tt refl in_memory.operands.items it.args
         (subst (λ (f : JniFunction). AllZip OperandFits (prototype f).parameters in_memory.operands.items) enters_it it.asked.kinds)
         it.asked.given
-        (none_deleted p w (store_unowned store) pending call (call_view in_memory) others k (unowned shared) s it.target it.f it.args it.asked free)
+        (none_deleted p w (store_unowned store) pending call (call_view in_memory) others k owner (unowned shared) s it.target it.f it.args it.asked free)
         (subst (λ (f : JniFunction). some_missing (references_of store call) call.slots.fields.items (prototype f).parameters in_memory.operands.items ≡ false) enters_it
-        (none_lacking p w (store_unowned store) pending call (call_view in_memory) others k (unowned shared) s it.target it.f it.args it.asked free))
+        (none_lacking p w (store_unowned store) pending call (call_view in_memory) others k owner (unowned shared) s it.target it.f it.args it.asked free))
 
     -- its argument isn't NULL
     pub not_null : operand_at (references_of store call) (operand_of in_memory.operands.items 0) ≡ None → ⊥

@@ -63,13 +63,13 @@ abbrev pub in_use_with : Acquired → source.Thread → BuffersInUse
 in_use_with others s = in_use_of (beside others (acquired_by s))
 
 -- A call in progress of thread k, with what is pending, stands for the thread's tasks, of which this is the first; the buffers of the
--- other threads take this. The thread doesn't wait for a monitor.
+-- other threads take this. Its own copies have this owner. The thread doesn't wait for a monitor.
 pub record IsExecuting (p : Lowered) (w : World) (store : Store) (activation : Activation) (pending : Option ℕ)
-    (others : Acquired) (k : ℕ) (own : Owners) (shared : Shared) (s : source.Thread) (task : Task)
+    (others : Acquired) (k owner : ℕ) (own : Owners) (shared : Shared) (s : source.Thread) (task : Task)
     (rest : List Task) : Type 0 where
   pub store_agrees : StoreAgrees p w store shared (beside others (acquired_by s))
   pub tasks : s.tasks ≡ Some (task ∷ rest)
-  pub stands : CallStands p w.classes store.heap store.elements k activation (visible_to own shared s) s.frames (task ∷ rest)
+  pub stands : CallStands p w.classes store.heap store.elements owner activation (visible_to own shared s) s.frames (task ∷ rest)
   pub pending_agrees : ReferenceAgrees store.heap pending s.pending
   pub views : AreViewed store.heap activation.slots.buffers.items s
   pub steady : IsSteady w.classes own shared s
@@ -98,8 +98,8 @@ owners_left (Calls line target f args) event frames own vs = after_call target f
 owners_left other event frames own vs = own
 
 -- The first task had this effect on thread k, with the rest still to do: the thread goes on within its call. Its allocation was
--- refused only where too few cells were left. The buffers of the other threads are as they were.
-pub record GoesOn (p : Lowered) (w : World) (old store : Store) (others : Acquired) (k : ℕ) (own : Owners)
+-- refused only where too few cells were left. The buffers of the other threads, and the copies of other owners, are as they were.
+pub record GoesOn (p : Lowered) (w : World) (old store : Store) (others : Acquired) (k owner : ℕ) (own : Owners)
     (shared : Shared) (s : source.Thread) (rest : List Task) (activation : Activation) (pending : Option ℕ) (effect : Effect)
     (refused : Bool) (event : Event) : Type 0 where
   pub next_shared : Shared
@@ -108,8 +108,8 @@ pub record GoesOn (p : Lowered) (w : World) (old store : Store) (others : Acquir
       ≡ source.Advances next_shared next (event_view event)
   pub store_agrees : StoreAgrees p w store next_shared (beside others (acquired_by next))
   pub keeps : Keeps old.heap shared store.heap next_shared
-  pub keeps_copies : KeepsCopies k old.elements store.elements
-  pub work : WorkAgrees p w.classes store.heap store.elements k (visible_to
+  pub keeps_copies : KeepsCopies owner old.elements store.elements
+  pub work : WorkAgrees p w.classes store.heap store.elements owner (visible_to
       (owners_left effect (event_view event) (length s.frames) own next.variables) next_shared next)
       (Some activation) next.frames next.tasks
   pub pending_agrees : ReferenceAgrees store.heap pending next.pending
@@ -120,37 +120,37 @@ pub record GoesOn (p : Lowered) (w : World) (old store : Store) (others : Acquir
       → IsShortOf (cells_made shared (after_effect w.classes (in_use_with others s) k shared s rest effect)) old.heap store.heap
 
 -- what an instruction did is the effect of the first of the tasks; a return leaves the store as it was
-abbrev pub Executes : Lowered → World → (old store : Store) → (others : Acquired) → (k : ℕ) → Owners → Shared
+abbrev pub Executes : Lowered → World → (old store : Store) → (others : Acquired) → (k owner : ℕ) → Owners → Shared
     → source.Thread → (rest : List Task) → Activation → (pending : Option ℕ) → Effect → Executed → Type 0
-Executes p w old store others k own shared s rest activation pending effect (Did event) =
-    GoesOn p w old store others k own shared s rest activation pending effect false event
-Executes p w old store others k own shared s rest activation pending effect Refused =
-    GoesOn p w old store others k own shared s rest activation pending effect true Quiet
-Executes p w old store others k own shared s rest activation pending effect Returned =
+Executes p w old store others k owner own shared s rest activation pending effect (Did event) =
+    GoesOn p w old store others k owner own shared s rest activation pending effect false event
+Executes p w old store others k owner own shared s rest activation pending effect Refused =
+    GoesOn p w old store others k owner own shared s rest activation pending effect true Quiet
+Executes p w old store others k owner own shared s rest activation pending effect Returned =
     ((given : CallResult) × (effect ≡ Returns given)) × StoreAgrees p w store shared (beside others (acquired_by s)) × (store ≡ old)
     × ReferenceAgrees store.heap pending s.pending
 
 -- ---- an instruction for any thread of the source
 
--- the call in progress stands for the tasks of some thread k of the source
-abbrev pub StandsExecuting : Lowered → World → Store → Activation → (pending : Option ℕ) → (k : ℕ) → Type 0
-StandsExecuting p w store activation pending k =
+-- the call in progress, whose copies have this owner, stands for the tasks of some thread k of the source
+abbrev pub StandsExecuting : Lowered → World → Store → Activation → (pending : Option ℕ) → (k owner : ℕ) → Type 0
+StandsExecuting p w store activation pending k owner =
     (others : Acquired) × (own : Owners) × (shared : Shared) × (s : source.Thread) × (task : Task) × (rest : List Task)
-    × IsExecuting p w store activation pending others k own shared s task rest
+    × IsExecuting p w store activation pending others k owner own shared s task rest
 
 -- of each thread for which it does, the instruction does the first task
 abbrev pub DoesFirstTask : Lowered → World → (old store : Store) → (activation after : Activation)
-    → (pending left : Option ℕ) → (k : ℕ) → Executed → Type 0
-DoesFirstTask p w old store activation after pending left k done =
+    → (pending left : Option ℕ) → (k owner : ℕ) → Executed → Type 0
+DoesFirstTask p w old store activation after pending left k owner done =
     (others : Acquired) (own : Owners) (shared : Shared) (s : source.Thread) (task : Task) (rest : List Task)
-    → IsExecuting p w old activation pending others k own shared s task rest
-    → Executes p w old store others k own shared s rest after left (effect_of (sight_of shared s) task) done
+    → IsExecuting p w old activation pending others k owner own shared s task rest
+    → Executes p w old store others k owner own shared s rest after left (effect_of (sight_of shared s) task) done
 
 -- or this is why it wasn't done
-abbrev pub IsHinderedExecuting : Lowered → World → Store → Activation → (pending : Option ℕ) → (k : ℕ)
+abbrev pub IsHinderedExecuting : Lowered → World → Store → Activation → (pending : Option ℕ) → (k owner : ℕ)
     → (may_refuse : Bool) → StepFault → Type 0
-IsHinderedExecuting p w store activation pending k may_refuse fault =
+IsHinderedExecuting p w store activation pending k owner may_refuse fault =
     (others : Acquired) (own : Owners) (shared : Shared) (s : source.Thread) (task : Task) (rest : List Task)
-    → IsExecuting p w store activation pending others k own shared s task rest
+    → IsExecuting p w store activation pending others k owner own shared s task rest
     → IsHindered (left_of store.heap) (cells_made shared (after_effect w.classes (in_use_with others s) k shared s rest
     (effect_of (sight_of shared s) task))) may_refuse fault

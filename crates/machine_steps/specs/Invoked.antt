@@ -41,15 +41,16 @@ use Rattle.machine_threads.specs.InProgress.{CallStands}
 use Rattle.machine_scenes.specs.HeapAgrees.{ReferenceAgrees}
 
 -- Thread k of the source has a call as its first task, the machine is at the instruction that stands for it, and all that the
--- call can change agrees. What is seen of buffers are their elements. The thread doesn't wait for a monitor.
+-- call can change agrees. The copies of the call in progress have this owner. What is seen of buffers are their elements. The thread
+-- doesn't wait for a monitor.
 pub record AtCall (p : Lowered) (w : World) (store : Store) (pending : Option ℕ) (activation : Activation)
-    (call : InMemory) (others : Acquired) (k : ℕ) (own : Owners) (shared : Shared) (s : Thread) (task : Task)
+    (call : InMemory) (others : Acquired) (k owner : ℕ) (own : Owners) (shared : Shared) (s : Thread) (task : Task)
     (rest : List Task) : Type 0 where
   pub lowered : IsLowered p
   pub tasks : s.tasks ≡ Some (task ∷ rest)
   pub shares : StoreAgrees p w store shared (beside others (acquired_by s))
   pub pending_agrees : ReferenceAgrees store.heap pending s.pending
-  pub stands : CallStands p w.classes store.heap store.elements k activation (visible_to own shared s) s.frames (task ∷ rest)
+  pub stands : CallStands p w.classes store.heap store.elements owner activation (visible_to own shared s) s.frames (task ∷ rest)
   pub sees : SeesBuffers (visible_to own shared s) stands.meant.buffers
   pub views : AreViewed store.heap activation.slots.buffers.items s
   pub steady : IsSteady w.classes own shared s
@@ -90,26 +91,26 @@ executed_as line (invoked.Trapped trap) = Did (Trapped trap line)
 
 -- ---- a call of any thread of the source
 
--- some thread k of the source is at this call
-abbrev pub StandsAtCall : World → Store → (pending : Option ℕ) → Activation → InMemory → (k : ℕ) → Type 0
-StandsAtCall w store pending activation call k =
+-- some thread k of the source is at this call, with copies of this owner
+abbrev pub StandsAtCall : World → Store → (pending : Option ℕ) → Activation → InMemory → (k owner : ℕ) → Type 0
+StandsAtCall w store pending activation call k owner =
     (p : Lowered) × (others : Acquired) × (own : Owners) × (shared : Shared) × (s : Thread) × (task : Task)
-    × (rest : List Task) × AtCall p w store pending activation call others k own shared s task rest
+    × (rest : List Task) × AtCall p w store pending activation call others k owner own shared s task rest
 
 -- of each thread that is, the call does the first task
 abbrev pub DoesCall : World → (old store : Store) → (pending left : Option ℕ) → (activation after : Activation) → InMemory
-    → (k : ℕ) → Invoked → Type 0
-DoesCall w old store pending left activation after call k done =
+    → (k owner : ℕ) → Invoked → Type 0
+DoesCall w old store pending left activation after call k owner done =
     (p : Lowered) (others : Acquired) (own : Owners) (shared : Shared) (s : Thread) (task : Task) (rest : List Task)
-    → AtCall p w old pending activation call others k own shared s task rest
-    → Executes p w old store others k own shared s rest after left (effect_of (sight_of shared s) task)
+    → AtCall p w old pending activation call others k owner own shared s task rest
+    → Executes p w old store others k owner own shared s rest after left (effect_of (sight_of shared s) task)
     (executed_as call.line done)
 
 -- or this is why it wasn't done
-abbrev pub IsHinderedAtCall : World → Store → (pending : Option ℕ) → Activation → InMemory → (k : ℕ) → (may_refuse : Bool)
+abbrev pub IsHinderedAtCall : World → Store → (pending : Option ℕ) → Activation → InMemory → (k owner : ℕ) → (may_refuse : Bool)
     → StepFault → Type 0
-IsHinderedAtCall w store pending activation call k may_refuse fault =
+IsHinderedAtCall w store pending activation call k owner may_refuse fault =
     (p : Lowered) (others : Acquired) (own : Owners) (shared : Shared) (s : Thread) (task : Task) (rest : List Task)
-    → AtCall p w store pending activation call others k own shared s task rest
+    → AtCall p w store pending activation call others k owner own shared s task rest
     → IsHindered (left_of store.heap) (cells_made shared (after_effect w.classes (in_use_with others s) k shared s rest
     (effect_of (sight_of shared s) task))) may_refuse fault

@@ -29,7 +29,7 @@ store_unowned store = record store { monitors = [] }
 
 -- Thread k is at a call, whether it waits for a monitor or not: it would be there if nobody owned one, and the monitors agree.
 pub record MayWait (p : Lowered) (w : World) (store : Store) (pending : Option ℕ) (activation : Activation)
-    (call : InMemory) (others : Acquired) (k : ℕ) (own : Owners) (shared : Shared) (s : Thread) (task : Task)
+    (call : InMemory) (others : Acquired) (k owner : ℕ) (own : Owners) (shared : Shared) (s : Thread) (task : Task)
     (rest : List Task) : Type 0 where
-  pub at_call : AtCall p w (store_unowned store) pending activation call others k own (unowned shared) s task rest
+  pub at_call : AtCall p w (store_unowned store) pending activation call others k owner own (unowned shared) s task rest
   pub monitors : MonitorsAgree store.monitors shared.monitors

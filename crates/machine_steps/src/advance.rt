@@ -75,6 +75,7 @@ pub fn advance(
             &mut thread.pending,
             activation,
             number,
+            number as u16,
             may_refuse,
         ) {
             Ok(Executed::Did(event)) => Ok(Advanced::Did(event)),

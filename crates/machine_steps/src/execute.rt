@@ -37,7 +37,7 @@ pub enum Executed {
     Returned,
 }
 
-/// One instruction of the call in progress of the thread of this number.
+/// One instruction of the call in progress of the thread of this number. What it copies has this owner.
 /// Where what it makes has no room, it is refused if it may be, and else the fault says so.
 #[inline(always)]
 pub fn execute(
@@ -47,15 +47,16 @@ pub fn execute(
     pending: &mut Option<Addr>,
     activation: &mut Activation,
     thread: u8,
+    owner: u16,
     may_refuse: bool,
 ) -> Result<Executed, StepFault>
     requires lowered { IsLowered program.now }
     requires few { store.old.births + 2 < 2 ^ 32 }
-    requires stands { StandsExecuting program.now world.now store.old activation.old pending.old thread }
+    requires stands { StandsExecuting program.now world.now store.old activation.old pending.old thread owner }
     ensures done { IfOk result (λ done. DoesFirstTask program.now world.now store.old store.new
-        activation.old activation.new pending.old pending.new thread done) }
+        activation.old activation.new pending.old pending.new thread owner done) }
     ensures hindered { IfErr result (λ fault. IsHinderedExecuting program.now world.now store.old activation.old
-        pending.old thread may_refuse fault) }
+        pending.old thread owner may_refuse fault) }
     ensures refuses { result ≡ Ok Executed.Refused → may_refuse ≡ true }
     ensures store { OnErr result (store.new ≡ store.old) }
     ensures pending { OnErr result (pending.new ≡ pending.old) }
@@ -89,7 +90,9 @@ pub fn execute(
         }
         Instr::Call(boxed) => {
             let call = boxed.call();
-            match invoke(world, store, pending, activation, call, thread, may_refuse) {
+            match invoke(
+                world, store, pending, activation, call, thread, owner, may_refuse,
+            ) {
                 Ok(invoked) => Ok(outcome_of(call.line, invoked)),
                 Err(fault) => Err(fault),
             }

@@ -37,7 +37,7 @@ pub enum Invoked {
     Trapped(Trap),
 }
 
-/// The instruction that calls a function, in the thread of this number.
+/// The instruction that calls a function, in the thread of this number. What it copies has this owner.
 /// Only a new frame, a new global reference, a copy of elements and a monitor that is entered take host memory. Where
 /// what is made has no room, the call is refused if it may be, and else the fault says so. A call that only enters or
 /// leaves a monitor goes a shorter way.
@@ -49,16 +49,17 @@ pub fn invoke(
     activation: &mut Activation,
     call: &Call,
     thread: u8,
+    owner: u16,
     may_refuse: bool,
 ) -> Result<Invoked, StepFault>
-    requires at_call { StandsAtCall world.now store.old pending.old activation.old call.now thread }
+    requires at_call { StandsAtCall world.now store.old pending.old activation.old call.now thread owner }
     requires place { activation.old.place + 1 < 2 ^ 64 }
     requires few { store.old.births + 2 < 2 ^ 32 }
     requires prepared { IsPrepared call.now }
     ensures done { IfOk result (λ done. DoesCall world.now store.old store.new pending.old pending.new
-        activation.old activation.new call.now thread done) }
+        activation.old activation.new call.now thread owner done) }
     ensures hindered { IfErr result (λ fault. IsHinderedAtCall world.now store.old pending.old activation.old call.now
-        thread may_refuse fault) }
+        thread owner may_refuse fault) }
     ensures refuses { result ≡ Ok Invoked.Refused → may_refuse ≡ true }
     ensures store { OnErr result (store.new ≡ store.old) }
     ensures pending { OnErr result (pending.new ≡ pending.old) }
@@ -69,7 +70,9 @@ pub fn invoke(
             finish_monitor(store, activation, call, thread, answer)?;
             Ok(Invoked::Done)
         }
-        None => invoke_checked(world, store, pending, activation, call, thread, may_refuse),
+        None => invoke_checked(
+            world, store, pending, activation, call, thread, owner, may_refuse,
+        ),
     }
 }
 
@@ -84,7 +87,7 @@ fn unchecked_answer(
     call: &Call,
     thread: u8,
 ) -> Option<Answer>
-    requires at_call { StandsAtCall world.now store.now pending activation.now call.now thread }
+    requires at_call { (owner : ℕ) × StandsAtCall world.now store.now pending activation.now call.now thread owner }
     ensures answer { IfSome result (IsAnswered world.now store.now pending activation.now thread call.now) }
     ensures changes { IfSome result (λ answer. changes_monitor answer ≡ true) }
 {
@@ -102,16 +105,17 @@ fn invoke_checked(
     activation: &mut Activation,
     call: &Call,
     thread: u8,
+    owner: u16,
     may_refuse: bool,
 ) -> Result<Invoked, StepFault>
-    requires at_call { StandsAtCall world.now store.old pending.old activation.old call.now thread }
+    requires at_call { StandsAtCall world.now store.old pending.old activation.old call.now thread owner }
     requires place { activation.old.place + 1 < 2 ^ 64 }
     requires few { store.old.births + 2 < 2 ^ 32 }
     requires prepared { IsPrepared call.now }
     ensures done { IfOk result (λ done. DoesCall world.now store.old store.new pending.old pending.new
-        activation.old activation.new call.now thread done) }
+        activation.old activation.new call.now thread owner done) }
     ensures hindered { IfErr result (λ fault. IsHinderedAtCall world.now store.old pending.old activation.old call.now
-        thread may_refuse fault) }
+        thread owner may_refuse fault) }
     ensures refuses { result ≡ Ok Invoked.Refused → may_refuse ≡ true }
     ensures store { OnErr result (store.new ≡ store.old) }
     ensures pending { OnErr result (pending.new ≡ pending.old) }
@@ -126,7 +130,9 @@ fn invoke_checked(
                 &answer,
                 may_refuse,
             ) {
-                Ok(finish(world, store, pending, activation, call, thread, answer)?)
+                Ok(finish(
+                    world, store, pending, activation, call, thread, owner, answer,
+                )?)
             } else {
                 Err(StepFault::NoRoom)
             }
@@ -159,7 +165,7 @@ fn answer_or_trap(
     call: &Call,
     thread: u8,
 ) -> Result<Answer, Trap>
-    requires at_call { StandsAtCall world.now store.now pending activation.now call.now thread }
+    requires at_call { (owner : ℕ) × StandsAtCall world.now store.now pending activation.now call.now thread owner }
     requires prepared { IsPrepared call.now }
     ensures answer { IfOk result (IsAnswered world.now store.now pending activation.now thread call.now) }
     ensures runs { IfOk result (λ answer. is_halt answer ≡ false) }
@@ -194,16 +200,17 @@ fn finish(
     activation: &mut Activation,
     call: &Call,
     thread: u8,
+    owner: u16,
     answer: Answer,
 ) -> Result<Invoked, AllocError>
-    requires at_call { StandsAtCall world.now store.old pending.old activation.old call.now thread }
+    requires at_call { StandsAtCall world.now store.old pending.old activation.old call.now thread owner }
     requires place { activation.old.place + 1 < 2 ^ 64 }
     requires few { store.old.births + 2 < 2 ^ 32 }
     requires prepared { IsPrepared call.now }
     requires answered { IsAnswered world.now store.old pending.old activation.old thread call.now answer }
     requires runs { is_halt answer ≡ false }
     ensures done { IfOk result (λ done. DoesCall world.now store.old store.new pending.old pending.new
-        activation.old activation.new call.now thread done) }
+        activation.old activation.new call.now thread owner done) }
     ensures refused { result ≡ Ok Invoked.Refused
         → left_of store.old.heap < cells_of world.now.classes (texts_in call.now.texts.items) answer }
     ensures memory { OnErr result (takes_memory answer ≡ true) }
@@ -211,7 +218,9 @@ fn finish(
     ensures pending { OnErr result (pending.new ≡ pending.old) }
     ensures activation { OnErr result (activation.new ≡ activation.old) }
 {
-    match carry_out(world, store, pending, activation, call, thread, answer) {
+    match carry_out(
+        world, store, pending, activation, call, thread, owner, answer,
+    ) {
         Ok(carried) => {
             // Here the proof takes up what is known of a table.
             let _ = activation.locals.frames();
@@ -238,13 +247,14 @@ fn finish_monitor(
     thread: u8,
     answer: Answer,
 ) -> Result<(), AllocError>
-    requires at_call { (w : SourceWorld) × (pending : Option ℕ)
-        × StandsAtCall w store.old pending activation.old call.now thread }
+    requires at_call { (w : SourceWorld) × (pending : Option ℕ) × (owner : ℕ)
+        × StandsAtCall w store.old pending activation.old call.now thread owner }
     requires place { activation.old.place + 1 < 2 ^ 64 }
     requires changes { changes_monitor answer ≡ true }
-    ensures done { OnOk result ((w : SourceWorld) (pending : Option ℕ)
+    ensures done { OnOk result ((w : SourceWorld) (pending : Option ℕ) (owner : ℕ)
         → IsAnswered w store.old pending activation.old thread call.now answer
-        → DoesCall w store.old store.new pending pending activation.old activation.new call.now thread Invoked.Done) }
+        → DoesCall w store.old store.new pending pending activation.old activation.new call.now thread owner
+        Invoked.Done) }
     ensures store { OnErr result (store.new ≡ store.old) }
     ensures activation { OnErr result (activation.new ≡ activation.old) }
 {

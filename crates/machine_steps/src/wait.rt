@@ -1,6 +1,6 @@
 //! Whether a thread waits for a monitor.
 
-ghost use Rattle.std.specs.Prelude.{◌≡◌, List, length};
+ghost use Rattle.std.specs.Prelude.{◌≡◌, ℕ, List, length};
 ghost use Rattle.code.specs.Call.{IsPrepared};
 ghost use Rattle.jni.specs.JniFunction.{MonitorEnter};
 ghost use Rattle.jni.specs.Table.{function_value};
@@ -90,14 +90,14 @@ fn waits_to_enter(
     call: &Call,
     thread: u8,
 ) -> bool
-    requires may_wait { (p : Lowered) × (others : Acquired) × (own : Owners) × (shared : Shared) × (s : SourceThread)
+    requires may_wait { (p : Lowered) × (others : Acquired) × (owner : ℕ) × (own : Owners) × (shared : Shared) × (s : SourceThread)
         × (task : Task) × (rest : List Task)
-        × MayWait p world.now store.now pending activation.now call.now others thread own shared s task rest }
+        × MayWait p world.now store.now pending activation.now call.now others thread owner own shared s task rest }
     requires enters { function_value call.now.function ≡ MonitorEnter }
     requires prepared { IsPrepared call.now }
-    ensures { (p : Lowered) (others : Acquired) (own : Owners) (shared : Shared) (s : SourceThread) (task : Task)
-        (rest : List Task)
-        → MayWait p world.now store.now pending activation.now call.now others thread own shared s task rest
+    ensures { (p : Lowered) (others : Acquired) (owner : ℕ) (own : Owners) (shared : Shared) (s : SourceThread)
+        (task : Task) (rest : List Task)
+        → MayWait p world.now store.now pending activation.now call.now others thread owner own shared s task rest
         → result ≡ waits_with world.now.classes thread shared s (effect_of (sight_of shared s) task) }
 {
     let scene = scene_of(world, store, pending, activation, thread);

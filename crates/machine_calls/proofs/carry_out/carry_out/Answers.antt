@@ -40,9 +40,9 @@ use Rattle.machine_calls.proofs.CarryOuts as carries
 use Rattle.machine_answers.proofs.LongTables.{classes_loaded}
 use Rattle.machine_calls.proofs.carry_out.carry_out.Goals as goal
 
--- what a call of thread k brings
-abbrev brings : (texts : List (List ℕ)) → (numbers : List ℕ) → List Buffer → Store → (k : ℕ) → (others : Acquired) → Thread → Option (Identifier × LocalArray) → Brought
-brings texts numbers buffers store k others s array = bringing texts numbers (holding buffers store.elements k) (in_use_of (beside others (acquired_by s))) array
+-- what a call of thread k, of this number, brings
+abbrev brings : (texts : List (List ℕ)) → (numbers : List ℕ) → List Buffer → Store → (k owner : ℕ) → (others : Acquired) → Thread → Option (Identifier × LocalArray) → Brought
+brings texts numbers buffers store k owner others s array = bringing texts numbers (holding buffers store.elements owner) k (in_use_of (beside others (acquired_by s))) array
 
 -- a class of the table has a small number
 small : (w : World) (class : ℕ) → IsSound w → class ≤ length w.classes → class < 2 ^ 32
@@ -59,14 +59,14 @@ unchanged table texts old after new o made is = (subst (Makes table texts old ne
 short : (classes table : Classes) (texts : List (List ℕ)) (old after : Store) (new : New) (o : Option ℕ) → table ≡ classes → Makes table texts old new after o → o ≡ None → left_of old.heap < cells_of_new classes texts new
 short classes table texts old after new o same made is = subst (λ (t : Classes). left_of old.heap < cells_of_new t texts new) same (subst (Makes table texts old new after) is made).1
 
-module _ (p : Lowered) (w : World) (space : Space) (before : LocalTable) (a : Answer) (kind : ResultKind) (others : Acquired) (k : ℕ) (shared : Shared) (s : Thread) (effect : CallEffect) where
+module _ (p : Lowered) (w : World) (space : Space) (before : LocalTable) (a : Answer) (kind : ResultKind) (others : Acquired) (owner : ℕ) (shared : Shared) (s : Thread) (effect : CallEffect) where
   -- what was refused, told of a store that is as it was
   refused_in : (old new : Store) (after : Option ℕ) (locals : LocalTable) (carried : Carried) → new ≡ old → after ≡ slice_get new.loaded.items (length w.classes) → carried ≡ record { given = failed kind; refused = true }
-      → CarriesOut p w space before a kind others k shared s effect true old (slice_get old.loaded.items (length w.classes)) locals (failed kind) → CarriesOut p w space before a kind others k shared s effect carried.refused new after locals carried.given
+      → CarriesOut p w space before a kind others owner shared s effect true old (slice_get old.loaded.items (length w.classes)) locals (failed kind) → CarriesOut p w space before a kind others owner shared s effect carried.refused new after locals carried.given
   refused_in old new after locals carried same is told h =
-      subst (λ (r : Carried). CarriesOut p w space before a kind others k shared s effect r.refused new after locals r.given) (sym told)
-      (subst (λ (o : Option ℕ). CarriesOut p w space before a kind others k shared s effect true new o locals (failed kind)) (sym is)
-      (subst (λ (t : Store). CarriesOut p w space before a kind others k shared s effect true t (slice_get t.loaded.items (length w.classes)) locals (failed kind)) (sym same) h))
+      subst (λ (r : Carried). CarriesOut p w space before a kind others owner shared s effect r.refused new after locals r.given) (sym told)
+      (subst (λ (o : Option ℕ). CarriesOut p w space before a kind others owner shared s effect true new o locals (failed kind)) (sym is)
+      (subst (λ (t : Store). CarriesOut p w space before a kind others owner shared s effect true t (slice_get t.loaded.items (length w.classes)) locals (failed kind)) (sym same) h))
 
 pub make-requires-clause-class : goal.make-requires-clause-class
 make-requires-clause-class c =
@@ -74,7 +74,7 @@ make-requires-clause-class c =
     let w = c.args.world.now in
     let kind = result_value c.args.call.now.result in
     let texts = texts_in c.args.call.now.texts.items in
-    let brought = brings texts c.args.activation.now.slots.numbers.items c.args.activation.now.slots.buffers.items c.args.store.now c.args.thread r.2 r.4 r.1 in
+    let brought = brings texts c.args.activation.now.slots.numbers.items c.args.activation.now.slots.buffers.items c.args.store.now c.args.thread c.args.owner r.2 r.4 r.1 in
     small w (class_of_new c.in-Makes.new) c.threads.ensures.sound
     (makes_it w.classes brought c.args.store.now.heap c.args.activation.now.locals kind r.3 r.4 c.in-Makes.new r.5 (subst (λ (a : Answer). IsAnswer w.classes brought c.args.store.now.heap c.args.activation.now.locals kind r.3 r.4 a r.5) c.in-Makes.is r.7)).describes.makeable.high
 
@@ -84,7 +84,7 @@ make-requires-in-Throws-clause-class c =
     let w = c.args.world.now in
     let kind = result_value c.args.call.now.result in
     let texts = texts_in c.args.call.now.texts.items in
-    let brought = brings texts c.args.activation.now.slots.numbers.items c.args.activation.now.slots.buffers.items c.args.store.now c.args.thread r.2 r.4 r.1 in
+    let brought = brings texts c.args.activation.now.slots.numbers.items c.args.activation.now.slots.buffers.items c.args.store.now c.args.thread c.args.owner r.2 r.4 r.1 in
     small w c.in-Throws.class.number c.threads.ensures.sound
     (throws_it w.classes brought c.args.store.now.heap c.args.activation.now.locals kind r.3 r.4 c.in-Throws.class r.5 (subst (λ (a : Answer). IsAnswer w.classes brought c.args.store.now.heap c.args.activation.now.locals kind r.3 r.4 a r.5) c.in-Throws.is r.7)).makeable.high
 
@@ -93,22 +93,22 @@ returns-in-Writes-clause-carried c p array others shared s effect h does =
     let w = c.args.world.now in
     let kind = result_value c.args.call.now.result in
     let texts = texts_in c.args.call.now.texts.items in
-    let brought = brings texts c.args.activation.now.slots.numbers.items c.args.activation.now.slots.buffers.items c.args.store.now c.args.thread others s array in
+    let brought = brings texts c.args.activation.now.slots.numbers.items c.args.activation.now.slots.buffers.items c.args.store.now c.args.thread c.args.owner others s array in
     let old = c.args.store.now in
-    carries.by_answer p w old.heap c.args.activation.now.locals kind others c.args.thread shared s effect brought c.args.answer (answer.Writes c.in-Writes.addr c.in-Writes.place c.in-Writes.value) c.in-Writes.is _ _ _ _ _ (λ writes.
-    subst (λ (space : Space). CarriesOut p w old.heap c.args.activation.now.locals (answer.Writes c.in-Writes.addr c.in-Writes.place c.in-Writes.value) kind others c.args.thread shared s effect false (record old { heap = space }) c.args.pending.now c.args.activation.now.locals given.Nothing) (sym c.set.ensures)
-    (carries.writes p w old c.args.pending.now c.args.activation.now.locals kind others c.args.thread shared s h brought c.in-Writes.addr c.in-Writes.place c.in-Writes.value effect writes)) does
+    carries.by_answer p w old.heap c.args.activation.now.locals kind others c.args.owner shared s effect brought c.args.answer (answer.Writes c.in-Writes.addr c.in-Writes.place c.in-Writes.value) c.in-Writes.is _ _ _ _ _ (λ writes.
+    subst (λ (space : Space). CarriesOut p w old.heap c.args.activation.now.locals (answer.Writes c.in-Writes.addr c.in-Writes.place c.in-Writes.value) kind others c.args.owner shared s effect false (record old { heap = space }) c.args.pending.now c.args.activation.now.locals given.Nothing) (sym c.set.ensures)
+    (carries.writes p w old c.args.pending.now c.args.activation.now.locals kind others c.args.owner shared s h brought c.in-Writes.addr c.in-Writes.place c.in-Writes.value effect writes)) does
 
 pub returns-in-Some-clause-carried : goal.returns-in-Some-clause-carried
 returns-in-Some-clause-carried c p array others shared s effect h does =
     let w = c.args.world.now in
     let kind = result_value c.args.call.now.result in
     let texts = texts_in c.args.call.now.texts.items in
-    let brought = brings texts c.args.activation.now.slots.numbers.items c.args.activation.now.slots.buffers.items c.args.store.now c.args.thread others s array in
+    let brought = brings texts c.args.activation.now.slots.numbers.items c.args.activation.now.slots.buffers.items c.args.store.now c.args.thread c.args.owner others s array in
     let old = c.args.store.now in
     let made = subst (λ (l : List (Vec ℕ)). Makes c.classes.result.now (texts_in l) old c.in-Makes.new c.make.new.store c.make.result) c.deref-texts.ensures.value c.make.ensures in
-    carries.by_answer p w old.heap c.args.activation.now.locals kind others c.args.thread shared s effect brought c.args.answer (answer.Makes c.in-Makes.new) c.in-Makes.is _ _ _ _ _ (λ makes.
-    carries.makes p w old c.args.pending.now c.args.activation.now.locals kind others c.args.thread shared s h brought c.make.new.store c.in-Makes.new c.in-Some.addr
+    carries.by_answer p w old.heap c.args.activation.now.locals kind others c.args.owner shared s effect brought c.args.answer (answer.Makes c.in-Makes.new) c.in-Makes.is _ _ _ _ _ (λ makes.
+    carries.makes p w old c.args.pending.now c.args.activation.now.locals kind others c.args.owner shared s h brought c.make.new.store c.in-Makes.new c.in-Some.addr
     (has_made w.classes c.classes.result.now texts old c.make.new.store c.in-Makes.new c.in-Some.addr c.make.result c.classes.ensures.classes made c.in-Some.is) effect makes) does
 
 pub returns-in-None-clause-carried : goal.returns-in-None-clause-carried
@@ -116,25 +116,25 @@ returns-in-None-clause-carried c p array others shared s effect h does =
     let w = c.args.world.now in
     let kind = result_value c.args.call.now.result in
     let texts = texts_in c.args.call.now.texts.items in
-    let brought = brings texts c.args.activation.now.slots.numbers.items c.args.activation.now.slots.buffers.items c.args.store.now c.args.thread others s array in
+    let brought = brings texts c.args.activation.now.slots.numbers.items c.args.activation.now.slots.buffers.items c.args.store.now c.args.thread c.args.owner others s array in
     let old = c.args.store.now in
     let made = subst (λ (l : List (Vec ℕ)). Makes c.classes.result.now (texts_in l) old c.in-Makes.new c.make.new.store c.make.result) c.deref-texts.ensures.value c.make.ensures in
-    carries.by_answer p w old.heap c.args.activation.now.locals kind others c.args.thread shared s effect brought c.args.answer (answer.Makes c.in-Makes.new) c.in-Makes.is _ _ _ _ _ (λ makes.
-    refused_in p w old.heap c.args.activation.now.locals (answer.Makes c.in-Makes.new) kind others c.args.thread shared s effect old c.make.new.store c.refuse.new.pending c.args.activation.now.locals c.refuse.result
+    carries.by_answer p w old.heap c.args.activation.now.locals kind others c.args.owner shared s effect brought c.args.answer (answer.Makes c.in-Makes.new) c.in-Makes.is _ _ _ _ _ (λ makes.
+    refused_in p w old.heap c.args.activation.now.locals (answer.Makes c.in-Makes.new) kind others c.args.owner shared s effect old c.make.new.store c.refuse.new.pending c.args.activation.now.locals c.refuse.result
     (unchanged c.classes.result.now texts old c.make.new.store c.in-Makes.new c.make.result made c.in-None.is) c.refuse.ensures.pending c.refuse.ensures.carried
-    (carries.refuses_object p w old c.args.pending.now c.args.activation.now.locals kind others c.args.thread shared s h brought c.in-Makes.new effect makes (short w.classes c.classes.result.now texts old c.make.new.store c.in-Makes.new c.make.result c.classes.ensures.classes made c.in-None.is))) does
+    (carries.refuses_object p w old c.args.pending.now c.args.activation.now.locals kind others c.args.owner shared s h brought c.in-Makes.new effect makes (short w.classes c.classes.result.now texts old c.make.new.store c.in-Makes.new c.make.result c.classes.ensures.classes made c.in-None.is))) does
 
 pub returns-in-Some-make-clause-carried : goal.returns-in-Some-make-clause-carried
 returns-in-Some-make-clause-carried c p array others shared s effect h does =
     let w = c.args.world.now in
     let kind = result_value c.args.call.now.result in
     let texts = texts_in c.args.call.now.texts.items in
-    let brought = brings texts c.args.activation.now.slots.numbers.items c.args.activation.now.slots.buffers.items c.args.store.now c.args.thread others s array in
+    let brought = brings texts c.args.activation.now.slots.numbers.items c.args.activation.now.slots.buffers.items c.args.store.now c.args.thread c.args.owner others s array in
     let old = c.args.store.now in
     let made = subst (λ (l : List (Vec ℕ)). Makes c.classes-in-Throws.result.now (texts_in l) old (Fresh c.in-Throws.class) c.make-in-Throws.new.store c.make-in-Throws.result) c.deref-texts.ensures.value c.make-in-Throws.ensures in
-    carries.by_answer p w old.heap c.args.activation.now.locals kind others c.args.thread shared s effect brought c.args.answer (answer.Throws c.in-Throws.class) c.in-Throws.is _ _ _ _ _ (λ throws.
-    subst (λ (g : Given). CarriesOut p w old.heap c.args.activation.now.locals (answer.Throws c.in-Throws.class) kind others c.args.thread shared s effect false c.make-in-Throws.new.store (Some c.in-Some-make.addr) c.args.activation.now.locals g) (sym c.failed.ensures)
-    (carries.throws p w old c.args.pending.now c.args.activation.now.locals kind others c.args.thread shared s h brought c.make-in-Throws.new.store c.in-Throws.class c.in-Some-make.addr
+    carries.by_answer p w old.heap c.args.activation.now.locals kind others c.args.owner shared s effect brought c.args.answer (answer.Throws c.in-Throws.class) c.in-Throws.is _ _ _ _ _ (λ throws.
+    subst (λ (g : Given). CarriesOut p w old.heap c.args.activation.now.locals (answer.Throws c.in-Throws.class) kind others c.args.owner shared s effect false c.make-in-Throws.new.store (Some c.in-Some-make.addr) c.args.activation.now.locals g) (sym c.failed.ensures)
+    (carries.throws p w old c.args.pending.now c.args.activation.now.locals kind others c.args.owner shared s h brought c.make-in-Throws.new.store c.in-Throws.class c.in-Some-make.addr
     (has_made w.classes c.classes-in-Throws.result.now texts old c.make-in-Throws.new.store (Fresh c.in-Throws.class) c.in-Some-make.addr c.make-in-Throws.result c.classes-in-Throws.ensures.classes made c.in-Some-make.is) effect throws)) does
 
 pub returns-in-None-make-clause-carried : goal.returns-in-None-make-clause-carried
@@ -142,22 +142,22 @@ returns-in-None-make-clause-carried c p array others shared s effect h does =
     let w = c.args.world.now in
     let kind = result_value c.args.call.now.result in
     let texts = texts_in c.args.call.now.texts.items in
-    let brought = brings texts c.args.activation.now.slots.numbers.items c.args.activation.now.slots.buffers.items c.args.store.now c.args.thread others s array in
+    let brought = brings texts c.args.activation.now.slots.numbers.items c.args.activation.now.slots.buffers.items c.args.store.now c.args.thread c.args.owner others s array in
     let old = c.args.store.now in
     let made = subst (λ (l : List (Vec ℕ)). Makes c.classes-in-Throws.result.now (texts_in l) old (Fresh c.in-Throws.class) c.make-in-Throws.new.store c.make-in-Throws.result) c.deref-texts.ensures.value c.make-in-Throws.ensures in
-    carries.by_answer p w old.heap c.args.activation.now.locals kind others c.args.thread shared s effect brought c.args.answer (answer.Throws c.in-Throws.class) c.in-Throws.is _ _ _ _ _ (λ throws.
-    refused_in p w old.heap c.args.activation.now.locals (answer.Throws c.in-Throws.class) kind others c.args.thread shared s effect old c.make-in-Throws.new.store c.refuse-in-None-make.new.pending c.args.activation.now.locals c.refuse-in-None-make.result
+    carries.by_answer p w old.heap c.args.activation.now.locals kind others c.args.owner shared s effect brought c.args.answer (answer.Throws c.in-Throws.class) c.in-Throws.is _ _ _ _ _ (λ throws.
+    refused_in p w old.heap c.args.activation.now.locals (answer.Throws c.in-Throws.class) kind others c.args.owner shared s effect old c.make-in-Throws.new.store c.refuse-in-None-make.new.pending c.args.activation.now.locals c.refuse-in-None-make.result
     (unchanged c.classes-in-Throws.result.now texts old c.make-in-Throws.new.store (Fresh c.in-Throws.class) c.make-in-Throws.result made c.in-None-make.is) c.refuse-in-None-make.ensures.pending c.refuse-in-None-make.ensures.carried
-    (carries.refuses_exception p w old c.args.pending.now c.args.activation.now.locals kind others c.args.thread shared s h brought c.in-Throws.class effect throws (short w.classes c.classes-in-Throws.result.now texts old c.make-in-Throws.new.store (Fresh c.in-Throws.class) c.make-in-Throws.result c.classes-in-Throws.ensures.classes made c.in-None-make.is))) does
+    (carries.refuses_exception p w old c.args.pending.now c.args.activation.now.locals kind others c.args.owner shared s h brought c.in-Throws.class effect throws (short w.classes c.classes-in-Throws.result.now texts old c.make-in-Throws.new.store (Fresh c.in-Throws.class) c.make-in-Throws.result c.classes-in-Throws.ensures.classes made c.in-None-make.is))) does
 
 pub returns-in-Gives-clause-carried : goal.returns-in-Gives-clause-carried
 returns-in-Gives-clause-carried c p array others shared s effect h does =
     let w = c.args.world.now in
     let kind = result_value c.args.call.now.result in
     let texts = texts_in c.args.call.now.texts.items in
-    let brought = brings texts c.args.activation.now.slots.numbers.items c.args.activation.now.slots.buffers.items c.args.store.now c.args.thread others s array in
+    let brought = brings texts c.args.activation.now.slots.numbers.items c.args.activation.now.slots.buffers.items c.args.store.now c.args.thread c.args.owner others s array in
     let old = c.args.store.now in
-    carries.by_answer p w old.heap c.args.activation.now.locals kind others c.args.thread shared s effect brought c.args.answer (answer.Gives c.in-Gives.given) c.in-Gives.is _ _ _ _ _ (λ gives. carries.gives p w old c.args.pending.now c.args.activation.now.locals kind others c.args.thread shared s h brought c.in-Gives.given effect gives) does
+    carries.by_answer p w old.heap c.args.activation.now.locals kind others c.args.owner shared s effect brought c.args.answer (answer.Gives c.in-Gives.given) c.in-Gives.is _ _ _ _ _ (λ gives. carries.gives p w old c.args.pending.now c.args.activation.now.locals kind others c.args.owner shared s h brought c.in-Gives.given effect gives) does
 
 -- what is told of an answer of buffers, of each kind of result
 told_on : {T E : Type 0} (P Q : T → Type 0) (r : Result T E) → ((x : T) → P x → Q x) → IfOk r P → IfOk r Q
@@ -167,7 +167,7 @@ told_on P Q (Err e) f h = h
 pub returns-in_default-clause-carried : goal.returns-in_default-clause-carried
 returns-in_default-clause-carried c =
     told_on _ _ c.carry_out_buffers.result (λ carried told p array others shared s effect h does.
-    told p (result_value c.args.call.now.result) (brings (texts_in c.args.call.now.texts.items) c.args.activation.now.slots.numbers.items c.args.activation.now.slots.buffers.items c.args.store.now c.args.thread others s array) others shared s effect h does (ap (λ (l : List Buffer). holding l c.args.store.now.elements c.args.thread) (sym c.deref_mut-in_default.ensures.value)) refl) c.carry_out_buffers.ensures.carried
+    told p (result_value c.args.call.now.result) (brings (texts_in c.args.call.now.texts.items) c.args.activation.now.slots.numbers.items c.args.activation.now.slots.buffers.items c.args.store.now c.args.thread c.args.owner others s array) others shared s effect h does (ap (λ (l : List Buffer). holding l c.args.store.now.elements c.args.owner) (sym c.deref_mut-in_default.ensures.value)) refl refl) c.carry_out_buffers.ensures.carried
 
 -- where nothing was done the slots are as they were
 both_on_err : {T E : Type 0} (P Q R : Type 0) (r : Result T E) → (P → Q → R) → OnErr r P → OnErr r Q → OnErr r R
@@ -189,7 +189,7 @@ returns-in_default-clause-activation c =
 pub carry_out_buffers-requires-clause-possible : goal.carry_out_buffers-requires-clause-possible
 carry_out_buffers-requires-clause-possible c =
     let r = c.requires.possible in
-    (r.0, result_value c.args.call.now.result, brings (texts_in c.args.call.now.texts.items) c.args.activation.now.slots.numbers.items c.args.activation.now.slots.buffers.items c.args.store.now c.args.thread r.2 r.4 r.1, r.2, r.3, r.4, r.5, r.6, r.7, ap (λ (l : List Buffer). holding l c.args.store.now.elements c.args.thread) (sym c.deref_mut-in_default.ensures.value), refl)
+    (r.0, result_value c.args.call.now.result, brings (texts_in c.args.call.now.texts.items) c.args.activation.now.slots.numbers.items c.args.activation.now.slots.buffers.items c.args.store.now c.args.thread c.args.owner r.2 r.4 r.1, r.2, r.3, r.4, r.5, r.6, r.7, ap (λ (l : List Buffer). holding l c.args.store.now.elements c.args.owner) (sym c.deref_mut-in_default.ensures.value), refl, refl)
 
 -- a message and an exception were made in the store of the world's classes
 both_made : (classes table : Classes) (texts : List (List ℕ)) (old after : Store) (class : ClassId) (place a : ℕ) (o : Option ℕ) → table ≡ classes → Raises table texts old class place after o → o ≡ Some a → Raises classes texts old class place after (Some a)
@@ -204,7 +204,7 @@ raise-requires-clause-class c =
     let w = c.args.world.now in
     let kind = result_value c.args.call.now.result in
     let texts = texts_in c.args.call.now.texts.items in
-    let brought = brings texts c.args.activation.now.slots.numbers.items c.args.activation.now.slots.buffers.items c.args.store.now c.args.thread r.2 r.4 r.1 in
+    let brought = brings texts c.args.activation.now.slots.numbers.items c.args.activation.now.slots.buffers.items c.args.store.now c.args.thread c.args.owner r.2 r.4 r.1 in
     let does = subst (λ (a : Answer). IsAnswer w.classes brought c.args.store.now.heap c.args.activation.now.locals kind r.3 r.4 a r.5) c.in-Raises.is r.7 in
     small w c.in-Raises.class.number c.threads.ensures.sound does.2.high
 
@@ -213,70 +213,70 @@ returns-in-Some-raise-clause-carried c p array others shared s effect h does =
     let w = c.args.world.now in
     let kind = result_value c.args.call.now.result in
     let texts = texts_in c.args.call.now.texts.items in
-    let brought = brings texts c.args.activation.now.slots.numbers.items c.args.activation.now.slots.buffers.items c.args.store.now c.args.thread others s array in
+    let brought = brings texts c.args.activation.now.slots.numbers.items c.args.activation.now.slots.buffers.items c.args.store.now c.args.thread c.args.owner others s array in
     let old = c.args.store.now in
     let raised = subst (λ (l : List (Vec ℕ)). Raises c.classes-in-Raises.result.now (texts_in l) old c.in-Raises.class c.in-Raises.place c.raise.new.store c.raise.result) c.deref-texts.ensures.value c.raise.ensures in
     let class = c.in-Raises.class in
     let place = c.in-Raises.place in
     let made = both_made w.classes c.classes-in-Raises.result.now texts old c.raise.new.store class place c.in-Some-raise.exception c.raise.result c.classes-in-Raises.ensures.classes raised c.in-Some-raise.is in
-    carries.by_answer p w old.heap c.args.activation.now.locals kind others c.args.thread shared s effect brought c.args.answer (answer.Raises class place) c.in-Raises.is _ _ _ _ _ (λ raises.
-    carries.raises p w old c.args.pending.now c.args.activation.now.locals kind others c.args.thread shared s h brought class place effect raises made.0 c.raise.new.store made.1 c.in-Some-raise.exception made.2 made.3) does
+    carries.by_answer p w old.heap c.args.activation.now.locals kind others c.args.owner shared s effect brought c.args.answer (answer.Raises class place) c.in-Raises.is _ _ _ _ _ (λ raises.
+    carries.raises p w old c.args.pending.now c.args.activation.now.locals kind others c.args.owner shared s h brought class place effect raises made.0 c.raise.new.store made.1 c.in-Some-raise.exception made.2 made.3) does
 
 pub returns-in-None-raise-clause-carried : goal.returns-in-None-raise-clause-carried
 returns-in-None-raise-clause-carried c p array others shared s effect h does =
     let w = c.args.world.now in
     let kind = result_value c.args.call.now.result in
     let texts = texts_in c.args.call.now.texts.items in
-    let brought = brings texts c.args.activation.now.slots.numbers.items c.args.activation.now.slots.buffers.items c.args.store.now c.args.thread others s array in
+    let brought = brings texts c.args.activation.now.slots.numbers.items c.args.activation.now.slots.buffers.items c.args.store.now c.args.thread c.args.owner others s array in
     let old = c.args.store.now in
     let raised = subst (λ (l : List (Vec ℕ)). Raises c.classes-in-Raises.result.now (texts_in l) old c.in-Raises.class c.in-Raises.place c.raise.new.store c.raise.result) c.deref-texts.ensures.value c.raise.ensures in
     let class = c.in-Raises.class in
     let place = c.in-Raises.place in
     let none = none_made w.classes c.classes-in-Raises.result.now texts old c.raise.new.store class place c.raise.result c.classes-in-Raises.ensures.classes raised c.in-None-raise.is in
-    carries.by_answer p w old.heap c.args.activation.now.locals kind others c.args.thread shared s effect brought c.args.answer (answer.Raises class place) c.in-Raises.is _ _ _ _ _ (λ raises.
-    refused_in p w old.heap c.args.activation.now.locals (answer.Raises class place) kind others c.args.thread shared s effect old c.raise.new.store c.refuse-in-None-raise.new.pending c.args.activation.now.locals c.refuse-in-None-raise.result none.0 c.refuse-in-None-raise.ensures.pending c.refuse-in-None-raise.ensures.carried
-    (carries.refuses_raise p w old c.args.pending.now c.args.activation.now.locals kind others c.args.thread shared s h brought class place effect raises none.1)) does
+    carries.by_answer p w old.heap c.args.activation.now.locals kind others c.args.owner shared s effect brought c.args.answer (answer.Raises class place) c.in-Raises.is _ _ _ _ _ (λ raises.
+    refused_in p w old.heap c.args.activation.now.locals (answer.Raises class place) kind others c.args.owner shared s effect old c.raise.new.store c.refuse-in-None-raise.new.pending c.args.activation.now.locals c.refuse-in-None-raise.result none.0 c.refuse-in-None-raise.ensures.pending c.refuse-in-None-raise.ensures.carried
+    (carries.refuses_raise p w old c.args.pending.now c.args.activation.now.locals kind others c.args.owner shared s h brought class place effect raises none.1)) does
 
 pub returns-in-Pends-clause-carried : goal.returns-in-Pends-clause-carried
 returns-in-Pends-clause-carried c p array others shared s effect h does =
     let w = c.args.world.now in
     let kind = result_value c.args.call.now.result in
     let texts = texts_in c.args.call.now.texts.items in
-    let brought = brings texts c.args.activation.now.slots.numbers.items c.args.activation.now.slots.buffers.items c.args.store.now c.args.thread others s array in
+    let brought = brings texts c.args.activation.now.slots.numbers.items c.args.activation.now.slots.buffers.items c.args.store.now c.args.thread c.args.owner others s array in
     let old = c.args.store.now in
-    carries.by_answer p w old.heap c.args.activation.now.locals kind others c.args.thread shared s effect brought c.args.answer (answer.Pends c.in-Pends.exception c.in-Pends.given) c.in-Pends.is _ _ _ _ _ (λ pends.
-    carries.pends p w old c.args.pending.now c.args.activation.now.locals kind others c.args.thread shared s h brought c.in-Pends.exception c.in-Pends.given effect pends) does
+    carries.by_answer p w old.heap c.args.activation.now.locals kind others c.args.owner shared s effect brought c.args.answer (answer.Pends c.in-Pends.exception c.in-Pends.given) c.in-Pends.is _ _ _ _ _ (λ pends.
+    carries.pends p w old c.args.pending.now c.args.activation.now.locals kind others c.args.owner shared s h brought c.in-Pends.exception c.in-Pends.given effect pends) does
 
 pub returns-in-CopiesOut-clause-carried : goal.returns-in-CopiesOut-clause-carried
 returns-in-CopiesOut-clause-carried c p array others shared s effect h does =
     let w = c.args.world.now in
     let kind = result_value c.args.call.now.result in
-    let brought = brings (texts_in c.args.call.now.texts.items) c.args.activation.now.slots.numbers.items c.args.activation.now.slots.buffers.items c.args.store.now c.args.thread others s array in
+    let brought = brings (texts_in c.args.call.now.texts.items) c.args.activation.now.slots.numbers.items c.args.activation.now.slots.buffers.items c.args.store.now c.args.thread c.args.owner others s array in
     let old = c.args.store.now in
-    carries.by_answer p w old.heap c.args.activation.now.locals kind others c.args.thread shared s effect brought c.args.answer (answer.CopiesOut c.in-CopiesOut.region) c.in-CopiesOut.is _ _ _ _ _ (λ copies.
-    carries.copies_out p w old c.args.pending.now c.args.activation.now.locals kind others c.args.thread shared s h brought c.in-CopiesOut.region effect copies) does
+    carries.by_answer p w old.heap c.args.activation.now.locals kind others c.args.owner shared s effect brought c.args.answer (answer.CopiesOut c.in-CopiesOut.region) c.in-CopiesOut.is _ _ _ _ _ (λ copies.
+    carries.copies_out p w old c.args.pending.now c.args.activation.now.locals kind others c.args.owner shared s h brought c.in-CopiesOut.region effect copies) does
 
 pub returns-in-CopiesIn-clause-carried : goal.returns-in-CopiesIn-clause-carried
 returns-in-CopiesIn-clause-carried c p array others shared s effect h does =
     let w = c.args.world.now in
     let kind = result_value c.args.call.now.result in
-    let brought = brings (texts_in c.args.call.now.texts.items) c.args.activation.now.slots.numbers.items c.args.activation.now.slots.buffers.items c.args.store.now c.args.thread others s array in
+    let brought = brings (texts_in c.args.call.now.texts.items) c.args.activation.now.slots.numbers.items c.args.activation.now.slots.buffers.items c.args.store.now c.args.thread c.args.owner others s array in
     let old = c.args.store.now in
-    carries.by_answer p w old.heap c.args.activation.now.locals kind others c.args.thread shared s effect brought c.args.answer (answer.CopiesIn c.in-CopiesIn.region) c.in-CopiesIn.is _ _ _ _ _ (λ copies.
-    subst (λ (space : Space). CarriesOut p w old.heap c.args.activation.now.locals (answer.CopiesIn c.in-CopiesIn.region) kind others c.args.thread shared s effect false (record old { heap = space }) c.args.pending.now c.args.activation.now.locals given.Nothing) (ap (space_with old.heap c.in-CopiesIn.region) (sym c.deref.ensures.value) ∙ sym c.copy_in.ensures)
-    (carries.copies_in p w old c.args.pending.now c.args.activation.now.locals kind others c.args.thread shared s h brought c.in-CopiesIn.region effect copies)) does
+    carries.by_answer p w old.heap c.args.activation.now.locals kind others c.args.owner shared s effect brought c.args.answer (answer.CopiesIn c.in-CopiesIn.region) c.in-CopiesIn.is _ _ _ _ _ (λ copies.
+    subst (λ (space : Space). CarriesOut p w old.heap c.args.activation.now.locals (answer.CopiesIn c.in-CopiesIn.region) kind others c.args.owner shared s effect false (record old { heap = space }) c.args.pending.now c.args.activation.now.locals given.Nothing) (ap (space_with old.heap c.in-CopiesIn.region) (sym c.deref.ensures.value) ∙ sym c.copy_in.ensures)
+    (carries.copies_in p w old c.args.pending.now c.args.activation.now.locals kind others c.args.owner shared s h brought c.in-CopiesIn.region effect copies)) does
 
 -- what is known of a region that is copied
 pub copy_out-requires : goal.copy_out-requires
 copy_out-requires c =
     let r = c.requires.possible in
-    let brought = brings (texts_in c.args.call.now.texts.items) c.args.activation.now.slots.numbers.items c.args.activation.now.slots.buffers.items c.args.store.now c.args.thread r.2 r.4 r.1 in
+    let brought = brings (texts_in c.args.call.now.texts.items) c.args.activation.now.slots.numbers.items c.args.activation.now.slots.buffers.items c.args.store.now c.args.thread c.args.owner r.2 r.4 r.1 in
     let copied = (subst (λ (a : Answer). IsAnswer c.args.world.now.classes brought c.args.store.now.heap c.args.activation.now.locals (result_value c.args.call.now.result) r.3 r.4 a r.5) c.in-CopiesOut.is r.7).1 in
     record { within = copied.within; slots = λ i inside. subst (λ (l : List ℕ). c.in-CopiesOut.region.slot + i < length l) (sym c.deref_mut.ensures.value) (copied.slots i inside) }
 
 pub copy_in-requires : goal.copy_in-requires
 copy_in-requires c =
     let r = c.requires.possible in
-    let brought = brings (texts_in c.args.call.now.texts.items) c.args.activation.now.slots.numbers.items c.args.activation.now.slots.buffers.items c.args.store.now c.args.thread r.2 r.4 r.1 in
+    let brought = brings (texts_in c.args.call.now.texts.items) c.args.activation.now.slots.numbers.items c.args.activation.now.slots.buffers.items c.args.store.now c.args.thread c.args.owner r.2 r.4 r.1 in
     let copied = (subst (λ (a : Answer). IsAnswer c.args.world.now.classes brought c.args.store.now.heap c.args.activation.now.locals (result_value c.args.call.now.result) r.3 r.4 a r.5) c.in-CopiesIn.is r.7).1 in
     record { within = copied.within; slots = λ i inside. subst (λ (l : List ℕ). c.in-CopiesIn.region.slot + i < length l) (sym c.deref.ensures.value) (copied.slots i inside) }

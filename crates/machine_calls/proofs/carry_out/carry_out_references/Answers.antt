@@ -27,22 +27,22 @@ delete_global-requires c =
     (live.key, subst (λ (l : List StaticReference). slice_get l slot ≡ Some (static.Live live.key)) (sym c.deref_mut.ensures.value) live.at, subst (λ (o : Option ℕ). IsSome o) (sym live.held) refl)
 
 pub returns-in-DeletesGlobal-clause-carried : goal.returns-in-DeletesGlobal-clause-carried
-returns-in-DeletesGlobal-clause-carried c p kind brought others k shared s effect h does =
+returns-in-DeletesGlobal-clause-carried c p kind brought others owner shared s effect h does =
     let w = c.args.world.now in
     let old = c.args.store.now in
     let slot = c.in-DeletesGlobal.slot in
     let statics = with_items old.statics c.delete_global.new.statics in
-    carries.by_answer p w old.heap c.args.locals.now kind others k shared s effect brought c.args.answer (answer.DeletesGlobal c.in-DeletesGlobal.slot) c.in-DeletesGlobal.is _ _ _ _ _ (λ deletes.
-    carries.deletes_static p w old c.args.pending.now c.args.locals.now kind others k shared s h brought statics c.delete_global.new.globals slot effect deletes
+    carries.by_answer p w old.heap c.args.locals.now kind others owner shared s effect brought c.args.answer (answer.DeletesGlobal c.in-DeletesGlobal.slot) c.in-DeletesGlobal.is _ _ _ _ _ (λ deletes.
+    carries.deletes_static p w old c.args.pending.now c.args.locals.now kind others owner shared s h brought statics c.delete_global.new.globals slot effect deletes
     (with_items_is old.statics c.delete_global.new.statics (search (rules, places)) ∙ c.delete_global.ensures.statics ∙ ap (λ (l : List StaticReference). slice_set l slot static.Deleted) c.deref_mut.ensures.value)
     (λ key at. c.delete_global.ensures.globals key (subst (λ (l : List StaticReference). slice_get l slot ≡ Some (static.Live key)) (sym c.deref_mut.ensures.value) at))) does
 
 pub returns-in_ok-held-in-MakesGlobal-clause-carried : goal.returns-in_ok-held-in-MakesGlobal-clause-carried
-returns-in_ok-held-in-MakesGlobal-clause-carried c p kind brought others k shared s effect h does =
+returns-in_ok-held-in-MakesGlobal-clause-carried c p kind brought others owner shared s effect h does =
     let w = c.args.world.now in
     let old = c.args.store.now in
-    carries.by_answer p w old.heap c.args.locals.now kind others k shared s effect brought c.args.answer (answer.MakesGlobal c.in-MakesGlobal.reference) c.in-MakesGlobal.is _ _ _ _ _ (λ makes.
-    carries.makes_global p w old c.args.pending.now c.args.locals.now kind others k shared s h brought c.make_global.new.globals c.in_ok-held-in-MakesGlobal.held effect c.in-MakesGlobal.reference makes.1.0 makes.0 makes.1.1 makes.1.2 c.in_ok-held-in-MakesGlobal.ensures.made) does
+    carries.by_answer p w old.heap c.args.locals.now kind others owner shared s effect brought c.args.answer (answer.MakesGlobal c.in-MakesGlobal.reference) c.in-MakesGlobal.is _ _ _ _ _ (λ makes.
+    carries.makes_global p w old c.args.pending.now c.args.locals.now kind others owner shared s h brought c.make_global.new.globals c.in_ok-held-in-MakesGlobal.held effect c.in-MakesGlobal.reference makes.1.0 makes.0 makes.1.1 makes.1.2 c.in_ok-held-in-MakesGlobal.ensures.made) does
 
 -- the static that is marked is there
 pub delete_weak-requires : goal.delete_weak-requires
@@ -55,30 +55,30 @@ delete_weak-requires c =
     subst (λ (l : List StaticReference). slot < length l) (sym c.deref_mut-in-DeletesWeak.ensures.value) (static_within r.0 w old r.4 (beside r.3 (acquired_by r.5)) r.7.store_agrees deletes.1.0 slot deletes.1.2.place)
 
 pub returns-in-DeletesWeak-clause-carried : goal.returns-in-DeletesWeak-clause-carried
-returns-in-DeletesWeak-clause-carried c p kind brought others k shared s effect h does =
+returns-in-DeletesWeak-clause-carried c p kind brought others owner shared s effect h does =
     let w = c.args.world.now in
     let old = c.args.store.now in
     let slot = c.in-DeletesWeak.slot in
     let statics = with_items old.statics c.delete_weak.new.statics in
-    carries.by_answer p w old.heap c.args.locals.now kind others k shared s effect brought c.args.answer (answer.DeletesWeak slot) c.in-DeletesWeak.is _ _ _ _ _ (λ deletes.
-    carries.deletes_weak p w old c.args.pending.now c.args.locals.now kind others k shared s h brought statics c.delete_weak.new.weaks slot effect deletes
+    carries.by_answer p w old.heap c.args.locals.now kind others owner shared s effect brought c.args.answer (answer.DeletesWeak slot) c.in-DeletesWeak.is _ _ _ _ _ (λ deletes.
+    carries.deletes_weak p w old c.args.pending.now c.args.locals.now kind others owner shared s h brought statics c.delete_weak.new.weaks slot effect deletes
     (with_items_is old.statics c.delete_weak.new.statics (search (rules, places)) ∙ c.delete_weak.ensures.statics ∙ ap (λ (l : List StaticReference). slice_set l slot static.Deleted) c.deref_mut-in-DeletesWeak.ensures.value)
     (c.delete_weak.ensures.weaks ∙ ap (λ (l : List StaticReference). without_weak old.weaks (slice_get l slot)) c.deref_mut-in-DeletesWeak.ensures.value)) does
 
 pub returns-in_ok-held-in-MakesWeak-clause-carried : goal.returns-in_ok-held-in-MakesWeak-clause-carried
-returns-in_ok-held-in-MakesWeak-clause-carried c p kind brought others k shared s effect h does =
+returns-in_ok-held-in-MakesWeak-clause-carried c p kind brought others owner shared s effect h does =
     let w = c.args.world.now in
     let old = c.args.store.now in
-    carries.by_answer p w old.heap c.args.locals.now kind others k shared s effect brought c.args.answer (answer.MakesWeak c.in-MakesWeak.reference) c.in-MakesWeak.is _ _ _ _ _ (λ makes.
-    carries.makes_weak p w old c.args.pending.now c.args.locals.now kind others k shared s h brought c.make_weak.new.weaks c.in_ok-held-in-MakesWeak.held effect c.in-MakesWeak.reference makes.1.0 makes.0 makes.1.1 makes.1.2 c.in_ok-held-in-MakesWeak.ensures.made) does
+    carries.by_answer p w old.heap c.args.locals.now kind others owner shared s effect brought c.args.answer (answer.MakesWeak c.in-MakesWeak.reference) c.in-MakesWeak.is _ _ _ _ _ (λ makes.
+    carries.makes_weak p w old c.args.pending.now c.args.locals.now kind others owner shared s h brought c.make_weak.new.weaks c.in_ok-held-in-MakesWeak.held effect c.in-MakesWeak.reference makes.1.0 makes.0 makes.1.1 makes.1.2 c.in_ok-held-in-MakesWeak.ensures.made) does
 
 pub returns-in-Deletes-clause-carried : goal.returns-in-Deletes-clause-carried
-returns-in-Deletes-clause-carried c p kind brought others k shared s effect h does =
+returns-in-Deletes-clause-carried c p kind brought others owner shared s effect h does =
     let w = c.args.world.now in
     let old = c.args.store.now in
     let locals = c.args.locals.now in
     let key = c.in-Deletes.key in
     let gone : c.delete.new.self ≡ without locals key = search rules in
-    carries.by_answer p w old.heap locals kind others k shared s effect brought c.args.answer (answer.Deletes key) c.in-Deletes.is _ _ _ _ _ (λ deletes.
-    subst (λ (l : LocalTable). CarriesOut p w old.heap locals (answer.Deletes key) kind others k shared s effect false old c.args.pending.now l given.Nothing) (sym gone)
-    (carries.deletes p w old c.args.pending.now locals kind others k shared s h brought key effect deletes)) does
+    carries.by_answer p w old.heap locals kind others owner shared s effect brought c.args.answer (answer.Deletes key) c.in-Deletes.is _ _ _ _ _ (λ deletes.
+    subst (λ (l : LocalTable). CarriesOut p w old.heap locals (answer.Deletes key) kind others owner shared s effect false old c.args.pending.now l given.Nothing) (sym gone)
+    (carries.deletes p w old c.args.pending.now locals kind others owner shared s h brought key effect deletes)) does

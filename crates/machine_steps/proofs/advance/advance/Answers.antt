@@ -47,7 +47,7 @@ returns-in-Ok-Did-clause-advances c others own shared s shares h steady free =
     let old = c.args.store.now in
     let b = work p w old others c.args.number own.current shared c.args.thread.now s c.in-Some.activation shares h c.in-Some.is steady in
     let executed = c.in-Ok-Did.ensures.done others own.current shared s b.task b.rest (executes p w old others c.args.number own.current shared c.args.thread.now s c.in-Some.activation shares h c.in-Some.is steady free) in
-    let goes = subst (λ (x : Executed). Executes p w old c.execute.new.store others c.args.number own.current shared s b.rest c.execute.new.activation c.execute.new.pending (effect_of (sight_of shared s) b.task) x) c.in-Ok-Did.field-0-is executed in
+    let goes = subst (λ (x : Executed). Executes p w old c.execute.new.store others c.args.number c.args.number own.current shared s b.rest c.execute.new.activation c.execute.new.pending (effect_of (sight_of shared s) b.task) x) c.in-Ok-Did.field-0-is executed in
     did p w old others c.args.number own shared c.args.thread.now s h c.execute.new.store false c.in-Ok-Did.event b.task b.rest steady.alone b.is c.execute.new.activation c.execute.new.pending goes
 
 pub returns-in-Ok-Refused-clause-advances : goal.returns-in-Ok-Refused-clause-advances
@@ -57,7 +57,7 @@ returns-in-Ok-Refused-clause-advances c others own shared s shares h steady free
     let old = c.args.store.now in
     let b = work p w old others c.args.number own.current shared c.args.thread.now s c.in-Some.activation shares h c.in-Some.is steady in
     let executed = c.in-Ok-Refused.ensures.done others own.current shared s b.task b.rest (executes p w old others c.args.number own.current shared c.args.thread.now s c.in-Some.activation shares h c.in-Some.is steady free) in
-    let goes = subst (λ (x : Executed). Executes p w old c.execute.new.store others c.args.number own.current shared s b.rest c.execute.new.activation c.execute.new.pending (effect_of (sight_of shared s) b.task) x) c.in-Ok-Refused.field-0-is executed in
+    let goes = subst (λ (x : Executed). Executes p w old c.execute.new.store others c.args.number c.args.number own.current shared s b.rest c.execute.new.activation c.execute.new.pending (effect_of (sight_of shared s) b.task) x) c.in-Ok-Refused.field-0-is executed in
     did p w old others c.args.number own shared c.args.thread.now s h c.execute.new.store true Quiet b.task b.rest steady.alone b.is c.execute.new.activation c.execute.new.pending goes
 
 -- an address with a name is that of a block
@@ -79,7 +79,7 @@ leave-requires c a is =
     let k = c.args.number in
     let b = work p w old r.0 k r.1.current r.2 c.args.thread.now r.3 c.in-Some.activation r.4 r.5 c.in-Some.is r.7 in
     let executed = c.in-Ok-Returned.ensures.done r.0 r.1.current r.2 r.3 b.task b.rest (executes p w old r.0 k r.1.current r.2 c.args.thread.now r.3 c.in-Some.activation r.4 r.5 c.in-Some.is r.7 r.8) in
-    let left = subst (λ (x : Executed). Executes p w old c.execute.new.store r.0 k r.1.current r.2 r.3 b.rest c.execute.new.activation c.execute.new.pending (effect_of (sight_of r.2 r.3) b.task) x) c.in-Ok-Returned.field-0-is executed in
+    let left = subst (λ (x : Executed). Executes p w old c.execute.new.store r.0 k k r.1.current r.2 r.3 b.rest c.execute.new.activation c.execute.new.pending (effect_of (sight_of r.2 r.3) b.task) x) c.in-Ok-Returned.field-0-is executed in
     named c.execute.new.store.heap c.execute.new.pending r.3.pending a left.3 is
 
 pub returns-in-Ok-Returned-clause-advances : goal.returns-in-Ok-Returned-clause-advances
@@ -89,7 +89,7 @@ returns-in-Ok-Returned-clause-advances c others own shared s shares h steady fre
     let old = c.args.store.now in
     let b = work p w old others c.args.number own.current shared c.args.thread.now s c.in-Some.activation shares h c.in-Some.is steady in
     let executed = c.in-Ok-Returned.ensures.done others own.current shared s b.task b.rest (executes p w old others c.args.number own.current shared c.args.thread.now s c.in-Some.activation shares h c.in-Some.is steady free) in
-    let left = subst (λ (x : Executed). Executes p w old c.execute.new.store others c.args.number own.current shared s b.rest c.execute.new.activation c.execute.new.pending (effect_of (sight_of shared s) b.task) x) c.in-Ok-Returned.field-0-is executed in
+    let left = subst (λ (x : Executed). Executes p w old c.execute.new.store others c.args.number c.args.number own.current shared s b.rest c.execute.new.activation c.execute.new.pending (effect_of (sight_of shared s) b.task) x) c.in-Ok-Returned.field-0-is executed in
     returned p w old others c.args.number own shared c.args.thread.now s h c.execute.new.store c.leave.new.store c.execute.new.pending c.leave.new.thread b.task b.rest steady.alone b.is left.1 left.2 (steady.return left.0.0 (ap (next_effect shared s) b.is ∙ left.0.1)) left.3 c.requires.agrees.6 left.0 c.leave.ensures.call c.leave.ensures.pending c.leave.ensures.calls c.leave.ensures.ending c.leave.ensures.monitors
 
 pub returns-in-Err-clause-hindered : goal.returns-in-Err-clause-hindered

@@ -67,7 +67,7 @@ run_plain-requires-clause-leads c way stack numbers is =
     let e = would_execute p a.0 store a.1 a.2 a.3.current a.4 t a.5 call a.6.0 a.6.1 c.in-Some.is a.6.2 in
     reachable f.code.instrs call.place way (length stack) c.instr_at-instr.ensures.few
     (leads p a.0.classes store.heap store.elements a.2 call f.code (visible_to a.3.current a.4 a.5) a.5.frames it.task it.rest
-    (ready_for p a.0 (store_unowned store) call i f t.pending a.1 a.2 a.3.current (unowned a.4) a.5 it.task it.rest e) i f.at way stack numbers is)
+    (ready_for p a.0 (store_unowned store) call i f t.pending a.1 a.2 a.2 a.3.current (unowned a.4) a.5 it.task it.rest e) i f.at way stack numbers is)
 
 pub returns-in_default : goal.returns-in_default
 returns-in_default c = record {
@@ -85,7 +85,7 @@ returns-in_default c = record {
       let m = c.run_plain.ensures in (
         free,
         did p w store others k own shared t s stands.1 store false c.run_plain.result it.task it.rest stands.2.alone it.is c.run_plain.new.activation t.pending
-            (plain_executes p w store others k own.current shared s e.store_agrees t.pending e.pending_agrees call f.code it.task it.rest (ready_for p w store call i f t.pending others k own.current shared s it.task it.rest e) e.tasks e.views e.steady i f.at
+            (plain_executes p w store others k k own.current shared s e.store_agrees t.pending e.pending_agrees call f.code it.task it.rest (ready_for p w store call i f t.pending others k k own.current shared s it.task it.rest e) e.tasks e.views e.steady i f.at
             c.run_plain.new.activation c.run_plain.result m.way m.stack m.numbers m.is m.moved m.way_seen),
       );
   none = tt;

@@ -36,37 +36,43 @@ module _ (w : World) (store : Store) (pending : Option ℕ) (call : Activation) 
 
 pub check-requires-clause-objects : goal.check-requires-clause-objects
 check-requires-clause-objects c =
-    let a = c.requires.at_call in
-    addresses_seen a.0 c.args.world.now c.args.store.now c.args.pending c.args.activation.now c.args.call.now a.1 c.args.thread a.2 a.3 a.4 a.5 a.6 a.7 c.args.store.now.monitors (scene_view c.scene_of-scene.result) c.scene_of-scene.ensures.scene
+    let at = c.requires.at_call in
+    let a = at.1 in
+    addresses_seen a.0 c.args.world.now c.args.store.now c.args.pending c.args.activation.now c.args.call.now a.1 c.args.thread at.0 a.2 a.3 a.4 a.5 a.6 a.7 c.args.store.now.monitors (scene_view c.scene_of-scene.result) c.scene_of-scene.ensures.scene
 
 pub check-requires-clause-handles : goal.check-requires-clause-handles
 check-requires-clause-handles c =
-    let a = c.requires.at_call in
-    handles_seen a.0 c.args.world.now c.args.store.now c.args.pending c.args.activation.now c.args.call.now a.1 c.args.thread a.2 a.3 a.4 a.5 a.6 a.7 c.args.store.now.monitors (scene_view c.scene_of-scene.result) c.scene_of-scene.ensures.scene
+    let at = c.requires.at_call in
+    let a = at.1 in
+    handles_seen a.0 c.args.world.now c.args.store.now c.args.pending c.args.activation.now c.args.call.now a.1 c.args.thread at.0 a.2 a.3 a.4 a.5 a.6 a.7 c.args.store.now.monitors (scene_view c.scene_of-scene.result) c.scene_of-scene.ensures.scene
 
 pub returns-in-Some-clause-trap : goal.returns-in-Some-clause-trap
 returns-in-Some-clause-trap c = inl (told c.args.world.now c.args.store.now c.args.pending c.args.activation.now c.args.thread c.args.call.now (scene_view c.scene_of-scene.result) c.scene_of-scene.ensures.scene c.check.result _ c.check.ensures c.in-Some.is)
 
 pub work_out-requires-clause-loaded : goal.work_out-requires-clause-loaded
 work_out-requires-clause-loaded c =
-    let a = c.requires.at_call in
-    loaded_seen a.0 c.args.world.now c.args.store.now c.args.pending c.args.activation.now c.args.call.now a.1 c.args.thread a.2 a.3 a.4 a.5 a.6 a.7 c.args.store.now.monitors (scene_view c.scene_of-scene.result) c.scene_of-scene.ensures.scene
+    let at = c.requires.at_call in
+    let a = at.1 in
+    loaded_seen a.0 c.args.world.now c.args.store.now c.args.pending c.args.activation.now c.args.call.now a.1 c.args.thread at.0 a.2 a.3 a.4 a.5 a.6 a.7 c.args.store.now.monitors (scene_view c.scene_of-scene.result) c.scene_of-scene.ensures.scene
 
 pub work_out-requires-clause-objects : goal.work_out-requires-clause-objects
 work_out-requires-clause-objects c =
-    let a = c.requires.at_call in
-    addresses_seen a.0 c.args.world.now c.args.store.now c.args.pending c.args.activation.now c.args.call.now a.1 c.args.thread a.2 a.3 a.4 a.5 a.6 a.7 c.args.store.now.monitors (scene_view c.scene_of-scene.result) c.scene_of-scene.ensures.scene
+    let at = c.requires.at_call in
+    let a = at.1 in
+    addresses_seen a.0 c.args.world.now c.args.store.now c.args.pending c.args.activation.now c.args.call.now a.1 c.args.thread at.0 a.2 a.3 a.4 a.5 a.6 a.7 c.args.store.now.monitors (scene_view c.scene_of-scene.result) c.scene_of-scene.ensures.scene
 
 pub work_out-requires-clause-handles : goal.work_out-requires-clause-handles
 work_out-requires-clause-handles c =
-    let a = c.requires.at_call in
-    handles_seen a.0 c.args.world.now c.args.store.now c.args.pending c.args.activation.now c.args.call.now a.1 c.args.thread a.2 a.3 a.4 a.5 a.6 a.7 c.args.store.now.monitors (scene_view c.scene_of-scene.result) c.scene_of-scene.ensures.scene
+    let at = c.requires.at_call in
+    let a = at.1 in
+    handles_seen a.0 c.args.world.now c.args.store.now c.args.pending c.args.activation.now c.args.call.now a.1 c.args.thread at.0 a.2 a.3 a.4 a.5 a.6 a.7 c.args.store.now.monitors (scene_view c.scene_of-scene.result) c.scene_of-scene.ensures.scene
 
 pub work_out-requires-clause-passed : goal.work_out-requires-clause-passed
 work_out-requires-clause-passed c =
-    let a = c.requires.at_call in
-    let found = trap_seen a.0 c.args.world.now c.args.store.now c.args.pending c.args.activation.now c.args.call.now a.1 c.args.thread a.2 a.3 a.4 a.5 a.6 a.7 c.args.store.now.monitors (scene_view c.scene_of-scene.result) c.scene_of-scene.ensures.scene in
-    passed_seen a.0 c.args.world.now c.args.store.now c.args.pending c.args.activation.now c.args.call.now a.1 c.args.thread a.2 a.3 a.4 a.5 a.6 a.7 c.args.store.now.monitors (scene_view c.scene_of-scene.result) c.scene_of-scene.ensures.scene
+    let at = c.requires.at_call in
+    let a = at.1 in
+    let found = trap_seen a.0 c.args.world.now c.args.store.now c.args.pending c.args.activation.now c.args.call.now a.1 c.args.thread at.0 a.2 a.3 a.4 a.5 a.6 a.7 c.args.store.now.monitors (scene_view c.scene_of-scene.result) c.scene_of-scene.ensures.scene in
+    passed_seen a.0 c.args.world.now c.args.store.now c.args.pending c.args.activation.now c.args.call.now a.1 c.args.thread at.0 a.2 a.3 a.4 a.5 a.6 a.7 c.args.store.now.monitors (scene_view c.scene_of-scene.result) c.scene_of-scene.ensures.scene
     (sym found ∙ sym c.check.ensures ∙ ap (option_map trap_view) c.in-None.is)
 
 -- what was worked out is handed on

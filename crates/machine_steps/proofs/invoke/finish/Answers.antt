@@ -48,29 +48,29 @@ use Rattle.machine_steps.proofs.CallInstructions.{goes_on}
 use Rattle.machine_steps.proofs.invoke.finish.Goals as goal
 
 -- the machine is at a call that no check stops
-module _ (p : Lowered) (w : World) (store : Store) (pending : Option ℕ) (call : Activation) (function : Call) (others : Acquired) (k : ℕ) (own : Owners) (shared : Shared) (s : Thread) (task : Task) (rest : List Task) (h : AtCall p w store pending call function others k own shared s task rest) (answer : Answer) (given : IsAnswered w store pending call k function answer) where
+module _ (p : Lowered) (w : World) (store : Store) (pending : Option ℕ) (call : Activation) (function : Call) (others : Acquired) (k owner : ℕ) (own : Owners) (shared : Shared) (s : Thread) (task : Task) (rest : List Task) (h : AtCall p w store pending call function others k owner own shared s task rest) (answer : Answer) (given : IsAnswered w store pending call k function answer) where
   abbrev effect : CallEffect
-  effect = does p w store pending call function others k own shared s task rest h answer given
+  effect = does p w store pending call function others k owner own shared s task rest h answer given
 
   -- the kind of its result
   module _ (kind : ResultKind) (same : kind ≡ (prototype (function_value function.function)).result) where
     -- the local array that the call names
     abbrev named : Option (Identifier × LocalArray)
-    named = array_given (call_view function).operands (it p w store pending call function others k own shared s task rest h answer given).args
+    named = array_given (call_view function).operands (it p w store pending call function others k owner own shared s task rest h answer given).args
 
     -- what was carried out
-    module _ (refused : Bool) (after : Store) (exception : Option ℕ) (locals : LocalTable) (g : Given) (carried : CarriesOut p w store.heap call.locals answer kind others k shared s effect refused after exception locals g) where
+    module _ (refused : Bool) (after : Store) (exception : Option ℕ) (locals : LocalTable) (g : Given) (carried : CarriesOut p w store.heap call.locals answer kind others owner shared s effect refused after exception locals g) where
       static_there : (statics : List StaticReference) → statics ≡ after.statics.items → HasStatic function.target (length statics)
       static_there statics same_statics =
           subst (λ (l : List StaticReference). HasStatic function.target (length l)) (sym same_statics)
-          (has_static p w store pending call function others k own shared s task rest h (length after.statics.items)
+          (has_static p w store pending call function others k owner own shared s task rest h (length after.statics.items)
           (shared_long p w store shared _ h.shares ∙ sym (statics_long p w after (shared_after w.classes refused shared effect) _ carried.store_agrees)))
 
-      carried_as : CarriesOut p w store.heap call.locals answer (prototype (it p w store pending call function others k own shared s task rest h answer given).f).result others k shared s effect refused after exception locals g
-      carried_as = subst (λ (x : ResultKind). CarriesOut p w store.heap call.locals answer x others k shared s effect refused after exception locals g) (kind_is p w store pending call function others k own shared s task rest h answer given kind same) carried
+      carried_as : CarriesOut p w store.heap call.locals answer (prototype (it p w store pending call function others k owner own shared s task rest h answer given).f).result others owner shared s effect refused after exception locals g
+      carried_as = subst (λ (x : ResultKind). CarriesOut p w store.heap call.locals answer x others owner shared s effect refused after exception locals g) (kind_is p w store pending call function others k owner own shared s task rest h answer given kind same) carried
 
       room_there : HasRoom kind locals
-      room_there = subst (λ (x : ResultKind). HasRoom x locals) (sym (kind_is p w store pending call function others k own shared s task rest h answer given kind same)) (room_after p w store pending call function others k own shared s task rest h (free p w store pending call function others k own shared s task rest h answer given) refused after exception locals g answer carried_as)
+      room_there = subst (λ (x : ResultKind). HasRoom x locals) (sym (kind_is p w store pending call function others k owner own shared s task rest h answer given kind same)) (room_after p w store pending call function others k owner own shared s task rest h (free p w store pending call function others k owner own shared s task rest h answer given) refused after exception locals g answer carried_as)
 
 -- as many slots are left
 numbers_long : (space : Space) (answer : Answer) (numbers : List ℕ) → length (slots_after space answer numbers) ≡ length numbers
@@ -91,13 +91,13 @@ carry_out-requires-clause-possible c =
     let w = c.args.world.now in
     let kind = result_value c.args.call.now.result in (
       a.0,
-      named a.0 w c.args.store.now c.args.pending.now c.args.activation.now c.args.call.now a.1 c.args.thread a.2 a.3 a.4 a.5 a.6 a.7 c.args.answer c.requires.answered kind c.requires.prepared.result,
+      named a.0 w c.args.store.now c.args.pending.now c.args.activation.now c.args.call.now a.1 c.args.thread c.args.owner a.2 a.3 a.4 a.5 a.6 a.7 c.args.answer c.requires.answered kind c.requires.prepared.result,
       a.1,
       a.3,
       a.4,
-      effect a.0 w c.args.store.now c.args.pending.now c.args.activation.now c.args.call.now a.1 c.args.thread a.2 a.3 a.4 a.5 a.6 a.7 c.args.answer c.requires.answered,
-      can_carry a.0 w c.args.store.now c.args.pending.now c.args.activation.now c.args.call.now a.1 c.args.thread a.2 a.3 a.4 a.5 a.6 a.7 c.args.answer c.requires.answered kind c.requires.prepared.result,
-      answered a.0 w c.args.store.now c.args.pending.now c.args.activation.now c.args.call.now a.1 c.args.thread a.2 a.3 a.4 a.5 a.6 a.7 c.args.answer c.requires.answered kind c.requires.prepared.result,
+      effect a.0 w c.args.store.now c.args.pending.now c.args.activation.now c.args.call.now a.1 c.args.thread c.args.owner a.2 a.3 a.4 a.5 a.6 a.7 c.args.answer c.requires.answered,
+      can_carry a.0 w c.args.store.now c.args.pending.now c.args.activation.now c.args.call.now a.1 c.args.thread c.args.owner a.2 a.3 a.4 a.5 a.6 a.7 c.args.answer c.requires.answered kind c.requires.prepared.result,
+      answered a.0 w c.args.store.now c.args.pending.now c.args.activation.now c.args.call.now a.1 c.args.thread c.args.owner a.2 a.3 a.4 a.5 a.6 a.7 c.args.answer c.requires.answered kind c.requires.prepared.result,
     )
 
 target_left : (target : Target) (numbers references fields buffers numbers' references' fields' buffers' : ℕ) → numbers' ≡ numbers → references' ≡ references → fields' ≡ fields → buffers' ≡ buffers
@@ -115,7 +115,7 @@ receive-requires-clause-target c =
     (ap (λ (t : Activation). length t.slots.references.items) told.stays)
     (ap (λ (t : Activation). length t.slots.fields.items) told.stays)
     (ap length told.buffer_slots ∙ buffers_long c.args.answer activation.slots.buffers.items)
-    (has_target a.0 c.args.world.now c.args.store.now c.args.pending.now activation c.args.call.now a.1 c.args.thread a.2 a.3 a.4 a.5 a.6 a.7)
+    (has_target a.0 c.args.world.now c.args.store.now c.args.pending.now activation c.args.call.now a.1 c.args.thread c.args.owner a.2 a.3 a.4 a.5 a.6 a.7)
 
 pub receive-requires-clause-told : goal.receive-requires-clause-told
 receive-requires-clause-told c =
@@ -124,7 +124,7 @@ receive-requires-clause-told c =
     subst (λ (o : Option ℕ). HasTold o (length c.carry_out.new.activation.slots.numbers.items)) (sym c.told_slot.ensures)
     (subst (HasTold (told_slot (slice_get c.args.call.now.operands.items 1)))
     (sym (ap length c.in-Ok.ensures.slots ∙ numbers_long c.args.store.now.heap c.args.answer activation.slots.numbers.items))
-    (has_told a.0 c.args.world.now c.args.store.now c.args.pending.now activation c.args.call.now a.1 c.args.thread a.2 a.3 a.4 a.5 a.6 a.7))
+    (has_told a.0 c.args.world.now c.args.store.now c.args.pending.now activation c.args.call.now a.1 c.args.thread c.args.owner a.2 a.3 a.4 a.5 a.6 a.7))
 
 pub receive-requires-clause-static_target : goal.receive-requires-clause-static_target
 receive-requires-clause-static_target c =
@@ -132,9 +132,9 @@ receive-requires-clause-static_target c =
     let w = c.args.world.now in
     let kind = result_value c.args.call.now.result in
     let same = c.requires.prepared.result in
-    static_there a.0 w c.args.store.now c.args.pending.now c.args.activation.now c.args.call.now a.1 c.args.thread a.2 a.3 a.4 a.5 a.6 a.7 c.args.answer c.requires.answered kind same c.in-Ok.carried.refused c.carry_out.new.store c.carry_out.new.pending c.carry_out.new.activation.locals c.in-Ok.carried.given
-    (c.in-Ok.ensures.carried a.0 (named a.0 w c.args.store.now c.args.pending.now c.args.activation.now c.args.call.now a.1 c.args.thread a.2 a.3 a.4 a.5 a.6 a.7 c.args.answer c.requires.answered kind same) a.1 a.3 a.4 _ (can_carry a.0 w c.args.store.now c.args.pending.now c.args.activation.now c.args.call.now a.1 c.args.thread a.2 a.3 a.4 a.5 a.6 a.7 c.args.answer c.requires.answered kind same)
-    (answered a.0 w c.args.store.now c.args.pending.now c.args.activation.now c.args.call.now a.1 c.args.thread a.2 a.3 a.4 a.5 a.6 a.7 c.args.answer c.requires.answered kind same))
+    static_there a.0 w c.args.store.now c.args.pending.now c.args.activation.now c.args.call.now a.1 c.args.thread c.args.owner a.2 a.3 a.4 a.5 a.6 a.7 c.args.answer c.requires.answered kind same c.in-Ok.carried.refused c.carry_out.new.store c.carry_out.new.pending c.carry_out.new.activation.locals c.in-Ok.carried.given
+    (c.in-Ok.ensures.carried a.0 (named a.0 w c.args.store.now c.args.pending.now c.args.activation.now c.args.call.now a.1 c.args.thread c.args.owner a.2 a.3 a.4 a.5 a.6 a.7 c.args.answer c.requires.answered kind same) a.1 a.3 a.4 _ (can_carry a.0 w c.args.store.now c.args.pending.now c.args.activation.now c.args.call.now a.1 c.args.thread c.args.owner a.2 a.3 a.4 a.5 a.6 a.7 c.args.answer c.requires.answered kind same)
+    (answered a.0 w c.args.store.now c.args.pending.now c.args.activation.now c.args.call.now a.1 c.args.thread c.args.owner a.2 a.3 a.4 a.5 a.6 a.7 c.args.answer c.requires.answered kind same))
     c.deref_mut.result.now c.deref_mut.ensures.value
 
 pub receive-requires-clause-room : goal.receive-requires-clause-room
@@ -143,9 +143,9 @@ receive-requires-clause-room c =
     let w = c.args.world.now in
     let kind = result_value c.args.call.now.result in
     let same = c.requires.prepared.result in
-    room_there a.0 w c.args.store.now c.args.pending.now c.args.activation.now c.args.call.now a.1 c.args.thread a.2 a.3 a.4 a.5 a.6 a.7 c.args.answer c.requires.answered kind same c.in-Ok.carried.refused c.carry_out.new.store c.carry_out.new.pending c.carry_out.new.activation.locals c.in-Ok.carried.given
-    (c.in-Ok.ensures.carried a.0 (named a.0 w c.args.store.now c.args.pending.now c.args.activation.now c.args.call.now a.1 c.args.thread a.2 a.3 a.4 a.5 a.6 a.7 c.args.answer c.requires.answered kind same) a.1 a.3 a.4 _ (can_carry a.0 w c.args.store.now c.args.pending.now c.args.activation.now c.args.call.now a.1 c.args.thread a.2 a.3 a.4 a.5 a.6 a.7 c.args.answer c.requires.answered kind same)
-    (answered a.0 w c.args.store.now c.args.pending.now c.args.activation.now c.args.call.now a.1 c.args.thread a.2 a.3 a.4 a.5 a.6 a.7 c.args.answer c.requires.answered kind same))
+    room_there a.0 w c.args.store.now c.args.pending.now c.args.activation.now c.args.call.now a.1 c.args.thread c.args.owner a.2 a.3 a.4 a.5 a.6 a.7 c.args.answer c.requires.answered kind same c.in-Ok.carried.refused c.carry_out.new.store c.carry_out.new.pending c.carry_out.new.activation.locals c.in-Ok.carried.given
+    (c.in-Ok.ensures.carried a.0 (named a.0 w c.args.store.now c.args.pending.now c.args.activation.now c.args.call.now a.1 c.args.thread c.args.owner a.2 a.3 a.4 a.5 a.6 a.7 c.args.answer c.requires.answered kind same) a.1 a.3 a.4 _ (can_carry a.0 w c.args.store.now c.args.pending.now c.args.activation.now c.args.call.now a.1 c.args.thread c.args.owner a.2 a.3 a.4 a.5 a.6 a.7 c.args.answer c.requires.answered kind same)
+    (answered a.0 w c.args.store.now c.args.pending.now c.args.activation.now c.args.call.now a.1 c.args.thread c.args.owner a.2 a.3 a.4 a.5 a.6 a.7 c.args.answer c.requires.answered kind same))
 
 -- it was refused
 was_refused : (refused : Bool) (x : Invoked) → x ≡ done_or_refused refused → x ≡ invoked.Refused → refused ≡ true
@@ -159,18 +159,18 @@ returns-in-Ok-clause-refused c is =
     let store = c.args.store.now in
     let kind = result_value c.args.call.now.result in
     let same = c.requires.prepared.result in
-    let does = effect a.0 w store c.args.pending.now c.args.activation.now c.args.call.now a.1 c.args.thread a.2 a.3 a.4 a.5 a.6 a.7 c.args.answer c.requires.answered in
-    let answer = answered a.0 w store c.args.pending.now c.args.activation.now c.args.call.now a.1 c.args.thread a.2 a.3 a.4 a.5 a.6 a.7 c.args.answer c.requires.answered kind same in
-    let carried = c.in-Ok.ensures.carried a.0 (named a.0 w store c.args.pending.now c.args.activation.now c.args.call.now a.1 c.args.thread a.2 a.3 a.4 a.5 a.6 a.7 c.args.answer c.requires.answered kind same) a.1 a.3 a.4 does (can_carry a.0 w store c.args.pending.now c.args.activation.now c.args.call.now a.1 c.args.thread a.2 a.3 a.4 a.5 a.6 a.7 c.args.answer c.requires.answered kind same) answer in
+    let does = effect a.0 w store c.args.pending.now c.args.activation.now c.args.call.now a.1 c.args.thread c.args.owner a.2 a.3 a.4 a.5 a.6 a.7 c.args.answer c.requires.answered in
+    let answer = answered a.0 w store c.args.pending.now c.args.activation.now c.args.call.now a.1 c.args.thread c.args.owner a.2 a.3 a.4 a.5 a.6 a.7 c.args.answer c.requires.answered kind same in
+    let carried = c.in-Ok.ensures.carried a.0 (named a.0 w store c.args.pending.now c.args.activation.now c.args.call.now a.1 c.args.thread c.args.owner a.2 a.3 a.4 a.5 a.6 a.7 c.args.answer c.requires.answered kind same) a.1 a.3 a.4 does (can_carry a.0 w store c.args.pending.now c.args.activation.now c.args.call.now a.1 c.args.thread c.args.owner a.2 a.3 a.4 a.5 a.6 a.7 c.args.answer c.requires.answered kind same) answer in
     let refused = was_refused c.in-Ok.carried.refused c.done_or_refused.result c.done_or_refused.ensures (cc (is)) in
     let short = subst (λ (b : Bool). GoesByRoom b (sizes (made_by w.classes does)) store.heap c.carry_out.new.store.heap) refused carried.room in
-    omega (arith, short.0, cells_made w.classes (brings a.0 w store c.args.pending.now c.args.activation.now c.args.call.now a.1 c.args.thread a.2 a.3 a.4 a.5 a.6 a.7 c.args.answer c.requires.answered) store.heap c.args.activation.now.locals kind a.3 a.4 c.args.answer does answer)
+    omega (arith, short.0, cells_made w.classes (brings a.0 w store c.args.pending.now c.args.activation.now c.args.call.now a.1 c.args.thread c.args.owner a.2 a.3 a.4 a.5 a.6 a.7 c.args.answer c.requires.answered) store.heap c.args.activation.now.locals kind a.3 a.4 c.args.answer does answer)
 
 -- what a call came to, by whether its allocation was refused
-executes : (p : Lowered) (w : World) (old store : Store) (others : Acquired) (k : ℕ) (own : Owners) (shared : Shared) (s : Thread) (rest : List Task) (call : Activation) (pending : Option ℕ) (e : Effect) (line : ℕ) (refused : Bool)
-    → GoesOn p w old store others k own shared s rest call pending e refused Quiet → Executes p w old store others k own shared s rest call pending e (executed_as line (done_or_refused refused))
-executes p w old store others k own shared s rest call pending e line true h = h
-executes p w old store others k own shared s rest call pending e line false h = h
+executes : (p : Lowered) (w : World) (old store : Store) (others : Acquired) (k owner : ℕ) (own : Owners) (shared : Shared) (s : Thread) (rest : List Task) (call : Activation) (pending : Option ℕ) (e : Effect) (line : ℕ) (refused : Bool)
+    → GoesOn p w old store others k owner own shared s rest call pending e refused Quiet → Executes p w old store others k owner own shared s rest call pending e (executed_as line (done_or_refused refused))
+executes p w old store others k owner own shared s rest call pending e line true h = h
+executes p w old store others k owner own shared s rest call pending e line false h = h
 
 pub returns-in-Ok-clause-done : goal.returns-in-Ok-clause-done
 returns-in-Ok-clause-done c p others own shared s task rest h =
@@ -180,24 +180,25 @@ returns-in-Ok-clause-done c p others own shared s task rest h =
     let activation = c.args.activation.now in
     let call = c.args.call.now in
     let k = c.args.thread in
+    let owner = c.args.owner in
     let kind = result_value call.result in
     let same = c.requires.prepared.result in
     let refused = c.in-Ok.carried.refused in
     let g = c.in-Ok.carried.given in
-    let is = kind_is p w store pending activation call others k own shared s task rest h c.args.answer c.requires.answered kind same in
-    let does = effect p w store pending activation call others k own shared s task rest h c.args.answer c.requires.answered in
-    let answer = answered p w store pending activation call others k own shared s task rest h c.args.answer c.requires.answered kind same in
-    let carried = c.in-Ok.ensures.carried p (named p w store pending activation call others k own shared s task rest h c.args.answer c.requires.answered kind same) others shared s does (can_carry p w store pending activation call others k own shared s task rest h c.args.answer c.requires.answered kind same) answer in
+    let is = kind_is p w store pending activation call others k owner own shared s task rest h c.args.answer c.requires.answered kind same in
+    let does = effect p w store pending activation call others k owner own shared s task rest h c.args.answer c.requires.answered in
+    let answer = answered p w store pending activation call others k owner own shared s task rest h c.args.answer c.requires.answered kind same in
+    let carried = c.in-Ok.ensures.carried p (named p w store pending activation call others k owner own shared s task rest h c.args.answer c.requires.answered kind same) others shared s does (can_carry p w store pending activation call others k owner own shared s task rest h c.args.answer c.requires.answered kind same) answer in
     let left = c.carry_out.new.activation in
     let after = with_items c.carry_out.new.store.statics c.receive.new.statics in
     let final : Store = record c.carry_out.new.store { statics = after } in
-    subst (λ (done : Executed). Executes p w store final others k own shared s rest c.receive.new.activation c.carry_out.new.pending (effect_of (sight_of shared s) task) done) (ap (executed_as call.line) (sym c.done_or_refused.ensures))
-    (executes p w store final others k own shared s rest c.receive.new.activation c.carry_out.new.pending (effect_of (sight_of shared s) task) call.line refused
-    (goes_on p w store pending activation call others k own shared s task rest h c.args.answer (worked p w store pending activation call others k own shared s task rest h c.args.answer c.requires.answered) c.requires.answered.sound c.requires.runs
-    (free p w store pending activation call others k own shared s task rest h c.args.answer c.requires.answered)
-    (subst (λ (x : ResultKind). IsAnswer w.classes (brings p w store pending activation call others k own shared s task rest h c.args.answer c.requires.answered) store.heap activation.locals x shared s c.args.answer does) is answer)
+    subst (λ (done : Executed). Executes p w store final others k owner own shared s rest c.receive.new.activation c.carry_out.new.pending (effect_of (sight_of shared s) task) done) (ap (executed_as call.line) (sym c.done_or_refused.ensures))
+    (executes p w store final others k owner own shared s rest c.receive.new.activation c.carry_out.new.pending (effect_of (sight_of shared s) task) call.line refused
+    (goes_on p w store pending activation call others k owner own shared s task rest h c.args.answer (worked p w store pending activation call others k owner own shared s task rest h c.args.answer c.requires.answered) c.requires.answered.sound c.requires.runs
+    (free p w store pending activation call others k owner own shared s task rest h c.args.answer c.requires.answered)
+    (subst (λ (x : ResultKind). IsAnswer w.classes (brings p w store pending activation call others k owner own shared s task rest h c.args.answer c.requires.answered) store.heap activation.locals x shared s c.args.answer does) is answer)
     refused c.carry_out.new.store c.carry_out.new.pending c.carry_out.new.activation.locals g
-    (carried_as p w store pending activation call others k own shared s task rest h c.args.answer c.requires.answered kind same refused c.carry_out.new.store c.carry_out.new.pending c.carry_out.new.activation.locals g carried)
+    (carried_as p w store pending activation call others k owner own shared s task rest h c.args.answer c.requires.answered kind same refused c.carry_out.new.store c.carry_out.new.pending c.carry_out.new.activation.locals g carried)
     c.frames.ensures.stacked c.in-Ok.ensures.copies c.in-Ok.ensures.new_copy
     left.slots.numbers left.slots.buffers c.in-Ok.ensures.slots c.in-Ok.ensures.buffer_slots c.receive.new.activation after
     (subst (λ (x : ResultKind). Receives call.target x (told_slot (slice_get (call_view call).operands 1)) g (record activation { locals = left.locals; slots = record activation.slots { numbers = left.slots.numbers; buffers = left.slots.buffers } }) c.receive.new.activation) is

@@ -14,25 +14,25 @@ use Rattle.machine_steps.proofs.invoke.finish_monitor.Goals as goal
 pub receive_number-requires-clause-target : goal.receive_number-requires-clause-target
 receive_number-requires-clause-target c =
     let at = c.requires.at_call in
-    let a = at.2 in
-    has_target a.0 at.0 c.args.store.now at.1 c.args.activation.now c.args.call.now a.1 c.args.thread a.2 a.3 a.4 a.5 a.6 a.7
+    let a = at.3 in
+    has_target a.0 at.0 c.args.store.now at.1 c.args.activation.now c.args.call.now a.1 c.args.thread at.2 a.2 a.3 a.4 a.5 a.6 a.7
 
 pub returns-clause-done : goal.returns-clause-done
-returns-clause-done c w pending told p others own shared s task rest h =
+returns-clause-done c w pending owner told p others own shared s task rest h =
     let store = c.args.store.now in
     let activation = c.args.activation.now in
     let call = c.args.call.now in
     let k = c.args.thread in
     let a = c.args.answer in
     let changes = c.requires.changes in
-    let same = sym (kind_is p w store pending activation call others k own shared s task rest h a told (prototype (function_value call.function)).result refl) in
-    let kind = (prototype (it p w store pending activation call others k own shared s task rest h a told).f).result in
-    let answer = answered p w store pending activation call others k own shared s task rest h a told kind same in
-    goes_on p w store pending activation call others k own shared s task rest h a (worked p w store pending activation call others k own shared s task rest h a told) told.sound (monitors.goes_on a changes)
-    (free p w store pending activation call others k own shared s task rest h a told)
+    let same = sym (kind_is p w store pending activation call others k owner own shared s task rest h a told (prototype (function_value call.function)).result refl) in
+    let kind = (prototype (it p w store pending activation call others k owner own shared s task rest h a told).f).result in
+    let answer = answered p w store pending activation call others k owner own shared s task rest h a told kind same in
+    goes_on p w store pending activation call others k owner own shared s task rest h a (worked p w store pending activation call others k owner own shared s task rest h a told) told.sound (monitors.goes_on a changes)
+    (free p w store pending activation call others k owner own shared s task rest h a told)
     answer false (record store { monitors = c.change_monitor.new.monitors }) pending activation.locals (given.Number 0)
-    (monitors.carries p w store pending activation.locals kind others k shared s (can_carry p w store pending activation call others k own shared s task rest h a told kind same) (brings p w store pending activation call others k own shared s task rest h a told) refl
-    (does p w store pending activation call others k own shared s task rest h a told) a changes answer c.change_monitor.new.monitors c.in_ok-change_monitor.ensures.changed)
+    (monitors.carries p w store pending activation.locals kind others k owner shared s (can_carry p w store pending activation call others k owner own shared s task rest h a told kind same) (brings p w store pending activation call others k owner own shared s task rest h a told) refl
+    (does p w store pending activation call others k owner own shared s task rest h a told) a changes answer c.change_monitor.new.monitors c.in_ok-change_monitor.ensures.changed)
     c.frames.ensures.stacked (λ key copy at left. at) tt
     activation.slots.numbers activation.slots.buffers (monitors.numbers_stay store.heap a changes activation.slots.numbers.items) (monitors.buffers_stay a changes activation.slots.buffers.items) c.receive_number.new.activation store.statics
     (c.receive_number.ensures kind (told_slot (slice_get (call_view call).operands 1)))

@@ -20,8 +20,9 @@ known P Q R None f p q = tt
 
 pub answer_at_once-requires : goal.answer_at_once-requires
 answer_at_once-requires c =
-    let a = c.requires.at_call in
-    record { objects = addresses_seen a.0 c.args.world.now c.args.store.now c.args.pending c.args.activation.now c.args.call.now a.1 c.args.thread a.2 a.3 a.4 a.5 a.6 a.7 c.args.store.now.monitors (scene_of c.args.world.now.classes c.args.store.now c.args.activation.now c.args.thread c.args.pending) refl }
+    let at = c.requires.at_call in
+    let a = at.1 in
+    record { objects = addresses_seen a.0 c.args.world.now c.args.store.now c.args.pending c.args.activation.now c.args.call.now a.1 c.args.thread at.0 a.2 a.3 a.4 a.5 a.6 a.7 c.args.store.now.monitors (scene_of c.args.world.now.classes c.args.store.now c.args.activation.now c.args.thread c.args.pending) refl }
 
 pub returns-clause-answer : goal.returns-clause-answer
 returns-clause-answer c =

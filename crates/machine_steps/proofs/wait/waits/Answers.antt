@@ -48,6 +48,7 @@ waits_to_enter-requires-clause-may_wait c =
     let f = fetched (goal.at.waits_to_enter-requires-clause-may_wait c).After-instr_at-instr in (
       p,
       a.0,
+      c.args.number,
       a.1.current,
       a.2,
       a.3,
@@ -70,7 +71,7 @@ returns-in-MonitorEnter c others own shared s shares h steady =
     let store = c.args.store.now in
     let it = work p w store others c.args.number own.current shared c.args.thread.now s c.in-Some.activation shares h c.in-Some.is steady in
     let f = fetched (goal.at.returns-in-MonitorEnter c).After-instr_at-instr in
-    c.waits_to_enter.ensures p others own.current shared s it.task it.rest
+    c.waits_to_enter.ensures p others c.args.number own.current shared s it.task it.rest
     (may_wait p w store others c.args.number own.current shared c.args.thread.now s c.in-Some.activation shares h c.in-Some.is steady c.instr_at-instr.result.now f c.call-call.result.now (c.in-Call.is ∙ ap (λ (x : Call). instr.Call x) (sym c.call-call.ensures.view)))
     ∙ waits_by p w store others c.args.number own.current shared c.args.thread.now s c.in-Some.activation shares h c.in-Some.is steady
 
