@@ -61,6 +61,8 @@ use Rattle.machine_threads.specs.SlotsHold.{slots_of, values_in}
 use Rattle.machine_steps.specs.Variables.{is_null, HasSlot, nulled_buffers, nulled_slots, nulled_statics}
 use Rattle.machine_steps.proofs.Acquisitions.{assigned_nothing, assigned_same, copied_there, store_same, taken_by, viewed_there}
 use Rattle.machine_steps.proofs.SlotBuffers.{buffers_count}
+use Rattle.machine_steps.proofs.ReturnedResults.{return_agrees}
+use Rattle.machine_steps.specs.Returned.{given_by}
 use Rattle.machine_steps.proofs.Calls.{does_cases, Ready, holds_with, plain_instr, plain_works, LooksAtSlots, no_return, stands_at, runs, room, leads, depth_behind, fields_count}
 use Rattle.machine_steps.proofs.Changes.{array_of, is_set, is_made, is_element_set}
 use Rattle.machine_scenes.proofs.Keeping.{keeps_same}
@@ -490,13 +492,13 @@ module _ (p : Lowered) (w : World) (store : Store) (others : Acquired) (k owner 
           }
 
   -- a return
-  pub return_executes : IsReturn i → (after : Activation) → Executes p w store store others k owner own shared s rest after pending (effect_of (sight_of shared s) task) Returned
+  pub return_executes : IsReturn i → (after : Activation) → Executes p w store store others k owner own shared s rest after pending (effect_of (sight_of shared s) task) (Returned (given_by i call))
   return_executes is after =
-      other_cases p classes space store.elements owner call code seen s.frames task rest r possible_here i at (λ effect. Executes p w store store others k owner own shared s rest after pending effect Returned) (no_return i is)
+      other_cases p classes space store.elements owner call code seen s.frames task rest r possible_here i at (λ effect. effect_of (sight_of shared s) task ≡ effect → Executes p w store store others k owner own shared s rest after pending effect (Returned (given_by i call))) (no_return i is)
       (λ test tasks h. absurd (no_return_test i is test))
       (λ target h same. absurd (subst IsReturn same is))
       (λ x n z h same. absurd (subst IsReturn same is))
       (λ z h same. absurd (subst IsReturn same is))
       (λ line target f args h same. absurd (subst IsReturn same is))
-      (λ returns given. ((given, refl), shares, refl, pends))
-      (λ test reason line h works. absurd (no_return_test i is test))
+      (λ returns given gives. ((given, refl, return_agrees p classes space store.elements owner call code own shared s task rest r i at given (steady.owned task rest tasks_are) gives), shares, refl, pends))
+      (λ test reason line h works. absurd (no_return_test i is test)) refl

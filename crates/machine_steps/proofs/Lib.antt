@@ -19,6 +19,7 @@ pub mod EffectFrames
 pub mod MonitorEffects
 pub mod KeysLeft
 pub mod OwnedKeys
+pub mod ReturnedResults
 pub mod CopiedArrays
 pub mod AskedCalls
 pub mod SeenCalls

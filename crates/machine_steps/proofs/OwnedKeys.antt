@@ -124,7 +124,7 @@ called sight task line target f args is = absurd (cc)
 -- ---- arguments
 
 -- a reference to an object is the variable's own
-abbrev IsArgumentOwn : Owners → Variables → Actual → Type 0
+abbrev pub IsArgumentOwn : Owners → Variables → Actual → Type 0
 IsArgumentOwn own vs (ReferenceActual x (Live n)) = IsOwn own x (lookup x vs)
 IsArgumentOwn own vs a = Unit {0}
 
@@ -193,7 +193,7 @@ static_some None n e = absurd (cc)
 static_some (Some m) n e = cc
 
 module _ (p : Lowered) (classes : Classes) (space : Space) (copies : List (Option OwnedNumbers)) (owner : ℕ) (call : Activation) (code : Listing) (own : Owners) (shared : Shared) (s : Thread) (task : Task) (rest : List Task) (r : Ready p classes space copies owner call code (visible_to own shared s) s.frames task rest) where
-  owner_of_one : (o : InMemory) (a : Actual) → IsOperand code r.known call.place call.stack (slots_of call r.meant) (visible_to own shared s) o a → IsArgumentOwn own s.variables a → HasOwner r.meant.references r.meant.owners o
+  pub owner_of_one : (o : InMemory) (a : Actual) → IsOperand code r.known call.place call.stack (slots_of call r.meant) (visible_to own shared s) o a → IsArgumentOwn own s.variables a → HasOwner r.meant.references r.meant.owners o
   owner_of_one (operand.Local i) a (x, is, at) owned = λ n found.
       let shown = r.shows.each x (record { sort = Ref; index = i }) at in
       let local = local_by_kind (lookup x s.variables) shown.kind in

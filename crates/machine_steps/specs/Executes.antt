@@ -30,6 +30,7 @@ use Rattle.semantics.specs.declared.event.Event.TheVariants.{Quiet}
 use Rattle.machine_scenes.specs.declared.activation.Activation.{Activation}
 use Rattle.machine_steps.specs.declared.execute.Executed.{Executed}
 use Rattle.machine_steps.specs.declared.execute.Executed.TheVariants.{Did, Refused, Returned}
+use Rattle.machine_steps.specs.Returned.{ReturnAgrees}
 use Rattle.machine_steps.specs.declared.fault.StepFault.{StepFault}
 use Rattle.machine_steps.specs.declared.fault.StepFault.TheVariants.{NoRoom, Memory}
 use Rattle.machine_scenes.specs.declared.store.Store.{Store}
@@ -119,16 +120,16 @@ pub record GoesOn (p : Lowered) (w : World) (old store : Store) (others : Acquir
   pub short : refused ≡ true
       → IsShortOf (cells_made shared (after_effect w.classes (in_use_with others s) k shared s rest effect)) old.heap store.heap
 
--- what an instruction did is the effect of the first of the tasks; a return leaves the store as it was
+-- what an instruction did is the effect of the first of the tasks; a return gives what the source's does, and leaves the store as it was
 abbrev pub Executes : Lowered → World → (old store : Store) → (others : Acquired) → (k owner : ℕ) → Owners → Shared
     → source.Thread → (rest : List Task) → Activation → (pending : Option ℕ) → Effect → Executed → Type 0
 Executes p w old store others k owner own shared s rest activation pending effect (Did event) =
     GoesOn p w old store others k owner own shared s rest activation pending effect false event
 Executes p w old store others k owner own shared s rest activation pending effect Refused =
     GoesOn p w old store others k owner own shared s rest activation pending effect true Quiet
-Executes p w old store others k owner own shared s rest activation pending effect Returned =
-    ((given : CallResult) × (effect ≡ Returns given)) × StoreAgrees p w store shared (beside others (acquired_by s)) × (store ≡ old)
-    × ReferenceAgrees store.heap pending s.pending
+Executes p w old store others k owner own shared s rest activation pending effect (Returned given) =
+    ((result : CallResult) × (effect ≡ Returns result) × ReturnAgrees store.heap given result)
+    × StoreAgrees p w store shared (beside others (acquired_by s)) × (store ≡ old) × ReferenceAgrees store.heap pending s.pending
 
 -- ---- an instruction for any thread of the source
 

@@ -1,6 +1,7 @@
 pub mod Variables
 pub mod Moved
 pub mod BufferElements
+pub mod Returned
 pub mod Executes
 pub mod Received
 pub mod Invoked

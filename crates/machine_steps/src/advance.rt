@@ -80,7 +80,7 @@ pub fn advance(
         ) {
             Ok(Executed::Did(event)) => Ok(Advanced::Did(event)),
             Ok(Executed::Refused) => Ok(Advanced::Refused),
-            Ok(Executed::Returned) => {
+            Ok(Executed::Returned(_)) => {
                 leave(store, thread, number);
                 Ok(Advanced::Did(Event::Quiet))
             }

@@ -8,6 +8,7 @@ ghost use Rattle.code_meaning.specs.Lowered.{IsLowered};
 ghost use Rattle.machine_answers.specs.Asked.{references_of};
 ghost use Rattle.machine_steps.specs.Executes.{DoesFirstTask, IsHinderedExecuting, StandsExecuting};
 ghost use Rattle.machine_steps.specs.Invoked.{executed_as};
+ghost use Rattle.machine_steps.specs.Returned.{given_by, returned_at};
 ghost use Rattle.machine_steps.specs.Moved.{HasMoved, IsReachable, MovesPlainly};
 ghost use Rattle.machine_threads.specs.SlotsHold.{values_in};
 ghost use Rattle.machine_steps.specs.Variables.{is_null, HasSlot, nulled_slots, nulled_statics};
@@ -16,13 +17,14 @@ use crate::buffer_elements::{load_element, store_element};
 use crate::fault::StepFault;
 use crate::invoke::{Invoked, invoke};
 use crate::variable::{is_null, set_null};
-use code::instr::{Instr, NullableVariable, Plain};
+use code::instr::{Instr, NullableVariable, Plain, ReferenceOperand};
 use code::plain::plain;
 use code_meaning::Program;
 use heap::Addr;
+use machine_answers::answer::Given;
 use machine_calls::trap::trap_of;
 use machine_scenes::activation::Activation;
-use machine_scenes::references::References;
+use machine_scenes::references::{References, local_of};
 use machine_scenes::statics::StaticReference;
 use machine_scenes::store::Store;
 use semantics::Event;
@@ -34,7 +36,8 @@ pub enum Executed {
     Did(Event),
     /// A call's allocation was refused.
     Refused,
-    Returned,
+    /// The call returned, and gives this.
+    Returned(Given),
 }
 
 /// One instruction of the call in progress of the thread of this number. What it copies has this owner.
@@ -97,8 +100,36 @@ pub fn execute(
                 Err(fault) => Err(fault),
             }
         }
-        Instr::Return | Instr::ReturnJint | Instr::ReturnReference(_) => Ok(Executed::Returned),
+        Instr::Return | Instr::ReturnJint | Instr::ReturnReference(_) => {
+            Ok(Executed::Returned(given_by(instr, activation)))
+        }
         _ => Ok(Executed::Did(run_plain(instr, activation))),
+    }
+}
+
+/// What an instruction gives that leaves a function (6.8.6.4): the topmost word, a reference, or nothing.
+#[inline(always)]
+fn given_by(instr: &Instr, activation: &Activation) -> Given
+    requires room { IsSome (depth_after instr.now (length activation.now.stack)) }
+    ensures { result ≡ given_by instr.now activation.now }
+{
+    match instr {
+        Instr::ReturnJint => Given::Number(activation.stack.top()),
+        Instr::ReturnReference(operand) => Given::Reference(returned_at(activation, *operand)),
+        _ => Given::Nothing,
+    }
+}
+
+/// The address of what a return names; none of NULL.
+#[inline(always)]
+fn returned_at(activation: &Activation, operand: ReferenceOperand) -> Option<Addr>
+    ensures { result ≡ returned_at activation.now operand }
+{
+    match operand {
+        ReferenceOperand::Null => None,
+        ReferenceOperand::Local(slot) => {
+            local_of(&activation.slots.references, &activation.locals, slot)
+        }
     }
 }
 

@@ -12,10 +12,11 @@ use Rattle.semantics.specs.Effect.{effect_of}
 use Rattle.semantics.specs.Thread.{sight_of}
 use Rattle.code_meaning.specs.Slots.{visible_to}
 use Rattle.code_meaning.specs.Does.{IsReturn}
+use Rattle.machine_answers.specs.declared.answer.Given.{Given}
 use Rattle.machine_scenes.specs.declared.activation.Activation.{Activation}
 use Rattle.semantics.specs.declared.event.Event.TheVariants.{Printed}
 use Rattle.machine_steps.specs.declared.execute.Executed.{Executed}
-use Rattle.machine_steps.specs.declared.execute.Executed.TheVariants.{Did}
+use Rattle.machine_steps.specs.declared.execute.Executed.TheVariants.{Did, Returned}
 use Rattle.machine_steps.specs.Executes.{Executes}
 use Rattle.machine_scenes.specs.Statics.{all_held, held}
 use Rattle.machine_scenes.specs.Statics.{StaticReference}
@@ -186,17 +187,8 @@ returns-in-PutJint-clause-done c others own shared s task rest e =
 pub returns-in-Return-clause-done : goal.returns-in-Return-clause-done
 returns-in-Return-clause-done c others own shared s task rest e =
     let f = fetched (goal.at.returns-in-Return-clause-done c).After-instr_at-instr in
-    return_executes c.args.program.now c.args.world.now c.args.store.now others c.args.thread c.args.owner own shared s e.store_agrees c.args.pending.now e.pending_agrees c.args.activation.now f.code task rest (ready_for c.args.program.now c.args.world.now c.args.store.now c.args.activation.now c.instr_at-instr.result.now f c.args.pending.now others c.args.thread c.args.owner own shared s task rest e) e.tasks e.views e.steady c.instr_at-instr.result.now f.at (returns_is _ c.in-Return.is) c.args.activation.now
-
-pub returns-in-Return-2-clause-done : goal.returns-in-Return-2-clause-done
-returns-in-Return-2-clause-done c others own shared s task rest e =
-    let f = fetched (goal.at.returns-in-Return-2-clause-done c).After-instr_at-instr in
-    return_executes c.args.program.now c.args.world.now c.args.store.now others c.args.thread c.args.owner own shared s e.store_agrees c.args.pending.now e.pending_agrees c.args.activation.now f.code task rest (ready_for c.args.program.now c.args.world.now c.args.store.now c.args.activation.now c.instr_at-instr.result.now f c.args.pending.now others c.args.thread c.args.owner own shared s task rest e) e.tasks e.views e.steady c.instr_at-instr.result.now f.at (returns_is _ c.in-Return.is) c.args.activation.now
-
-pub returns-in-Return-3-clause-done : goal.returns-in-Return-3-clause-done
-returns-in-Return-3-clause-done c others own shared s task rest e =
-    let f = fetched (goal.at.returns-in-Return-3-clause-done c).After-instr_at-instr in
-    return_executes c.args.program.now c.args.world.now c.args.store.now others c.args.thread c.args.owner own shared s e.store_agrees c.args.pending.now e.pending_agrees c.args.activation.now f.code task rest (ready_for c.args.program.now c.args.world.now c.args.store.now c.args.activation.now c.instr_at-instr.result.now f c.args.pending.now others c.args.thread c.args.owner own shared s task rest e) e.tasks e.views e.steady c.instr_at-instr.result.now f.at (returns_is _ c.in-Return.is) c.args.activation.now
+    subst (λ (g : Given). Executes c.args.program.now c.args.world.now c.args.store.now c.args.store.now others c.args.thread c.args.owner own shared s rest c.args.activation.now c.args.pending.now (effect_of (sight_of shared s) task) (Returned g)) (sym c.given_by.ensures)
+    (return_executes c.args.program.now c.args.world.now c.args.store.now others c.args.thread c.args.owner own shared s e.store_agrees c.args.pending.now e.pending_agrees c.args.activation.now f.code task rest (ready_for c.args.program.now c.args.world.now c.args.store.now c.args.activation.now c.instr_at-instr.result.now f c.args.pending.now others c.args.thread c.args.owner own shared s task rest e) e.tasks e.views e.steady c.instr_at-instr.result.now f.at (returns_is _ c.in-Return.is) c.args.activation.now)
 
 pub returns-in-Err-clause-hindered : goal.returns-in-Err-clause-hindered
 returns-in-Err-clause-hindered c others own shared s task rest e =
