@@ -63,7 +63,7 @@ pub record IsTaken (space : Space) (copies : List (Option OwnedNumbers)) (views 
 
 -- ---- buffers in slots
 
--- the buffers in a thread's slots, the copied lists of all threads, and the thread's number, which its lists have
+-- the buffers in a call's slots, the copied lists of all calls, and the owner that this call's lists have
 pub record HeldBuffers : Type 0 where
   pub slots : List Buffer
   pub copies : List (Option OwnedNumbers)
@@ -71,18 +71,18 @@ pub record HeldBuffers : Type 0 where
 
 -- the same, as one writes it
 abbrev pub holding : List Buffer → List (Option OwnedNumbers) → ℕ → HeldBuffers
-holding slots copies k = record { slots = slots; copies = copies; owner = k }
+holding slots copies owner = record { slots = slots; copies = copies; owner = owner }
 
--- a slot of thread k stands for a buffer: the key of a list with its elements, or the address of its object
-abbrev pub BufferAgrees : Space → (copies : List (Option OwnedNumbers)) → (k : ℕ) → Buffer → source.Buffer → Type 0
-BufferAgrees space copies k held.Null NoBuffer = Unit {0}
-BufferAgrees space copies k (held.Copy key) (Copy n zs) = value_at copies key ≡ Some (owned k zs)
-BufferAgrees space copies k (held.View a) (View n) = name_at space a ≡ Some n
-BufferAgrees space copies k h b = ⊥
+-- a slot of the call with this owner stands for a buffer: the key of a list with its elements, or the address of its object
+abbrev pub BufferAgrees : Space → (copies : List (Option OwnedNumbers)) → (owner : ℕ) → Buffer → source.Buffer → Type 0
+BufferAgrees space copies owner held.Null NoBuffer = Unit {0}
+BufferAgrees space copies owner (held.Copy key) (Copy n zs) = value_at copies key ≡ Some (owned owner zs)
+BufferAgrees space copies owner (held.View a) (View n) = name_at space a ≡ Some n
+BufferAgrees space copies owner h b = ⊥
 
 -- slot by slot, and no two slots have one list
-pub record BuffersAgree (space : Space) (copies : List (Option OwnedNumbers)) (k : ℕ) (slots : List Buffer) (buffers : List source.Buffer) : Type 0 where
-  pub agree : AllZip (BufferAgrees space copies k) slots buffers
+pub record BuffersAgree (space : Space) (copies : List (Option OwnedNumbers)) (owner : ℕ) (slots : List Buffer) (buffers : List source.Buffer) : Type 0 where
+  pub agree : AllZip (BufferAgrees space copies owner) slots buffers
   pub apart : (i j key : ℕ) → slice_get slots i ≡ Some (held.Copy key) → slice_get slots j ≡ Some (held.Copy key) → i ≡ j
 
 -- the names of the objects of views in slots
@@ -122,8 +122,8 @@ abbrev pub gives_up : ReleaseMode → Bool
 gives_up mode.CopyBack = false
 gives_up m = true
 
--- ---- the copied lists of threads
+-- ---- the copied lists of calls
 
--- a step of thread k leaves those of others
-abbrev pub KeepsCopies : (k : ℕ) → (before after : List (Option OwnedNumbers)) → Type 0
-KeepsCopies k before after = (key : ℕ) (c : OwnedNumbers) → value_at before key ≡ Some c → c.owner ≢ k → value_at after key ≡ Some c
+-- what a call does whose lists have this owner leaves those of others
+abbrev pub KeepsCopies : (owner : ℕ) → (before after : List (Option OwnedNumbers)) → Type 0
+KeepsCopies owner before after = (key : ℕ) (c : OwnedNumbers) → value_at before key ≡ Some c → c.owner ≢ owner → value_at after key ≡ Some c

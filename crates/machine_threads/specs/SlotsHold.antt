@@ -56,10 +56,11 @@ abbrev pub IsSmallCopy : source.Buffer → Type 0
 IsSmallCopy (source.Copy n zs) = (length zs ≤ most_copied) × AllByRecursion (FitsSigned w32) zs
 IsSmallCopy b = Unit {0}
 
--- the values in the slots of thread k, with this table of local references and these copied lists, stand for these
-pub record SlotsHold (classes : Classes) (space : Space) (copies : List (Option OwnedNumbers)) (k : ℕ)
+-- the values in the slots of a call whose copied lists have this owner, with this table of local references and all copied lists,
+-- stand for these
+pub record SlotsHold (classes : Classes) (space : Space) (copies : List (Option OwnedNumbers)) (owner : ℕ)
     (locals : LocalTable) (slots : SlotValues) (meant : Meant) : Type 0 where
   pub keys : KeysAgree space locals slots.keys meant.references meant.owners
   pub fields : FieldsAgree classes slots.handles meant.fields
-  pub buffers : BuffersAgree space copies k slots.buffers meant.buffers
+  pub buffers : BuffersAgree space copies owner slots.buffers meant.buffers
   pub small : AllByRecursion IsSmallCopy meant.buffers
