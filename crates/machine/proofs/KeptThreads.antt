@@ -79,6 +79,7 @@ module _ (p : Lowered) (classes : Classes) (made k : ℕ) (space space' : Space)
       record {
         calls = h.calls;
         work = work_stays j own s t.call s.frames s.tasks other h.work;
+        callers = h.callers;
         pending = reference_stays space space' keeps.names t.pending s.pending h.pending;
         ending = h.ending;
         busy = h.busy;

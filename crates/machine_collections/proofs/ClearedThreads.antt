@@ -41,6 +41,7 @@ module _ (p : Lowered) (classes : Classes) (space : Space) (copies : List (Optio
   thread_cleared made j own t s h = record {
     calls = h.calls;
     work = work_cleared j own s t.call s.frames s.tasks h.work;
+    callers = h.callers;
     pending = h.pending;
     ending = h.ending;
     busy = h.busy;

@@ -108,6 +108,7 @@ module _ (Kept : ℕ → Type 0) (to : ℕ → ℕ) (p : Lowered) (store : Store
         record {
           calls = (h.0).calls;
           work = work_moved classes k (visible_to (owners k).current shared s) x.call s.frames s.tasks kept.0 own (h.0).work;
+          callers = (h.0).callers;
           pending = reference_moved Kept to store.heap t m x.pending s.pending kept.1 (h.0).pending;
           ending = (h.0).ending;
           busy = (h.0).busy;

@@ -1,4 +1,5 @@
 -- The entry into a call is that of the source's thread.
+use Rattle.std.specs.Global.{Vec}
 use Rattle.std.proofs.Common.{zip, ◌≡◌, ℕ, zero, suc, ◌+◌, ◌-◌, ◌<◌, ◌≤◌, Bool, true, false, List, [], ◌∷◌, ◌++◌, length, filter_map, map, replicate, Option, Some, None, refl, sym, ap, ◌∙◌, subst, arith, append_assoc, length-append, if◌then◌else◌}
 use Rattle.std.specs.Prelude.{slice_get, nat_lt, nat_le, ◌&&◌}
 use Rattle.std.specs.List.{list_all}
@@ -307,8 +308,8 @@ begun p classes space copies k loaded made shared s rest n c call lowered table 
     }
 
 pub enters : (p : Lowered) (w : World) (store : Store) (others : Acquired) (k : ℕ) (own : ThreadOwners) (shared : Shared) (t after : Thread) (s : source.Thread) (n : PendingCall) (call : Activation) → IsLowered p → StoreAgrees p w store shared (beside others (acquired_by s)) → ThreadAgrees p w.classes store.heap store.elements (length (loaded_objects w)) k own.current shared t s
-    → t.call ≡ None → t.calls.items ≡ n ∷ after.calls.items → after.call ≡ Some call → Begins p store.loaded.items n call → after.pending ≡ t.pending → after.ending ≡ t.ending → Advances p w store store others k own shared s after false event.Quiet
-enters p w store others k own shared t after s n call lowered shares h none calls is begins pending ending =
+    → t.call ≡ None → t.calls.items ≡ n ∷ after.calls.items → after.call ≡ Some call → Begins p store.loaded.items n call → after.callers ≡ t.callers → after.pending ≡ t.pending → after.ending ≡ t.ending → Advances p w store store others k own shared s after false event.Quiet
+enters p w store others k own shared t after s n call lowered shares h none calls is begins callers pending ending =
     let classes : Classes = w.classes in
     let space : Space = store.heap in
     let made : ℕ = length (loaded_objects w) in
@@ -331,6 +332,7 @@ enters p w store others k own shared t after s n call lowered shares h none call
       agrees = subst (λ (o : Owners). ThreadAgrees p classes space store.elements made k o shared after next) (sym (ap (λ (o : Option (List Task)). (after_tasks shared s o own source.Quiet next.variables).current) rests)) (record {
         calls = c.agrees;
         work = subst (λ a. WorkAgrees p classes space store.elements k (visible_to now shared next) a next.frames (Some (tasks_of f.function.body))) (sym is) (begun p classes space store.elements k store.loaded.items made shared s c.rest n c.call call lowered shares.table shares.named f begins);
+        callers = ap (λ (v : Vec Activation). v.items) callers ∙ h.callers;
         pending = subst (λ (a : Option ℕ). ReferenceAgrees space a s.pending) (sym pending) h.pending;
         ending = h.ending ∙ ap ending_view (sym ending);
         busy = λ a b d. cc;

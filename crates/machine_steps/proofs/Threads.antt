@@ -1,4 +1,5 @@
 -- A thread's step is that of the source's thread.
+use Rattle.std.specs.Global.{Vec}
 use Rattle.std.proofs.Common.{arith, ◌≡◌, ℕ, Bool, true, false, List, [], ◌∷◌, length, cond, eqb, Option, Some, None, refl, sym, ap, ◌∙◌, subst}
 use Rattle.std.specs.Prelude.{find}
 use Rattle.std.specs.Option.{option_map, option_map_or, option_and_then}
@@ -107,6 +108,7 @@ module _ (p : Lowered) (w : World) (old : Store) (others : Acquired) (k : ℕ) (
         (sym (advanced_owners shared s own alone task rest is (event_view e) g.next.variables)) (record {
           calls = subst (CallsAgree p w.classes (length (loaded_objects w)) t.calls.items) (sym g.calls) h.calls;
           work = g.work;
+          callers = h.callers;
           pending = g.pending_agrees;
           ending = g.ending ∙ h.ending;
           busy = λ a b c. subst (λ (o : Option (List Task)). WorkAgrees p w.classes store.heap store.elements k (visible_to owned g.next_shared g.next) (Some after) g.next.frames o) b g.work;
@@ -212,11 +214,11 @@ rest_left false k old store same = (ap (λ (x : Store). x.heap) same, ap (λ (x 
 
 module _ (p : Lowered) (w : World) (old : Store) (others : Acquired) (k : ℕ) (own : ThreadOwners) (shared : Shared) (t : Thread) (s : source.Thread) (h : ThreadAgrees p w.classes old.heap old.elements (length (loaded_objects w)) k own.current shared t s) where
   pub returned : (store left : Store) (pending : Option ℕ) (after : Thread) (task : Task) (rest : List Task) → s.callers ≡ [] → s.tasks ≡ Some (task ∷ rest) → StoreAgrees p w store shared (beside others (acquired_by s)) → store ≡ old → MayReturn s → ReferenceAgrees store.heap pending s.pending → t.ending ≡ Unfinished
-      → ((given : CallResult) × (effect_of (sight_of shared s) task ≡ Returns given)) → after.call ≡ None → after.pending ≡ None → after.calls.items ≡ calls_after (option_and_then (class_at store.heap) pending) t.calls.items
+      → ((given : CallResult) × (effect_of (sight_of shared s) task ≡ Returns given)) → after.call ≡ None → after.callers ≡ t.callers → after.pending ≡ None → after.calls.items ≡ calls_after (option_and_then (class_at store.heap) pending) t.calls.items
       → after.ending ≡ ending_after (option_and_then (class_at store.heap) pending) t.calls.items t.ending
       → LeavesMonitors (ends_with (option_and_then (class_at store.heap) pending) t.calls.items) k store left
       → Advances p w old left others k own shared s after false event.Quiet
-  returned store left pending after task rest alone tasks shares same may pends o is no_call no_pending calls ending monitors =
+  returned store left pending after task rest alone tasks shares same may pends o is no_call callers no_pending calls ending monitors =
       let class : Option ℕ = option_and_then (class_at store.heap) pending in
       let made : ℕ = length (loaded_objects w) in
       let of : option_map (class_of shared.heap) s.pending ≡ class = class_pending store.heap shared.heap pending s.pending shares.heap.blocks pends in
@@ -232,6 +234,7 @@ module _ (p : Lowered) (w : World) (old : Store) (others : Acquired) (k : ℕ) (
         agrees = record {
           calls = subst (λ (ns : List PendingCall). CallsAgree p w.classes made ns (activation.calls_after (ending_of class s.calls) s.calls)) (sym calls) (calls_left p w.classes made class t.calls.items s.calls h.calls);
           work = subst (λ (c : Option Activation). WorkAgrees p w.classes left.heap left.elements k (visible_to (after_tasks shared s s.tasks own source.Quiet []).current next (idle class s.calls)) c [] None) (sym no_call) refl;
+          callers = ap (λ (v : Vec Activation). v.items) callers ∙ h.callers;
           pending = subst (λ (a : Option ℕ). ReferenceAgrees left.heap a None) (sym no_pending) tt;
           ending = ending_agrees p w.classes made class t.calls.items s.calls t.ending h.calls o ∙ ap ending_view (sym ending);
           busy = λ a b c. something_to_do p w.classes made class t.calls.items s.calls t.ending h.calls (sym ending ∙ a) c;

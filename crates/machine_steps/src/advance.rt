@@ -137,6 +137,7 @@ fn enter(program: &Program<'_>, loaded: &[Addr], thread: &mut Thread) -> Result<
     ensures calls { OnOk result ((next : PendingCall) × (activation : Activation)
         × (thread.old.calls.items ≡ next ∷ thread.new.calls.items)
         × (thread.new.call ≡ Some activation) × Begins program.now loaded.now next activation) }
+    ensures callers { OnOk result (thread.new.callers ≡ thread.old.callers) }
     ensures pending { OnOk result (thread.new.pending ≡ thread.old.pending) }
     ensures ending { OnOk result (thread.new.ending ≡ thread.old.ending) }
     ensures err { OnErr result (thread.new ≡ thread.old) }
@@ -154,6 +155,7 @@ fn enter(program: &Program<'_>, loaded: &[Addr], thread: &mut Thread) -> Result<
 fn leave(store: &mut Store, thread: &mut Thread, number: u8)
     requires { (a : ℕ) → thread.old.pending ≡ Some a → IsAddress store.old.heap a }
     ensures call { thread.new.call ≡ None }
+    ensures callers { thread.new.callers ≡ thread.old.callers }
     ensures pending { thread.new.pending ≡ None }
     ensures calls { thread.new.calls.items
         ≡ calls_after (option_and_then (class_at store.old.heap) thread.old.pending) thread.old.calls.items }
@@ -172,6 +174,7 @@ fn leave(store: &mut Store, thread: &mut Thread, number: u8)
 fn ends(heap: &Heap, thread: &mut Thread) -> bool
     requires { (a : ℕ) → thread.old.pending ≡ Some a → IsAddress heap.now a }
     ensures call { thread.new.call ≡ None }
+    ensures callers { thread.new.callers ≡ thread.old.callers }
     ensures pending { thread.new.pending ≡ None }
     ensures calls { thread.new.calls.items
         ≡ calls_after (option_and_then (class_at heap.now) thread.old.pending) thread.old.calls.items }

@@ -60,6 +60,8 @@ pub record ThreadAgrees (p : Lowered) (classes : Classes) (space : Space) (copie
     (made k : ℕ) (own : Owners) (shared : Shared) (t : Thread) (s : source.Thread) : Type 0 where
   pub calls : CallsAgree p classes made t.calls.items s.calls
   pub work : WorkAgrees p classes space copies k (visible_to own shared s) t.call s.frames s.tasks
+  -- no call makes another yet
+  pub callers : t.callers.items ≡ []
   pub pending : ReferenceAgrees space t.pending s.pending
   pub ending : s.ending ≡ ending_view t.ending
   -- a thread with nothing to do has ended

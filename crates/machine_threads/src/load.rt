@@ -91,6 +91,7 @@ fn load_thread(
     Ok(Thread {
         calls: nexts,
         call: None,
+        callers: Vec::new(alloc),
         pending: None,
         ending: Ending::Unfinished,
     })

@@ -7,10 +7,12 @@ use semantics::Ending;
 use std::collections::VecDeque;
 use world_values::ObjectValue;
 
-/// A thread: the calls that it has still to make, and the call in progress.
+/// A thread: the calls that it has still to make, the call in progress, and those from which it was made.
 pub struct Thread {
     pub calls: VecDeque<PendingCall>,
     pub call: Option<Activation>,
+    /// The calls from which the one in progress was made, the last one last. No call makes another yet.
+    pub callers: Vec<Activation>,
     /// The pending exception.
     pub pending: Option<Addr>,
     pub ending: Ending,
@@ -22,11 +24,13 @@ impl Drop for Thread {
         let Thread {
             calls,
             call,
+            callers,
             pending: _,
             ending: _,
         } = self;
         drop(calls);
         drop(call);
+        drop(callers);
     }
 }
 

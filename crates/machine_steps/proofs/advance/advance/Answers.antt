@@ -38,7 +38,7 @@ pub returns-in_ok-enter-in-None-clause-advances : goal.returns-in_ok-enter-in-No
 returns-in_ok-enter-in-None-clause-advances c others own shared s shares h steady free =
     let e = c.in_ok-enter-in-None.ensures.calls in
     let begins = subst (λ (l : List ℕ). Begins c.args.program.now l e.0 e.1) c.deref.ensures.value e.4 in
-    enters c.args.program.now c.args.world.now c.args.store.now others c.args.number own shared c.args.thread.now c.enter.new.thread s e.0 e.1 c.requires.lowered shares h c.in-None.is e.2 e.3 begins c.in_ok-enter-in-None.ensures.pending c.in_ok-enter-in-None.ensures.ending
+    enters c.args.program.now c.args.world.now c.args.store.now others c.args.number own shared c.args.thread.now c.enter.new.thread s e.0 e.1 c.requires.lowered shares h c.in-None.is e.2 e.3 begins c.in_ok-enter-in-None.ensures.callers c.in_ok-enter-in-None.ensures.pending c.in_ok-enter-in-None.ensures.ending
 
 pub returns-in-Ok-Did-clause-advances : goal.returns-in-Ok-Did-clause-advances
 returns-in-Ok-Did-clause-advances c others own shared s shares h steady free =
@@ -90,7 +90,7 @@ returns-in-Ok-Returned-clause-advances c others own shared s shares h steady fre
     let b = work p w old others c.args.number own.current shared c.args.thread.now s c.in-Some.activation shares h c.in-Some.is steady in
     let executed = c.in-Ok-Returned.ensures.done others own.current shared s b.task b.rest (executes p w old others c.args.number own.current shared c.args.thread.now s c.in-Some.activation shares h c.in-Some.is steady free) in
     let left = subst (λ (x : Executed). Executes p w old c.execute.new.store others c.args.number c.args.number own.current shared s b.rest c.execute.new.activation c.execute.new.pending (effect_of (sight_of shared s) b.task) x) c.in-Ok-Returned.field-0-is executed in
-    returned p w old others c.args.number own shared c.args.thread.now s h c.execute.new.store c.leave.new.store c.execute.new.pending c.leave.new.thread b.task b.rest steady.alone b.is left.1 left.2 (steady.return left.0.0 (ap (next_effect shared s) b.is ∙ left.0.1)) left.3 c.requires.agrees.6 (left.0.0, left.0.1) c.leave.ensures.call c.leave.ensures.pending c.leave.ensures.calls c.leave.ensures.ending c.leave.ensures.monitors
+    returned p w old others c.args.number own shared c.args.thread.now s h c.execute.new.store c.leave.new.store c.execute.new.pending c.leave.new.thread b.task b.rest steady.alone b.is left.1 left.2 (steady.return left.0.0 (ap (next_effect shared s) b.is ∙ left.0.1)) left.3 c.requires.agrees.6 (left.0.0, left.0.1) c.leave.ensures.call c.leave.ensures.callers c.leave.ensures.pending c.leave.ensures.calls c.leave.ensures.ending c.leave.ensures.monitors
 
 pub returns-in-Err-clause-hindered : goal.returns-in-Err-clause-hindered
 returns-in-Err-clause-hindered c others own shared s shares h steady free =
