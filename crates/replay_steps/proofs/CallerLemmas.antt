@@ -1,5 +1,5 @@
 -- A call that goes on in memory is a return into the caller that it stands for.
-use Rattle.std.proofs.Common.{◌≡◌, ℕ, List, [], Option, Some, refl, sym, ap, ◌∙◌, subst, length}
+use Rattle.std.proofs.Common.{◌≡◌, ℕ, List, Option, Some, refl, sym, ap, ◌∙◌, subst, length}
 use Rattle.jni.specs.JniFunction.{prototype}
 use Rattle.jni.specs.Prototype.{ResultKind}
 use Rattle.jni.specs.Table.{function_value}
@@ -9,11 +9,11 @@ use Rattle.semantics.specs.Heap.{Heap}
 use Rattle.semantics.specs.Object.{Reference}
 use Rattle.semantics.specs.Return.{given_back, return_into, resumed_in}
 use Rattle.semantics.specs.Task.{Target, Task}
-use Rattle.semantics.specs.Thread.{Advances, Caller, Frame, Quiet, Shared, Thread}
-use Rattle.semantics.specs.Variable.{Statics, Variables}
+use Rattle.semantics.specs.Thread.{Advances, Frame, Quiet, Shared, Thread}
+use Rattle.semantics.specs.Variable.{Statics}
 use Rattle.replay_calls.specs.Answers.{frames_with}
 use Rattle.replay_steps.specs.Activations.{tasks_after, tasks_left}
-use Rattle.replay_steps.specs.Callers.{CallerStands, CallStands, Resumes, thread_at}
+use Rattle.replay_steps.specs.Callers.{CallStands, Resumes, thread_at}
 use Rattle.replay_steps.specs.declared.activation.Activation.{Activation}
 use Rattle.replay_steps.proofs.CallLemmas.{in_locals, in_received}
 use Rattle.replay_tasks.specs.Outcomes.{LeavesVariables, purpose_view}
