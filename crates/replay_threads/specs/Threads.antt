@@ -63,7 +63,7 @@ WorkInRange (Some a) = IsAtStatement a.work
 abbrev pub AreCalling : List Activation → Type 0
 AreCalling callers = AllByRecursion (λ (a : Activation). IsCalling a.work) callers
 
--- the same of a thread, which has fewer than 64 calls
+-- the same of a thread, and that it has fewer than 64 callers
 pub record ThreadInRange (t : ThreadInMemory) : Type 0 where
   pub work : WorkInRange t.activation
   pub callers : AreCalling (last_first t.callers.items)
