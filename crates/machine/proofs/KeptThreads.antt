@@ -4,7 +4,7 @@ use Rattle.std.specs.Prelude.{slice_set}
 use Rattle.std.specs.List.{AllZip}
 use Rattle.class_rules.specs.Class.{Classes}
 use Rattle.heap.specs.Heap.{Space}
-use Rattle.semantics.specs.Task.{Task}
+use Rattle.semantics.specs.Task.{Task, Invoke}
 use Rattle.semantics.specs.Thread as source
 use Rattle.semantics.specs.Thread.{Shared, objects_viewed}
 use Rattle.semantics.specs.Variable as variable
@@ -20,6 +20,7 @@ use Rattle.machine_threads.specs.declared.thread.Thread.{Thread}
 use Rattle.machine_scenes.specs.Buffers.{BufferAgrees, KeepsCopies}
 use Rattle.machine_scenes.specs.HeapAgrees.{times}
 use Rattle.machine_scenes.specs.StoreAgrees.{Keeps}
+use Rattle.machine_threads.specs.Callers.{CallerAgrees, thread_of}
 use Rattle.machine_threads.specs.InProgress.{CallStands, WorkAgrees}
 use Rattle.machine_threads.specs.SlotsHold.{slots_of}
 use Rattle.machine_threads.specs.ThreadAgrees.{ThreadAgrees, ThreadsAgree, buffers_of}
@@ -65,6 +66,17 @@ module _ (p : Lowered) (classes : Classes) (made k : ℕ) (space space' : Space)
     shows = shows_stay own shared shared' keeps.statics s h.code h.known (slots_of call h.meant) h.shows;
     depth = h.depth;
     frames_agree = frames_stay space space' keeps.names call.locals frames h.frames_agree;
+  }
+
+  -- a call from which another was made
+  pub caller_stays : (j : ℕ) (own : Owners) (call : Activation) (c : source.Caller) → j ≢ k → CallerAgrees p classes space copies j call own shared c → CallerAgrees p classes space' copies' j call own shared' c
+  caller_stays j own call c other h = record {
+    line = h.line;
+    function = h.function;
+    operands = h.operands;
+    ready = h.ready;
+    result = h.result;
+    stands = call_stays j own call (thread_of c) c.frames (Invoke h.line c.target h.function h.operands ∷ c.tasks) other h.stands;
   }
 
   work_stays : (j : ℕ) (own : Owners) (s : source.Thread) (o : Option Activation) (frames : List source.Frame) (tasks : Option (List Task)) → j ≢ k → WorkAgrees p classes space copies j (visible_to own shared s) o frames tasks → WorkAgrees p classes space' copies' j (visible_to own shared' s) o frames tasks

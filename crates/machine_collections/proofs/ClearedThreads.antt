@@ -2,7 +2,7 @@
 use Rattle.std.proofs.Common.{ℕ, suc, List, [], ◌∷◌, Option, Some, None}
 use Rattle.class_rules.specs.Class.{Classes}
 use Rattle.heap.specs.Heap.{Space}
-use Rattle.semantics.specs.Task.{Task}
+use Rattle.semantics.specs.Task.{Task, Invoke}
 use Rattle.semantics.specs.Thread as source
 use Rattle.semantics.specs.Thread.{Shared}
 use Rattle.semantics.specs.WeakReferences.{cleared_statics}
@@ -12,6 +12,7 @@ use Rattle.code_meaning.specs.Slots.{visible_to}
 use Rattle.tables.specs.Elements.{OwnedNumbers}
 use Rattle.machine_scenes.specs.declared.activation.Activation.{Activation}
 use Rattle.machine_threads.specs.declared.thread.Thread.{Thread}
+use Rattle.machine_threads.specs.Callers.{CallerAgrees, thread_of}
 use Rattle.machine_threads.specs.InProgress.{CallStands, WorkAgrees}
 use Rattle.machine_threads.specs.SlotsHold.{slots_of}
 use Rattle.machine_threads.specs.ThreadAgrees.{ThreadAgrees, ThreadsAgree}
@@ -29,6 +30,17 @@ module _ (p : Lowered) (classes : Classes) (space : Space) (copies : List (Optio
     shows = shows_cleared own names shared s h.code h.known (slots_of call h.meant) h.shows;
     depth = h.depth;
     frames_agree = h.frames_agree;
+  }
+
+  -- the same of a call from which another was made
+  pub caller_cleared : (j : ℕ) (own : Owners) (call : Activation) (c : source.Caller) → CallerAgrees p classes space copies j call own shared c → CallerAgrees p classes space copies j call own (after own names shared (thread_of c)) c
+  caller_cleared j own call c h = record {
+    line = h.line;
+    function = h.function;
+    operands = h.operands;
+    ready = h.ready;
+    result = h.result;
+    stands = call_cleared j own call (thread_of c) c.frames (Invoke h.line c.target h.function h.operands ∷ c.tasks) h.stands;
   }
 
   work_cleared : (j : ℕ) (own : Owners) (s : source.Thread) (o : Option Activation) (frames : List source.Frame) (tasks : Option (List Task)) → WorkAgrees p classes space copies j (visible_to own shared s) o frames tasks → WorkAgrees p classes space copies j (visible_to own (after own names shared s) s) o frames tasks

@@ -5,12 +5,12 @@ use Rattle.std.specs.Option.{option_map}
 use Rattle.class_rules.specs.Class.{Classes}
 use Rattle.std.proofs.lemmas.List.Concat.{flat_map-cons}
 use Rattle.heap.specs.Heap.{Space, name_at, pins_at}
-use Rattle.semantics.specs.Task.{Task}
+use Rattle.semantics.specs.Task.{Task, Invoke}
 use Rattle.semantics.specs.Thread as source
 use Rattle.semantics.specs.Thread.{Shared, objects_viewed, viewed_by}
 use Rattle.code_meaning.specs.Lowered.{Lowered}
 use Rattle.code_meaning.specs.Slots.{Visible, visible_to}
-use Rattle.semantics_safety.specs.Owners.{AllOwners}
+use Rattle.semantics_safety.specs.Owners.{Owners, AllOwners}
 use Rattle.tables.specs.Locals.{Frame, slots_by_frame}
 use Rattle.tables.specs.References.{references_in}
 use Rattle.machine_scenes.specs.declared.activation.Activation.{Activation}
@@ -20,6 +20,7 @@ use Rattle.machine_scenes.specs.declared.store.Store.{Store}
 use Rattle.machine_scenes.specs.Buffers.{AreViewed, viewed_in}
 use Rattle.machine_scenes.specs.HeapAgrees.{times}
 use Rattle.machine_threads.specs.declared.thread.Thread.{Thread}
+use Rattle.machine_threads.specs.Callers.{CallerAgrees, seen_by}
 use Rattle.machine_threads.specs.InProgress.{CallStands, WorkAgrees}
 use Rattle.machine_threads.specs.ThreadAgrees.{ThreadsAgree, buffers_of}
 use Rattle.compact.specs.Same.{MovesBy}
@@ -73,6 +74,18 @@ module _ (Kept : ℕ → Type 0) (to : ℕ → ℕ) (p : Lowered) (store : Store
     shows = h.shows;
     depth = h.depth;
     frames_agree = locals_moved Kept to store.heap t m call.locals frames (frames_kept (reverse call.locals.frames) call.locals.slots kept) h.frames_agree;
+  }
+
+  -- the same of a call from which another was made
+  pub caller_moved : (classes : Classes) (k : ℕ) (own : Owners) (shared : Shared) (call : Activation) (c : source.Caller) → AreKept Kept (references_in call.locals.slots) → ArePinned call.slots.buffers.items → CallerAgrees p classes store.heap store.elements k call own shared c
+      → CallerAgrees p classes t store.elements k (moved_call to call) own shared c
+  caller_moved classes k own shared call c kept pinned h = record {
+    line = h.line;
+    function = h.function;
+    operands = h.operands;
+    ready = h.ready;
+    result = h.result;
+    stands = call_moved classes k call (seen_by own shared c) c.frames (Invoke h.line c.target h.function h.operands ∷ c.tasks) kept pinned h.stands;
   }
 
   work_moved : (classes : Classes) (k : ℕ) (visible : Visible) (o : Option Activation) (frames : List source.Frame) (tasks : Option (List Task)) → CallIsKept Kept o → ArePinned (buffers_of o) → WorkAgrees p classes store.heap store.elements k visible o frames tasks

@@ -20,6 +20,7 @@ pub mod MonitorEffects
 pub mod KeysLeft
 pub mod OwnedKeys
 pub mod ReturnedResults
+pub mod CallersCalls
 pub mod CopiedArrays
 pub mod AskedCalls
 pub mod SeenCalls

@@ -1,5 +1,6 @@
 pub mod SlotsHold
 pub mod InProgress
+pub mod Callers
 pub mod Entry
 pub mod ThreadAgrees
 pub mod Held
