@@ -1,5 +1,5 @@
 -- The entries of a journal, as a machine notes them, and how many of them are steps, and how many are clearings.
-use Rattle.std.proofs.Common.{◌≡◌, ℕ, zero, suc, ◌+◌, ◌<◌, Bool, List, [], ◌∷◌, ◌++◌, length, Some, refl, ap, arith}
+use Rattle.std.proofs.Common.{◌≡◌, ℕ, zero, suc, ◌+◌, ◌<◌, Bool, true, false, List, [], ◌∷◌, ◌++◌, length, Some, refl, ap, arith}
 use Rattle.std.specs.Prelude.{slice_get, take}
 use Rattle.std.specs.Global.{Vec}
 use Rattle.semantics.specs.Journal.{Entry, Step, Clearing, Journal, steps_in, clearings_in}
@@ -8,7 +8,7 @@ use Rattle.semantics.specs.declared.object_id.ObjectId.{ObjectId}
 use Rattle.machine_collections.specs.Clearing.{clearing_of}
 use Rattle.machine.specs.declared.journal.Note.{Note}
 use Rattle.machine.specs.declared.journal.Note.TheVariants as note
-use Rattle.machine.specs.Writing.{entries_of}
+use Rattle.machine.specs.Writing.{entries_of, note_of_step}
 
 -- each is one or the other
 pub all_counted : (journal : Journal) → steps_in journal + clearings_in journal ≡ length journal
@@ -36,7 +36,8 @@ clearing_more (Clearing first ∷ journal) names = omega (arith, clearing_more j
 -- there is an entry for each note
 pub as_many : (notes : List Note) (cleared : List (Vec ObjectId)) → length (entries_of notes cleared) ≡ length notes
 as_many [] cleared = refl
-as_many (note.Step k refused ∷ notes) cleared = ap suc (as_many notes cleared)
+as_many (note.Step k ∷ notes) cleared = ap suc (as_many notes cleared)
+as_many (note.RefusedStep k ∷ notes) cleared = ap suc (as_many notes cleared)
 as_many (note.Clearing ∷ notes) (objects ∷ cleared) = ap suc (as_many notes cleared)
 as_many (note.Clearing ∷ notes) [] = ap suc (as_many notes [])
 
@@ -46,9 +47,12 @@ pub notes_counted : (notes : List Note) (cleared : List (Vec ObjectId)) → clea
 notes_counted notes cleared all = omega (arith, all_counted (entries_of notes cleared), as_many notes cleared, all)
 
 -- a note of a step more
-pub step_noted : (notes : List Note) (cleared : List (Vec ObjectId)) (k : ℕ) (refused : Bool) → entries_of (notes ++ note.Step k refused ∷ []) cleared ≡ entries_of notes cleared ++ Step k refused ∷ []
-step_noted [] cleared k refused = refl
-step_noted (note.Step j other ∷ notes) cleared k refused = ap (λ (l : List Entry). Step j other ∷ l) (step_noted notes cleared k refused)
+pub step_noted : (notes : List Note) (cleared : List (Vec ObjectId)) (k : ℕ) (refused : Bool)
+    → entries_of (notes ++ note_of_step k refused ∷ []) cleared ≡ entries_of notes cleared ++ Step k refused ∷ []
+step_noted [] cleared k true = refl
+step_noted [] cleared k false = refl
+step_noted (note.Step j ∷ notes) cleared k refused = ap (λ (l : List Entry). Step j false ∷ l) (step_noted notes cleared k refused)
+step_noted (note.RefusedStep j ∷ notes) cleared k refused = ap (λ (l : List Entry). Step j true ∷ l) (step_noted notes cleared k refused)
 step_noted (note.Clearing ∷ notes) (objects ∷ cleared) k refused = ap (λ (l : List Entry). Clearing (names_of objects.items) ∷ l) (step_noted notes cleared k refused)
 step_noted (note.Clearing ∷ notes) [] k refused = ap (λ (l : List Entry). Clearing [] ∷ l) (step_noted notes [] k refused)
 
@@ -57,17 +61,23 @@ pub clearing_noted : (notes : List Note) (cleared : List (Vec ObjectId)) (object
     → entries_of (notes ++ note.Clearing ∷ []) (cleared ++ objects ∷ []) ≡ entries_of notes cleared ++ Clearing (names_of objects.items) ∷ []
 clearing_noted [] [] objects all = refl
 clearing_noted [] (first ∷ cleared) objects all = absurd (cc)
-clearing_noted (note.Step k refused ∷ notes) cleared objects all = ap (λ (l : List Entry). Step k refused ∷ l) (clearing_noted notes cleared objects all)
+clearing_noted (note.Step k ∷ notes) cleared objects all = ap (λ (l : List Entry). Step k false ∷ l) (clearing_noted notes cleared objects all)
+clearing_noted (note.RefusedStep k ∷ notes) cleared objects all = ap (λ (l : List Entry). Step k true ∷ l) (clearing_noted notes cleared objects all)
 clearing_noted (note.Clearing ∷ notes) (first ∷ cleared) objects all =
     ap (λ (l : List Entry). Clearing (names_of first.items) ∷ l) (clearing_noted notes cleared objects (omega (arith, all)))
 clearing_noted (note.Clearing ∷ notes) [] objects all = absurd (omega (arith, all))
 
 -- a note of a step is one
-pub step_at : (notes : List Note) (cleared : List (Vec ObjectId)) (i k : ℕ) (refused : Bool) → slice_get notes i ≡ Some (note.Step k refused) → slice_get (entries_of notes cleared) i ≡ Some (Step k refused)
+pub step_at : (notes : List Note) (cleared : List (Vec ObjectId)) (i k : ℕ) (refused : Bool) → slice_get notes i ≡ Some (note_of_step k refused) → slice_get (entries_of notes cleared) i ≡ Some (Step k refused)
 step_at [] cleared i k refused at = absurd (cc)
-step_at (note.Step j other ∷ notes) cleared zero k refused at = cc
-step_at (note.Step j other ∷ notes) cleared (suc i) k refused at = step_at notes cleared i k refused at
-step_at (note.Clearing ∷ notes) cleared zero k refused at = absurd (cc)
+step_at (note.Step j ∷ notes) cleared zero k true at = absurd (cc)
+step_at (note.Step j ∷ notes) cleared zero k false at = cc
+step_at (note.Step j ∷ notes) cleared (suc i) k refused at = step_at notes cleared i k refused at
+step_at (note.RefusedStep j ∷ notes) cleared zero k true at = cc
+step_at (note.RefusedStep j ∷ notes) cleared zero k false at = absurd (cc)
+step_at (note.RefusedStep j ∷ notes) cleared (suc i) k refused at = step_at notes cleared i k refused at
+step_at (note.Clearing ∷ notes) cleared zero k true at = absurd (cc)
+step_at (note.Clearing ∷ notes) cleared zero k false at = absurd (cc)
 step_at (note.Clearing ∷ notes) (objects ∷ cleared) (suc i) k refused at = step_at notes cleared i k refused at
 step_at (note.Clearing ∷ notes) [] (suc i) k refused at = step_at notes [] i k refused at
 
@@ -79,8 +89,10 @@ pub record IsClearingAt (notes : List Note) (cleared : List (Vec ObjectId)) (i :
 
 pub clearing_at : (notes : List Note) (cleared : List (Vec ObjectId)) (i : ℕ) → clearings_in (entries_of notes cleared) ≡ length cleared → slice_get notes i ≡ Some note.Clearing → IsClearingAt notes cleared i
 clearing_at [] cleared i all at = absurd (cc)
-clearing_at (note.Step j other ∷ notes) cleared zero all at = absurd (cc)
-clearing_at (note.Step j other ∷ notes) cleared (suc i) all at = let h = clearing_at notes cleared i all at in record { objects = h.objects; listed = h.listed; is = h.is }
+clearing_at (note.Step j ∷ notes) cleared zero all at = absurd (cc)
+clearing_at (note.Step j ∷ notes) cleared (suc i) all at = let h = clearing_at notes cleared i all at in record { objects = h.objects; listed = h.listed; is = h.is }
+clearing_at (note.RefusedStep j ∷ notes) cleared zero all at = absurd (cc)
+clearing_at (note.RefusedStep j ∷ notes) cleared (suc i) all at = let h = clearing_at notes cleared i all at in record { objects = h.objects; listed = h.listed; is = h.is }
 clearing_at (note.Clearing ∷ notes) (objects ∷ cleared) zero all at = record { objects = objects; listed = refl; is = refl }
 clearing_at (note.Clearing ∷ notes) (first ∷ cleared) (suc i) all at =
     let h = clearing_at notes cleared i (omega (arith, all)) at in record { objects = h.objects; listed = h.listed; is = h.is }

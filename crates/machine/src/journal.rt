@@ -5,6 +5,7 @@ ghost use Rattle.base.specs.Limits.{most_entries};
 ghost use Rattle.semantics.specs.Journal.{Step, steps_in};
 ghost use Rattle.semantics.specs.Views.{names_of};
 ghost use Rattle.machine_collections.specs.Clearing.{clearing_of};
+ghost use Rattle.machine.specs.Writing.{note_of_step};
 
 use base::limits::MOST_ENTRIES;
 use report::{Entries, ShownEntry};
@@ -15,10 +16,24 @@ use std::marker::Model;
 /// What was done at a time. It is small, since there is one for each step.
 #[derive(Clone, Copy)]
 pub(crate) enum Note {
-    /// The thread of this number, from 1, took a step; and whether the step's allocation was refused.
-    Step { thread: u8, refused: bool },
+    /// The thread of this number, from 1, took a step.
+    Step { thread: u8 },
+    /// The same of a step whose allocation was refused.
+    RefusedStep { thread: u8 },
     /// Weak global references were cleared: those of the next list that is kept apart.
     Clearing,
+}
+
+/// The note of a step of this thread, and of whether the step's allocation was refused.
+#[inline(always)]
+fn note_of_step(thread: u8, refused: bool) -> Note
+    ensures { result ≡ note_of_step thread refused }
+{
+    if refused {
+        Note::RefusedStep { thread }
+    } else {
+        Note::Step { thread }
+    }
 }
 
 /// What a machine did, seen as its entries, and as the numbers of further ones for which it has memory.
@@ -64,7 +79,14 @@ impl Entries for Journal {
     #[inline]
     fn entry(&self, place: usize, clearings: usize) -> ShownEntry<'_> {
         match self.notes[place] {
-            Note::Step { thread, refused } => ShownEntry::Step { thread, refused },
+            Note::Step { thread } => ShownEntry::Step {
+                thread,
+                refused: false,
+            },
+            Note::RefusedStep { thread } => ShownEntry::Step {
+                thread,
+                refused: true,
+            },
             Note::Clearing => ShownEntry::Clearing(&self.cleared[clearings]),
         }
     }
@@ -130,7 +152,7 @@ impl Journal {
         ensures entries { self.new.entries ≡ self.old.entries ++ Step k refused ∷ [] }
         ensures room { self.new.room + 1 ≡ self.old.room }
     {
-        self.notes.push_reserved(Note::Step { thread: k, refused });
+        self.notes.push_reserved(note_of_step(k, refused));
     }
 
     /// Adds the clearing of the weak references to these objects, for which there is memory; none where there are no objects.

@@ -1,14 +1,14 @@
-use Rattle.std.proofs.Common.{◌≡◌, ◌<◌, ℕ, List, length, Some, refl, sym, ap, ◌∙◌, arith}
+use Rattle.std.proofs.Common.{◌≡◌, ◌<◌, ℕ, Bool, true, false, List, length, Some, refl, sym, ap, ◌∙◌, arith}
 use Rattle.std.specs.Prelude.{slice_get, take}
 use Rattle.std.specs.Global.{Vec}
 use Rattle.std.proofs.lemmas.Option.{get_or_from_slice_get, slice_get_read, slice_get_within}
-use Rattle.semantics.specs.Journal.{Clearing, clearings_in}
+use Rattle.semantics.specs.Journal.{Step, Clearing, clearings_in}
 use Rattle.semantics.specs.Views.{names_of}
 use Rattle.semantics.specs.declared.object_id.ObjectId.{ObjectId}
 use Rattle.machine.specs.declared.journal.Note.{Note}
-use Rattle.machine.specs.Writing.{Writing}
+use Rattle.machine.specs.Writing.{Writing, note_of_step}
 use Rattle.machine.proofs.Notes.{IsClearingAt, as_many, clearing_at, step_at}
-use Rattle.machine.proofs.journal.JournalEntries.entry.Goals.{In-Clearing}
+use Rattle.machine.proofs.journal.JournalEntries.entry.Goals.{After-index, In-Clearing}
 use Rattle.machine.proofs.journal.JournalEntries.entry.Goals as goal
 
 pub index-requires : goal.index-requires
@@ -34,13 +34,25 @@ index-requires-in-Clearing c =
     let a = (goal.at.index-requires-in-Clearing c).In-Clearing in
     omega (arith, slice_get_within c.self.inside.cleared.items c.args.clearings (at_clearing a).objects (its_list a), c.self.inside.cleared.ok)
 
-pub returns-in-Step : goal.returns-in-Step
-returns-in-Step c =
+-- the place is among the notes
+noted : (c : After-index) → c.args.place < length c.self.inside.notes.items
+noted c =
     let j = c.self.inside in
-    let inside : c.args.place < length j.notes.items = omega (arith, c.requires.inside, as_many j.notes.items j.cleared.items, ap (λ (w : Writing). length w.entries) c.self.view_is) in
+    omega (arith, c.requires.inside, as_many j.notes.items j.cleared.items, ap (λ (w : Writing). length w.entries) c.self.view_is)
+
+-- a step noted there is the entry
+steps : (c : After-index) (k : ℕ) (refused : Bool) → c.index.result.now ≡ note_of_step k refused → slice_get c.args.self.now.entries c.args.place ≡ Some (Step k refused)
+steps c k refused is =
+    let j = c.self.inside in
     ap (λ (w : Writing). slice_get w.entries c.args.place) (sym c.self.view_is)
-    ∙ step_at j.notes.items j.cleared.items c.args.place c.in-Step.thread c.in-Step.refused
-    (slice_get_read j.notes.items (length j.notes.items) c.args.place c.index.result.now refl inside c.index.ensures ∙ ap (λ (n : Note). Some n) c.in-Step.is)
+    ∙ step_at j.notes.items j.cleared.items c.args.place k refused
+    (slice_get_read j.notes.items (length j.notes.items) c.args.place c.index.result.now refl (noted c) c.index.ensures ∙ ap (λ (n : Note). Some n) is)
+
+pub returns-in-Step : goal.returns-in-Step
+returns-in-Step c = steps (goal.at.returns-in-Step c).After-index c.in-Step.thread false c.in-Step.is
+
+pub returns-in-RefusedStep : goal.returns-in-RefusedStep
+returns-in-RefusedStep c = steps (goal.at.returns-in-RefusedStep c).After-index c.in-RefusedStep.thread true c.in-RefusedStep.is
 
 pub returns-in-Clearing : goal.returns-in-Clearing
 returns-in-Clearing c =
