@@ -1,6 +1,6 @@
 //! Reports and journals as text.
 
-ghost use Rattle.std.specs.Prelude.{◌≡◌, ◌+◌, ◌≤◌, ◌++◌, OnOk, codes, decimal};
+ghost use Rattle.std.specs.Prelude.{◌≡◌, ◌+◌, ◌≤◌, ◌<◌, ◌++◌, OnOk, codes, decimal};
 ghost use Rattle.arrayvec.specs.ArrayVec.{array_vec_len};
 ghost use Rattle.sinks.specs.Sink.{CanFail, Writes};
 ghost use Rattle.report.specs.ReportText.{report_text};
@@ -39,14 +39,33 @@ fn push_number(text: &mut ArrayVec<u8, 4096>, number: u8)
     }
 }
 
+/// Appends a number of one digit after a space: both bytes at once, since each step of a run is written so.
+#[tactic(auto, using(std::proofs::lemmas::Fmt::decimal_digit))]
+#[inline(always)]
+fn push_digit(text: &mut ArrayVec<u8, 4096>, number: u8)
+    requires room { array_vec_len text.old + 5 ≤ 4096 }
+    requires digit { number < 10 }
+    ensures items { text.new.items ≡ text.old.items ++ (codes " " ++ decimal number) }
+    ensures short { array_vec_len text.new ≡ array_vec_len text.old + 2 }
+{
+    match text.try_extend_from_slice(&[b' ', b'0' + number]) {
+        Ok(()) => {}
+        Err(_) => unreachable!(),
+    }
+}
+
 /// Appends the word of a step, after a space.
 #[inline(always)]
 fn push_step(text: &mut ArrayVec<u8, 4096>, thread: u8, refused: bool)
     requires { array_vec_len text.old + 5 ≤ 4096 }
     ensures { text.new.items ≡ text.old.items ++ (codes " " ++ entry_text (Step thread refused)) }
 {
-    text.push(b' ');
-    push_number(text, thread);
+    if thread < 10 {
+        push_digit(text, thread);
+    } else {
+        text.push(b' ');
+        push_number(text, thread);
+    }
     if refused {
         text.push(b'!');
     }
