@@ -89,7 +89,8 @@ word_list =
     ∷ words.Jsize ∷ words.Jboolean ∷ words.Jshort ∷ words.Jbyte ∷ words.Jchar ∷ words.JfieldId
     ∷ words.Jobject ∷ words.Jclass ∷ words.Jstring ∷ words.Jarray ∷ words.Jthrowable ∷ words.JintArray
     ∷ words.JshortArray ∷ words.JbyteArray ∷ words.JcharArray ∷ words.JobjectArray ∷ words.JniTrue
-    ∷ words.JniFalse ∷ words.JniCommit ∷ words.JniAbort ∷ words.Null ∷ words.Unused ∷ words.Jweak ∷ []
+    ∷ words.JniFalse ∷ words.JniCommit ∷ words.JniAbort ∷ words.Null ∷ words.Unused ∷ words.Jweak
+    ∷ words.JmethodId ∷ []
 
 abbrev find_word : List Word → ℕ → Word
 find_word [] code = words.Unused
@@ -133,6 +134,7 @@ word_found words.JniAbort = refl
 word_found words.Null = refl
 word_found words.Unused = refl
 word_found words.Jweak = refl
+word_found words.JmethodId = refl
 
 mark_is : (a b : Mark) → same_mark a b ≡ true → a ≡ b
 mark_is a b e = sym (mark_found a) ∙ ap (find_mark mark_list) (eqb-true _ _ e) ∙ mark_found b

@@ -3,7 +3,7 @@ use Rattle.std.proofs.Common.{◌≡◌, ℕ, List, [], ◌∷◌, Option, Some,
 use Rattle.std.specs.Prelude.{◌⊎◌}
 use Rattle.std.specs.Option.{option_map, option_flatten}
 use Rattle.base.specs.Element.{ElementType, JInt, JShort, JByte, JChar}
-use Rattle.syntax.specs.Tree.{ReferenceType, JObject, JClass, JString, JArray, JThrowable, JIntArray, JShortArray, JByteArray, JCharArray, JObjectArray, Constant, True, False, Commit, Abort, Null, ResultType, Void, IntResult, ReferenceResult, ParameterType, IntParameter, ReferenceParameter, VariableType, UInt32, JIntVariable, JSize, JBoolean, JFieldId, ReferenceVariable, StaticType, ReferenceStatic, WeakStatic}
+use Rattle.syntax.specs.Tree.{ReferenceType, JObject, JClass, JString, JArray, JThrowable, JIntArray, JShortArray, JByteArray, JCharArray, JObjectArray, Constant, True, False, Commit, Abort, Null, ResultType, Void, IntResult, ReferenceResult, ParameterType, IntParameter, ReferenceParameter, VariableType, UInt32, JIntVariable, JSize, JBoolean, JFieldId, JMethodId, ReferenceVariable, StaticType, ReferenceStatic, WeakStatic}
 use Rattle.scan.specs.declared.reserved.Word.{Word}
 use Rattle.scan.specs.declared.reserved.Word.TheVariants as words
 use Rattle.parse_lexemes.specs.declared.first.Fixed.TheVariants as fixed
@@ -132,6 +132,7 @@ variable_is words.Uint32 t e = let f : UInt32 ≡ t = cc in ap variable_word f
 variable_is words.Jsize t e = let f : JSize ≡ t = cc in ap variable_word f
 variable_is words.Jboolean t e = let f : JBoolean ≡ t = cc in ap variable_word f
 variable_is words.JfieldId t e = let f : JFieldId ≡ t = cc in ap variable_word f
+variable_is words.JmethodId t e = let f : JMethodId ≡ t = cc in ap variable_word f
 variable_is words.Jobject t e = let f : ReferenceVariable JObject ≡ t = cc in ap variable_word f
 variable_is words.Jclass t e = let f : ReferenceVariable JClass ≡ t = cc in ap variable_word f
 variable_is words.Jstring t e = let f : ReferenceVariable JString ≡ t = cc in ap variable_word f
@@ -241,6 +242,7 @@ variable_word_in JIntVariable = inl refl
 variable_word_in JSize = inr (refl, refl)
 variable_word_in JBoolean = inr (refl, refl)
 variable_word_in JFieldId = inr (refl, refl)
+variable_word_in JMethodId = inr (refl, refl)
 variable_word_in (ReferenceVariable JObject) = inr (refl, refl)
 variable_word_in (ReferenceVariable JClass) = inr (refl, refl)
 variable_word_in (ReferenceVariable JString) = inr (refl, refl)

@@ -102,6 +102,7 @@ word_code words.JniAbort = 33
 word_code words.Null = 34
 word_code words.Unused = 35
 word_code words.Jweak = 36
+word_code words.JmethodId = 37
 
 abbrev pub same_mark : Mark → Mark → Bool
 same_mark a b = mark_code a == mark_code b

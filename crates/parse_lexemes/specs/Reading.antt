@@ -2,7 +2,7 @@
 use Rattle.std.specs.Prelude.{ℕ, Bool, true, false, nat_lt, List, [], ◌∷◌, Option, Some, None, Result, Ok, Err, if◌then◌else◌}
 use Rattle.std.specs.Option.{option_map, option_flatten}
 use Rattle.base.specs.Element.{ElementType, JInt, JShort, JByte, JChar}
-use Rattle.syntax.specs.Tree.{ReferenceType, JObject, JClass, JString, JArray, JThrowable, JIntArray, JShortArray, JByteArray, JCharArray, JObjectArray, Constant, True, False, Commit, Abort, Null, ParameterType, IntParameter, ReferenceParameter, VariableType, UInt32, JSize, JBoolean, JFieldId, ReferenceVariable, ResultType, Void, IntResult, ReferenceResult, StaticType, ReferenceStatic, WeakStatic}
+use Rattle.syntax.specs.Tree.{ReferenceType, JObject, JClass, JString, JArray, JThrowable, JIntArray, JShortArray, JByteArray, JCharArray, JObjectArray, Constant, True, False, Commit, Abort, Null, ParameterType, IntParameter, ReferenceParameter, VariableType, UInt32, JSize, JBoolean, JFieldId, JMethodId, ReferenceVariable, ResultType, Void, IntResult, ReferenceResult, StaticType, ReferenceStatic, WeakStatic}
 use Rattle.parse_lexemes.specs.declared.fault.ParseRule.TheVariants.{NoForm}
 use Rattle.parse_lexemes.specs.declared.fault.ParseError.{ParseError}
 use Rattle.parse_lexemes.specs.Faults.{breaks}
@@ -93,6 +93,7 @@ variable_of_word words.Uint32 = Some UInt32
 variable_of_word words.Jsize = Some JSize
 variable_of_word words.Jboolean = Some JBoolean
 variable_of_word words.JfieldId = Some JFieldId
+variable_of_word words.JmethodId = Some JMethodId
 variable_of_word w = option_map (λ r. ReferenceVariable r) (reference_of_word w)
 
 -- the type that comes next: of a static, of a result, of a parameter, of an element, of a variable

@@ -83,6 +83,7 @@ fn variable_of(word: Word) -> Option<VariableType>
         Word::Jsize => Some(VariableType::Jsize),
         Word::Jboolean => Some(VariableType::Jboolean),
         Word::JfieldId => Some(VariableType::JfieldId),
+        Word::JmethodId => Some(VariableType::JmethodId),
         _ => Some(VariableType::Reference(reference_of(word)?)),
     }
 }

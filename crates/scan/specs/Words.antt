@@ -20,7 +20,7 @@ interface_words =
     ∷ (codes "env", words.Env) ∷ (codes "put_jint", words.PutJint) ∷ (codes "uint32_t", words.Uint32)
     ∷ (codes "jint", words.Jint) ∷ (codes "jsize", words.Jsize) ∷ (codes "jboolean", words.Jboolean)
     ∷ (codes "jshort", words.Jshort) ∷ (codes "jbyte", words.Jbyte) ∷ (codes "jchar", words.Jchar)
-    ∷ (codes "jfieldID", words.JfieldId) ∷ []
+    ∷ (codes "jfieldID", words.JfieldId) ∷ (codes "jmethodID", words.JmethodId) ∷ []
 
 -- the types of references (JNI Specification, chapter 3)
 abbrev pub reference_words : ByName Word

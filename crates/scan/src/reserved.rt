@@ -48,6 +48,8 @@ pub enum Word {
     Jchar,
     /// `jfieldID`
     JfieldId,
+    /// `jmethodID`
+    JmethodId,
     /// `jobject`
     Jobject,
     /// `jclass`
@@ -122,7 +124,7 @@ static EARLY_WORDS: [&[Row]; 10] = [
 ];
 
 /// Those of `j`.
-static J_WORDS: [Row; 25] = [
+static J_WORDS: [Row; 26] = [
     (b"JNIEXPORT", Word::JniExport),
     (b"JNICALL", Word::JniCall),
     (b"JNIEnv", Word::JniEnv),
@@ -133,6 +135,7 @@ static J_WORDS: [Row; 25] = [
     (b"jbyte", Word::Jbyte),
     (b"jchar", Word::Jchar),
     (b"jfieldID", Word::JfieldId),
+    (b"jmethodID", Word::JmethodId),
     (b"jobject", Word::Jobject),
     (b"jclass", Word::Jclass),
     (b"jstring", Word::Jstring),

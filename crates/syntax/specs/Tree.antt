@@ -22,9 +22,9 @@ pub data ParameterType : Type 0 where
   IntParameter : ParameterType
   ReferenceParameter : ReferenceType → ParameterType
 
--- the types that a declared scalar, reference or field ID may have
+-- the types that a declared scalar, reference, field ID or method ID may have
 pub data VariableType : Type 0 where
-  UInt32 JIntVariable JSize JBoolean JFieldId : VariableType
+  UInt32 JIntVariable JSize JBoolean JFieldId JMethodId : VariableType
   ReferenceVariable : ReferenceType → VariableType
 
 -- the types that a static may have; a weak global reference doesn't keep its object

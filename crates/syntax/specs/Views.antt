@@ -35,7 +35,7 @@ use Rattle.syntax.specs.declared.unit.Function.{Function as FunctionInMemory}
 use Rattle.syntax.specs.declared.unit.Static.{Static as StaticInMemory}
 use Rattle.syntax.specs.declared.unit.Item.{Item as ItemInMemory}
 use Rattle.syntax.specs.declared.unit.Item.TheVariants as item
-use Rattle.syntax.specs.Tree.{PrefixOp, LogicalNot, Complement, ToWord, ToInt, BinaryOp, LogicalOr, LogicalAnd, BitOr, BitXor, BitAnd, Equal, NotEqual, Less, LessEqual, Greater, GreaterEqual, ShiftLeft, ShiftRight, Add, Subtract, Multiply, Divide, Remainder, Constant, True, False, Commit, Abort, Null, ReferenceType, JObject, JClass, JString, JArray, JThrowable, JIntArray, JShortArray, JByteArray, JCharArray, JObjectArray, ParameterType, IntParameter, ReferenceParameter, StaticType, ReferenceStatic, WeakStatic, VariableType, UInt32, JIntVariable, JSize, JBoolean, JFieldId, ReferenceVariable, Expr, Number, Named, Variable, Element, Prefix, Binary, Paren, Argument, Value, Text, AddressOf, Call, RightSide, FromExpr, FromCall, Test, TestExpr, TestCall, Stmt, Declare, DeclareBuffer, DeclareChars, DeclareArray, Assign, AssignElement, Perform, PutJint, If, IfElse, While, Return, ReturnValue, Block, End, Next, ResultType, Void, IntResult, ReferenceResult, Parameter, Function, Static, Item, StaticItem, FunctionItem, SourceUnit}
+use Rattle.syntax.specs.Tree.{PrefixOp, LogicalNot, Complement, ToWord, ToInt, BinaryOp, LogicalOr, LogicalAnd, BitOr, BitXor, BitAnd, Equal, NotEqual, Less, LessEqual, Greater, GreaterEqual, ShiftLeft, ShiftRight, Add, Subtract, Multiply, Divide, Remainder, Constant, True, False, Commit, Abort, Null, ReferenceType, JObject, JClass, JString, JArray, JThrowable, JIntArray, JShortArray, JByteArray, JCharArray, JObjectArray, ParameterType, IntParameter, ReferenceParameter, StaticType, ReferenceStatic, WeakStatic, VariableType, UInt32, JIntVariable, JSize, JBoolean, JFieldId, JMethodId, ReferenceVariable, Expr, Number, Named, Variable, Element, Prefix, Binary, Paren, Argument, Value, Text, AddressOf, Call, RightSide, FromExpr, FromCall, Test, TestExpr, TestCall, Stmt, Declare, DeclareBuffer, DeclareChars, DeclareArray, Assign, AssignElement, Perform, PutJint, If, IfElse, While, Return, ReturnValue, Block, End, Next, ResultType, Void, IntResult, ReferenceResult, Parameter, Function, Static, Item, StaticItem, FunctionItem, SourceUnit}
 
 abbrev pub prefix_tree : PrefixInMemory → PrefixOp
 prefix_tree prefix.LogicalNot = LogicalNot
@@ -117,6 +117,7 @@ variable_type_tree variable.Jint = JIntVariable
 variable_type_tree variable.Jsize = JSize
 variable_type_tree variable.Jboolean = JBoolean
 variable_type_tree variable.JfieldId = JFieldId
+variable_type_tree variable.JmethodId = JMethodId
 variable_type_tree (variable.Reference r) = ReferenceVariable (reference_tree r)
 
 -- a return with a value or without

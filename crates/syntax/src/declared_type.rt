@@ -54,5 +54,7 @@ pub enum VariableType {
     Jboolean,
     /// `jfieldID`
     JfieldId,
+    /// `jmethodID`
+    JmethodId,
     Reference(ReferenceType),
 }
