@@ -4,8 +4,8 @@ use Rattle.std.specs.Borrow.{Bor}
 use Rattle.base.specs.Bytes.{Identifier}
 use Rattle.base.specs.Element.{element_value}
 use Rattle.jni.specs.Access.{Access, ElementsCopy, ArrayView, CharsCopy, CharsView}
-use Rattle.jni.specs.JniFunction.{JniFunction, FindClass, GetSuperclass, GetObjectClass, IsInstanceOf, IsAssignableFrom, AllocObject, NewLocalRef, NewGlobalRef, NewWeakGlobalRef, DeleteLocalRef, DeleteGlobalRef, DeleteWeakGlobalRef, IsSameObject, EnsureLocalCapacity, PushLocalFrame, PopLocalFrame, GetFieldID, GetStaticFieldID, GetField, SetField, GetStaticField, SetStaticField, GetObjectField, SetObjectField, GetStaticObjectField, SetStaticObjectField, GetArrayLength, NewObjectArray, GetObjectArrayElement, SetObjectArrayElement, NewArray, GetArrayRegion, SetArrayRegion, GetBuffer, ReleaseBuffer, NewStringUTF, GetStringLength, GetStringRegion, Throw, ThrowNew, ExceptionOccurred, ExceptionCheck, ExceptionClear, FatalError, MonitorEnter, MonitorExit, is_allowed_pending, prototype, all_functions}
-use Rattle.jni.specs.Prototype.{Prototype, ParameterKind, Nullable, NonNull, AnyReference, ClassObject, AnyArray, ObjectArray, StringObject, NumberArray, LocalVariable, StaticVariable, WeakVariable, FieldID, IntNumber, TextBytes, ArrayVariable, BufferVariable, Mode, IsCopy, ResultKind, NewLocal, NewGlobal, NewWeak, GivesFlag, GivesInt, GivesField, GivesNothing, GivesBuffer}
+use Rattle.jni.specs.JniFunction.{JniFunction, FindClass, GetSuperclass, GetObjectClass, IsInstanceOf, IsAssignableFrom, AllocObject, NewLocalRef, NewGlobalRef, NewWeakGlobalRef, DeleteLocalRef, DeleteGlobalRef, DeleteWeakGlobalRef, IsSameObject, EnsureLocalCapacity, PushLocalFrame, PopLocalFrame, GetFieldID, GetStaticFieldID, GetField, SetField, GetStaticField, SetStaticField, GetObjectField, SetObjectField, GetStaticObjectField, SetStaticObjectField, GetArrayLength, NewObjectArray, GetObjectArrayElement, SetObjectArrayElement, NewArray, GetArrayRegion, SetArrayRegion, GetBuffer, ReleaseBuffer, NewStringUTF, GetStringLength, GetStringRegion, Throw, ThrowNew, ExceptionOccurred, ExceptionCheck, ExceptionClear, FatalError, MonitorEnter, MonitorExit, GetStaticMethodID, is_allowed_pending, prototype, all_functions}
+use Rattle.jni.specs.Prototype.{Prototype, ParameterKind, Nullable, NonNull, AnyReference, ClassObject, AnyArray, ObjectArray, StringObject, NumberArray, LocalVariable, StaticVariable, WeakVariable, FieldID, IntNumber, TextBytes, ArrayVariable, BufferVariable, Mode, IsCopy, ResultKind, NewLocal, NewGlobal, NewWeak, GivesFlag, GivesInt, GivesField, GivesMethod, GivesNothing, GivesBuffer}
 use Rattle.jni.specs.StateEffect.{StateEffect, Gets, Releases, Deletes, Pops, Other, state_effect}
 use Rattle.jni.specs.declared.access.Access.{Access as AccessInMemory}
 use Rattle.jni.specs.declared.access.Access.TheVariants as access
@@ -74,6 +74,7 @@ function_value function.ExceptionClear = ExceptionClear
 function_value function.FatalError = FatalError
 function_value function.MonitorEnter = MonitorEnter
 function_value function.MonitorExit = MonitorExit
+function_value function.GetStaticMethodID = GetStaticMethodID
 
 -- the parameter of the definitions
 abbrev pub parameter_value : ParameterInMemory → ParameterKind
@@ -104,6 +105,7 @@ result_value results.NewWeak = NewWeak
 result_value results.GivesFlag = GivesFlag
 result_value results.GivesInt = GivesInt
 result_value results.GivesField = GivesField
+result_value results.GivesMethod = GivesMethod
 result_value results.GivesNothing = GivesNothing
 result_value (results.GivesBuffer a) = GivesBuffer (access_value a)
 

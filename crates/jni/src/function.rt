@@ -74,6 +74,7 @@ pub enum JniFunction {
     FatalError,
     MonitorEnter,
     MonitorExit,
+    GetStaticMethodID,
 }
 
 const INTS: Access = ElementsCopy(Int);
@@ -210,6 +211,11 @@ static VIEW_ROWS: [Prototype; 6] = rows! {
     b"ReleaseStringCritical"         [StringObject, BufferVariable(CharsView)]  => GivesNothing,           Releases(CharsView), true;
 };
 
+/// Those of methods.
+static METHOD_ROWS: [Prototype; 1] = rows! {
+    b"GetStaticMethodID" [ClassObject, TextBytes, TextBytes] => GivesMethod, Other, false;
+};
+
 /// The number of the first function of an element type in the table, each of which has nine.
 fn typed_number(element: ElementType) -> usize
     ensures { take 9 (drop result all_functions) ≡ typed_functions (element_value element) }
@@ -314,9 +320,18 @@ fn view_row(number: usize) -> &'static Prototype
     row_at(&VIEW_ROWS, 73, number)
 }
 
+/// The row of a number of methods.
+fn method_row(number: usize) -> &'static Prototype
+    requires begun { 79 ≤ number }
+    requires inside { number < 80 }
+    ensures { slice_get all_rows number ≡ Some (facts result.now) }
+{
+    row_at(&METHOD_ROWS, 79, number)
+}
+
 /// The row of a number.
 fn row(number: usize) -> &'static Prototype
-    requires { number < 79 }
+    requires { number < 80 }
     ensures { slice_get all_rows number ≡ Some (facts result.now) }
 {
     match number {
@@ -327,7 +342,8 @@ fn row(number: usize) -> &'static Prototype
         46..55 => short_row(number),
         55..64 => byte_row(number),
         64..73 => char_row(number),
-        _ => view_row(number),
+        73..79 => view_row(number),
+        _ => method_row(number),
     }
 }
 
@@ -383,6 +399,7 @@ impl JniFunction {
             JniFunction::SetArrayRegion(element) => typed_number(element) + 6,
             JniFunction::GetBuffer(access) => buffer_number(access),
             JniFunction::ReleaseBuffer(access) => buffer_number(access) + 1,
+            JniFunction::GetStaticMethodID => 79,
         }
     }
 
@@ -463,6 +480,7 @@ static BY_LENGTH: [&[JniFunction]; 32] = [
         GetArrayRegion(Int),
         SetArrayRegion(Int),
         GetBuffer(CharsView),
+        GetStaticMethodID,
     ],
     &[
         GetStaticField(Byte),

@@ -59,6 +59,8 @@ pub enum ResultKind {
     GivesInt,
     /// A field ID.
     GivesField,
+    /// A method ID.
+    GivesMethod,
     /// Nothing.
     GivesNothing,
     /// A buffer that has to be released.
