@@ -1,2 +1,3 @@
 mod ArrayClasses
+mod FoundMethods
 pub mod MadeLists

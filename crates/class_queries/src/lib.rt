@@ -1,15 +1,18 @@
 //! What a run asks of classes alone, whichever run it is: whether an object is of the kind of a parameter, what a field
-//! can hold, what objects hold at first, the elements of arrays, and whose native method a function is.
+//! can hold, what objects hold at first, the elements of arrays, whose native method a function is, and which function is
+//! the native method of a class, a name and a signature.
 #![tactic(auto)]
 
 mod arrays;
 mod field_types;
 mod first_values;
 mod kinds;
+mod methods;
 mod native_methods;
 
 pub use arrays::{array_class_of, element_class};
 pub use field_types::{holds_number, holds_reference};
 pub use first_values::{fresh_values, initial_values};
 pub use kinds::class_misfits;
+pub use methods::{find_method, is_method_of};
 pub use native_methods::native_class;

@@ -1,5 +1,5 @@
 -- How a class table grows by a class or a field, and which additions are refused.
-use Rattle.std.specs.Prelude.{ℕ, ◌+◌, Bool, false, not, ◌==◌, List, [], ◌∷◌, ◌++◌, length, map, Option, Some, None, nat_lt, if◌then◌else◌, is_none, is_some}
+use Rattle.std.specs.Prelude.{ℕ, ◌+◌, Bool, true, false, not, ◌==◌, List, [], ◌∷◌, ◌++◌, length, map, Option, Some, None, nat_lt, if◌then◌else◌, is_none, is_some, codes}
 use Rattle.std.specs.Option.{option_map_or}
 use Rattle.std.specs.List.{list_any, enumerate_from}
 use Rattle.std.specs.Str.{bytes_eq}
@@ -7,7 +7,7 @@ use Rattle.base.specs.Limits.{most_classes, most_fields}
 use Rattle.base.specs.Bytes.{Identifier}
 use Rattle.base.specs.Options.{some_passes}
 use Rattle.class_rules.specs.Class.{Field, Plain, Class, Classes, class_at, class_named}
-use Rattle.class_rules.specs.BuiltIns.{object_array_class, has_own_making}
+use Rattle.class_rules.specs.BuiltIns.{incompatible_class_change_error, object_array_class, has_own_making}
 use Rattle.class_rules.specs.Fields.{type_of_signature}
 
 -- why a class or a field is refused
@@ -63,3 +63,14 @@ with_field classes c field = with_changed_class classes c (λ d. record d { fiel
 -- the table with one more static in a class
 abbrev pub with_static : Classes → ℕ → Field → Classes
 with_static classes c field = with_changed_class classes c (λ d. record d { statics = d.statics ++ field ∷ [] })
+
+-- ---- methods
+
+-- the table with the classes 43 and 44 after the other built-in ones: java/lang/NoSuchMethodError and its array class
+abbrev pub with_methods : Classes → Classes
+with_methods classes = with_class classes (new_class (codes "java/lang/NoSuchMethodError") (Some incompatible_class_change_error))
+
+-- how many built-in classes there are
+abbrev pub built_in_count : (methods : Bool) → ℕ
+built_in_count false = 42
+built_in_count true = 44

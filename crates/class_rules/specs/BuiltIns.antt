@@ -21,6 +21,10 @@ string_class = 3
 abbrev pub throwable_class : ℕ
 throwable_class = 4
 
+-- java/lang/IncompatibleClassChangeError
+abbrev pub incompatible_class_change_error : ℕ
+incompatible_class_change_error = 7
+
 -- java/lang/NoSuchFieldError
 abbrev pub no_such_field_error : ℕ
 no_such_field_error = 8
@@ -52,6 +56,10 @@ negative_array_size = 18
 -- java/lang/IllegalMonitorStateException
 abbrev pub illegal_monitor_state : ℕ
 illegal_monitor_state = 19
+
+-- java/lang/NoSuchMethodError, in a world of methods alone
+abbrev pub no_such_method_error : ℕ
+no_such_method_error = 43
 
 -- a class of java/lang without fields
 abbrev pub lang_class : Identifier → ℕ → Class

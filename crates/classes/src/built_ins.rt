@@ -2,6 +2,7 @@
 
 ghost use Rattle.std.specs.Prelude.{◌≡◌, ◌++◌, ◌∷◌, [], length, map, nat_lt, None, true, IfOk, OnOk, IsTrue};
 ghost use Rattle.std.specs.List.{list_all};
+ghost use Rattle.class_rules.specs.Additions.{built_in_count};
 ghost use Rattle.class_rules.specs.BuiltIns.{array_class, built_ins, number_array};
 ghost use Rattle.classes.specs.BuiltInList.{listed_field, listed_class, listed_number_array, array_classes, listed_classes, is_class_list};
 ghost use Rattle.classes.specs.Tables.{names_differ, field_names_differ, declares_once};
@@ -84,6 +85,9 @@ pub const NEGATIVE_ARRAY_SIZE_EXCEPTION: ClassId = ClassId { number: 18 };
 
 /// The number of `java/lang/IllegalMonitorStateException`.
 pub const ILLEGAL_MONITOR_STATE_EXCEPTION: ClassId = ClassId { number: 19 };
+
+/// The number of `java/lang/NoSuchMethodError`, in a world of methods alone.
+pub const NO_SUCH_METHOD_ERROR: ClassId = ClassId { number: 43 };
 
 /// What is told of a throwable.
 const MESSAGE: BuiltInField = BuiltInField {
@@ -199,10 +203,10 @@ const NUMBER_ARRAYS: [(&[u8], ElementType); 4] = [
 ];
 
 /// Whether a class of this number comes after the built-in ones.
-pub fn is_after_built_ins(class: ClassId) -> bool
-    ensures { result ≡ nat_lt (length built_ins) class.number }
+pub fn is_after_built_ins(class: ClassId, methods: bool) -> bool
+    ensures { result ≡ nat_lt (built_in_count methods) class.number }
 {
-    class.number > 42
+    class.number > if methods { 44 } else { 42 }
 }
 
 /// The class of arrays of such numbers.

@@ -1,0 +1,194 @@
+-- Methods that are looked for in a class and then in its superclasses.
+use Rattle.std.proofs.Common.{◌≡◌, ℕ, zero, suc, ◌+◌, ◌<◌, Bool, true, false, List, [], ◌∷◌, ◌++◌, drop, subst, length, flat_map, filter, get_or, drop-cons, nat_eq, Option, Some, None, is_some, refl, sym, ap, ◌∙◌, arith, true≢false}
+use Rattle.std.specs.Prelude.{◌&&◌, ◌==◌, not, slice_get, codes, if◌then◌else◌}
+use Rattle.std.specs.List.{list_all}
+use Rattle.std.specs.Option.{option_map}
+use Rattle.std.specs.Str.{bytes_eq}
+use Rattle.std.proofs.lemmas.Bool.Decides.{nat_tests}
+use Rattle.std.proofs.lemmas.Slice.Eq.{bytes_eq-Decides}
+use Rattle.base.specs.Bytes.{Identifier}
+use Rattle.base.specs.Options.{option_filter}
+use Rattle.class_rules.specs.Class.{Classes, superclass, above, ancestry_within}
+use Rattle.class_rules.specs.Mangling.{is_class_name, is_simple_name, mangle, escaped_byte, slash, unescaped, after_first, split_last, is_unmangled, unmangle, IsInverse}
+use Rattle.syntax.specs.Parts.{functions_of}
+use Rattle.syntax.specs.Tree.{Function, SourceUnit}
+use Rattle.semantics.specs.Method.{is_method_of}
+
+-- ---- names
+
+same_truth : (a b : Bool) → (a ≡ true → b ≡ true) → (b ≡ true → a ≡ true) → a ≡ b
+same_truth true b f g = sym (f refl)
+same_truth false true f g = absurd (let e : false ≡ true = g refl in cc)
+same_truth false false f g = refl
+
+both : (s t : Bool) → (s && t) ≡ true → (s ≡ true) × (t ≡ true)
+both true t h = (refl, h)
+both false t h = absurd (true≢false (sym h))
+
+and_true : (s t : Bool) → s ≡ true → t ≡ true → (s && t) ≡ true
+and_true true t h k = k
+and_true false t h k = h
+
+and_false : (a : Bool) → (a && false) ≡ false
+and_false true = refl
+and_false false = refl
+
+-- a path of two parts is divided at its last slash
+none_in : (m : List ℕ) → list_all (λ b. not (b == 47)) m ≡ true → split_last m ≡ None
+none_in [] h = refl
+none_in (c ∷ rest) h = let parts = both (not (c == 47)) (list_all (λ b. not (b == 47)) rest) h in
+    ap (λ o. after_first c o rest) (none_in rest parts.1) ∙ other (c == 47) parts.0
+  where
+    other : (b : Bool) → not b ≡ true → ◌≡◌ {A = Option (List ℕ × List ℕ)} (if b then Some ([], rest) else None) None
+    other true k = absurd (true≢false (sym k))
+    other false k = refl
+
+joined : (c m : List ℕ) → list_all (λ b. not (b == 47)) m ≡ true → split_last (c ++ 47 ∷ m) ≡ Some (c, m)
+joined [] m h = ap (λ o. after_first 47 o m) (none_in m h)
+joined (x ∷ rest) m h = ap (λ o. after_first x o (rest ++ 47 ∷ m)) (joined rest m h)
+
+-- the parts that a path is divided into
+abbrev IsParted : List ℕ → List ℕ × List ℕ → Type 0
+IsParted path parts = (path ≡ parts.0 ++ 47 ∷ parts.1) × (list_all (λ b. not (b == 47)) parts.1 ≡ true)
+
+undivided : (path : List ℕ) → split_last path ≡ None → list_all (λ b. not (b == 47)) path ≡ true
+undivided [] h = refl
+undivided (c ∷ rest) h = by_rest (split_last rest) refl h (undivided rest)
+  where
+    by_rest : (o : Option (List ℕ × List ℕ)) → split_last rest ≡ o → after_first c o rest ≡ None → (split_last rest ≡ None → list_all (λ b. not (b == 47)) rest ≡ true) → list_all (λ b. not (b == 47)) (c ∷ rest) ≡ true
+    by_rest (Some inner) e q further = absurd (cc)
+    by_rest None e q further = by_byte (c == 47) refl q
+      where
+        by_byte : (b : Bool) → (c == 47) ≡ b → ◌≡◌ {A = Option (List ℕ × List ℕ)} (if b then Some ([], rest) else None) None → list_all (λ x. not (x == 47)) (c ∷ rest) ≡ true
+        by_byte true t p = absurd (cc)
+        by_byte false t p = ap (λ b. not b && list_all (λ x. not (x == 47)) rest) t ∙ further e
+
+parted : (path : List ℕ) (parts : List ℕ × List ℕ) → split_last path ≡ Some parts → IsParted path parts
+parted [] parts h = absurd (cc)
+parted (c ∷ rest) parts h = by_rest (split_last rest) refl h (parted rest)
+  where
+    by_rest : (o : Option (List ℕ × List ℕ)) → split_last rest ≡ o → after_first c o rest ≡ Some parts → ((inner : List ℕ × List ℕ) → split_last rest ≡ Some inner → IsParted rest inner) → IsParted (c ∷ rest) parts
+    by_rest (Some inner) e q further =
+        let inside = further inner e in
+        let is : ◌≡◌ {A = List ℕ × List ℕ} (c ∷ inner.0, inner.1) parts = cc in
+        subst (IsParted (c ∷ rest)) is (ap (λ xs. c ∷ xs) inside.0, inside.1)
+    by_rest None e q further = by_byte (c == 47) refl q
+      where
+        by_byte : (b : Bool) → (c == 47) ≡ b → ◌≡◌ {A = Option (List ℕ × List ℕ)} (if b then Some ([], rest) else None) (Some parts) → IsParted (c ∷ rest) parts
+        by_byte true t p =
+            let is : ◌≡◌ {A = List ℕ × List ℕ} ([], rest) parts = cc in
+            let slash : c ≡ 47 = grind (arith, nat_tests, t) in
+            subst (IsParted (c ∷ rest)) is (ap (λ n. n ∷ rest) slash, undivided rest e)
+        by_byte false t p = absurd (cc)
+
+kept : {A : Type 0} (test : A → Bool) (o : Option A) → is_some (option_filter test o) ≡ true → option_filter test o ≡ o
+kept test None h = refl
+kept {A = A} test (Some x) h = go (test x) refl
+  where
+    go : (b : Bool) → test x ≡ b → option_filter test (Some x) ≡ Some x
+    go true e = ap (λ t. if t then Some x else None) e
+    go false e = let no : false ≡ true = sym (ap (λ t. is_some (if t then Some x else None)) e) ∙ h in absurd cc
+
+unmangled_parts : (name : List ℕ) → is_some (unmangle name) ≡ true → unmangle name ≡ split_last (unescaped (drop 5 name))
+unfolding unmangle
+unmangled_parts name h = kept (is_unmangled name) (split_last (unescaped (drop 5 name))) h
+
+-- a mangled name that stands for this path, whose method has no slash
+pub is_name : IsInverse → (name path c m : List ℕ) → drop 5 name ≡ path
+    → ((bytes_eq (unescaped path) (c ++ 47 ∷ m) && list_all (λ b. not (b == 47)) m) && is_some (unmangle name)) ≡ is_unmangled name (c, m)
+is_name inverse name path c m after = same_truth _ _ forward backward
+  where
+    A : Bool
+    A = bytes_eq (unescaped path) (c ++ 47 ∷ m)
+
+    B : Bool
+    B = list_all (λ b. not (b == 47)) m
+
+    C : Bool
+    C = is_some (unmangle name)
+
+    forward : ((A && B) && C) ≡ true → is_unmangled name (c, m) ≡ true
+    forward h =
+        let first = both (A && B) C h in
+        let second = both A B first.0 in
+        let is : unescaped path ≡ c ++ 47 ∷ m = (bytes_eq-Decides (unescaped path) (c ++ 47 ∷ m)).0 second.0 in
+        let made = (inverse name c m).0 (unmangled_parts name first.1 ∙ ap (λ p. split_last (unescaped p)) after ∙ ap split_last is ∙ joined c m second.1) in
+        and_true (is_class_name c && is_simple_name m) (bytes_eq (mangle c m) name) (and_true (is_class_name c) (is_simple_name m) made.0 made.1) ((bytes_eq-Decides (mangle c m) name).1 (sym made.2))
+
+    backward : is_unmangled name (c, m) ≡ true → ((A && B) && C) ≡ true
+    backward h =
+        let first = both (is_class_name c && is_simple_name m) (bytes_eq (mangle c m) name) h in
+        let second = both (is_class_name c) (is_simple_name m) first.0 in
+        let found : unmangle name ≡ Some (c, m) = (inverse name c m).1 (second.0, second.1, sym ((bytes_eq-Decides (mangle c m) name).0 first.1)) in
+        let there : is_some (unmangle name) ≡ true = ap is_some found in
+        let parts = parted (unescaped path) (c, m) (ap (λ p. split_last (unescaped p)) (sym after) ∙ sym (unmangled_parts name there) ∙ found) in
+        and_true (A && B) C (and_true A B ((bytes_eq-Decides (unescaped path) (c ++ 47 ∷ m)).1 parts.0) parts.1) there
+
+-- a name without the prefix is no mangled one
+pub no_name : (name c m : List ℕ) → ((xs : List ℕ) → bytes_eq (codes "Java_" ++ xs) name ≡ false) → is_unmangled name (c, m) ≡ false
+no_name name c m none =
+    ap (λ t. (is_class_name c && is_simple_name m) && t) (none (flat_map escaped_byte (c ++ 47 ∷ m)))
+    ∙ and_false (is_class_name c && is_simple_name m)
+
+-- what comes after the prefix
+pub after_prefix : (name path : List ℕ) → ((xs : List ℕ) → bytes_eq (codes "Java_" ++ xs) name ≡ bytes_eq xs path) → drop 5 name ≡ path
+after_prefix name path is = ap (drop 5) (sym ((bytes_eq-Decides (codes "Java_" ++ path) name).0 (is path ∙ (bytes_eq-Decides path path).1 refl)))
+
+-- ---- methods
+
+-- those of a class and its ancestors, of which there are at most this many
+abbrev pub named_within : ℕ → SourceUnit → Classes → ℕ → Identifier → List ℕ → List Function
+named_within n unit T c name text = flat_map (λ d. filter (is_method_of T d name text) (functions_of unit)) (ancestry_within n T c)
+
+first-some : {A : Type 0} (xs ys : List A) (x : A) → slice_get xs 0 ≡ Some x → slice_get (xs ++ ys) 0 ≡ Some x
+first-some [] ys x h = absurd (cc)
+first-some (y ∷ xs) ys x h = h
+
+first-none : {A : Type 0} (xs ys : List A) → slice_get xs 0 ≡ None → slice_get (xs ++ ys) 0 ≡ slice_get ys 0
+first-none [] ys h = refl
+first-none (y ∷ xs) ys h = absurd (cc)
+
+module _ (unit : SourceUnit) (T : Classes) (c : ℕ) (name : Identifier) (text : List ℕ) where
+  abbrev own : List Function
+  own = filter (is_method_of T c name text) (functions_of unit)
+
+  abbrev further : ℕ → Option ℕ → List Function
+  further n o = flat_map (λ d. filter (is_method_of T d name text) (functions_of unit)) (above (ancestry_within n T) o)
+
+  pub named-here : (n : ℕ) (f : Function) → 0 < n → slice_get own 0 ≡ Some f → slice_get (named_within n unit T c name text) 0 ≡ Some f
+  named-here zero f h e = absurd (omega arith)
+  named-here (suc n) f h e = first-some own (further n (superclass T c)) f e
+
+  pub named-above : (n m d : ℕ) → n ≡ m + 1 → slice_get own 0 ≡ None → superclass T c ≡ Some d → slice_get (named_within n unit T c name text) 0 ≡ slice_get (named_within m unit T d name text) 0
+  named-above zero m d e h q = absurd (omega arith)
+  named-above (suc n) m d e h q =
+      let same : n ≡ m = omega arith in
+      first-none own (further n (superclass T c)) h
+      ∙ ap (λ o. slice_get (further n o) 0) q
+      ∙ ap (λ k. slice_get (named_within k unit T d name text) 0) same
+
+  pub named-top : (n : ℕ) → slice_get own 0 ≡ None → superclass T c ≡ None → slice_get (named_within n unit T c name text) 0 ≡ None
+  named-top zero h q = refl
+  named-top (suc n) h q =
+      first-none own (further n (superclass T c)) h
+      ∙ ap (λ o. slice_get (further n o) 0) q
+
+-- nothing was found
+pub none_found : {A B : Type 0} (f : A → B) (o : Option A) (p : Option B) → o ≡ None → option_map f o ≡ p → p ≡ None
+none_found f o p h e = sym e ∙ ap (option_map f) h
+
+-- an item at a place, and those after it
+pub item_here : {A : Type 0} (items : List A) (i : ℕ) (x y : A) → i < length items → x ≡ get_or items i x → x ≡ y → drop i items ≡ y ∷ drop (i + 1) items
+item_here items i x y below at is =
+    let e : suc i ≡ i + 1 = omega arith in
+    drop-cons items i x below ∙ ap (λ z. z ∷ drop (suc i) items) (sym at ∙ is) ∙ ap (λ n. y ∷ drop n items) e
+
+-- no path is left where no byte is
+pub no_path : (bytes : List ℕ) → nat_eq (length bytes) 0 ≡ bytes_eq (unescaped bytes) []
+no_path [] = refl
+no_path (c ∷ []) = refl
+no_path (c ∷ d ∷ rest) = let some : nat_eq (suc (suc (length rest))) 0 ≡ false = grind (arith, nat_tests) in some ∙ by_test (c == 95 && d == 49)
+  where
+    by_test : (b : Bool) → false ≡ bytes_eq (if b then 95 ∷ unescaped rest else (if c == 95 then slash else c) ∷ unescaped (d ∷ rest)) []
+    by_test true = refl
+    by_test false = refl
