@@ -107,6 +107,7 @@ impl<'a> FlowState<'a> {
                 VariableType::Jsize => Ok(()),
                 VariableType::Jboolean => Ok(()),
                 VariableType::JfieldId => Ok(()),
+                VariableType::JmethodId => Ok(()),
             },
             Form::DeclareBuffer(_, x, _) => self.declare_buffer(x, call),
             Form::DeclareChars(x, _) => self.declare_buffer(x, call),

@@ -13,7 +13,7 @@ use Rattle.semantics.specs.Arguments.{actuals}
 use Rattle.syntax.specs.Tree.{Null, True, False, Commit, Abort}
 use Rattle.semantics.specs.Term.{Term, Done, Number, Named, Read, Element, IsNull, Prefix, And, Or, Binary, reduce, done, with_part, and_then, or_else, index_of}
 use Rattle.semantics.specs.Value.{Value, Word, Flag, Outcome, Gives, Traps, Stuck, Int, Truth, outcome_then, outcome_map, prefix_value}
-use Rattle.semantics.specs.Variable.{Variable, Scalar, LocalRef, FieldHandle, Elements, LocalArray, Variables, StaticReference, Empty, Live, Weakly, Cleared, Deleted, Statics}
+use Rattle.semantics.specs.Variable.{Variable, Scalar, LocalRef, FieldHandle, MethodHandle, Elements, LocalArray, Variables, StaticReference, Empty, Live, Weakly, Cleared, Deleted, Statics}
 use Rattle.semantics.specs.WeakReferences.{cleared, cleared_statics}
 use Rattle.semantics.specs.Reachable.{is_in}
 
@@ -160,6 +160,7 @@ held_same : (names : List ℕ) (v : Option Variable) (o : Option StaticReference
 held_same names (Some (LocalRef level r)) o h = refl
 held_same names (Some (Scalar r)) o h = refl
 held_same names (Some (FieldHandle r)) o h = refl
+held_same names (Some (MethodHandle m)) o h = refl
 held_same names (Some (Elements T r)) o h = refl
 held_same names (Some (LocalArray T r)) o h = refl
 held_same names None None h = refl

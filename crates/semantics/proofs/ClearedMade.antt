@@ -13,11 +13,12 @@ use Rattle.jni.specs.JniFunction.{JniFunction, prototype}
 use Rattle.syntax.specs.Tree.{SourceUnit}
 use Rattle.semantics.specs.Activation.{enter, entry_advance}
 use Rattle.semantics.specs.Arguments.{Actual, actuals, ReleaseMode, CopyBackAndFree, CopyBack, FreeUncopied, number_given, reference_given, object_given, text_given, variable_given, mode_given}
-use Rattle.semantics.specs.CallEffects.{CallEffect, CallResult, Throws, Halts, Leaves, at_index, at_region, ensure_effect, push_effect, frames_effect, delete_local_effect, delete_global_effect, delete_weak_effect, found_class_effect, found_field_effect, new_array_effect, get_region_effect, set_region_effect, store_effect, release_effect, enter_effect, exit_effect, local_array, with_capacity}
+use Rattle.semantics.specs.CallEffects.{CallEffect, CallResult, Throws, Halts, Leaves, at_index, at_region, ensure_effect, push_effect, frames_effect, delete_local_effect, delete_global_effect, delete_weak_effect, found_class_effect, found_field_effect, found_method_effect, new_array_effect, get_region_effect, set_region_effect, store_effect, release_effect, enter_effect, exit_effect, local_array, with_capacity}
 use Rattle.semantics.specs.CallStep.{put, put_assigned, checked, after_call, trap_of_call, waits_with}
 use Rattle.semantics.specs.CallTable.{call_effect}
 use Rattle.semantics.specs.Effect.{Effect, Becomes, Sets, SetsNull, SetsElement, MakesArray, Prints, Calls, Returns, TrapsAt, NoEffect, effect_of, goes_on, is_ready, reduce_first, returned_name}
 use Rattle.semantics.specs.Heap.{Heap}
+use Rattle.semantics.specs.Method.{MethodId, find_method}
 use Rattle.semantics.specs.Object.{Object, ObjectValue, Reference}
 use Rattle.semantics.specs.Return.{return_by}
 use Rattle.semantics.specs.Run.{made, made_between}
@@ -29,7 +30,7 @@ use Rattle.semantics.specs.Term.{Term, Read}
 use Rattle.semantics.specs.Thread.{Thread, Caller, Shared, BuffersInUse, Frame, Monitor, Quiet, Trapped, PrintedNumber, Advance, Advances, NoAdvance, capacities, monitor_of, sight_of}
 use Rattle.semantics.specs.ThreadStep.{next_effect, after_effect, set_element, step_within}
 use Rattle.semantics.specs.Value.{Value, Trap, Outcome, Gives, Traps, Stuck}
-use Rattle.semantics.specs.Variable.{Variable, Scalar, LocalRef, FieldHandle, Elements, LocalArray, NoBuffer, Copy, View, StaticReference, Empty, Live, Weakly, Cleared, Deleted, Statics}
+use Rattle.semantics.specs.Variable.{Variable, Scalar, LocalRef, FieldHandle, MethodHandle, Elements, LocalArray, NoBuffer, Copy, View, StaticReference, Empty, Live, Weakly, Cleared, Deleted, Statics}
 use Rattle.semantics.specs.WeakReferences.{cleared_statics, with_cleared}
 use Rattle.semantics.specs.World.{World, fresh_object}
 use Rattle.semantics.specs.WeakArguments.{takes_weak, WeakAreTaken}
@@ -126,6 +127,10 @@ module _ (classes : Classes) (s : Shared) (statics : Statics) where
     found_field_left c None = refl
     found_field_left c (Some n) = refl
 
+    found_method_left : (c : ℕ) (o : Option MethodId) → left (found_method_effect other t c o) ≡ left (found_method_effect s t c o)
+    found_method_left c None = refl
+    found_method_left c (Some m) = refl
+
     new_array_left : (c : ℕ) (z : ℤ) (v : ObjectValue) → left (new_array_effect other t c z v) ≡ left (new_array_effect s t c z v)
     new_array_left c (pos n) v = refl
     new_array_left c (negsuc n) v = refl
@@ -153,10 +158,10 @@ module _ (classes : Classes) (s : Shared) (statics : Statics) where
     exit_left k o None = refl
     exit_left k o (Some m) = either_left (m.owner == k) _ _ _ _ refl refl
 
-  module _ (in_use : BuffersInUse) (k : ℕ) (t : Thread) where
+  module _ (unit : SourceUnit) (in_use : BuffersInUse) (k : ℕ) (t : Thread) where
     -- a function makes the same with other statics, and leaves the same heap
     effect_left : (args : List Actual) (f : JniFunction)
-        → left (call_effect classes in_use k other t args f) ≡ left (call_effect classes in_use k s t args f)
+        → left (call_effect unit classes in_use k other t args f) ≡ left (call_effect unit classes in_use k s t args f)
     unfolding call_effect
     effect_left args jni.FindClass = found_class_left t _ (class_named classes (text_given args 0))
     effect_left args jni.DeleteLocalRef = delete_local_left t (lookup (variable_given args 0) t.variables) (reference_given args 0)
@@ -170,6 +175,7 @@ module _ (classes : Classes) (s : Shared) (statics : Statics) where
     effect_left args jni.PushLocalFrame = push_left t (number_given args 0)
     effect_left args jni.GetFieldID = found_field_left t _ (find_field classes (object_given args 0) (text_given args 1) (text_given args 2))
     effect_left args jni.GetStaticFieldID = found_field_left t _ (find_static classes (object_given args 0) (text_given args 1) (text_given args 2))
+    effect_left args jni.GetStaticMethodID = found_method_left t _ (find_method unit classes (object_given args 0) (text_given args 1) (text_given args 2))
     effect_left args jni.NewObjectArray = new_array_left t _ (number_given args 0) _
     effect_left args jni.GetObjectArrayElement = index_left _ _ (number_given args 1) _ _ (λ i. refl)
     effect_left args jni.SetObjectArrayElement = index_left _ _ (number_given args 1) _ _ (λ i. store_left t _ _ _ i)
@@ -189,7 +195,7 @@ module _ (classes : Classes) (s : Shared) (statics : Statics) where
 
     -- a call's own step leaves what its effect leaves
     after_left : (given : Shared) (line : ℕ) (target : Target) (f : JniFunction) (args : List Actual) (rest : List Task) (e : CallEffect)
-        → heap_after (after_call classes in_use k given t line target f args rest e) ≡ Some (heap_left classes given.heap e)
+        → heap_after (after_call unit classes in_use k given t line target f args rest e) ≡ Some (heap_left classes given.heap e)
     after_left given line target f args rest (Throws c) = put_heap target _ _ _
     after_left given line target f args rest (Halts trap) = refl
     after_left given line target f args rest (Leaves made s' t' result) = put_heap target result _ _
@@ -202,6 +208,7 @@ module _ (classes : Classes) (s : Shared) (statics : Statics) where
     element_heap given x i z (Some (Scalar v)) = refl
     element_heap given x i z (Some (LocalRef level r)) = refl
     element_heap given x i z (Some (FieldHandle f)) = refl
+    element_heap given x i z (Some (MethodHandle m)) = refl
     element_heap given x i z (Some (Elements T NoBuffer)) = refl
     element_heap given x i z (Some (Elements T (Copy n zs))) = refl
     element_heap given x i z (Some (Elements T (View n))) = refl
@@ -213,7 +220,7 @@ module _ (classes : Classes) (s : Shared) (statics : Statics) where
 
     -- the same effect leaves the same heap
     effect_heap : (rest : List Task) (e : Effect)
-        → heap_after (after_effect classes in_use k other t rest e) ≡ heap_after (after_effect classes in_use k s t rest e)
+        → heap_after (after_effect unit classes in_use k other t rest e) ≡ heap_after (after_effect unit classes in_use k s t rest e)
     effect_heap rest (Becomes tasks) = refl
     effect_heap rest (Sets x v) = refl
     effect_heap rest (SetsNull target) = put_heap target _ other _ ∙ sym (put_heap target _ s _)
@@ -233,12 +240,12 @@ module _ (classes : Classes) (s : Shared) (statics : Statics) where
     entry_heap (Some t') = refl
 
     -- so does a step whose effect is the same
-    step_heap : (unit : SourceUnit) (tasks : Option (List Task)) → next_effect other t tasks ≡ next_effect s t tasks
+    step_heap : (tasks : Option (List Task)) → next_effect other t tasks ≡ next_effect s t tasks
         → heap_after (step_within unit classes in_use k other t false tasks) ≡ heap_after (step_within unit classes in_use k s t false tasks)
-    step_heap unit None h = entry_heap (enter unit classes t t.calls)
-    step_heap unit (Some []) h = refl
-    step_heap unit (Some (task ∷ rest)) h =
-        ap (λ e. heap_after (after_effect classes in_use k other t rest e)) h ∙ effect_heap rest (next_effect s t (Some (task ∷ rest)))
+    step_heap None h = entry_heap (enter unit classes t t.calls)
+    step_heap (Some []) h = refl
+    step_heap (Some (task ∷ rest)) h =
+        ap (λ e. heap_after (after_effect unit classes in_use k other t rest e)) h ∙ effect_heap rest (next_effect s t (Some (task ∷ rest)))
 
 -- ---- what is made
 
@@ -295,7 +302,7 @@ module _ (unit : SourceUnit) (w : World) (s : State) (k : ℕ) (t : Thread) (nam
       ap (λ o. made_between (with_cleared names s) (step_of unit w.classes (with_cleared names s) k false o)) (thread_stays s names k ∙ here)
       ∙ between_heap (with_cleared names s) k _
       ∙ ap (beyond s.shared.heap)
-      (step_heap w.classes s.shared (cleared_statics names s.shared.statics) (in_use s) k t unit t.tasks (effect_of_tasks t.tasks refl))
+      (step_heap w.classes s.shared (cleared_statics names s.shared.statics) unit (in_use s) k t t.tasks (effect_of_tasks t.tasks refl))
       ∙ sym (between_heap s k _)
       ∙ ap (λ o. made_between s (step_of unit w.classes s k false o)) (sym here)
 

@@ -89,8 +89,8 @@ put_none (Assigned x) given s t heap h = assigned_none x given s t heap (lookup 
 put_none (Tested p q) given s t heap h = h
 put_none Dropped given s t heap h = h
 
-module _ (classes : Classes) (in_use : BuffersInUse) (k : ℕ) (s : Shared) (t : Thread) where
-  call_none : (f : JniFunction) (args : List Actual) → takes_weak f ≡ true → MakesNone s.heap (call_effect classes in_use k s t args f)
+module _ (unit : SourceUnit) (classes : Classes) (in_use : BuffersInUse) (k : ℕ) (s : Shared) (t : Thread) where
+  call_none : (f : JniFunction) (args : List Actual) → takes_weak f ≡ true → MakesNone s.heap (call_effect unit classes in_use k s t args f)
   unfolding call_effect
   call_none jni.NewLocalRef args h = (refl, refl)
   call_none jni.NewGlobalRef args h = (refl, refl)
@@ -103,26 +103,26 @@ module _ (classes : Classes) (in_use : BuffersInUse) (k : ℕ) (s : Shared) (t :
   checked_none (Some trap) e h = tt
 
   after_none : (line : ℕ) (target : Target) (f : JniFunction) (args : List Actual) (rest : List Task) (e : CallEffect)
-      → MakesNone s.heap e → KeepsHeap s.heap (after_call classes in_use k s t line target f args rest e)
+      → MakesNone s.heap e → KeepsHeap s.heap (after_call unit classes in_use k s t line target f args rest e)
   after_none line target f args rest (Throws c) h = absurd h
   after_none line target f args rest (Halts trap) h = refl
   after_none line target f args rest (Leaves made s' t' given) h =
       put_none target given _ _ s.heap (ap (λ (l : List Object). s'.heap ++ l) h.0 ∙ append-nil s'.heap ∙ h.1)
 
   gone_none : (line : ℕ) (target : Target) (f : JniFunction) (rest : List Task) (o : Outcome (List Operand))
-      → KeepsHeap s.heap (after_effect classes in_use k s t rest (goes_on line (Invoke line target f) o))
+      → KeepsHeap s.heap (after_effect unit classes in_use k s t rest (goes_on line (Invoke line target f) o))
   gone_none line target f rest (Gives a) = refl
   gone_none line target f rest (Traps trap) = refl
   gone_none line target f rest Stuck = tt
 
-  either_none : (b : Bool) (e e' : Effect) (rest : List Task) → KeepsHeap s.heap (after_effect classes in_use k s t rest e) → KeepsHeap s.heap (after_effect classes in_use k s t rest e')
-      → KeepsHeap s.heap (after_effect classes in_use k s t rest (cond b e e'))
+  either_none : (b : Bool) (e e' : Effect) (rest : List Task) → KeepsHeap s.heap (after_effect unit classes in_use k s t rest e) → KeepsHeap s.heap (after_effect unit classes in_use k s t rest e')
+      → KeepsHeap s.heap (after_effect unit classes in_use k s t rest (cond b e e'))
   either_none true e e' rest h h' = h
   either_none false e e' rest h h' = h'
 
   -- a call of one of them leaves the heap as it was
   pub invoke_none : (sight : Sight) (line : ℕ) (target : Target) (f : JniFunction) (operands : List Operand) (rest : List Task) → takes_weak f ≡ true
-      → KeepsHeap s.heap (after_effect classes in_use k s t rest (effect_of sight (Invoke line target f operands)))
+      → KeepsHeap s.heap (after_effect unit classes in_use k s t rest (effect_of sight (Invoke line target f operands)))
   invoke_none sight line target f operands rest h =
       let args : List Actual = actuals sight f operands in
       either_none (is_ready operands) (Calls line target f args) (goes_on line (Invoke line target f) (reduce_first sight operands)) rest
@@ -136,7 +136,7 @@ module _ (classes : Classes) (in_use : BuffersInUse) (k : ℕ) (s : Shared) (t :
       let back : CallResult = given_back t.pending c.result given in
       put_none c.target back s (received c.result back (resumed_in t c callers)) s.heap refl
 
-  returned_none : (line : ℕ) (rest : List Task) (o : Outcome Value) (r : StaticReference) → KeepsHeap s.heap (after_effect classes in_use k s t rest (returned_name line o r))
+  returned_none : (line : ℕ) (rest : List Task) (o : Outcome Value) (r : StaticReference) → KeepsHeap s.heap (after_effect unit classes in_use k s t rest (returned_name line o r))
   returned_none line rest (Gives v) r = refl
   returned_none line rest (Traps trap) r = return_none (ReferenceResult (as_reference r)) t.callers
   returned_none line rest Stuck r = return_none (ReferenceResult (as_reference r)) t.callers
@@ -176,13 +176,13 @@ module _ (unit : SourceUnit) (w : World) (s : State) (names : List ℕ) (k : ℕ
   pub invoke_makes_none : (line : ℕ) (target : Target) (f : JniFunction) (operands : List Operand) → t.tasks ≡ Some (Invoke line target f operands ∷ rest)
       → takes_weak f ≡ true → made unit w s k ≡ []
   invoke_makes_none line target f operands tasks takes =
-      within_none (Invoke line target f operands) tasks (invoke_none w.classes (in_use s) k s.shared t (sight_of s.shared t) line target f operands rest takes)
+      within_none (Invoke line target f operands) tasks (invoke_none unit w.classes (in_use s) k s.shared t (sight_of s.shared t) line target f operands rest takes)
 
   -- nor does the return of a bare name
   pub return_makes_none : (line : ℕ) (x : Identifier) → t.tasks ≡ Some (ReturnValue line (Read x) ∷ rest) → made unit w s k ≡ []
   return_makes_none line x tasks =
       let sight : Sight = sight_of s.shared t in
-      within_none (ReturnValue line (Read x)) tasks (returned_none w.classes (in_use s) k s.shared t line rest (sight.number x) (sight.reference x))
+      within_none (ReturnValue line (Read x)) tasks (returned_none unit w.classes (in_use s) k s.shared t line rest (sight.number x) (sight.reference x))
 
   same_result : (line : ℕ) (e : Term) → t.tasks ≡ Some (ReturnValue line e ∷ rest) → made unit w s k ≢ []
       → ReturnsSame (sight_of (with_cleared names s).shared t) (sight_of s.shared t) e

@@ -8,13 +8,15 @@ use Rattle.base.specs.Bytes.{Identifier, lookup}
 use Rattle.class_rules.specs.Class.{Classes, class_named}
 use Rattle.class_rules.specs.Fields.{FieldId, find_field, find_static}
 use Rattle.jni.specs.JniFunction.{JniFunction}
+use Rattle.semantics.specs.Method.{MethodId, find_method}
 use Rattle.semantics.specs.Object.{ObjectValue, Reference}
 use Rattle.semantics.specs.Arguments.{Actual, ReleaseMode, CopyBackAndFree, CopyBack, FreeUncopied, number_given, reference_given, object_given, text_given, variable_given, mode_given}
 use Rattle.semantics.specs.CallTable.{call_effect}
-use Rattle.semantics.specs.CallEffects.{CallEffect, Throws, Halts, Leaves, at_index, at_region, ensure_effect, push_effect, frames_effect, refuses_frames, delete_local_effect, delete_global_effect, delete_weak_effect, found_class_effect, found_field_effect, new_array_effect, get_region_effect, set_region_effect, store_effect, release_effect, enter_effect, exit_effect, local_array, with_capacity}
+use Rattle.semantics.specs.CallEffects.{CallEffect, Throws, Halts, Leaves, at_index, at_region, ensure_effect, push_effect, frames_effect, refuses_frames, delete_local_effect, delete_global_effect, delete_weak_effect, found_class_effect, found_field_effect, found_method_effect, new_array_effect, get_region_effect, set_region_effect, store_effect, release_effect, enter_effect, exit_effect, local_array, with_capacity}
 use Rattle.semantics.specs.Heap.{Heap, class_of, with_values}
 use Rattle.semantics.specs.Thread.{Shared, Thread, BuffersInUse, Frame, Monitor, capacities, monitor_of}
 use Rattle.semantics.specs.Variable.{Variable, StaticReference, Empty, Live, Weakly, Cleared, Deleted}
+use Rattle.syntax.specs.Tree.{SourceUnit}
 
 -- the effect leaves as many objects as the state has
 abbrev Keeps : Shared → CallEffect → Type 0
@@ -73,6 +75,10 @@ found_field_keeps : (s : Shared) (t : Thread) (c : ℕ) (o : Option FieldId) →
 found_field_keeps s t c None = tt
 found_field_keeps s t c (Some n) = refl
 
+found_method_keeps : (s : Shared) (t : Thread) (c : ℕ) (o : Option MethodId) → Keeps s (found_method_effect s t c o)
+found_method_keeps s t c None = tt
+found_method_keeps s t c (Some m) = refl
+
 new_array_keeps : (s : Shared) (t : Thread) (c : ℕ) (z : ℤ) (v : ObjectValue) → Keeps s (new_array_effect s t c z v)
 new_array_keeps s t c (pos n) v = refl
 new_array_keeps s t c (negsuc n) v = tt
@@ -100,8 +106,8 @@ exit_keeps : (k : ℕ) (s : Shared) (t : Thread) (o : ℕ) (m : Option Monitor) 
 exit_keeps k s t o None = tt
 exit_keeps k s t o (Some m) = cond_both (m.owner == k) _ _ (Keeps s) (λ e. refl) (λ e. tt)
 
-module _ (classes : Classes) (in_use : BuffersInUse) (k : ℕ) (s : Shared) (t : Thread) (args : List Actual) where
-  pub effect_keeps : (f : JniFunction) → Keeps s (call_effect classes in_use k s t args f)
+module _ (unit : SourceUnit) (classes : Classes) (in_use : BuffersInUse) (k : ℕ) (s : Shared) (t : Thread) (args : List Actual) where
+  pub effect_keeps : (f : JniFunction) → Keeps s (call_effect unit classes in_use k s t args f)
   unfolding call_effect
   effect_keeps jni.FindClass = found_class_keeps s t _ (class_named classes (text_given args 0))
   effect_keeps jni.DeleteLocalRef = delete_local_keeps s t (lookup (variable_given args 0) t.variables) (reference_given args 0)
@@ -111,6 +117,7 @@ module _ (classes : Classes) (in_use : BuffersInUse) (k : ℕ) (s : Shared) (t :
   effect_keeps jni.PushLocalFrame = push_keeps classes s t (number_given args 0)
   effect_keeps jni.GetFieldID = found_field_keeps s t _ (find_field classes (object_given args 0) (text_given args 1) (text_given args 2))
   effect_keeps jni.GetStaticFieldID = found_field_keeps s t _ (find_static classes (object_given args 0) (text_given args 1) (text_given args 2))
+  effect_keeps jni.GetStaticMethodID = found_method_keeps s t _ (find_method unit classes (object_given args 0) (text_given args 1) (text_given args 2))
   effect_keeps jni.SetObjectField = with_values_keeps s.heap _ _
   effect_keeps jni.SetStaticObjectField = with_values_keeps s.heap _ _
   effect_keeps jni.NewObjectArray = new_array_keeps s t _ (number_given args 0) _

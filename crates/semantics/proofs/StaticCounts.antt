@@ -10,10 +10,11 @@ use Rattle.base.specs.Bytes.{Identifier, lookup}
 use Rattle.class_rules.specs.Class.{Classes, class_named}
 use Rattle.class_rules.specs.Fields.{FieldId, find_field, find_static}
 use Rattle.jni.specs.JniFunction.{JniFunction}
+use Rattle.semantics.specs.Method.{MethodId, find_method}
 use Rattle.semantics.specs.Object.{ObjectValue, Reference}
 use Rattle.semantics.specs.Arguments.{Actual, ReleaseMode, CopyBackAndFree, CopyBack, FreeUncopied, number_given, reference_given, object_given, text_given, variable_given, mode_given}
 use Rattle.semantics.specs.CallTable.{call_effect}
-use Rattle.semantics.specs.CallEffects.{CallEffect, Throws, Halts, Leaves, at_index, at_region, ensure_effect, push_effect, frames_effect, refuses_frames, delete_local_effect, delete_global_effect, delete_weak_effect, found_class_effect, found_field_effect, new_array_effect, get_region_effect, set_region_effect, store_effect, release_effect, enter_effect, exit_effect, local_array, with_capacity}
+use Rattle.semantics.specs.CallEffects.{CallEffect, Throws, Halts, Leaves, at_index, at_region, ensure_effect, push_effect, frames_effect, refuses_frames, delete_local_effect, delete_global_effect, delete_weak_effect, found_class_effect, found_field_effect, found_method_effect, new_array_effect, get_region_effect, set_region_effect, store_effect, release_effect, enter_effect, exit_effect, local_array, with_capacity}
 use Rattle.semantics.specs.Thread.{Shared, Thread, BuffersInUse, Frame, Monitor, capacities, monitor_of}
 use Rattle.semantics.specs.Activation.{entry_advance, enter}
 use Rattle.semantics.specs.CallEffects.{CallResult}
@@ -27,7 +28,7 @@ use Rattle.semantics.specs.Task.{Task, Target, Declared, Assigned, Tested, Dropp
 use Rattle.semantics.specs.Thread.{Caller, Event, Quiet, Trapped, PrintedNumber, Advance, Advances, NoAdvance, sight_of}
 use Rattle.semantics.specs.ThreadStep.{set_element, after_effect, after_refused_effect, step_within, thread_step, with_tasks}
 use Rattle.semantics.specs.Value.{Trap}
-use Rattle.semantics.specs.Variable.{Variable, Scalar, LocalRef, FieldHandle, Elements, LocalArray, NoBuffer, Copy, View, StaticReference, Empty, Live, Weakly, Cleared, Deleted, Statics, assign}
+use Rattle.semantics.specs.Variable.{Variable, Scalar, LocalRef, FieldHandle, MethodHandle, Elements, LocalArray, NoBuffer, Copy, View, StaticReference, Empty, Live, Weakly, Cleared, Deleted, Statics, assign}
 use Rattle.semantics.specs.WeakReferences.{weak_object, weakly_held}
 use Rattle.syntax.specs.Tree.{SourceUnit}
 
@@ -136,6 +137,10 @@ found_field_keeps : (s : Shared) (t : Thread) (c : ℕ) (o : Option FieldId) →
 found_field_keeps s t c None = tt
 found_field_keeps s t c (Some n) = least (held s.statics)
 
+found_method_keeps : (s : Shared) (t : Thread) (c : ℕ) (o : Option MethodId) → Keeps s (found_method_effect s t c o)
+found_method_keeps s t c None = tt
+found_method_keeps s t c (Some m) = least (held s.statics)
+
 new_array_keeps : (s : Shared) (t : Thread) (c : ℕ) (z : ℤ) (v : ObjectValue) → Keeps s (new_array_effect s t c z v)
 new_array_keeps s t c (pos n) v = least (held s.statics)
 new_array_keeps s t c (negsuc n) v = tt
@@ -163,8 +168,8 @@ exit_keeps : (k : ℕ) (s : Shared) (t : Thread) (o : ℕ) (m : Option Monitor) 
 exit_keeps k s t o None = tt
 exit_keeps k s t o (Some m) = cond_both (m.owner == k) _ _ (Keeps s) (λ e. least (held s.statics)) (λ e. tt)
 
-module _ (classes : Classes) (in_use : BuffersInUse) (k : ℕ) (s : Shared) (t : Thread) (args : List Actual) where
-  effect_keeps : (f : JniFunction) → Keeps s (call_effect classes in_use k s t args f)
+module _ (unit : SourceUnit) (classes : Classes) (in_use : BuffersInUse) (k : ℕ) (s : Shared) (t : Thread) (args : List Actual) where
+  effect_keeps : (f : JniFunction) → Keeps s (call_effect unit classes in_use k s t args f)
   unfolding call_effect
   effect_keeps jni.FindClass = found_class_keeps s t _ (class_named classes (text_given args 0))
   effect_keeps jni.DeleteLocalRef = delete_local_keeps s t (lookup (variable_given args 0) t.variables) (reference_given args 0)
@@ -174,6 +179,7 @@ module _ (classes : Classes) (in_use : BuffersInUse) (k : ℕ) (s : Shared) (t :
   effect_keeps jni.PushLocalFrame = push_keeps classes s t (number_given args 0)
   effect_keeps jni.GetFieldID = found_field_keeps s t _ (find_field classes (object_given args 0) (text_given args 1) (text_given args 2))
   effect_keeps jni.GetStaticFieldID = found_field_keeps s t _ (find_static classes (object_given args 0) (text_given args 1) (text_given args 2))
+  effect_keeps jni.GetStaticMethodID = found_method_keeps s t _ (find_method unit classes (object_given args 0) (text_given args 1) (text_given args 2))
   effect_keeps jni.SetObjectField = least (held s.statics)
   effect_keeps jni.SetStaticObjectField = least (held s.statics)
   effect_keeps jni.NewObjectArray = new_array_keeps s t _ (number_given args 0) _
@@ -224,26 +230,27 @@ element_adds s t x i z (Some (Elements T NoBuffer)) = tt
 element_adds s t x i z (Some (Scalar v)) = tt
 element_adds s t x i z (Some (LocalRef level r)) = tt
 element_adds s t x i z (Some (FieldHandle f)) = tt
+element_adds s t x i z (Some (MethodHandle m)) = tt
 element_adds s t x i z None = tt
 
 entry_adds : (s : Shared) (o : Option Thread) → AddsOne s (entry_advance s o)
 entry_adds s None = tt
 entry_adds s (Some t) = same (held s.statics)
 
-module _ (classes : Classes) (in_use : BuffersInUse) (k : ℕ) (s : Shared) (t : Thread) where
+module _ (unit : SourceUnit) (classes : Classes) (in_use : BuffersInUse) (k : ℕ) (s : Shared) (t : Thread) where
   module _ (line : ℕ) (target : Target) (f : JniFunction) (args : List Actual) (rest : List Task) where
     completed_adds : (made : List Object) (s' : Shared) (t' : Thread) (given : CallResult) → held s'.statics ≤ held s.statics
-        → AddsOne s (completed classes in_use k s t line target f args rest made s' t' given)
+        → AddsOne s (completed unit classes in_use k s t line target f args rest made s' t' given)
     completed_adds made s' t' given few =
         adds_from s (record s' { heap = s'.heap ++ made }) _ few
-        (put_adds target given (record s' { heap = s'.heap ++ made }) (resumed classes in_use k s t line target f args rest t' given))
+        (put_adds target given (record s' { heap = s'.heap ++ made }) (resumed unit classes in_use k s t line target f args rest t' given))
 
-    call_adds : (e : CallEffect) → Keeps s e → AddsOne s (after_call classes in_use k s t line target f args rest e)
+    call_adds : (e : CallEffect) → Keeps s e → AddsOne s (after_call unit classes in_use k s t line target f args rest e)
     call_adds (Throws c) h = completed_adds _ s _ _ (least (held s.statics))
     call_adds (Halts trap) h = same (held s.statics)
     call_adds (Leaves made s' t' given) h = completed_adds made s' t' given h
 
-    refusal_adds : (b : Bool) → AddsOne s (after_refusal classes in_use k s t line target f args rest b)
+    refusal_adds : (b : Bool) → AddsOne s (after_refusal unit classes in_use k s t line target f args rest b)
     refusal_adds true = completed_adds [] s _ _ (least (held s.statics))
     refusal_adds false = tt
 
@@ -251,11 +258,11 @@ module _ (classes : Classes) (in_use : BuffersInUse) (k : ℕ) (s : Shared) (t :
     checked_keeps (Some trap) e h = tt
     checked_keeps None e h = h
 
-    step_adds : (refused : Bool) → AddsOne s (call_step classes in_use k s t line target f args rest refused)
+    step_adds : (refused : Bool) → AddsOne s (call_step unit classes in_use k s t line target f args rest refused)
     step_adds false =
-        call_adds (effect_of_call classes in_use k s t line target f args rest)
-        (checked_keeps (trap_of_call classes s t target f args) (call_effect classes in_use k s t args f) (effect_keeps classes in_use k s t args f))
-    step_adds true = refusal_adds (makes_objects (effect_of_call classes in_use k s t line target f args rest))
+        call_adds (effect_of_call unit classes in_use k s t line target f args rest)
+        (checked_keeps (trap_of_call classes s t target f args) (call_effect unit classes in_use k s t args f) (effect_keeps unit classes in_use k s t args f))
+    step_adds true = refusal_adds (makes_objects (effect_of_call unit classes in_use k s t line target f args rest))
 
   return_adds : (given : CallResult) (callers : List Caller) → AddsOne s (return_by k s t given callers)
   return_adds given [] = same (held s.statics)
@@ -264,7 +271,7 @@ module _ (classes : Classes) (in_use : BuffersInUse) (k : ℕ) (s : Shared) (t :
       put_adds c.target back s (received c.result back (resumed_in t c callers))
 
   module _ (rest : List Task) where
-    effect_adds : (e : Effect) → AddsOne s (after_effect classes in_use k s t rest e)
+    effect_adds : (e : Effect) → AddsOne s (after_effect unit classes in_use k s t rest e)
     effect_adds (Becomes tasks) = same (held s.statics)
     effect_adds (Sets x v) = same (held s.statics)
     effect_adds (SetsNull target) = put_adds target _ s (with_tasks t rest)
@@ -276,7 +283,7 @@ module _ (classes : Classes) (in_use : BuffersInUse) (k : ℕ) (s : Shared) (t :
     effect_adds (TrapsAt trap line) = same (held s.statics)
     effect_adds NoEffect = tt
 
-    refused_adds : (e : Effect) → AddsOne s (after_refused_effect classes in_use k s t rest e)
+    refused_adds : (e : Effect) → AddsOne s (after_refused_effect unit classes in_use k s t rest e)
     refused_adds (Becomes tasks) = tt
     refused_adds (Sets x v) = tt
     refused_adds (SetsNull target) = tt
@@ -288,13 +295,13 @@ module _ (classes : Classes) (in_use : BuffersInUse) (k : ℕ) (s : Shared) (t :
     refused_adds (TrapsAt trap line) = tt
     refused_adds NoEffect = tt
 
-  within_adds : (unit : SourceUnit) (refused : Bool) (o : Option (List Task)) → AddsOne s (step_within unit classes in_use k s t refused o)
-  within_adds unit false None = entry_adds s (enter unit classes t t.calls)
-  within_adds unit true None = tt
-  within_adds unit false (Some []) = tt
-  within_adds unit true (Some []) = tt
-  within_adds unit false (Some (task ∷ rest)) = effect_adds rest (effect_of (sight_of s t) task)
-  within_adds unit true (Some (task ∷ rest)) = refused_adds rest (effect_of (sight_of s t) task)
+  within_adds : (refused : Bool) (o : Option (List Task)) → AddsOne s (step_within unit classes in_use k s t refused o)
+  within_adds false None = entry_adds s (enter unit classes t t.calls)
+  within_adds true None = tt
+  within_adds false (Some []) = tt
+  within_adds true (Some []) = tt
+  within_adds false (Some (task ∷ rest)) = effect_adds rest (effect_of (sight_of s t) task)
+  within_adds true (Some (task ∷ rest)) = refused_adds rest (effect_of (sight_of s t) task)
 
 -- an event changes nothing that is shared
 event_shared : (s : State) (k : ℕ) (event : Event) → (with_event s k event).shared ≡ s.shared
@@ -317,7 +324,7 @@ tested false after next h = let bad : None ≡ Some next = h in absurd (cc)
 of_thread : (unit : SourceUnit) (classes : Classes) (s next : State) (k : ℕ) (refused : Bool) (o : Option Thread) → step_of unit classes s k refused o ≡ Some next → held next.shared.statics ≤ held s.shared.statics + 1
 of_thread unit classes s next k refused None h = let bad : None ≡ Some next = h in absurd (cc)
 of_thread unit classes s next k refused (Some t) h =
-    advanced_adds s next k (thread_step unit classes (in_use s) k s.shared t refused) (within_adds classes (in_use s) k s.shared t unit refused t.tasks) h
+    advanced_adds s next k (thread_step unit classes (in_use s) k s.shared t refused) (within_adds unit classes (in_use s) k s.shared t refused t.tasks) h
 
 -- one more at most
 pub turn_adds : (unit : SourceUnit) (classes : Classes) (s next : State) (k : ℕ) (refused : Bool) → turn_step unit classes s k refused ≡ Some next → held next.shared.statics ≤ held s.shared.statics + 1

@@ -34,13 +34,13 @@ step-thread unit classes s k t refused h = rw (h.can, h.thread) refl
 
 -- the thread's step is the effect of its first task
 pub step-effect : (unit : SourceUnit) (classes : Classes) (s : State) (k : ℕ) (t : Thread) (task : Task) (rest : List Task) → Steps classes s k t → t.tasks ≡ Some (task ∷ rest)
-    → turn_step unit classes s k false ≡ advanced s k (after_effect classes (in_use s) k s.shared t rest (effect_of (sight_of s.shared t) task))
+    → turn_step unit classes s k false ≡ advanced s k (after_effect unit classes (in_use s) k s.shared t rest (effect_of (sight_of s.shared t) task))
 step-effect unit classes s k t task rest h e =
     step-thread unit classes s k t false h ∙ ap (λ o. advanced s k (step_within unit classes (in_use s) k s.shared t false o)) e
 
 -- the same with its allocation refused
 pub step-refused : (unit : SourceUnit) (classes : Classes) (s : State) (k : ℕ) (t : Thread) (task : Task) (rest : List Task) → Steps classes s k t → t.tasks ≡ Some (task ∷ rest)
-    → turn_step unit classes s k true ≡ advanced s k (after_refused_effect classes (in_use s) k s.shared t rest (effect_of (sight_of s.shared t) task))
+    → turn_step unit classes s k true ≡ advanced s k (after_refused_effect unit classes (in_use s) k s.shared t rest (effect_of (sight_of s.shared t) task))
 step-refused unit classes s k t task rest h e =
     step-thread unit classes s k t true h ∙ ap (λ o. advanced s k (step_within unit classes (in_use s) k s.shared t true o)) e
 

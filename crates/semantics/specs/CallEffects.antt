@@ -5,6 +5,7 @@ use Rattle.base.specs.Bytes.{Identifier, lookup}
 use Rattle.class_rules.specs.BuiltIns.{negative_array_size, array_store_exception, illegal_monitor_state, string_class}
 use Rattle.class_rules.specs.Class.{Classes}
 use Rattle.class_rules.specs.Fields.{FieldId}
+use Rattle.semantics.specs.Method.{MethodId}
 use Rattle.semantics.specs.Object.{Object, ObjectValue, Number, Refers, Reference}
 use Rattle.semantics.specs.World.{fresh_object}
 use Rattle.semantics.specs.Arguments.{ReleaseMode, CopyBackAndFree, CopyBack, FreeUncopied}
@@ -22,6 +23,7 @@ pub data CallResult : Type 0 where
   -- a weak global reference
   WeakResult : Reference → CallResult
   FieldResult : Option FieldId → CallResult
+  MethodResult : Option MethodId → CallResult
   BufferResult : Buffer → CallResult
 
 -- what a call does: a Java exception of this class, a trap, or new objects in their order, what it leaves of the shared
@@ -127,6 +129,11 @@ found_class_effect s t exception (Some c) = Leaves [] s t (ReferenceResult (Some
 abbrev pub found_field_effect : Shared → Thread → (exception : ℕ) → Option FieldId → CallEffect
 found_field_effect s t exception None = Throws exception
 found_field_effect s t exception (Some f) = Leaves [] s t (FieldResult (Some f))
+
+-- a method that was found, or else an exception
+abbrev pub found_method_effect : Shared → Thread → (exception : ℕ) → Option MethodId → CallEffect
+found_method_effect s t exception None = Throws exception
+found_method_effect s t exception (Some m) = Leaves [] s t (MethodResult (Some m))
 
 -- ---- arrays and strings
 

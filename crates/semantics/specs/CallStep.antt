@@ -3,21 +3,22 @@ use Rattle.std.specs.Prelude.{ℕ, Bool, true, false, not, ◌&&◌, ◌==◌, p
 use Rattle.std.specs.Ordering.{int_eq}
 use Rattle.base.specs.Bytes.{Identifier, lookup}
 use Rattle.base.specs.Element.{ElementType, JInt}
+use Rattle.syntax.specs.Tree.{SourceUnit}
 use Rattle.class_rules.specs.Class.{Classes}
 use Rattle.jni.specs.JniFunction.{JniFunction, MonitorEnter, prototype}
-use Rattle.jni.specs.Prototype.{ResultKind, NewLocal, NewGlobal, NewWeak, GivesFlag, GivesInt, GivesField, GivesBuffer, GivesNothing}
+use Rattle.jni.specs.Prototype.{ResultKind, NewLocal, NewGlobal, NewWeak, GivesFlag, GivesInt, GivesField, GivesMethod, GivesBuffer, GivesNothing}
 use Rattle.semantics.specs.Object.{Object}
 use Rattle.semantics.specs.World.{fresh_object}
 use Rattle.semantics.specs.Arguments.{Actual, address_given, object_given}
-use Rattle.semantics.specs.CallEffects.{CallResult, NoResult, NullResult, ScalarResult, ReferenceResult, WeakResult, FieldResult, BufferResult, CallEffect, Throws, Leaves, out_of_memory, with_local, Halts}
+use Rattle.semantics.specs.CallEffects.{CallResult, NoResult, NullResult, ScalarResult, ReferenceResult, WeakResult, FieldResult, MethodResult, BufferResult, CallEffect, Throws, Leaves, out_of_memory, with_local, Halts}
 use Rattle.semantics.specs.CallTable.{call_effect}
 use Rattle.semantics.specs.Checks.{call_trap}
 use Rattle.semantics.specs.Effect.{Effect, Calls, tasks_after}
 use Rattle.semantics.specs.Heap.{next_name}
-use Rattle.semantics.specs.Task.{Task, VariableKind, ScalarKind, ReferenceKind, FieldKind, BufferKind, Target, Declared, Assigned}
+use Rattle.semantics.specs.Task.{Task, VariableKind, ScalarKind, ReferenceKind, FieldKind, MethodKind, BufferKind, Target, Declared, Assigned}
 use Rattle.semantics.specs.Thread.{Thread, Monitor, Shared, BuffersInUse, Quiet, Trapped, Advance, Advances, NoAdvance, monitor_of}
 use Rattle.semantics.specs.Value.{Int, Flag, Trap}
-use Rattle.semantics.specs.Variable.{Variable, Scalar, LocalRef, FieldHandle, Elements, NoBuffer, Copy, View, StaticReference, Empty, Variables, as_static, as_weak, assign}
+use Rattle.semantics.specs.Variable.{Variable, Scalar, LocalRef, FieldHandle, MethodHandle, Elements, NoBuffer, Copy, View, StaticReference, Empty, Variables, as_static, as_weak, assign}
 
 -- ---- where a result goes
 
@@ -26,6 +27,7 @@ abbrev pub blank : VariableKind → ℕ → Variable
 blank ScalarKind frames = Scalar (Int (pos 0))
 blank ReferenceKind frames = LocalRef frames None
 blank FieldKind frames = FieldHandle None
+blank MethodKind frames = MethodHandle None
 blank (BufferKind T) frames = Elements T NoBuffer
 
 -- a variable with what a call gave
@@ -35,6 +37,8 @@ filled (LocalRef level r) (ReferenceResult q) = LocalRef level q
 filled (LocalRef level r) NullResult = LocalRef level None
 filled (FieldHandle f) (FieldResult g) = FieldHandle g
 filled (FieldHandle f) NullResult = FieldHandle None
+filled (MethodHandle m) (MethodResult n) = MethodHandle n
+filled (MethodHandle m) NullResult = MethodHandle None
 filled (Elements T b) (BufferResult c) = Elements T c
 filled (Elements T b) NullResult = Elements T NoBuffer
 filled v given = v
@@ -78,6 +82,7 @@ failure NewLocal = NullResult
 failure NewGlobal = NullResult
 failure NewWeak = NullResult
 failure GivesField = NullResult
+failure GivesMethod = NullResult
 failure (GivesBuffer access) = NullResult
 failure GivesInt = ScalarResult (Int (negsuc 0))
 failure GivesFlag = ScalarResult (Flag false)
@@ -112,11 +117,11 @@ makes_objects (Leaves (o ∷ made) s t given) = true
 makes_objects e = false
 
 -- Thread k calls a function, for this target and with these arguments, and goes on with the rest.
-module _ (classes : Classes) (in_use : BuffersInUse) (k : ℕ) (s : Shared) (t : Thread) (line : ℕ) (target : Target)
+module _ (unit : SourceUnit) (classes : Classes) (in_use : BuffersInUse) (k : ℕ) (s : Shared) (t : Thread) (line : ℕ) (target : Target)
     (f : JniFunction) (args : List Actual) (rest : List Task) where
   -- what the call does
   abbrev pub effect_of_call : CallEffect
-  effect_of_call = checked (trap_of_call classes s t target f args) (call_effect classes in_use k s t args f)
+  effect_of_call = checked (trap_of_call classes s t target f args) (call_effect unit classes in_use k s t args f)
 
   -- the thread with the call's result: in its frame, in `isCopy`, and in the test of an `if`
   abbrev pub resumed : Thread → CallResult → Thread

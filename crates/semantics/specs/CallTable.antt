@@ -3,15 +3,17 @@ use Rattle.std.specs.Prelude.{ℕ, Bool, true, not, ◌&&◌, ◌==◌, ℤ, pos
 use Rattle.std.specs.Option.{option_to_list, option_map_or}
 use Rattle.base.specs.Bytes.{lookup}
 use Rattle.base.specs.Element.{ElementType}
-use Rattle.class_rules.specs.BuiltIns.{has_own_making, throwable_class, number_array, no_class_def_found_error, no_such_field_error, array_index_out_of_bounds, string_index_out_of_bounds}
+use Rattle.syntax.specs.Tree.{SourceUnit}
+use Rattle.class_rules.specs.BuiltIns.{has_own_making, throwable_class, number_array, no_class_def_found_error, no_such_field_error, no_such_method_error, array_index_out_of_bounds, string_index_out_of_bounds}
 use Rattle.class_rules.specs.Class.{Classes, class_named, class_kind, is_plain, superclass, assignable, array_class_of, element_class}
 use Rattle.class_rules.specs.Fields.{FieldId, find_field, find_static}
 use Rattle.jni.specs.Access.{ElementsCopy, ArrayView, CharsCopy, CharsView}
-use Rattle.jni.specs.JniFunction.{JniFunction, FindClass, GetSuperclass, GetObjectClass, IsInstanceOf, IsAssignableFrom, AllocObject, NewLocalRef, NewGlobalRef, NewWeakGlobalRef, DeleteLocalRef, DeleteGlobalRef, DeleteWeakGlobalRef, IsSameObject, EnsureLocalCapacity, PushLocalFrame, PopLocalFrame, GetFieldID, GetStaticFieldID, GetField, SetField, GetStaticField, SetStaticField, GetObjectField, SetObjectField, GetStaticObjectField, SetStaticObjectField, GetArrayLength, NewObjectArray, GetObjectArrayElement, SetObjectArrayElement, NewArray, GetArrayRegion, SetArrayRegion, NewStringUTF, GetStringLength, GetStringRegion, Throw, ThrowNew, ExceptionOccurred, ExceptionCheck, ExceptionClear, FatalError, MonitorEnter, MonitorExit, GetBuffer, ReleaseBuffer}
+use Rattle.jni.specs.JniFunction.{JniFunction, FindClass, GetSuperclass, GetObjectClass, IsInstanceOf, IsAssignableFrom, AllocObject, NewLocalRef, NewGlobalRef, NewWeakGlobalRef, DeleteLocalRef, DeleteGlobalRef, DeleteWeakGlobalRef, IsSameObject, EnsureLocalCapacity, PushLocalFrame, PopLocalFrame, GetFieldID, GetStaticFieldID, GetField, SetField, GetStaticField, SetStaticField, GetObjectField, SetObjectField, GetStaticObjectField, SetStaticObjectField, GetArrayLength, NewObjectArray, GetObjectArrayElement, SetObjectArrayElement, NewArray, GetArrayRegion, SetArrayRegion, NewStringUTF, GetStringLength, GetStringRegion, Throw, ThrowNew, ExceptionOccurred, ExceptionCheck, ExceptionClear, FatalError, MonitorEnter, MonitorExit, GetBuffer, ReleaseBuffer, GetStaticMethodID}
+use Rattle.semantics.specs.Method.{find_method}
 use Rattle.semantics.specs.Object.{Number, Refers, Reference}
 use Rattle.semantics.specs.World.{fresh_object}
 use Rattle.semantics.specs.Arguments.{Actual, reference_given, object_given, number_given, text_given, field_given, variable_given, mode_given, FreeUncopied}
-use Rattle.semantics.specs.CallEffects.{CallResult, NoResult, ScalarResult, ReferenceResult, WeakResult, CallEffect, Leaves, ensure_effect, push_effect, same_reference, delete_local_effect, delete_global_effect, delete_weak_effect, heap_effect, new_effect, found_class_effect, found_field_effect, new_array_effect, string_object, at_index, at_region, get_region_effect, set_region_effect, store_effect, copy_effect, view_effect, with_freed, release_effect, throw_new_effect, enter_effect, exit_effect, Halts}
+use Rattle.semantics.specs.CallEffects.{CallResult, NoResult, ScalarResult, ReferenceResult, WeakResult, CallEffect, Leaves, ensure_effect, push_effect, same_reference, delete_local_effect, delete_global_effect, delete_weak_effect, heap_effect, new_effect, found_class_effect, found_field_effect, found_method_effect, new_array_effect, string_object, at_index, at_region, get_region_effect, set_region_effect, store_effect, copy_effect, view_effect, with_freed, release_effect, throw_new_effect, enter_effect, exit_effect, Halts}
 use Rattle.semantics.specs.Heap.{Heap, is_instance, holds_number, holds_reference, fits_type, class_of, values_of, value_at, numbers_of, number_in, reference_in, field_place, static_place, fits_class, with_value_at}
 use Rattle.semantics.specs.Thread.{Shared, Thread, BuffersInUse, monitor_of}
 use Rattle.semantics.specs.Value.{Int, Flag, convert, Fatal}
@@ -48,7 +50,7 @@ module _ (classes : Classes) (heap : Heap) (buffer : ElementType) (args : List A
   go_together f = true
 
 -- Thread k calls a function. `object i`, `number i` and so on are its arguments after `env`, from 0.
-module _ (classes : Classes) (in_use : BuffersInUse) (k : ℕ) (s : Shared) (t : Thread) (args : List Actual) where
+module _ (unit : SourceUnit) (classes : Classes) (in_use : BuffersInUse) (k : ℕ) (s : Shared) (t : Thread) (args : List Actual) where
   -- nothing changes, and this is given
   abbrev pub gives : CallResult → CallEffect
   gives result = Leaves [] s t result
@@ -157,3 +159,4 @@ module _ (classes : Classes) (in_use : BuffersInUse) (k : ℕ) (s : Shared) (t :
   call_effect FatalError = Halts Fatal
   call_effect MonitorEnter = enter_effect k s t (object 0) (monitor_of s.monitors (object 0))
   call_effect MonitorExit = exit_effect k s t (object 0) (monitor_of s.monitors (object 0))
+  call_effect GetStaticMethodID = found_method_effect s t no_such_method_error (find_method unit classes (object 0) (text 1) (text 2))

@@ -9,6 +9,7 @@ pub mod JournalText
 -- values, the heap and variables
 pub mod Value
 pub mod Heap
+pub mod Method
 pub mod Variable
 -- what can be seen, and expressions
 pub mod Sight

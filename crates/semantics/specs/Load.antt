@@ -1,9 +1,12 @@
 -- Which worlds go with a unit.
-use Rattle.std.specs.Prelude.{ℕ, Bool, true, false, not, ◌&&◌, List, [], ◌∷◌, filter, flat_map, map, is_some, slice_get, Option, IsTrue}
-use Rattle.std.specs.List.{list_all}
+use Rattle.std.specs.Prelude.{ℕ, Bool, true, false, not, ◌&&◌, ◌||◌, if◌then◌else◌, List, [], ◌∷◌, ◌++◌, filter, flat_map, map, is_some, slice_get, Option, IsTrue}
+use Rattle.std.specs.List.{list_all, list_any}
+use Rattle.std.specs.Str.{bytes_eq}
 use Rattle.base.specs.Options.{some_passes}
-use Rattle.syntax.specs.Tree.{Parameter, ParameterType, IntParameter, ReferenceParameter, Function, SourceUnit}
+use Rattle.syntax.specs.Parts.{functions_of, statements_of, own_call}
+use Rattle.syntax.specs.Tree.{Call, Parameter, ParameterType, IntParameter, ReferenceParameter, Function, SourceUnit}
 use Rattle.class_rules.specs.Class.{Classes}
+use Rattle.jni.specs.JniFunction.{GetStaticMethodID, prototype}
 use Rattle.semantics.specs.Object.{ObjectValue, Number, Refers}
 use Rattle.semantics.specs.World.{Invocation, World}
 use Rattle.semantics.specs.Activation.{function_at, class_of_function}
@@ -28,17 +31,28 @@ is_callable classes arguments f = is_some (class_of_function classes f) && fit_p
 abbrev pub call_loads : SourceUnit → Classes → Invocation → Bool
 call_loads unit classes call = some_passes (is_callable classes call.arguments) (function_at unit call.function)
 
--- each call of each thread does
+-- GetStaticMethodID is called somewhere in the unit
+abbrev pub asks_methods : SourceUnit → Bool
+asks_methods unit =
+    list_any (λ (f : Function). list_any (λ s. some_passes (λ (c : Call). bytes_eq c.function (prototype GetStaticMethodID).name) (own_call s)) (statements_of f.body))
+    (functions_of unit)
+
+-- where methods are asked for, the world allows them
+abbrev pub methods_load : SourceUnit → World → Bool
+methods_load unit w = not (asks_methods unit) || w.methods
+
+-- methods are allowed where they are asked for, and each call of each thread loads
 abbrev pub Loads : SourceUnit → World → Type 0
-Loads unit w = IsTrue (list_all (list_all (call_loads unit w.classes)) w.threads)
+Loads unit w = IsTrue (methods_load unit w) × IsTrue (list_all (list_all (call_loads unit w.classes)) w.threads)
 
 -- the calls that don't
 abbrev pub refused_calls : SourceUnit → Classes → List Invocation → List Invocation
 refused_calls unit classes calls = filter (λ c. not (call_loads unit classes c)) calls
 
--- the lines of these, in text order
+-- the lines of what doesn't load, in text order
 abbrev pub load_faults : SourceUnit → World → List ℕ
-load_faults unit w = map (λ (c : Invocation). c.line) (flat_map (refused_calls unit w.classes) w.threads)
+load_faults unit w =
+    (if methods_load unit w then [] else w.heap_line ∷ []) ++ map (λ (c : Invocation). c.line) (flat_map (refused_calls unit w.classes) w.threads)
 
 -- the line of the fault that is answered
 abbrev pub first_load_fault : SourceUnit → World → Option ℕ

@@ -4,7 +4,7 @@ use Rattle.base.specs.Bytes.{Identifier, lookup}
 use Rattle.class_rules.specs.Fields.{FieldId}
 use Rattle.semantics.specs.Heap.{Heap, numbers_of}
 use Rattle.semantics.specs.Value.{Value, Outcome, Gives, Traps, Stuck, OutOfRange, outcome_then}
-use Rattle.semantics.specs.Variable.{Variable, Scalar, LocalRef, FieldHandle, Elements, LocalArray, NoBuffer, Copy, View, StaticReference, Empty, Variables, Statics, as_static, as_argument}
+use Rattle.semantics.specs.Variable.{Variable, Scalar, LocalRef, FieldHandle, MethodHandle, Elements, LocalArray, NoBuffer, Copy, View, StaticReference, Empty, Variables, Statics, as_static, as_argument}
 
 -- answers about a name, each where the name is of that sort
 pub record Sight : Type 0 where
@@ -28,6 +28,7 @@ scalar v = Stuck
 abbrev pub variable_is_null : Variable → Outcome Bool
 variable_is_null (LocalRef level r) = Gives (is_none r)
 variable_is_null (FieldHandle f) = Gives (is_none f)
+variable_is_null (MethodHandle m) = Gives (is_none m)
 variable_is_null (Elements kind NoBuffer) = Gives true
 variable_is_null (Elements kind b) = Gives false
 variable_is_null v = Stuck

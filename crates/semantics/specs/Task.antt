@@ -3,14 +3,14 @@ use Rattle.std.specs.Prelude.{ℕ, List, [], ◌∷◌, Option, Some, None, zip,
 use Rattle.syntax.specs.Tree as tree
 use Rattle.base.specs.Bytes.{Identifier}
 use Rattle.base.specs.Element.{ElementType, JChar}
-use Rattle.syntax.specs.Tree.{Null, Expr, Argument, RightSide, FromExpr, FromCall, Call, Test, TestExpr, TestCall, VariableType, JFieldId, Stmt, Block, End, Next}
+use Rattle.syntax.specs.Tree.{Null, Expr, Argument, RightSide, FromExpr, FromCall, Call, Test, TestExpr, TestCall, VariableType, JFieldId, JMethodId, Stmt, Block, End, Next}
 use Rattle.jni.specs.JniFunction.{JniFunction, prototype, function_named}
 use Rattle.jni.specs.Prototype.{ParameterKind, IntNumber}
 use Rattle.semantics.specs.Term.{Term, term_of}
 
 -- what a declaration makes
 pub data VariableKind : Type 0 where
-  ScalarKind ReferenceKind FieldKind : VariableKind
+  ScalarKind ReferenceKind FieldKind MethodKind : VariableKind
   BufferKind : ElementType → VariableKind
 
 -- where the result of a call or a NULL goes: a new variable, one that is there or a static, the test of an `if`
@@ -62,6 +62,7 @@ call_task line target call = invocation line target call (function_named call.fu
 abbrev pub kind_of : VariableType → VariableKind
 kind_of (tree.ReferenceVariable type) = ReferenceKind
 kind_of JFieldId = FieldKind
+kind_of JMethodId = MethodKind
 kind_of type = ScalarKind
 
 -- a value for a variable: NULL, or a number that is worked out first

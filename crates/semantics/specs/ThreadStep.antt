@@ -33,7 +33,7 @@ abbrev pub with_tasks : Thread → List Task → Thread
 with_tasks t tasks = record t { tasks = Some tasks }
 
 -- Thread k, where the buffers of all threads together take what is in use; the rest of its tasks is still to do.
-module _ (classes : Classes) (in_use : BuffersInUse) (k : ℕ) (s : Shared) (t : Thread) (rest : List Task) where
+module _ (unit : SourceUnit) (classes : Classes) (in_use : BuffersInUse) (k : ℕ) (s : Shared) (t : Thread) (rest : List Task) where
   -- what an effect of the first task leaves
   abbrev pub after_effect : Effect → Advance
   after_effect (Becomes tasks) = Advances s (with_tasks t (tasks ++ rest)) Quiet
@@ -42,14 +42,14 @@ module _ (classes : Classes) (in_use : BuffersInUse) (k : ℕ) (s : Shared) (t :
   after_effect (SetsElement x i z) = set_element s (with_tasks t rest) x i z (lookup x t.variables)
   after_effect (MakesArray T x n) = set_variable s (with_tasks t rest) x (LocalArray T (replicate n (pos 0)))
   after_effect (Prints z) = Advances s (with_tasks t rest) (PrintedNumber z)
-  after_effect (Calls line target f args) = call_step classes in_use k s t line target f args rest false
+  after_effect (Calls line target f args) = call_step unit classes in_use k s t line target f args rest false
   after_effect (Returns given) = return_step k s t given
   after_effect (TrapsAt trap line) = Advances s t (Trapped trap line)
   after_effect NoEffect = NoAdvance
 
   -- the same with its allocation refused, possible only where a call makes objects
   abbrev pub after_refused_effect : Effect → Advance
-  after_refused_effect (Calls line target f args) = call_step classes in_use k s t line target f args rest true
+  after_refused_effect (Calls line target f args) = call_step unit classes in_use k s t line target f args rest true
   after_refused_effect e = NoAdvance
 
 -- ---- the step
@@ -66,8 +66,8 @@ waits classes k s t = waits_with classes k s t (next_effect s t t.tasks)
 -- thread k's step in a call, or into its next one
 abbrev pub step_within : SourceUnit → Classes → BuffersInUse → (k : ℕ) → Shared → Thread → (refused : Bool) → Option (List Task) → Advance
 step_within unit classes in_use k s t false None = entry_step unit classes s t
-step_within unit classes in_use k s t false (Some (task ∷ rest)) = after_effect classes in_use k s t rest (effect_of (sight_of s t) task)
-step_within unit classes in_use k s t true (Some (task ∷ rest)) = after_refused_effect classes in_use k s t rest (effect_of (sight_of s t) task)
+step_within unit classes in_use k s t false (Some (task ∷ rest)) = after_effect unit classes in_use k s t rest (effect_of (sight_of s t) task)
+step_within unit classes in_use k s t true (Some (task ∷ rest)) = after_refused_effect unit classes in_use k s t rest (effect_of (sight_of s t) task)
 step_within unit classes in_use k s t refused tasks = NoAdvance
 
 -- thread k's step, or the same with its allocation refused

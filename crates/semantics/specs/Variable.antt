@@ -4,6 +4,7 @@ use Rattle.std.specs.Str.{bytes_eq}
 use Rattle.base.specs.Bytes.{Identifier, ByName}
 use Rattle.base.specs.Element.{ElementType}
 use Rattle.class_rules.specs.Fields.{FieldId}
+use Rattle.semantics.specs.Method.{MethodId}
 use Rattle.semantics.specs.Object.{Reference}
 use Rattle.semantics.specs.Value.{Value}
 
@@ -18,6 +19,7 @@ pub data Variable : Type 0 where
   Scalar : Value → Variable
   LocalRef : (level : ℕ) → Reference → Variable
   FieldHandle : Option FieldId → Variable
+  MethodHandle : Option MethodId → Variable
   Elements : ElementType → Buffer → Variable
   LocalArray : ElementType → List ℤ → Variable
 

@@ -16,6 +16,9 @@ pub record Invocation : Type 0 where
 
 -- Classes go by their number in the class table, objects by the name that they get at load.
 pub record World : Type 0 where
+  -- the line of the world's text that tells the heap, and whether it allows methods
+  pub heap_line : ℕ
+  pub methods : Bool
   pub cells : ℕ
   pub classes : Classes
   pub objects : List Object

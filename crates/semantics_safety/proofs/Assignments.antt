@@ -13,8 +13,8 @@ use Rattle.syntax.specs.Tree as tree
 use Rattle.syntax.specs.Tree.{ResultType, Expr, Argument, Call, RightSide, FromExpr, FromCall, Stmt}
 use Rattle.jni.specs.Access.{Access}
 use Rattle.jni.specs.JniFunction.{JniFunction, GetBuffer, prototype}
-use Rattle.jni.specs.Prototype.{ResultKind, NewLocal, NewGlobal, NewWeak, GivesFlag, GivesInt, GivesField, GivesNothing, GivesBuffer}
-use Rattle.type_rules.specs.Sorts.{Sort, Word, Jint, Flag, Ref, Global, Weak, Buffer, sort_in, sort_of, is_buffer_for, is_ref, is_field, is_null, name_sort}
+use Rattle.jni.specs.Prototype.{ResultKind, NewLocal, NewGlobal, NewWeak, GivesFlag, GivesInt, GivesField, GivesMethod, GivesNothing, GivesBuffer}
+use Rattle.type_rules.specs.Sorts.{Sort, Word, Jint, Flag, Ref, Global, Weak, Buffer, sort_in, sort_of, is_buffer_for, is_ref, is_field, is_method, is_null, name_sort}
 use Rattle.type_rules.specs.Sorts as sort
 use Rattle.type_rules.specs.SortRules as rules
 use Rattle.type_rules.specs.SortRules.{result_fits, call_fits, value_sets}
@@ -270,6 +270,10 @@ is_a_field : (o : Option Sort) → is_field o ≡ true → o ≡ Some sort.Field
 is_a_field (Some sort.FieldId) h = refl
 is_a_field o h = absurd (cc)
 
+is_a_method : (o : Option Sort) → is_method o ≡ true → o ≡ Some sort.MethodId
+is_a_method (Some sort.MethodId) h = refl
+is_a_method o h = absurd (cc)
+
 is_a_get : (f : JniFunction) (access : Access) → (prototype f).result ≡ GivesBuffer access → f ≡ GetBuffer access
 is_a_get (GetBuffer own) access h = let same : own ≡ access = cc in ap (λ (a : Access). GetBuffer a) same
 is_a_get f access h = absurd (cc)
@@ -327,6 +331,7 @@ module _ (p : Point) (taken : List Identifier) (returns : ResultType) (known : I
     assigned o e GivesInt is fit = subst (λ (o : Option Sort). AssignsResult later o x GivesInt get k) (sym (is_a_jint o fit)) (stateless_same later taken after_known x (set_to (FromCall c)) k Jint (e ∙ is_a_jint o fit) (λ h. h) now)
     assigned o e GivesFlag is fit = subst (λ (o : Option Sort). AssignsResult later o x GivesFlag get k) (sym (is_a_flag o fit)) (stateless_same later taken after_known x (set_to (FromCall c)) k Flag (e ∙ is_a_flag o fit) (λ h. h) now)
     assigned o e GivesField is fit = subst (λ (o : Option Sort). AssignsResult later o x GivesField get k) (sym (is_a_field o fit)) (stateless_same later taken after_known x (set_to (FromCall c)) k sort.FieldId (e ∙ is_a_field o fit) (λ h. h) now)
+    assigned o e GivesMethod is fit = subst (λ (o : Option Sort). AssignsResult later o x GivesMethod get k) (sym (is_a_method o fit)) (stateless_same later taken after_known x (set_to (FromCall c)) k sort.MethodId (e ∙ is_a_method o fit) (λ h. h) now)
     assigned o e NewGlobal is fit = subst (λ (o : Option Sort). AssignsResult later o x NewGlobal get k) (sym (is_a_global o fit)) (stateless_same later taken after_known x (set_to (FromCall c)) k Global (e ∙ is_a_global o fit) (λ h. h) now)
     assigned o e NewWeak is fit = subst (λ (o : Option Sort). AssignsResult later o x NewWeak get k) (sym (is_a_weak o fit)) (stateless_same later taken after_known x (set_to (FromCall c)) k Weak (e ∙ is_a_weak o fit) (λ h. h) now)
     assigned o e NewLocal is fit =
@@ -375,6 +380,7 @@ module _ (p : Point) (taken : List Identifier) (known : IsKnown p taken) (line :
   valued (Some Global) at' fit uncopied = null (Some Global) at' fit (stateless_same p taken known x (set_to (FromExpr e)) k Global at' (λ h. h) now)
   valued (Some Weak) at' fit uncopied = null (Some Weak) at' fit (stateless_same p taken known x (set_to (FromExpr e)) k Weak at' (λ h. h) now)
   valued (Some sort.FieldId) at' fit uncopied = null (Some sort.FieldId) at' fit (stateless_same p taken known x (set_to (FromExpr e)) k sort.FieldId at' (λ h. h) now)
+  valued (Some sort.MethodId) at' fit uncopied = null (Some sort.MethodId) at' fit (stateless_same p taken known x (set_to (FromExpr e)) k sort.MethodId at' (λ h. h) now)
   valued o at' fit uncopied = absurd (cc)
 
 pub assign_value : (line : ℕ) (x : Identifier) (e : Expr) → Gives (tree.Assign line x (FromExpr e))

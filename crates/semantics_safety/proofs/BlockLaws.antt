@@ -4,12 +4,12 @@ use Rattle.base.specs.Bytes.{Identifier}
 use Rattle.syntax.specs.Tree.{Stmt, If, IfElse, While, Block, End, Next, TestExpr, TestCall, Call}
 use Rattle.jni.specs.Access.{Access}
 use Rattle.jni.specs.JniFunction.{JniFunction, prototype, function_named}
-use Rattle.jni.specs.Prototype.{ResultKind, NewLocal, NewGlobal, NewWeak, GivesFlag, GivesInt, GivesField, GivesBuffer}
+use Rattle.jni.specs.Prototype.{ResultKind, NewLocal, NewGlobal, NewWeak, GivesFlag, GivesInt, GivesField, GivesMethod, GivesBuffer}
 use Rattle.type_rules.specs.Sorts.{Sort, sort_in}
 use Rattle.type_rules.specs.Sorts as sort
 use Rattle.region_rules.specs.RegionStates.{get_of}
 use Rattle.semantics.specs.Task as task
-use Rattle.semantics.specs.Task.{Task, SetScalar, SetElement, SetNull, MakeArray, Invoke, Print, Target, Declared, Assigned, Tested, Dropped, VariableKind, ScalarKind, ReferenceKind, FieldKind, BufferKind, invocation, task_of, tasks_of}
+use Rattle.semantics.specs.Task.{Task, SetScalar, SetElement, SetNull, MakeArray, Invoke, Print, Target, Declared, Assigned, Tested, Dropped, VariableKind, ScalarKind, ReferenceKind, FieldKind, MethodKind, BufferKind, invocation, task_of, tasks_of}
 use Rattle.semantics.specs.Term.{Term, term_of}
 use Rattle.semantics_safety.specs.Points.{Point}
 use Rattle.semantics_safety.specs.Wanted.{Outside, DeclaresNull, AssignsNull, SetsNullThere, DeclaresResult, AssignsResult, ResultGoes, call_seen, RunsPlain, RunsPush, RunsTest, RunsBlock, RunsStmt, Runs, GoesOn}
@@ -28,6 +28,7 @@ null_declared_more : (k l : Point → Type 0) → k ⇒ l → (p : Point) (kind 
 null_declared_more k l h p ScalarKind x r = r
 null_declared_more k l h p ReferenceKind x r = (r.0, h _ r.1)
 null_declared_more k l h p FieldKind x r = (r.0, h _ r.1)
+null_declared_more k l h p MethodKind x r = (r.0, h _ r.1)
 null_declared_more k l h p (BufferKind t) x r = (r.0, (r.1.0, h _ r.1.1))
 
 null_assigned_more : (k l : Point → Type 0) → k ⇒ l → (p : Point) (s : Option Sort) (x : Identifier) → AssignsNull p s x k → AssignsNull p s x l
@@ -35,6 +36,7 @@ null_assigned_more k l h p (Some sort.Ref) x r = (r.0, h _ r.1)
 null_assigned_more k l h p (Some sort.Global) x r = h p r
 null_assigned_more k l h p (Some sort.Weak) x r = h p r
 null_assigned_more k l h p (Some sort.FieldId) x r = h p r
+null_assigned_more k l h p (Some sort.MethodId) x r = h p r
 null_assigned_more k l h p s x r = absurd r
 
 result_declared_more : (k l : Point → Type 0) → k ⇒ l → (p : Point) (kind : VariableKind) (x : Identifier) (result : ResultKind) (get : Option (Access × Option Identifier)) → DeclaresResult p kind x result get k → DeclaresResult p kind x result get l
@@ -42,6 +44,7 @@ result_declared_more k l h p ScalarKind x GivesInt get r = (r.0, h _ r.1)
 result_declared_more k l h p ScalarKind x GivesFlag get r = (r.0, h _ r.1)
 result_declared_more k l h p ReferenceKind x NewLocal get r = (r.0, h _ r.1)
 result_declared_more k l h p FieldKind x GivesField get r = (r.0, h _ r.1)
+result_declared_more k l h p MethodKind x GivesMethod get r = (r.0, h _ r.1)
 result_declared_more k l h p (BufferKind t) x (GivesBuffer access) get r = (r.0, (r.1.0, r.1.1, h _ r.1.2))
 result_declared_more k l h p kind x result get r = absurd r
 
@@ -52,6 +55,7 @@ result_assigned_more k l h p (Some sort.Ref) x NewLocal get r = (r.0, h _ r.1)
 result_assigned_more k l h p (Some sort.Global) x NewGlobal get r = h p r
 result_assigned_more k l h p (Some sort.Weak) x NewWeak get r = h p r
 result_assigned_more k l h p (Some sort.FieldId) x GivesField get r = h p r
+result_assigned_more k l h p (Some sort.MethodId) x GivesMethod get r = h p r
 result_assigned_more k l h p (Some (sort.Buffer t writable)) x (GivesBuffer access) get r = (r.0, r.1, h _ r.2)
 result_assigned_more k l h p s x result get r = absurd r
 

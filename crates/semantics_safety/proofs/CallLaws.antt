@@ -26,22 +26,22 @@ use Rattle.semantics_safety.proofs.QuietSteps.{call_lands}
 use Rattle.semantics_safety.proofs.ReleaseCalls.{release_lands}
 use Rattle.semantics_safety.proofs.StepLaws.{plain_lands}
 
-module _ (classes : Classes) (in_use : BuffersInUse) (k : ℕ) (s : Shared) (t : Thread) (line : ℕ) (rest : List Task) (p : Point) {weak : WeakNames} {own : Owners} (stands : Stands weak own s.statics t.variables t.frames p) (whole : Goes weak own s.statics t t.tasks) where
+module _ (unit : SourceUnit) (classes : Classes) (in_use : BuffersInUse) (k : ℕ) (s : Shared) (t : Thread) (line : ℕ) (rest : List Task) (p : Point) {weak : WeakNames} {own : Owners} (stands : Stands weak own s.statics t.variables t.frames p) (whole : Goes weak own s.statics t t.tasks) where
   -- the step of a call, by its function
-  pub each_call_lands : (f : JniFunction) (target : Target) (operands : List Operand) (args : List Actual) → args ≡ actuals (sight_of s t) f operands → Runs (Invoke line target f operands) (GoesOn rest) p → LandsBy weak (Calls line target f args) (length t.frames) own s.statics (call_step classes in_use k s t line target f args rest false)
+  pub each_call_lands : (f : JniFunction) (target : Target) (operands : List Operand) (args : List Actual) → args ≡ actuals (sight_of s t) f operands → Runs (Invoke line target f operands) (GoesOn rest) p → LandsBy weak (Calls line target f args) (length t.frames) own s.statics (call_step unit classes in_use k s t line target f args rest false)
   each_call_lands DeleteLocalRef target operands args is runs =
-      subst (λ (l : List Actual). LandsBy weak (Calls line target DeleteLocalRef l) (length t.frames) own s.statics (call_step classes in_use k s t line target DeleteLocalRef l rest false)) (sym is) (delete_lands classes in_use k s t line rest p stands whole target operands runs)
-  each_call_lands PushLocalFrame target operands args is runs = push_lands classes in_use k s t line rest p stands whole target operands args runs
-  each_call_lands PopLocalFrame target operands args is runs = pop_lands classes in_use k s t line rest p stands whole target operands args runs
-  each_call_lands DeleteGlobalRef target operands args is runs = delete_global_lands classes in_use k s t line rest p stands whole target operands args runs
-  each_call_lands DeleteWeakGlobalRef target operands args is runs = delete_weak_lands classes in_use k s t line rest p stands whole target operands args runs
-  each_call_lands (GetArrayRegion u) target operands args is runs = array_region_lands classes in_use k s t line rest p stands whole u target operands args is runs
-  each_call_lands GetStringRegion target operands args is runs = string_region_lands classes in_use k s t line rest p stands whole target operands args is runs
+      subst (λ (l : List Actual). LandsBy weak (Calls line target DeleteLocalRef l) (length t.frames) own s.statics (call_step unit classes in_use k s t line target DeleteLocalRef l rest false)) (sym is) (delete_lands unit classes in_use k s t line rest p stands whole target operands runs)
+  each_call_lands PushLocalFrame target operands args is runs = push_lands unit classes in_use k s t line rest p stands whole target operands args runs
+  each_call_lands PopLocalFrame target operands args is runs = pop_lands unit classes in_use k s t line rest p stands whole target operands args runs
+  each_call_lands DeleteGlobalRef target operands args is runs = delete_global_lands unit classes in_use k s t line rest p stands whole target operands args runs
+  each_call_lands DeleteWeakGlobalRef target operands args is runs = delete_weak_lands unit classes in_use k s t line rest p stands whole target operands args runs
+  each_call_lands (GetArrayRegion u) target operands args is runs = array_region_lands unit classes in_use k s t line rest p stands whole u target operands args is runs
+  each_call_lands GetStringRegion target operands args is runs = string_region_lands unit classes in_use k s t line rest p stands whole target operands args is runs
   each_call_lands (GetBuffer access) target operands args is runs =
-      subst (λ (l : List Actual). LandsBy weak (Calls line target (GetBuffer access) l) (length t.frames) own s.statics (call_step classes in_use k s t line target (GetBuffer access) l rest false)) (sym is) (get_lands classes in_use k s t line rest p stands whole access target operands runs)
+      subst (λ (l : List Actual). LandsBy weak (Calls line target (GetBuffer access) l) (length t.frames) own s.statics (call_step unit classes in_use k s t line target (GetBuffer access) l rest false)) (sym is) (get_lands unit classes in_use k s t line rest p stands whole access target operands runs)
   each_call_lands (ReleaseBuffer access) target operands args is runs =
-      subst (λ (l : List Actual). LandsBy weak (Calls line target (ReleaseBuffer access) l) (length t.frames) own s.statics (call_step classes in_use k s t line target (ReleaseBuffer access) l rest false)) (sym is) (release_lands classes in_use k s t line rest p stands whole access target operands runs)
-  each_call_lands f target operands args is runs = call_lands classes in_use k s t line f args rest p stands tt whole target operands runs
+      subst (λ (l : List Actual). LandsBy weak (Calls line target (ReleaseBuffer access) l) (length t.frames) own s.statics (call_step unit classes in_use k s t line target (ReleaseBuffer access) l rest false)) (sym is) (release_lands unit classes in_use k s t line rest p stands whole access target operands runs)
+  each_call_lands f target operands args is runs = call_lands unit classes in_use k s t line f args rest p stands tt whole target operands runs
 
 -- an effect that doesn't return
 abbrev pub IsNoReturn : Effect → Type 0
@@ -62,16 +62,16 @@ returns_or_not (TrapsAt trap line) = inr tt
 returns_or_not NoEffect = inr tt
 
 module _ (unit : SourceUnit) (classes : Classes) (in_use : BuffersInUse) (k : ℕ) (s : Shared) (t : Thread) (task : Task) (rest : List Task) (p : Point) {weak : WeakNames} {own : Owners} (stands : Stands weak own s.statics t.variables t.frames p) (runs : Runs task (GoesOn rest) p) (whole : Goes weak own s.statics t t.tasks) where
-  each_lands : (e : Effect) → IsNoReturn e → Follows weak own (sight_of s t) s.statics t.variables t.frames p rest e → LandsBy weak e (length t.frames) own s.statics (after_effect classes in_use k s t rest e)
-  each_lands (Calls line target f args) away (operands, is, ready, r) = each_call_lands classes in_use k s t line rest p stands whole f target operands args is r
-  each_lands (SetsNull target) away h = plain_by weak (SetsNull target) tt (length t.frames) own s.statics (after_effect classes in_use k s t rest (SetsNull target)) (null_lands classes in_use k s t rest p stands target h)
-  each_lands (Becomes tasks) away h = plain_by weak (Becomes tasks) tt (length t.frames) own s.statics (after_effect classes in_use k s t rest (Becomes tasks)) (plain_lands classes in_use k s t rest p stands (sight_of s t) (Becomes tasks) tt whole h)
-  each_lands (Sets x v) away h = plain_by weak (Sets x v) tt (length t.frames) own s.statics (after_effect classes in_use k s t rest (Sets x v)) (plain_lands classes in_use k s t rest p stands (sight_of s t) (Sets x v) tt whole h)
-  each_lands (SetsElement x i z) away h = plain_by weak (SetsElement x i z) tt (length t.frames) own s.statics (after_effect classes in_use k s t rest (SetsElement x i z)) (plain_lands classes in_use k s t rest p stands (sight_of s t) (SetsElement x i z) tt whole h)
-  each_lands (MakesArray u x size) away h = plain_by weak (MakesArray u x size) tt (length t.frames) own s.statics (after_effect classes in_use k s t rest (MakesArray u x size)) (plain_lands classes in_use k s t rest p stands (sight_of s t) (MakesArray u x size) tt whole h)
-  each_lands (Prints z) away h = plain_by weak (Prints z) tt (length t.frames) own s.statics (after_effect classes in_use k s t rest (Prints z)) (plain_lands classes in_use k s t rest p stands (sight_of s t) (Prints z) tt whole h)
+  each_lands : (e : Effect) → IsNoReturn e → Follows weak own (sight_of s t) s.statics t.variables t.frames p rest e → LandsBy weak e (length t.frames) own s.statics (after_effect unit classes in_use k s t rest e)
+  each_lands (Calls line target f args) away (operands, is, ready, r) = each_call_lands unit classes in_use k s t line rest p stands whole f target operands args is r
+  each_lands (SetsNull target) away h = plain_by weak (SetsNull target) tt (length t.frames) own s.statics (after_effect unit classes in_use k s t rest (SetsNull target)) (null_lands unit classes in_use k s t rest p stands target h)
+  each_lands (Becomes tasks) away h = plain_by weak (Becomes tasks) tt (length t.frames) own s.statics (after_effect unit classes in_use k s t rest (Becomes tasks)) (plain_lands unit classes in_use k s t rest p stands (sight_of s t) (Becomes tasks) tt whole h)
+  each_lands (Sets x v) away h = plain_by weak (Sets x v) tt (length t.frames) own s.statics (after_effect unit classes in_use k s t rest (Sets x v)) (plain_lands unit classes in_use k s t rest p stands (sight_of s t) (Sets x v) tt whole h)
+  each_lands (SetsElement x i z) away h = plain_by weak (SetsElement x i z) tt (length t.frames) own s.statics (after_effect unit classes in_use k s t rest (SetsElement x i z)) (plain_lands unit classes in_use k s t rest p stands (sight_of s t) (SetsElement x i z) tt whole h)
+  each_lands (MakesArray u x size) away h = plain_by weak (MakesArray u x size) tt (length t.frames) own s.statics (after_effect unit classes in_use k s t rest (MakesArray u x size)) (plain_lands unit classes in_use k s t rest p stands (sight_of s t) (MakesArray u x size) tt whole h)
+  each_lands (Prints z) away h = plain_by weak (Prints z) tt (length t.frames) own s.statics (after_effect unit classes in_use k s t rest (Prints z)) (plain_lands unit classes in_use k s t rest p stands (sight_of s t) (Prints z) tt whole h)
   each_lands (Returns given) away h = absurd away
-  each_lands (TrapsAt trap line) away h = plain_by weak (TrapsAt trap line) tt (length t.frames) own s.statics (after_effect classes in_use k s t rest (TrapsAt trap line)) (plain_lands classes in_use k s t rest p stands (sight_of s t) (TrapsAt trap line) tt whole h)
+  each_lands (TrapsAt trap line) away h = plain_by weak (TrapsAt trap line) tt (length t.frames) own s.statics (after_effect unit classes in_use k s t rest (TrapsAt trap line)) (plain_lands unit classes in_use k s t rest p stands (sight_of s t) (TrapsAt trap line) tt whole h)
   each_lands NoEffect away h = absurd h
 
   -- each step within a call but a return, unmarked, leads to a point again, and is possible

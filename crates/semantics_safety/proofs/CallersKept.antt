@@ -48,9 +48,9 @@ module _ (P : Caller → Type 0) where
 
     within_left : (refused : Bool) (task : Task) (rest : List Task) → ((given : CallResult) × (effect_of (sight_of s t) task ≡ Returns given)) ⊎ IsNoReturn (effect_of (sight_of s t) task)
         → LeavesCallers P (step_within unit classes in_use k s t refused (Some (task ∷ rest)))
-    within_left false task rest (inl (given, is)) = subst (λ (e : Effect). LeavesCallers P (after_effect classes in_use k s t rest e)) (sym is) (return_left given t.callers all)
-    within_left true task rest (inl (given, is)) = subst (λ (e : Effect). LeavesCallers P (after_refused_effect classes in_use k s t rest e)) (sym is) tt
-    within_left refused task rest (inr away) = held_callers (held t) all (step_within unit classes in_use k s t refused (Some (task ∷ rest))) (calls_kept classes in_use k s t unit refused task rest away)
+    within_left false task rest (inl (given, is)) = subst (λ (e : Effect). LeavesCallers P (after_effect unit classes in_use k s t rest e)) (sym is) (return_left given t.callers all)
+    within_left true task rest (inl (given, is)) = subst (λ (e : Effect). LeavesCallers P (after_refused_effect unit classes in_use k s t rest e)) (sym is) tt
+    within_left refused task rest (inr away) = held_callers (held t) all (step_within unit classes in_use k s t refused (Some (task ∷ rest))) (calls_kept unit classes in_use k s t refused task rest away)
 
     step_left : (refused : Bool) (o : Option (List Task)) → LeavesCallers P (step_within unit classes in_use k s t refused o)
     step_left true None = tt

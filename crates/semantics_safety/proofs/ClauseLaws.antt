@@ -192,6 +192,7 @@ module _ (ss : Statics) (vs : Variables) (frames : List Frame) (p : Point) {weak
   other_alive x sort.Global o g away (none, h) = subst (Serves x) (sym none) (tt, tt)
   other_alive x sort.Weak o g away (none, h) = subst (Serves x) (sym none) (tt, tt)
   other_alive x sort.FieldId o g away (f, h) = subst (Serves x) (sym h) (tt, tt)
+  other_alive x sort.MethodId o g away (f, h) = subst (Serves x) (sym h) (tt, tt)
   other_alive x (sort.Buffer t w) o g away (b, h) = subst (Serves x) (sym h) (tt, tt)
   other_alive x (sort.Array t size) o g away (zs, h) = subst (Serves x) (sym h) (tt, tt)
   other_alive x sort.Truth o g away h = absurd h
@@ -206,6 +207,7 @@ module _ (ss : Statics) (vs : Variables) (frames : List Frame) (p : Point) {weak
   null_alive x (Some sort.Ref) e h = live_alive x h
   null_alive x (Some sort.Global) e h = other_alive x sort.Global (lookup x vs) (lookup x ss) (λ c. cc) (stands.sorts x sort.Global e)
   null_alive x (Some sort.FieldId) e h = other_alive x sort.FieldId (lookup x vs) (lookup x ss) (λ c. cc) (stands.sorts x sort.FieldId e)
+  null_alive x (Some sort.MethodId) e h = other_alive x sort.MethodId (lookup x vs) (lookup x ss) (λ c. cc) (stands.sorts x sort.MethodId e)
   null_alive x (Some (sort.Buffer t w)) e h = other_alive x (sort.Buffer t w) (lookup x vs) (lookup x ss) (λ c. cc) (stands.sorts x (sort.Buffer t w) e)
   null_alive x o e h = absurd h
 

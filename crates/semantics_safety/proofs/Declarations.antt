@@ -4,16 +4,16 @@ use Rattle.std.specs.Option.{is_some}
 use Rattle.base.specs.Bytes.{Identifier}
 use Rattle.base.specs.Element.{ElementType, JChar}
 use Rattle.syntax.specs.Tree as tree
-use Rattle.syntax.specs.Tree.{VariableType, UInt32, JIntVariable, JSize, JBoolean, JFieldId, ReferenceVariable, Expr, Argument, Call, FromExpr, FromCall}
+use Rattle.syntax.specs.Tree.{VariableType, UInt32, JIntVariable, JSize, JBoolean, JFieldId, JMethodId, ReferenceVariable, Expr, Argument, Call, FromExpr, FromCall}
 use Rattle.jni.specs.Access.{Access}
 use Rattle.jni.specs.JniFunction.{JniFunction, GetBuffer, prototype}
-use Rattle.jni.specs.Prototype.{ResultKind, NewLocal, NewGlobal, NewWeak, GivesFlag, GivesInt, GivesField, GivesBuffer}
+use Rattle.jni.specs.Prototype.{ResultKind, NewLocal, NewGlobal, NewWeak, GivesFlag, GivesInt, GivesField, GivesMethod, GivesBuffer}
 use Rattle.type_rules.specs.Sorts.{Sort, Word, Jint, Flag, Ref, Buffer, sort_of, is_word, is_null, name_sort}
 use Rattle.type_rules.specs.Sorts as sort
 use Rattle.type_rules.specs.SortRules as rules
 use Rattle.type_rules.specs.SortRules.{has_name, variable_sort, result_fits, call_fits}
 use Rattle.region_rules.specs.RegionStates.{Free, BufferIn, ReferenceAt, held_by, get_of, buffer_from, function_called, after_call, with_new, with_set, FunctionCall}
-use Rattle.semantics.specs.Task.{Declared, ScalarKind, ReferenceKind, FieldKind, BufferKind, set_task, kind_of}
+use Rattle.semantics.specs.Task.{Declared, ScalarKind, ReferenceKind, FieldKind, MethodKind, BufferKind, set_task, kind_of}
 use Rattle.semantics_safety.specs.Points.{Point}
 use Rattle.semantics_safety.specs.Wanted.{CallKeeps, DeclaresResult, RunsPlain, at}
 use Rattle.semantics_safety.proofs.ArgumentFits.{first_read, is_a_jint, is_a_flag, buffer_for}
@@ -48,6 +48,8 @@ declare_value line JBoolean x e p taken returns way k known kept (obeys, is) h =
     scalar_runs p taken line (Declared ScalarKind x) x e Flag k known tt (is_a_flag (sort_of p.names e) kept.fits) read (inr (is_new p taken x known kept.new, h p.regions is (known_named p taken known x kept.new Flag tt)))
 declare_value line JFieldId x e p taken returns way k known kept (obeys, is) h =
     subst (λ (e : Expr). RunsPlain (set_task line (Declared FieldKind x) x e) k p) (sym (null_is e kept.fits)) (is_new p taken x known kept.new, h p.regions is (known_named p taken known x kept.new sort.FieldId tt))
+declare_value line JMethodId x e p taken returns way k known kept (obeys, is) h =
+    subst (λ (e : Expr). RunsPlain (set_task line (Declared MethodKind x) x e) k p) (sym (null_is e kept.fits)) (is_new p taken x known kept.new, h p.regions is (known_named p taken known x kept.new sort.MethodId tt))
 declare_value line (ReferenceVariable r) x e p taken returns way k known kept (obeys, is) h =
     subst (λ (e : Expr). RunsPlain (set_task line (Declared ReferenceKind x) x e) k p) (sym (null_is e (first_so (is_null e) (is_some (name_sort p.names e)) kept.fits kept.uncopied)))
     (is_new p taken x known kept.new, h (with_new p.regions x (ReferenceAt p.regions.frames true)) is (known_new p taken known x kept.new Ref (ReferenceAt p.regions.frames true) tt))
@@ -73,6 +75,7 @@ no_buffer_type JIntVariable u w e = cc
 no_buffer_type JSize u w e = cc
 no_buffer_type JBoolean u w e = cc
 no_buffer_type JFieldId u w e = cc
+no_buffer_type JMethodId u w e = cc
 no_buffer_type (ReferenceVariable r) u w e = cc
 
 no_buffer_result : (t : VariableType) (access : Access) → result_fits (Some (variable_sort t)) (GivesBuffer access) ≡ true → ⊥
@@ -84,6 +87,7 @@ no_global_result JIntVariable h = cc
 no_global_result JSize h = cc
 no_global_result JBoolean h = cc
 no_global_result JFieldId h = cc
+no_global_result JMethodId h = cc
 no_global_result (ReferenceVariable r) h = cc
 
 no_weak_result : (t : VariableType) → result_fits (Some (variable_sort t)) NewWeak ≡ true → ⊥
@@ -92,6 +96,7 @@ no_weak_result JIntVariable h = cc
 no_weak_result JSize h = cc
 no_weak_result JBoolean h = cc
 no_weak_result JFieldId h = cc
+no_weak_result JMethodId h = cc
 no_weak_result (ReferenceVariable r) h = cc
 
 module _ (q : Point) (taken : List Identifier) (known : IsKnown q taken) (x : Identifier) (new : has_name taken x ≡ false) (k : Point → Type 0) where
@@ -105,6 +110,7 @@ module _ (q : Point) (taken : List Identifier) (known : IsKnown q taken) (x : Id
   declared_result line c JSize GivesInt get fit h = (is_new q taken x known new, h (known_named q taken known x new Jint tt))
   declared_result line c JBoolean GivesFlag get fit h = (is_new q taken x known new, h (known_named q taken known x new Flag tt))
   declared_result line c JFieldId GivesField get fit h = (is_new q taken x known new, h (known_named q taken known x new sort.FieldId tt))
+  declared_result line c JMethodId GivesMethod get fit h = (is_new q taken x known new, h (known_named q taken known x new sort.MethodId tt))
   declared_result line c (ReferenceVariable r) NewLocal get fit h = (is_new q taken x known new, h (known_new q taken known x new Ref (ReferenceAt q.regions.frames true) tt))
   declared_result line c t result get fit h = absurd (cc)
 
@@ -175,6 +181,15 @@ declare_field line x c p taken returns way k known kept (obeys, is) h =
     let q = at p (after_call p.regions (function_called s)) in
     call_runs p s line (Declared (kind_of JFieldId) x) c k call both.0 (declared_result q taken (known_called p taken s known obeys) x kept.new k line c JFieldId result (get_of (function_called s)) both.1 (h q.regions is))
 
+declare_method : CallGives JMethodId
+declare_method line x c p taken returns way k known kept (obeys, is) h =
+    let s = tree.Declare line JMethodId x (FromCall c) in
+    let call = call_there p taken returns s c known kept obeys refl refl in
+    let result = (prototype call.function).result in
+    let both = both_so (not (rules.is_push call.function)) (result_fits (Some (variable_sort JMethodId)) result) (ap (call_fits (Some (variable_sort JMethodId))) (sym call.is_named) ∙ kept.fits) in
+    let q = at p (after_call p.regions (function_called s)) in
+    call_runs p s line (Declared (kind_of JMethodId) x) c k call both.0 (declared_result q taken (known_called p taken s known obeys) x kept.new k line c JMethodId result (get_of (function_called s)) both.1 (h q.regions is))
+
 declare_reference : (r : _) → CallGives (ReferenceVariable r)
 declare_reference r line x c p taken returns way k known kept (obeys, is) h =
     let s = tree.Declare line (ReferenceVariable r) x (FromCall c) in
@@ -190,6 +205,7 @@ declare_call JIntVariable = declare_jint
 declare_call JSize = declare_size
 declare_call JBoolean = declare_flag
 declare_call JFieldId = declare_field
+declare_call JMethodId = declare_method
 declare_call (ReferenceVariable r) = declare_reference r
 
 pub buffer_call : (line : ℕ) (t : ElementType) (x : Identifier) (c : Call) → Gives (tree.DeclareBuffer line t x (FromCall c))

@@ -17,7 +17,7 @@ use Rattle.semantics.specs.Load.{fits_parameter, fit_parameters}
 use Rattle.semantics.specs.Object.{ObjectValue, Number, Refers, Reference}
 use Rattle.semantics.specs.Thread.{Frame}
 use Rattle.semantics.specs.Value.{Int}
-use Rattle.semantics.specs.Variable.{Variable, Scalar, LocalRef, FieldHandle, Elements, LocalArray, Buffer, StaticReference, Variables, Statics}
+use Rattle.semantics.specs.Variable.{Variable, Scalar, LocalRef, FieldHandle, MethodHandle, Elements, LocalArray, Buffer, StaticReference, Variables, Statics}
 use Rattle.semantics_safety.specs.Owners.{holders, level_held}
 use Rattle.semantics_safety.specs.Points.{Point, AreOnce, is_copy, owns}
 use Rattle.semantics_safety.specs.Stands.{VariableFits, Shows, copies, Stands}
@@ -277,6 +277,7 @@ none_copied level n (Some (Scalar v)) h each = refl
 none_copied level n (Some (LocalRef l None)) h each = refl
 none_copied level n (Some (LocalRef l (Some m))) h each = ap (λ (i : ℕ). i == level && m == n) (each (LocalRef l (Some m)) refl) ∙ ap (λ (b : Bool). b && m == n) h
 none_copied level n (Some (FieldHandle f)) h each = refl
+none_copied level n (Some (MethodHandle f)) h each = refl
 none_copied level n (Some (Elements u b)) h each = refl
 none_copied level n (Some (LocalArray u zs)) h each = refl
 

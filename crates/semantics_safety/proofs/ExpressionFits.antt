@@ -85,6 +85,7 @@ module _ (p : Point) (stated : AreStated p) where
   nullable_fits x (Some Ref) e h alive = is_live p stated x e alive
   nullable_fits x (Some Global) e h alive = tt
   nullable_fits x (Some sort.FieldId) e h alive = tt
+  nullable_fits x (Some sort.MethodId) e h alive = tt
   nullable_fits x (Some (Buffer t writable)) e h alive = tt
   nullable_fits x o e h alive = absurd (cc)
 

@@ -4,7 +4,7 @@ use Rattle.std.specs.Prelude.{ℤ, pos, negsuc, nat_le, drop, ◌==◌}
 use Rattle.std.proofs.lemmas.Bool.{cond_both}
 use Rattle.base.specs.Bytes.{Identifier, lookup}
 use Rattle.syntax.specs.Tree as tree
-use Rattle.syntax.specs.Tree.{Block}
+use Rattle.syntax.specs.Tree.{Block, SourceUnit}
 use Rattle.class_rules.specs.Class.{Classes}
 use Rattle.jni.specs.JniFunction.{DeleteLocalRef, PushLocalFrame, PopLocalFrame}
 use Rattle.jni.specs.Prototype.{NewLocal, GivesInt, GivesNothing, LocalVariable}
@@ -37,7 +37,7 @@ use Rattle.semantics_safety.proofs.QuietLaws.{Gives, Plainly, ALocal, IsNoTest, 
 use Rattle.semantics_safety.proofs.QuietSteps.{has_frame, has_room}
 use Rattle.semantics_safety.proofs.ResultLaws.{AnInt, NullLocal, NoResultThere}
 
-module _ (classes : Classes) (in_use : BuffersInUse) (k : ℕ) (s : Shared) (t : Thread) (line : ℕ) (rest : List Task) (p : Point) {weak : WeakNames} {own : Owners} (stands : Stands weak own s.statics t.variables t.frames p) (whole : Goes weak own s.statics t t.tasks) where
+module _ (unit : SourceUnit) (classes : Classes) (in_use : BuffersInUse) (k : ℕ) (s : Shared) (t : Thread) (line : ℕ) (rest : List Task) (p : Point) {weak : WeakNames} {own : Owners} (stands : Stands weak own s.statics t.variables t.frames p) (whole : Goes weak own s.statics t t.tasks) where
   -- ---- a reference is deleted
 
   -- its level has a frame
@@ -61,15 +61,15 @@ module _ (classes : Classes) (in_use : BuffersInUse) (k : ℕ) (s : Shared) (t :
 
   deleted : (x : Identifier) (level : ℕ) (r : Reference) (target : Target) (args : List Actual) (get : _) → IsNoTest target → state_of p.regions x ≡ Some (ReferenceAt level true) → lookup x t.variables ≡ Some (LocalRef level r)
       → ResultGoes target GivesNothing get (GoesOn rest) (at p (with_changed p.regions x killed)) → x ≡ variable_given args 0
-      → LandsBy weak (Calls line target DeleteLocalRef args) (length t.frames) own s.statics (after_call classes in_use k s t line target DeleteLocalRef args rest (delete_local_effect s t (Some (LocalRef level r)) r))
+      → LandsBy weak (Calls line target DeleteLocalRef args) (length t.frames) own s.statics (after_call unit classes in_use k s t line target DeleteLocalRef args rest (delete_local_effect s t (Some (LocalRef level r)) r))
   deleted x level None target args get away e h goes is =
-      given_lands classes in_use k s t line target DeleteLocalRef args rest (at p (with_changed p.regions x killed)) own (left_deleted x args is) GivesNothing [] s t NoResult get refl away (λ c. absurd (cc))
+      given_lands unit classes in_use k s t line target DeleteLocalRef args rest (at p (with_changed p.regions x killed)) own (left_deleted x args is) GivesNothing [] s t NoResult get refl away (λ c. absurd (cc))
       (stands_with (without_own x) s.statics t.variables t.frames (at p (with_changed p.regions x killed))
       (stands_killed s.statics t.variables t.frames p stands x t.frames refl (λ l m. let less = fewer t.variables x l m p.regions.variables in let enough = stands.backed l m in omega (arith, less, enough)))
       (killed_owned s.statics t.variables t.frames p stands x))
       (Plainly NoResultThere) goes
   deleted x level (Some n) target args get away e h goes is =
-      given_lands classes in_use k s t line target DeleteLocalRef args rest (at p (with_changed p.regions x killed)) own (left_deleted x args is) GivesNothing [] s (record t { frames = without_local level n t.frames }) NoResult get refl away (λ c. absurd (cc))
+      given_lands unit classes in_use k s t line target DeleteLocalRef args rest (at p (with_changed p.regions x killed)) own (left_deleted x args is) GivesNothing [] s (record t { frames = without_local level n t.frames }) NoResult get refl away (λ c. absurd (cc))
       (stands_with (without_own x) s.statics t.variables (without_local level n t.frames) (at p (with_changed p.regions x killed))
       (stands_killed s.statics t.variables t.frames p stands x (without_local level n t.frames) (deleted_length level n t.frames) (λ l m.
       let less = killed_owners t.variables x l m level n p.regions.variables e h in
@@ -83,19 +83,19 @@ module _ (classes : Classes) (in_use : BuffersInUse) (k : ℕ) (s : Shared) (t :
   abbrev deletes : Identifier → Option Variable → CallEffect
   deletes x o = delete_local_effect s t o (reference_in_actual (Some (ReferenceActual x (held_reference o (lookup x s.statics)))))
 
-  delete_is : (x : Identifier) → call_effect classes in_use k s t (actuals (sight_of s t) DeleteLocalRef (Given (tree.Value (tree.Variable x)) ∷ [])) DeleteLocalRef ≡ deletes x (lookup x t.variables)
+  delete_is : (x : Identifier) → call_effect unit classes in_use k s t (actuals (sight_of s t) DeleteLocalRef (Given (tree.Value (tree.Variable x)) ∷ [])) DeleteLocalRef ≡ deletes x (lookup x t.variables)
   unfolding call_effect
   delete_is x = refl
 
   delete_at : (x : Identifier) (level : ℕ) (r : Reference) (target : Target) (get : _) → IsNoTest target → state_of p.regions x ≡ Some (ReferenceAt level true) → lookup x t.variables ≡ Some (LocalRef level r)
       → ResultGoes target GivesNothing get (GoesOn rest) (at p (with_changed p.regions x killed)) → (args : List Actual) → x ≡ variable_given args 0
-      → LandsBy weak (Calls line target DeleteLocalRef args) (length t.frames) own s.statics (after_call classes in_use k s t line target DeleteLocalRef args rest (deletes x (Some (LocalRef level r))))
+      → LandsBy weak (Calls line target DeleteLocalRef args) (length t.frames) own s.statics (after_call unit classes in_use k s t line target DeleteLocalRef args rest (deletes x (Some (LocalRef level r))))
   delete_at x level None target get away e h goes args is = deleted x level None target args get away e h goes is
   delete_at x level (Some n) target get away e h goes args is = deleted x level (Some n) target args get away e h goes is
 
   delete_known : (x : Identifier) (level : ℕ) (target : Target) (get : _) → IsNoTest target → state_of p.regions x ≡ Some (ReferenceAt level true)
       → ResultGoes target GivesNothing get (GoesOn rest) (at p (with_changed p.regions x killed))
-      → LandsBy weak (Calls line target DeleteLocalRef (actuals (sight_of s t) DeleteLocalRef (Given (tree.Value (tree.Variable x)) ∷ []))) (length t.frames) own s.statics (call_step classes in_use k s t line target DeleteLocalRef (actuals (sight_of s t) DeleteLocalRef (Given (tree.Value (tree.Variable x)) ∷ [])) rest false)
+      → LandsBy weak (Calls line target DeleteLocalRef (actuals (sight_of s t) DeleteLocalRef (Given (tree.Value (tree.Variable x)) ∷ []))) (length t.frames) own s.statics (call_step unit classes in_use k s t line target DeleteLocalRef (actuals (sight_of s t) DeleteLocalRef (Given (tree.Value (tree.Variable x)) ∷ [])) rest false)
   delete_known x level target get away e goes = by_trap (trap_of_call classes s t target DeleteLocalRef args)
     where
       args : List Actual
@@ -104,15 +104,15 @@ module _ (classes : Classes) (in_use : BuffersInUse) (k : ℕ) (s : Shared) (t :
       shown : (r : Reference) × (lookup x t.variables ≡ Some (LocalRef level r))
       shown = stands.shows x (ReferenceAt level true) e
 
-      by_trap : (o : Option Trap) → LandsBy weak (Calls line target DeleteLocalRef args) (length t.frames) own s.statics (after_call classes in_use k s t line target DeleteLocalRef args rest (checked o (call_effect classes in_use k s t args DeleteLocalRef)))
+      by_trap : (o : Option Trap) → LandsBy weak (Calls line target DeleteLocalRef args) (length t.frames) own s.statics (after_call unit classes in_use k s t line target DeleteLocalRef args rest (checked o (call_effect unit classes in_use k s t args DeleteLocalRef)))
       by_trap None =
-          subst (λ (e : CallEffect). LandsBy weak (Calls line target DeleteLocalRef args) (length t.frames) own s.statics (after_call classes in_use k s t line target DeleteLocalRef args rest e)) (sym (delete_is x))
-          (subst (λ (o : Option Variable). LandsBy weak (Calls line target DeleteLocalRef args) (length t.frames) own s.statics (after_call classes in_use k s t line target DeleteLocalRef args rest (deletes x o))) (sym shown.1) (delete_at x level shown.0 target get away e shown.1 goes args refl))
+          subst (λ (e : CallEffect). LandsBy weak (Calls line target DeleteLocalRef args) (length t.frames) own s.statics (after_call unit classes in_use k s t line target DeleteLocalRef args rest e)) (sym (delete_is x))
+          (subst (λ (o : Option Variable). LandsBy weak (Calls line target DeleteLocalRef args) (length t.frames) own s.statics (after_call unit classes in_use k s t line target DeleteLocalRef args rest (deletes x o))) (sym shown.1) (delete_at x level shown.0 target get away e shown.1 goes args refl))
       by_trap (Some trap) = (whole, λ x r g. (r, g))
 
   delete_operands : (target : Target) (operands : List Operand) → IsNoTest target → OperandsFit p (LocalVariable ∷ []) operands
       → ResultGoes target GivesNothing (get_of (call_seen DeleteLocalRef operands)) (GoesOn rest) (at p (states.after_call p.regions (call_seen DeleteLocalRef operands)))
-      → LandsBy weak (Calls line target DeleteLocalRef (actuals (sight_of s t) DeleteLocalRef operands)) (length t.frames) own s.statics (call_step classes in_use k s t line target DeleteLocalRef (actuals (sight_of s t) DeleteLocalRef operands) rest false)
+      → LandsBy weak (Calls line target DeleteLocalRef (actuals (sight_of s t) DeleteLocalRef operands)) (length t.frames) own s.statics (call_step unit classes in_use k s t line target DeleteLocalRef (actuals (sight_of s t) DeleteLocalRef operands) rest false)
   delete_operands target (Given (tree.Value (tree.Variable x)) ∷ []) away h goes = delete_known x h.0.0 target _ away h.0.1 goes
   delete_operands target (Given (tree.Value (tree.Variable x)) ∷ o ∷ operands) away h goes = absurd h.1
   delete_operands target [] away h goes = absurd h
@@ -120,7 +120,7 @@ module _ (classes : Classes) (in_use : BuffersInUse) (k : ℕ) (s : Shared) (t :
 
   -- DeleteLocalRef
   pub delete_lands : (target : Target) (operands : List Operand) → Runs (Invoke line target DeleteLocalRef operands) (GoesOn rest) p
-      → LandsBy weak (Calls line target DeleteLocalRef (actuals (sight_of s t) DeleteLocalRef operands)) (length t.frames) own s.statics (call_step classes in_use k s t line target DeleteLocalRef (actuals (sight_of s t) DeleteLocalRef operands) rest false)
+      → LandsBy weak (Calls line target DeleteLocalRef (actuals (sight_of s t) DeleteLocalRef operands)) (length t.frames) own s.statics (call_step unit classes in_use k s t line target DeleteLocalRef (actuals (sight_of s t) DeleteLocalRef operands) rest false)
   delete_lands (Tested a b) operands r = absurd (no_push r.1)
     where
       no_push : DeleteLocalRef ≡ PushLocalFrame → ⊥
@@ -137,34 +137,34 @@ module _ (classes : Classes) (in_use : BuffersInUse) (k : ℕ) (s : Shared) (t :
     pushed = at p (record p.regions { frames = p.regions.frames + 1 })
 
     tested_lands : (t' : Thread) (z : ℤ) (q : Point) → Stands weak own s.statics t'.variables t'.frames q → GoesOn (Branch line (Done (Truth (is_zero (ScalarResult (Int z))))) a b ∷ rest) q
-        → LandsBy weak (Calls line (Tested a b) PushLocalFrame args) (length t.frames) own s.statics (completed classes in_use k s t line (Tested a b) PushLocalFrame args rest [] s t' (ScalarResult (Int z)))
+        → LandsBy weak (Calls line (Tested a b) PushLocalFrame args) (length t.frames) own s.statics (completed unit classes in_use k s t line (Tested a b) PushLocalFrame args rest [] s t' (ScalarResult (Int z)))
     tested_lands t' z q there g =
         quiet_by weak line PushLocalFrame args (length t.frames) own own (Tested a b) (λ y other. refl) s.statics (record s { heap = s.heap ++ [] }) (record (received GivesInt (ScalarResult (Int z)) t') { tasks = Some (tasks_after line (Tested a b) (is_zero (ScalarResult (Int z))) ++ rest); variables = tell_copy (address_given args 1) (ScalarResult (Int z)) t'.variables })
         ((q, subst (λ (vs : Variables). Stands weak own s.statics vs t'.frames q) (sym (told t' line rest (address_given args 1) t'.variables GivesInt (ScalarResult (Int z)) (AnInt z))) there, g), λ x r e. (r, e))
 
-    refused : LandsBy weak (Calls line (Tested a b) PushLocalFrame args) (length t.frames) own s.statics (completed classes in_use k s t line (Tested a b) PushLocalFrame args rest [] s (record t { pending = Some (length classes + 1) }) (ScalarResult (Int (negsuc 3))))
+    refused : LandsBy weak (Calls line (Tested a b) PushLocalFrame args) (length t.frames) own s.statics (completed unit classes in_use k s t line (Tested a b) PushLocalFrame args rest [] s (record t { pending = Some (length classes + 1) }) (ScalarResult (Int (negsuc 3))))
     refused = tested_lands (record t { pending = Some (length classes + 1) }) (negsuc 3) p stands (refl, (pushed, p, IsFalseNow pushed, on_true, on_false))
 
-    pushes : (z : ℤ) → LandsBy weak (Calls line (Tested a b) PushLocalFrame args) (length t.frames) own s.statics (after_call classes in_use k s t line (Tested a b) PushLocalFrame args rest (push_effect classes s t z))
+    pushes : (z : ℤ) → LandsBy weak (Calls line (Tested a b) PushLocalFrame args) (length t.frames) own s.statics (after_call unit classes in_use k s t line (Tested a b) PushLocalFrame args rest (push_effect classes s t z))
     pushes (pos n) =
-        cond_both (nat_le (capacities (record { capacity = n; references = [] } ∷ t.frames)) 1024) _ _ (λ (e : CallEffect). LandsBy weak (Calls line (Tested a b) PushLocalFrame args) (length t.frames) own s.statics (after_call classes in_use k s t line (Tested a b) PushLocalFrame args rest e))
+        cond_both (nat_le (capacities (record { capacity = n; references = [] } ∷ t.frames)) 1024) _ _ (λ (e : CallEffect). LandsBy weak (Calls line (Tested a b) PushLocalFrame args) (length t.frames) own s.statics (after_call unit classes in_use k s t line (Tested a b) PushLocalFrame args rest e))
         (λ e. tested_lands (record t { frames = record { capacity = n; references = [] } ∷ t.frames }) (pos 0) pushed (stands_pushed s.statics t.variables t.frames p stands (record { capacity = n; references = [] })) (refl, (pushed, p, IsTrueNow p, on_true, on_false)))
         (λ e. refused)
     pushes (negsuc n) = refused
 
-    push_is : call_effect classes in_use k s t args PushLocalFrame ≡ push_effect classes s t (number_given args 0)
+    push_is : call_effect unit classes in_use k s t args PushLocalFrame ≡ push_effect classes s t (number_given args 0)
     unfolding call_effect
     push_is = refl
 
-    push_at : (o : Option Trap) → LandsBy weak (Calls line (Tested a b) PushLocalFrame args) (length t.frames) own s.statics (after_call classes in_use k s t line (Tested a b) PushLocalFrame args rest (checked o (call_effect classes in_use k s t args PushLocalFrame)))
-    push_at None = subst (λ (e : CallEffect). LandsBy weak (Calls line (Tested a b) PushLocalFrame args) (length t.frames) own s.statics (after_call classes in_use k s t line (Tested a b) PushLocalFrame args rest e)) (sym push_is) (pushes (number_given args 0))
+    push_at : (o : Option Trap) → LandsBy weak (Calls line (Tested a b) PushLocalFrame args) (length t.frames) own s.statics (after_call unit classes in_use k s t line (Tested a b) PushLocalFrame args rest (checked o (call_effect unit classes in_use k s t args PushLocalFrame)))
+    push_at None = subst (λ (e : CallEffect). LandsBy weak (Calls line (Tested a b) PushLocalFrame args) (length t.frames) own s.statics (after_call unit classes in_use k s t line (Tested a b) PushLocalFrame args rest e)) (sym push_is) (pushes (number_given args 0))
     push_at (Some trap) = (whole, λ x r g. (r, g))
 
   no_other : PushLocalFrame ≡ PushLocalFrame → true ≡ false → ⊥
   no_other e h = cc
 
   -- PushLocalFrame
-  pub push_lands : (target : Target) (operands : List Operand) (args : List Actual) → Runs (Invoke line target PushLocalFrame operands) (GoesOn rest) p → LandsBy weak (Calls line target PushLocalFrame args) (length t.frames) own s.statics (call_step classes in_use k s t line target PushLocalFrame args rest false)
+  pub push_lands : (target : Target) (operands : List Operand) (args : List Actual) → Runs (Invoke line target PushLocalFrame operands) (GoesOn rest) p → LandsBy weak (Calls line target PushLocalFrame args) (length t.frames) own s.statics (call_step unit classes in_use k s t line target PushLocalFrame args rest false)
   push_lands (Tested a b) operands args r = push_at a b args r.2 r.3 (trap_of_call classes s t (Tested a b) PushLocalFrame args)
   push_lands (Declared kind x) operands args r = absurd (no_other refl r.1)
   push_lands (Assigned x) operands args r = absurd (no_other refl r.1)
@@ -176,21 +176,21 @@ module _ (classes : Classes) (in_use : BuffersInUse) (k : ℕ) (s : Shared) (t :
   gives_any None = Plainly NullLocal
   gives_any (Some n) = ALocal n
 
-  pop_is : (args : List Actual) → call_effect classes in_use k s t args PopLocalFrame ≡ Leaves [] s (record t { frames = drop 1 t.frames }) (ReferenceResult (reference_given args 0))
+  pop_is : (args : List Actual) → call_effect unit classes in_use k s t args PopLocalFrame ≡ Leaves [] s (record t { frames = drop 1 t.frames }) (ReferenceResult (reference_given args 0))
   unfolding call_effect
   pop_is args = refl
 
   pop_at : (target : Target) (args : List Actual) (get : _) → IsNoTest target → ResultGoes target NewLocal get (GoesOn rest) (at p (after_pop p.regions)) → (o : Option Trap) → trap_of_call classes s t target PopLocalFrame args ≡ o
-      → LandsBy weak (Calls line target PopLocalFrame args) (length t.frames) own s.statics (after_call classes in_use k s t line target PopLocalFrame args rest (checked o (call_effect classes in_use k s t args PopLocalFrame)))
+      → LandsBy weak (Calls line target PopLocalFrame args) (length t.frames) own s.statics (after_call unit classes in_use k s t line target PopLocalFrame args rest (checked o (call_effect unit classes in_use k s t args PopLocalFrame)))
   pop_at target args get away goes None e =
-      subst (λ (e : CallEffect). LandsBy weak (Calls line target PopLocalFrame args) (length t.frames) own s.statics (after_call classes in_use k s t line target PopLocalFrame args rest e)) (sym (pop_is args))
-      (given_lands classes in_use k s t line target PopLocalFrame args rest (at p (after_pop p.regions)) own (λ y. refl) NewLocal [] s (record t { frames = drop 1 t.frames }) (ReferenceResult (reference_given args 0)) get refl away
+      subst (λ (e : CallEffect). LandsBy weak (Calls line target PopLocalFrame args) (length t.frames) own s.statics (after_call unit classes in_use k s t line target PopLocalFrame args rest e)) (sym (pop_is args))
+      (given_lands unit classes in_use k s t line target PopLocalFrame args rest (at p (after_pop p.regions)) own (λ y. refl) NewLocal [] s (record t { frames = drop 1 t.frames }) (ReferenceResult (reference_given args 0)) get refl away
       (λ is. has_frame (drop 1 t.frames) (has_room classes s.heap t (target_element t.variables target) PopLocalFrame args e refl))
       (stands_with (λ y. other_than (length t.frames) (own y)) s.statics t.variables (drop 1 t.frames) (at p (after_pop p.regions)) (stands_popped s.statics t.variables t.frames p stands) (popped_owned s.statics t.variables t.frames p stands)) (gives_any (reference_given args 0)) goes)
   pop_at target args get away goes (Some trap) e = (whole, λ x r g. (r, g))
 
   -- PopLocalFrame
-  pub pop_lands : (target : Target) (operands : List Operand) (args : List Actual) → Runs (Invoke line target PopLocalFrame operands) (GoesOn rest) p → LandsBy weak (Calls line target PopLocalFrame args) (length t.frames) own s.statics (call_step classes in_use k s t line target PopLocalFrame args rest false)
+  pub pop_lands : (target : Target) (operands : List Operand) (args : List Actual) → Runs (Invoke line target PopLocalFrame operands) (GoesOn rest) p → LandsBy weak (Calls line target PopLocalFrame args) (length t.frames) own s.statics (call_step unit classes in_use k s t line target PopLocalFrame args rest false)
   pop_lands (Tested a b) operands args r = absurd (no_push r.1)
     where
       no_push : PopLocalFrame ≡ PushLocalFrame → ⊥

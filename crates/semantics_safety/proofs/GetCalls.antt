@@ -6,6 +6,7 @@ use Rattle.std.specs.Option.{option_map}
 use Rattle.std.specs.Str.{bytes_eq}
 use Rattle.base.specs.Bytes.{Identifier, ByName, lookup}
 use Rattle.base.specs.Element.{ElementType}
+use Rattle.syntax.specs.Tree.{SourceUnit}
 use Rattle.syntax.specs.Tree as tree
 use Rattle.class_rules.specs.Class.{Classes}
 use Rattle.jni.specs.Access.{Access, ElementsCopy, ArrayView, CharsCopy, CharsView, is_critical}
@@ -23,7 +24,7 @@ use Rattle.semantics.specs.Checks.{call_trap, first_trap, is_deleted, is_missing
 use Rattle.semantics.specs.Effect.{tasks_after, Calls}
 use Rattle.semantics.specs.Heap.{Heap, numbers_of}
 use Rattle.semantics.specs.Sight.{held_reference}
-use Rattle.semantics.specs.Task.{Task, Target, Declared, Assigned, Tested, Dropped, VariableKind, ScalarKind, ReferenceKind, FieldKind, BufferKind, Operand, Given, Invoke}
+use Rattle.semantics.specs.Task.{Task, Target, Declared, Assigned, Tested, Dropped, VariableKind, ScalarKind, ReferenceKind, FieldKind, MethodKind, BufferKind, Operand, Given, Invoke}
 use Rattle.semantics.specs.Thread.{Thread, Shared, BuffersInUse, Frame, sight_of}
 use Rattle.semantics.specs.ThreadStep.{with_tasks}
 use Rattle.semantics.specs.Value.{Flag, Value, Trap, ExceptionPending, DeletedReference, NullReference, WrongObject, NoCapacity}
@@ -64,7 +65,7 @@ fewer_owners vs x b l m ((y, v) ∷ known) = by_test (bytes_eq x y) (fewer_owner
         let old = counted_here (owns vs l m (y, v)) (y, v) (filter (owns vs l m) known) in
         omega (arith, new, old, later)
 
-module _ (classes : Classes) (in_use : BuffersInUse) (k : ℕ) (s : Shared) (t : Thread) (rest : List Task) (p : Point) {weak : WeakNames} {own : Owners} (stands : Stands weak own s.statics t.variables t.frames p) (access : Access) (a : Identifier) (level : ℕ) (here_a : state_of p.regions a ≡ Some (ReferenceAt level true)) (b : Buffer) (is_lent : IsLentBy t.variables access a b) where
+module _ (unit : SourceUnit) (classes : Classes) (in_use : BuffersInUse) (k : ℕ) (s : Shared) (t : Thread) (rest : List Task) (p : Point) {weak : WeakNames} {own : Owners} (stands : Stands weak own s.statics t.variables t.frames p) (access : Access) (a : Identifier) (level : ℕ) (here_a : state_of p.regions a ≡ Some (ReferenceAt level true)) (b : Buffer) (is_lent : IsLentBy t.variables access a b) where
   -- a new variable holds the buffer
   got_declared : (x : Identifier) (u : ElementType) (w : Bool) → IsNew p x
       → Stands weak own s.statics (assign x (Elements u b) t.variables) t.frames (at (named p x (sort.Buffer u w)) (with_new p.regions x (BufferIn (Untested access a))))
@@ -95,7 +96,7 @@ module _ (classes : Classes) (in_use : BuffersInUse) (k : ℕ) (s : Shared) (t :
       → Stands weak own s.statics (assign x (Elements u b) t.variables) t.frames (at p (with_changed p.regions x (λ v. BufferIn (Untested access a))))
   got_assigned x u old e at_x = stands_at s.statics t.variables t.frames p stands x (Elements u b) t.frames (at p (with_changed p.regions x (λ v. BufferIn (Untested access a)))) (record {
     elsewhere = λ y other. known_other p.regions x y (λ v. BufferIn (Untested access a)) other;
-    apart = λ y c access' m l h at_c. apart_buffer classes in_use k s t rest p stands x u old at_x c m l at_c;
+    apart = λ y c access' m l h at_c. apart_buffer unit classes in_use k s t rest p stands x u old at_x c m l at_c;
     here = λ v h.
         let both : Some (BufferIn (Untested access a)) ≡ Some v = sym (known_there x e) ∙ h in
         let one : BufferIn (Untested access a) ≡ v = cc in
@@ -106,7 +107,7 @@ module _ (classes : Classes) (in_use : BuffersInUse) (k : ℕ) (s : Shared) (t :
       | inl same ↦
           subst (λ (z : Identifier). VariableFits r (lookup z (assign x (Elements u b) t.variables)) (lookup z s.statics)) (sym same)
           (subst (λ (o : Option Variable). VariableFits r o (lookup x s.statics)) (sym (lookup_same x (Elements u b) t.variables))
-          (sort_of_buffer classes in_use k s t rest p stands r (lookup x t.variables) (lookup x s.statics) u old b at_x (stands.sorts x r (subst (λ (z : Identifier). sort_in p.names z ≡ Some r) same h))))
+          (sort_of_buffer unit classes in_use k s t rest p stands r (lookup x t.variables) (lookup x s.statics) u old b at_x (stands.sorts x r (subst (λ (z : Identifier). sort_in p.names z ≡ Some r) same h))))
       | inr other ↦ subst (λ (o : Option Variable). VariableFits r o (lookup y s.statics)) (sym (lookup_other x y (Elements u b) t.variables other)) (stands.sorts y r h)
     ];
     held = λ v c h. inr (access, a, inl (known_there x e));
@@ -118,7 +119,7 @@ module _ (classes : Classes) (in_use : BuffersInUse) (k : ℕ) (s : Shared) (t :
         let less = fewer_owners us x (Untested access a) l m p.regions.variables in
         let same = owners_same t.variables us l m p.regions.variables (λ y. elim (one_or_other y x) [
           | inl is ↦ subst (λ (z : Identifier). is_copy l m (lookup z us) ≡ is_copy l m (lookup z t.variables)) (sym is)
-              (ap (is_copy l m) (lookup_same x (Elements u b) t.variables) ∙ buffer_no_copy classes in_use k s t rest p stands l m u old b (lookup x t.variables) at_x)
+              (ap (is_copy l m) (lookup_same x (Elements u b) t.variables) ∙ buffer_no_copy unit classes in_use k s t rest p stands l m u old b (lookup x t.variables) at_x)
           | inr other ↦ ap (is_copy l m) (lookup_other x y (Elements u b) t.variables other)
         ]) in
         let enough = stands.backed l m in
@@ -135,6 +136,7 @@ module _ (classes : Classes) (in_use : BuffersInUse) (k : ℕ) (s : Shared) (t :
   declared ScalarKind x h = absurd h
   declared ReferenceKind x h = absurd h
   declared FieldKind x h = absurd h
+  declared MethodKind x h = absurd h
 
   assigned : (x : Identifier) (o : Option Sort) → AssignsResult p o x (GivesBuffer access) (Some (access, Some a)) (GoesOn rest) → Lands weak own s.statics (put_assigned x (BufferResult b) s (with_tasks t rest) (lookup x t.variables))
   assigned x (Some (sort.Buffer u w)) (e, for_it, g) =
@@ -199,7 +201,7 @@ none_missing classes heap t buffer f args none =
     (list_any (is_misfit classes heap) (zip (prototype f).parameters args) || not (go_together classes heap buffer args f))
     (lacks_room (prototype f).result (slice_get (frames_after f t.frames) 0)) ExceptionPending DeletedReference NullReference WrongObject NoCapacity none
 
-module _ (classes : Classes) (in_use : BuffersInUse) (k : ℕ) (s : Shared) (t : Thread) (line : ℕ) (rest : List Task) (p : Point) {weak : WeakNames} {own : Owners} (stands : Stands weak own s.statics t.variables t.frames p) (whole : Goes weak own s.statics t t.tasks) where
+module _ (unit : SourceUnit) (classes : Classes) (in_use : BuffersInUse) (k : ℕ) (s : Shared) (t : Thread) (line : ℕ) (rest : List Task) (p : Point) {weak : WeakNames} {own : Owners} (stands : Stands weak own s.statics t.variables t.frames p) (whole : Goes weak own s.statics t t.tasks) where
   -- the object of the first argument
   abbrev object_of : Identifier → Option Variable → ℕ
   object_of a o = name_or_zero (reference_in_actual (Some (ReferenceActual a (held_reference o (lookup a s.statics)))))
@@ -231,10 +233,10 @@ module _ (classes : Classes) (in_use : BuffersInUse) (k : ℕ) (s : Shared) (t :
         by_copy : IsFlagOrNone y → Lands weak own shared.statics (put target (BufferResult b) shared (record t { tasks = Some rest; variables = tell_copy y (BufferResult b) t.variables }))
         by_copy (inl none) =
             subst (λ (z : Option Identifier). Lands weak own shared.statics (put target (BufferResult b) shared (record t { tasks = Some rest; variables = tell_copy z (BufferResult b) t.variables }))) (sym none)
-            (buffer_lands classes in_use k shared t rest p there access a level here_a b is target goes)
+            (buffer_lands unit classes in_use k shared t rest p there access a level here_a b is target goes)
         by_copy (inr (x, is_x, flag)) =
             subst (λ (z : Option Identifier). Lands weak own shared.statics (put target (BufferResult b) shared (record t { tasks = Some rest; variables = tell_copy z (BufferResult b) t.variables }))) (sym is_x)
-            (buffer_lands classes in_use k shared (record t { variables = tell_copy (Some x) (BufferResult b) t.variables }) rest p (stands_told shared.statics t.variables t.frames p there x flag b) access a level here_a b
+            (buffer_lands unit classes in_use k shared (record t { variables = tell_copy (Some x) (BufferResult b) t.variables }) rest p (stands_told shared.statics t.variables t.frames p there x flag b) access a level here_a b
             (lent_moved t.variables (tell_copy (Some x) (BufferResult b) t.variables) access a b (told_apart shared.statics t.variables t.frames p there x flag a level r b at_a) is) target goes)
 
   -- the variable of `isCopy`
@@ -263,7 +265,7 @@ module _ (classes : Classes) (in_use : BuffersInUse) (k : ℕ) (s : Shared) (t :
   got_lent ArrayView a level n e = view_lent ArrayView a level n _ refl e
   got_lent CharsView a level n e = view_lent CharsView a level n _ refl e
 
-  got_is : (access : Access) (a : Identifier) (c : Operand) → call_effect classes in_use k s t (got_with access a c) (GetBuffer access) ≡ Leaves [] s t (BufferResult (buffer_got access a))
+  got_is : (access : Access) (a : Identifier) (c : Operand) → call_effect unit classes in_use k s t (got_with access a c) (GetBuffer access) ≡ Leaves [] s t (BufferResult (buffer_got access a))
   unfolding call_effect
   got_is (ElementsCopy u) a c = refl
   got_is CharsCopy a c = refl
@@ -285,19 +287,19 @@ module _ (classes : Classes) (in_use : BuffersInUse) (k : ℕ) (s : Shared) (t :
 
   got_at : (access : Access) (a : Identifier) (c : Operand) (level : ℕ) (r : Reference) (target : Target) → IsNoTest target → state_of p.regions a ≡ Some (ReferenceAt level true) → lookup a t.variables ≡ Some (LocalRef level r) → OperandFits p IsCopy c
       → ResultGoes target (GivesBuffer access) (Some (access, Some a)) (GoesOn rest) p → (o : Option Trap) → trap_of_call classes s t target (GetBuffer access) (got_with access a c) ≡ o
-      → LandsBy weak (Calls line target (GetBuffer access) (got_with access a c)) (length t.frames) own s.statics (after_call classes in_use k s t line target (GetBuffer access) (got_with access a c) rest (checked o (call_effect classes in_use k s t (got_with access a c) (GetBuffer access))))
+      → LandsBy weak (Calls line target (GetBuffer access) (got_with access a c)) (length t.frames) own s.statics (after_call unit classes in_use k s t line target (GetBuffer access) (got_with access a c) rest (checked o (call_effect unit classes in_use k s t (got_with access a c) (GetBuffer access))))
   got_at access a c level r target away here_a at_a fit goes (Some trap) e = (whole, λ x q g. (q, g))
   got_at access a c level None target away here_a at_a fit goes None e =
       absurd (let missing = null_missing access a c level at_a in let none = none_missing classes s.heap t (target_element t.variables target) (GetBuffer access) (got_with access a c) e in let both : true ≡ false = sym missing ∙ none in cc)
   got_at access a c level (Some n) target away here_a at_a fit goes None e =
-      subst (λ (e : CallEffect). LandsBy weak (Calls line target (GetBuffer access) (got_with access a c)) (length t.frames) own s.statics (after_call classes in_use k s t line target (GetBuffer access) (got_with access a c) rest e)) (sym (got_is access a c))
+      subst (λ (e : CallEffect). LandsBy weak (Calls line target (GetBuffer access) (got_with access a c)) (length t.frames) own s.statics (after_call unit classes in_use k s t line target (GetBuffer access) (got_with access a c) rest e)) (sym (got_is access a c))
       (put_by weak line (GetBuffer access) (got_with access a c) (length t.frames) own own target (λ y other. refl) (BufferResult (buffer_got access a)) s.statics _ _
       (subst (λ (y : Option Identifier). Lands weak own s.statics (put target (BufferResult (buffer_got access a)) (record s { heap = s.heap ++ [] }) (record t { tasks = Some (tasks_after line target false ++ rest); variables = tell_copy y (BufferResult (buffer_got access a)) t.variables }))) (sym (told_is access a c))
       (got access a level here_a (Some n) at_a target away goes (record s { heap = s.heap ++ [] }) refl (buffer_got access a) (got_lent access a level n at_a) (told_in c) (told_fits c fit))))
 
   get_operands : (access : Access) (target : Target) (operands : List Operand) → IsNoTest target → CallKeeps p (GetBuffer access) (map operand_argument operands) → OperandsFit p (owner access ∷ IsCopy ∷ []) operands
       → ResultGoes target (GivesBuffer access) (get_of (call_seen (GetBuffer access) operands)) (GoesOn rest) p
-      → LandsBy weak (Calls line target (GetBuffer access) (actuals (sight_of s t) (GetBuffer access) operands)) (length t.frames) own s.statics (call_step classes in_use k s t line target (GetBuffer access) (actuals (sight_of s t) (GetBuffer access) operands) rest false)
+      → LandsBy weak (Calls line target (GetBuffer access) (actuals (sight_of s t) (GetBuffer access) operands)) (length t.frames) own s.statics (call_step unit classes in_use k s t line target (GetBuffer access) (actuals (sight_of s t) (GetBuffer access) operands) rest false)
   get_operands access target (Given (tree.Value (tree.Variable a)) ∷ c ∷ []) away (level, e) fit goes =
       let shown = stands.shows a (ReferenceAt level true) e in
       got_at access a c level shown.0 target away e shown.1 fit.1.0 goes (trap_of_call classes s t target (GetBuffer access) (got_with access a c)) refl
@@ -310,7 +312,7 @@ module _ (classes : Classes) (in_use : BuffersInUse) (k : ℕ) (s : Shared) (t :
 
   -- the calls that get a buffer
   pub get_lands : (access : Access) (target : Target) (operands : List Operand) → Runs (Invoke line target (GetBuffer access) operands) (GoesOn rest) p
-      → LandsBy weak (Calls line target (GetBuffer access) (actuals (sight_of s t) (GetBuffer access) operands)) (length t.frames) own s.statics (call_step classes in_use k s t line target (GetBuffer access) (actuals (sight_of s t) (GetBuffer access) operands) rest false)
+      → LandsBy weak (Calls line target (GetBuffer access) (actuals (sight_of s t) (GetBuffer access) operands)) (length t.frames) own s.statics (call_step unit classes in_use k s t line target (GetBuffer access) (actuals (sight_of s t) (GetBuffer access) operands) rest false)
   get_lands access (Tested a b) operands r = absurd (get_no_push access r.1)
   get_lands access (Declared kind x) operands r = get_operands access (Declared kind x) operands tt r.0.rules r.0.sorts r.2
   get_lands access (Assigned x) operands r = get_operands access (Assigned x) operands tt r.0.rules r.0.sorts r.2

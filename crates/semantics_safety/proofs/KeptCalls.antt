@@ -11,9 +11,10 @@ use Rattle.jni.specs.JniFunction as jni
 use Rattle.jni.specs.JniFunction.{JniFunction, prototype}
 use Rattle.jni.specs.Prototype.{ResultKind, NewLocal}
 use Rattle.semantics.specs.Arguments.{Actual, ReleaseMode, CopyBackAndFree, CopyBack, FreeUncopied, number_given, object_given, reference_given, text_given, variable_given, mode_given}
-use Rattle.semantics.specs.CallEffects.{CallResult, NoResult, NullResult, ScalarResult, ReferenceResult, FieldResult, BufferResult, CallEffect, Throws, Halts, Leaves, out_of_memory, with_capacity, ensure_effect, push_effect, delete_local_effect, delete_global_effect, delete_weak_effect, found_class_effect, found_field_effect, new_array_effect, at_index, at_region, local_array, get_region_effect, set_region_effect, store_effect, release_effect, enter_effect, exit_effect}
+use Rattle.semantics.specs.CallEffects.{CallResult, NoResult, NullResult, ScalarResult, ReferenceResult, FieldResult, MethodResult, BufferResult, CallEffect, Throws, Halts, Leaves, out_of_memory, with_capacity, ensure_effect, push_effect, delete_local_effect, delete_global_effect, delete_weak_effect, found_class_effect, found_field_effect, found_method_effect, new_array_effect, at_index, at_region, local_array, get_region_effect, set_region_effect, store_effect, release_effect, enter_effect, exit_effect}
 use Rattle.semantics.specs.CallStep.{put, put_assigned, received, failure, resumed, trap_of_call, checked, completed, after_call, after_refusal, call_step}
 use Rattle.semantics.specs.CallTable.{call_effect}
+use Rattle.semantics.specs.Method.{MethodId, find_method}
 use Rattle.semantics.specs.Effect.{Effect, Becomes, Sets, SetsNull, SetsElement, MakesArray, Prints, Calls, Returns, TrapsAt, NoEffect, effect_of}
 use Rattle.semantics.specs.Heap.{next_name}
 use Rattle.semantics.specs.Object.{Object, ObjectValue, Reference}
@@ -21,7 +22,7 @@ use Rattle.semantics.specs.Task.{Task, Target, Declared, Assigned, Tested, Dropp
 use Rattle.semantics.specs.Thread.{Thread, Caller, Shared, BuffersInUse, Monitor, Advance, Advances, NoAdvance, capacities, monitor_of, sight_of}
 use Rattle.semantics.specs.ThreadStep.{set_element, with_tasks, after_effect, after_refused_effect, step_within}
 use Rattle.semantics.specs.Value.{Trap}
-use Rattle.semantics.specs.Variable.{Variable, Scalar, LocalRef, FieldHandle, Elements, LocalArray, NoBuffer, Copy, View, StaticReference, Empty, Live, Weakly, Cleared, Deleted}
+use Rattle.semantics.specs.Variable.{Variable, Scalar, LocalRef, FieldHandle, MethodHandle, Elements, LocalArray, NoBuffer, Copy, View, StaticReference, Empty, Live, Weakly, Cleared, Deleted}
 use Rattle.semantics.specs.World.{Invocation, fresh_object}
 use Rattle.semantics_safety.proofs.CallLaws.{IsNoReturn}
 
@@ -63,6 +64,7 @@ received_calls NewLocal (ScalarResult v) t = refl
 received_calls NewLocal (ReferenceResult None) t = refl
 received_calls NewLocal (ReferenceResult (Some n)) t = refl
 received_calls NewLocal (FieldResult f) t = refl
+received_calls NewLocal (MethodResult f) t = refl
 received_calls NewLocal (BufferResult b) t = refl
 received_calls kind given t = refl
 
@@ -72,10 +74,14 @@ checked_keeps calls (Some trap) e h = tt
 
 -- ---- what calls do
 
-module _ (classes : Classes) (in_use : BuffersInUse) (k : ℕ) (s : Shared) (t : Thread) where
+module _ (unit : SourceUnit) (classes : Classes) (in_use : BuffersInUse) (k : ℕ) (s : Shared) (t : Thread) where
   field_keeps : (c : ℕ) (o : Option FieldId) → EffectKeeps (held t) (found_field_effect s t c o)
   field_keeps c None = tt
   field_keeps c (Some f) = refl
+
+  method_keeps : (c : ℕ) (o : Option MethodId) → EffectKeeps (held t) (found_method_effect s t c o)
+  method_keeps c None = tt
+  method_keeps c (Some f) = refl
 
   class_keeps : (c : ℕ) (o : Option ℕ) → EffectKeeps (held t) (found_class_effect s t c o)
   class_keeps c None = tt
@@ -145,7 +151,7 @@ module _ (classes : Classes) (in_use : BuffersInUse) (k : ℕ) (s : Shared) (t :
   exit_keeps n None = tt
   exit_keeps n (Some m) = cond_both (m.owner == k) _ _ (EffectKeeps (held t)) (λ e. refl) (λ e. tt)
 
-  effect_keeps : (args : List Actual) (f : JniFunction) → EffectKeeps (held t) (call_effect classes in_use k s t args f)
+  effect_keeps : (args : List Actual) (f : JniFunction) → EffectKeeps (held t) (call_effect unit classes in_use k s t args f)
   unfolding call_effect
   effect_keeps args jni.FindClass = class_keeps _ (class_named classes (text_given args 0))
   effect_keeps args jni.EnsureLocalCapacity = ensure_keeps (number_given args 0)
@@ -155,6 +161,7 @@ module _ (classes : Classes) (in_use : BuffersInUse) (k : ℕ) (s : Shared) (t :
   effect_keeps args jni.DeleteWeakGlobalRef = delete_weak_keeps (variable_given args 0) (lookup (variable_given args 0) s.statics)
   effect_keeps args jni.GetFieldID = field_keeps _ (find_field classes (object_given args 0) (text_given args 1) (text_given args 2))
   effect_keeps args jni.GetStaticFieldID = field_keeps _ (find_static classes (object_given args 0) (text_given args 1) (text_given args 2))
+  effect_keeps args jni.GetStaticMethodID = method_keeps _ (find_method unit classes (object_given args 0) (text_given args 1) (text_given args 2))
   effect_keeps args (jni.NewArray T) = array_keeps _ (number_given args 0) _
   effect_keeps args jni.NewObjectArray = array_keeps _ (number_given args 0) _
   effect_keeps args jni.GetObjectArrayElement = index_keeps _ _ (number_given args 1) _ (λ i. refl)
@@ -176,19 +183,19 @@ module _ (classes : Classes) (in_use : BuffersInUse) (k : ℕ) (s : Shared) (t :
   effect_keeps args f = refl
 
   module _ (line : ℕ) (target : Target) (f : JniFunction) (args : List Actual) (rest : List Task) where
-    completed_keeps : (made : List Object) (s' : Shared) (t' : Thread) (given : CallResult) → held t' ≡ held t → KeepsCalls (held t) (completed classes in_use k s t line target f args rest made s' t' given)
-    completed_keeps made s' t' given e = put_keeps target given (record s' { heap = s'.heap ++ made }) (resumed classes in_use k s t line target f args rest t' given) (held t) (received_calls (prototype f).result given t' ∙ e)
+    completed_keeps : (made : List Object) (s' : Shared) (t' : Thread) (given : CallResult) → held t' ≡ held t → KeepsCalls (held t) (completed unit classes in_use k s t line target f args rest made s' t' given)
+    completed_keeps made s' t' given e = put_keeps target given (record s' { heap = s'.heap ++ made }) (resumed unit classes in_use k s t line target f args rest t' given) (held t) (received_calls (prototype f).result given t' ∙ e)
 
-    after_keeps : (e : CallEffect) → EffectKeeps (held t) e → KeepsCalls (held t) (after_call classes in_use k s t line target f args rest e)
+    after_keeps : (e : CallEffect) → EffectKeeps (held t) e → KeepsCalls (held t) (after_call unit classes in_use k s t line target f args rest e)
     after_keeps (Throws c) h = completed_keeps (fresh_object classes c ∷ []) s (record t { pending = Some (next_name s.heap) }) (failure (prototype f).result) refl
     after_keeps (Halts trap) h = refl
     after_keeps (Leaves made s' t' given) h = completed_keeps made s' t' given h
 
-    refusal_keeps : (makes : Bool) → KeepsCalls (held t) (after_refusal classes in_use k s t line target f args rest makes)
+    refusal_keeps : (makes : Bool) → KeepsCalls (held t) (after_refusal unit classes in_use k s t line target f args rest makes)
     refusal_keeps true = completed_keeps [] s (record t { pending = Some (out_of_memory classes) }) (failure (prototype f).result) refl
     refusal_keeps false = tt
 
-    call_keeps : (refused : Bool) → KeepsCalls (held t) (call_step classes in_use k s t line target f args rest refused)
+    call_keeps : (refused : Bool) → KeepsCalls (held t) (call_step unit classes in_use k s t line target f args rest refused)
     call_keeps false = after_keeps _ (checked_keeps (held t) (trap_of_call classes s t target f args) _ (effect_keeps args f))
     call_keeps true = refusal_keeps _
 
@@ -202,9 +209,10 @@ module _ (classes : Classes) (in_use : BuffersInUse) (k : ℕ) (s : Shared) (t :
   element_keeps x i z rest (Some (Scalar v)) = tt
   element_keeps x i z rest (Some (LocalRef level r)) = tt
   element_keeps x i z rest (Some (FieldHandle f)) = tt
+  element_keeps x i z rest (Some (MethodHandle f)) = tt
   element_keeps x i z rest None = tt
 
-  effects_keep : (rest : List Task) (e : Effect) → IsNoReturn e → KeepsCalls (held t) (after_effect classes in_use k s t rest e)
+  effects_keep : (rest : List Task) (e : Effect) → IsNoReturn e → KeepsCalls (held t) (after_effect unit classes in_use k s t rest e)
   effects_keep rest (Becomes tasks) away = refl
   effects_keep rest (Sets x v) away = refl
   effects_keep rest (SetsNull target) away = put_keeps target NullResult s (with_tasks t rest) (held t) refl
@@ -216,11 +224,11 @@ module _ (classes : Classes) (in_use : BuffersInUse) (k : ℕ) (s : Shared) (t :
   effects_keep rest (TrapsAt trap line) away = refl
   effects_keep rest NoEffect away = tt
 
-  refused_keep : (rest : List Task) (e : Effect) → KeepsCalls (held t) (after_refused_effect classes in_use k s t rest e)
+  refused_keep : (rest : List Task) (e : Effect) → KeepsCalls (held t) (after_refused_effect unit classes in_use k s t rest e)
   refused_keep rest (Calls line target f args) = call_keeps line target f args rest true
   refused_keep rest e = tt
 
   -- each step within a call
-  pub calls_kept : (unit : SourceUnit) (refused : Bool) (task : Task) (rest : List Task) → IsNoReturn (effect_of (sight_of s t) task) → KeepsCalls (held t) (step_within unit classes in_use k s t refused (Some (task ∷ rest)))
-  calls_kept unit false task rest away = effects_keep rest (effect_of (sight_of s t) task) away
-  calls_kept unit true task rest away = refused_keep rest (effect_of (sight_of s t) task)
+  pub calls_kept : (refused : Bool) (task : Task) (rest : List Task) → IsNoReturn (effect_of (sight_of s t) task) → KeepsCalls (held t) (step_within unit classes in_use k s t refused (Some (task ∷ rest)))
+  calls_kept false task rest away = effects_keep rest (effect_of (sight_of s t) task) away
+  calls_kept true task rest away = refused_keep rest (effect_of (sight_of s t) task)

@@ -6,16 +6,17 @@ use Rattle.std.specs.Str.{bytes_eq}
 use Rattle.std.proofs.lemmas.Slice.Eq.{bytes_eq-Decides}
 use Rattle.base.specs.Bytes.{Identifier, ByName, lookup}
 use Rattle.base.specs.Element.{ElementType}
+use Rattle.syntax.specs.Tree.{SourceUnit}
 use Rattle.class_rules.specs.Class.{Classes}
 use Rattle.type_rules.specs.Sorts.{Sort, sort_in}
 use Rattle.type_rules.specs.Sorts as sort
 use Rattle.semantics.specs.CallEffects.{NullResult}
 use Rattle.semantics.specs.CallStep.{put, put_assigned}
 use Rattle.region_rules.specs.RegionStates.{VariableState, Free, ReferenceAt, BufferIn, with_new, with_changed}
-use Rattle.semantics.specs.Task.{Task, Target, Declared, Assigned, VariableKind, ScalarKind, ReferenceKind, FieldKind, BufferKind}
+use Rattle.semantics.specs.Task.{Task, Target, Declared, Assigned, VariableKind, ScalarKind, ReferenceKind, FieldKind, MethodKind, BufferKind}
 use Rattle.semantics.specs.Thread.{Thread, Shared, BuffersInUse}
 use Rattle.semantics.specs.ThreadStep.{with_tasks}
-use Rattle.semantics.specs.Variable.{Variable, LocalRef, FieldHandle, Elements, Buffer, NoBuffer, StaticReference, Empty, Weakly, assign}
+use Rattle.semantics.specs.Variable.{Variable, LocalRef, FieldHandle, MethodHandle, Elements, Buffer, NoBuffer, StaticReference, Empty, Weakly, assign}
 use Rattle.semantics_safety.specs.Owners.{Owners}
 use Rattle.semantics_safety.specs.Points.{Point, is_copy, owns}
 use Rattle.semantics_safety.specs.Stands.{VariableFits, Shows, Stands}
@@ -25,12 +26,18 @@ use Rattle.semantics_safety.proofs.NameLaws.{one_or_other, lookup_same, lookup_o
 use Rattle.semantics_safety.proofs.SetLaws.{once_changed, stands_new, stands_kept, stands_at, owners_elsewhere, sorts_named, sorts_kept, kinds_named}
 use Rattle.semantics_safety.proofs.StepLaws.{Lands, null_declared}
 
-module _ (classes : Classes) (in_use : BuffersInUse) (k : ℕ) (s : Shared) (t : Thread) (rest : List Task) (p : Point) {weak : WeakNames} {own : Owners} (stands : Stands weak own s.statics t.variables t.frames p) where
+module _ (unit : SourceUnit) (classes : Classes) (in_use : BuffersInUse) (k : ℕ) (s : Shared) (t : Thread) (rest : List Task) (p : Point) {weak : WeakNames} {own : Owners} (stands : Stands weak own s.statics t.variables t.frames p) where
   field_no_buffer : (f : _) (u : ElementType) (b : Buffer) → FieldHandle f ≡ Elements u b → ⊥
   field_no_buffer f u b e = cc
 
+  method_no_buffer : (f : _) (u : ElementType) (b : Buffer) → MethodHandle f ≡ Elements u b → ⊥
+  method_no_buffer f u b e = cc
+
   field_no_ref : (f : _) (level : ℕ) (r : _) → FieldHandle f ≡ LocalRef level r → ⊥
   field_no_ref f level r e = cc
+
+  method_no_ref : (f : _) (level : ℕ) (r : _) → MethodHandle f ≡ LocalRef level r → ⊥
+  method_no_ref f level r e = cc
 
   null_buffer : (v u : ElementType) (b : Buffer) → Elements v NoBuffer ≡ Elements u b → b ≡ NoBuffer
   null_buffer v u b e = cc
@@ -59,9 +66,11 @@ module _ (classes : Classes) (in_use : BuffersInUse) (k : ℕ) (s : Shared) (t :
 
   declared_lands : (kind : VariableKind) (x : Identifier) → DeclaresNull p kind x (GoesOn rest) → Lands weak own s.statics (put (Declared kind x) NullResult s (with_tasks t rest))
   declared_lands ScalarKind x h = absurd h
-  declared_lands ReferenceKind x (new, g) = ((at (named p x sort.Ref) (with_new p.regions x (ReferenceAt p.regions.frames true)), null_declared classes in_use k s t rest p stands x new, g), λ y r e. (r, e))
+  declared_lands ReferenceKind x (new, g) = ((at (named p x sort.Ref) (with_new p.regions x (ReferenceAt p.regions.frames true)), null_declared unit classes in_use k s t rest p stands x new, g), λ y r e. (r, e))
   declared_lands FieldKind x (new, g) =
       ((named p x sort.FieldId, stands_new s.statics t.variables t.frames p stands x (FieldHandle None) sort.FieldId new tt (None, refl) (λ u b e. absurd (field_no_buffer None u b e)), g), λ y r e. (r, e))
+  declared_lands MethodKind x (new, g) =
+      ((named p x sort.MethodId, stands_new s.statics t.variables t.frames p stands x (MethodHandle None) sort.MethodId new tt (None, refl) (λ u b e. absurd (method_no_buffer None u b e)), g), λ y r e. (r, e))
   declared_lands (BufferKind u) x (new, (w, g)) = ((at (named p x (sort.Buffer u w)) (with_new p.regions x (BufferIn Free)), buffer_declared x u w new, g), λ y r e. (r, e))
 
   no_empty : (n : ℕ) → Empty ≡ Weakly n → ⊥
@@ -96,6 +105,7 @@ module _ (classes : Classes) (in_use : BuffersInUse) (k : ℕ) (s : Shared) (t :
       static_fits sort.Weak y (none, (q, e)) = (none, there y q e)
       static_fits sort.Ref y h = h
       static_fits sort.FieldId y h = h
+      static_fits sort.MethodId y h = h
       static_fits (sort.Buffer u w) y h = h
       static_fits (sort.Array u size) y h = h
       static_fits sort.Truth y h = h
@@ -179,6 +189,10 @@ module _ (classes : Classes) (in_use : BuffersInUse) (k : ℕ) (s : Shared) (t :
       let fits = stands.sorts x sort.FieldId e in
       subst (λ (v : Option Variable). Lands weak own s.statics (put_assigned x NullResult s (with_tasks t rest) v)) (sym fits.1)
       ((p, stands_kept s.statics t.variables t.frames p stands x (FieldHandle None) sort.FieldId (FieldHandle fits.0) e fits.1 (field_no_ref fits.0) (field_no_buffer fits.0) (None, refl) (λ u b c. absurd (field_no_buffer None u b c)), g), λ y r h. (r, h))
+  assigned_lands x (Some sort.MethodId) e g =
+      let fits = stands.sorts x sort.MethodId e in
+      subst (λ (v : Option Variable). Lands weak own s.statics (put_assigned x NullResult s (with_tasks t rest) v)) (sym fits.1)
+      ((p, stands_kept s.statics t.variables t.frames p stands x (MethodHandle None) sort.MethodId (MethodHandle fits.0) e fits.1 (method_no_ref fits.0) (method_no_buffer fits.0) (None, refl) (λ u b c. absurd (method_no_buffer None u b c)), g), λ y r h. (r, h))
   assigned_lands x o e h = absurd h
 
   -- NULL goes where it may

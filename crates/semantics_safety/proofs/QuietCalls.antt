@@ -3,19 +3,21 @@ use Rattle.std.proofs.Common.{◌≡◌, ℕ, ◌+◌, Bool, true, false, List, 
 use Rattle.std.specs.Prelude.{ℤ, pos, negsuc, nat_lt, nat_le, ◌==◌}
 use Rattle.base.specs.Bytes.{Identifier, lookup}
 use Rattle.std.proofs.lemmas.Bool.{cond_both}
+use Rattle.syntax.specs.Tree.{SourceUnit}
 use Rattle.class_rules.specs.Class.{Classes}
 use Rattle.class_rules.specs.Fields.{FieldId, find_field, find_static}
 use Rattle.jni.specs.Access.{Access}
 use Rattle.jni.specs.JniFunction as jni
 use Rattle.jni.specs.JniFunction.{JniFunction, prototype}
-use Rattle.jni.specs.Prototype.{NewLocal, NewGlobal, NewWeak, GivesFlag, GivesField, GivesInt, GivesNothing, GivesBuffer, ResultKind}
+use Rattle.jni.specs.Prototype.{NewLocal, NewGlobal, NewWeak, GivesFlag, GivesField, GivesMethod, GivesInt, GivesNothing, GivesBuffer, ResultKind}
 use Rattle.semantics.specs.Arguments.{Actual, number_given, object_given, text_given}
-use Rattle.semantics.specs.CallEffects.{CallEffect, ReferenceResult, found_field_effect, found_class_effect, new_array_effect, at_index, at_region, store_effect, set_region_effect, local_array, with_capacity, ensure_effect, enter_effect, exit_effect}
+use Rattle.semantics.specs.CallEffects.{CallEffect, ReferenceResult, found_field_effect, found_method_effect, found_class_effect, new_array_effect, at_index, at_region, store_effect, set_region_effect, local_array, with_capacity, ensure_effect, enter_effect, exit_effect}
 use Rattle.semantics.specs.CallStep.{failure}
 use Rattle.semantics.specs.CallTable.{call_effect}
+use Rattle.semantics.specs.Method.{MethodId, find_method}
 use Rattle.semantics.specs.Thread.{Frame, Thread, Shared, BuffersInUse, Monitor, capacities, monitor_of}
 use Rattle.semantics.specs.Object.{ObjectValue, Reference}
-use Rattle.semantics_safety.proofs.ResultLaws.{Simple, AnInt, AFlag, AField, NoField, AGlobal, NoGlobal, AWeak, NoWeak, NoLocal, NullLocal, NoResultThere}
+use Rattle.semantics_safety.proofs.ResultLaws.{Simple, AnInt, AFlag, AField, NoField, AMethod, NoMethod, AGlobal, NoGlobal, AWeak, NoWeak, NoLocal, NullLocal, NoResultThere}
 use Rattle.semantics_safety.proofs.QuietLaws.{Gives, Plainly, ALocal, IsQuiet}
 use Rattle.semantics_safety.proofs.FrameLaws.{references_of}
 
@@ -32,10 +34,14 @@ IsQuietFunction (jni.GetBuffer access) = ⊥
 IsQuietFunction (jni.ReleaseBuffer access) = ⊥
 IsQuietFunction f = Unit {0}
 
-module _ (classes : Classes) (in_use : BuffersInUse) (k : ℕ) (s : Shared) (t : Thread) (args : List Actual) where
+module _ (unit : SourceUnit) (classes : Classes) (in_use : BuffersInUse) (k : ℕ) (s : Shared) (t : Thread) (args : List Actual) where
   field_quiet : (c : ℕ) (o : Option FieldId) → IsQuiet s t GivesField (found_field_effect s t c o)
   field_quiet c None = NoField
   field_quiet c (Some f) = (refl, refl, refl, Plainly (AField (Some f)))
+
+  method_quiet : (c : ℕ) (o : Option MethodId) → IsQuiet s t GivesMethod (found_method_effect s t c o)
+  method_quiet c None = NoMethod
+  method_quiet c (Some f) = (refl, refl, refl, Plainly (AMethod (Some f)))
 
   enter_quiet : (n : ℕ) (m : Option Monitor) → IsQuiet s t GivesInt (enter_effect k s t n m)
   enter_quiet n None = (refl, refl, refl, Plainly (AnInt _))
@@ -81,7 +87,7 @@ module _ (classes : Classes) (in_use : BuffersInUse) (k : ℕ) (s : Shared) (t :
   ensure_quiet (pos n) = cond_both (nat_le (capacities (with_capacity n t.frames)) 1024) _ _ (IsQuiet s t GivesInt) (λ e. (refl, capacity_stays n t.frames, refl, Plainly (AnInt _))) (λ e. (refl, refl, refl, Plainly (AnInt _)))
   ensure_quiet (negsuc n) = (refl, refl, refl, Plainly (AnInt _))
 
-  pub effect_quiet : (f : JniFunction) → IsQuietFunction f → IsQuiet s t (prototype f).result (call_effect classes in_use k s t args f)
+  pub effect_quiet : (f : JniFunction) → IsQuietFunction f → IsQuiet s t (prototype f).result (call_effect unit classes in_use k s t args f)
   unfolding call_effect
   effect_quiet jni.FindClass h = class_quiet _ _
   effect_quiet jni.GetSuperclass h = (refl, refl, refl, reference_given_quiet _)
@@ -96,6 +102,7 @@ module _ (classes : Classes) (in_use : BuffersInUse) (k : ℕ) (s : Shared) (t :
   effect_quiet jni.EnsureLocalCapacity h = ensure_quiet (number_given args 0)
   effect_quiet jni.GetFieldID h = field_quiet _ (find_field classes (object_given args 0) (text_given args 1) (text_given args 2))
   effect_quiet jni.GetStaticFieldID h = field_quiet _ (find_static classes (object_given args 0) (text_given args 1) (text_given args 2))
+  effect_quiet jni.GetStaticMethodID h = method_quiet _ (find_method unit classes (object_given args 0) (text_given args 1) (text_given args 2))
   effect_quiet (jni.SetField T) h = (refl, refl, refl, Plainly NoResultThere)
   effect_quiet jni.GetObjectField h = (refl, refl, refl, reference_given_quiet _)
   effect_quiet jni.SetObjectField h = (refl, refl, refl, Plainly NoResultThere)
@@ -134,6 +141,7 @@ failure_is_simple NewWeak differs = NoWeak
 failure_is_simple GivesFlag differs = AFlag _
 failure_is_simple GivesInt differs = AnInt _
 failure_is_simple GivesField differs = NoField
+failure_is_simple GivesMethod differs = NoMethod
 failure_is_simple GivesNothing differs = NoResultThere
 failure_is_simple (GivesBuffer access) differs = absurd (differs access refl)
 

@@ -2,7 +2,7 @@
 use Rattle.std.proofs.Common.{◌≡◌, ℕ, ◌≤◌, Bool, true, false, List, [], ◌∷◌, ◌++◌, Some, refl, sym, ap, ◌∙◌, subst, length, if◌then◌else◌, Option, None}
 use Rattle.base.specs.Bytes.{Identifier}
 use Rattle.class_rules.specs.Class.{Classes}
-use Rattle.syntax.specs.Tree.{Argument}
+use Rattle.syntax.specs.Tree.{Argument, SourceUnit}
 use Rattle.jni.specs.JniFunction.{JniFunction, ReleaseBuffer, DeleteLocalRef, PopLocalFrame, prototype}
 use Rattle.jni.specs.Prototype.{ResultKind, NewLocal}
 use Rattle.semantics.specs.Object.{Object}
@@ -23,7 +23,7 @@ use Rattle.semantics_safety.specs.Points.{Point, owners}
 use Rattle.semantics_safety.specs.Stands.{copies, Goes, Stands}
 use Rattle.semantics_safety.specs.Wanted.{ResultGoes, GoesOn}
 use Rattle.semantics_safety.specs.WeakNames.{WeakNames}
-use Rattle.semantics_safety.proofs.ResultLaws.{Simple, AnInt, AFlag, AField, NoField, AGlobal, NoGlobal, AWeak, NoWeak, NoLocal, NullLocal, NoResultThere, result_lands}
+use Rattle.semantics_safety.proofs.ResultLaws.{Simple, AnInt, AFlag, AField, NoField, AMethod, NoMethod, AGlobal, NoGlobal, AWeak, NoWeak, NoLocal, NullLocal, NoResultThere, result_lands}
 use Rattle.semantics_safety.proofs.FrameLaws.{references_of, same_references, same_length, HasFrame, frame_again}
 use Rattle.semantics_safety.proofs.ReferenceLaws.{with_target, local_lands}
 use Rattle.semantics_safety.proofs.OwnerLaws.{LandsBy, LandsByIfPossible, by_if_possible, put_by}
@@ -70,7 +70,9 @@ module _ (t : Thread) (line : ℕ) (rest : List Task) where
   received_is kind given (AnInt z) = refl
   received_is kind given (AFlag b) = refl
   received_is kind given (AField f) = refl
+  received_is kind given (AMethod f) = refl
   received_is kind given NoField = refl
+  received_is kind given NoMethod = refl
   received_is kind given (AGlobal r) = refl
   received_is kind given NoGlobal = refl
   received_is kind given (AWeak r) = refl
@@ -84,7 +86,9 @@ module _ (t : Thread) (line : ℕ) (rest : List Task) where
   told (Some x) vs kind given (AnInt z) = refl
   told (Some x) vs kind given (AFlag b) = refl
   told (Some x) vs kind given (AField f) = refl
+  told (Some x) vs kind given (AMethod f) = refl
   told (Some x) vs kind given NoField = refl
+  told (Some x) vs kind given NoMethod = refl
   told (Some x) vs kind given (AGlobal r) = refl
   told (Some x) vs kind given NoGlobal = refl
   told (Some x) vs kind given (AWeak r) = refl
@@ -118,7 +122,7 @@ module _ (t : Thread) (line : ℕ) (rest : List Task) where
       ap (λ (tasks : List Task). record t { frames = with_local n t.frames; tasks = Some tasks; variables = tell_copy x (ReferenceResult (Some n)) t.variables }) (nothing_after target false h)
       ∙ ap (λ (vs : Variables). record t { frames = with_local n t.frames; tasks = Some rest; variables = vs }) (local_told x n t.variables)
 
-module _ (classes : Classes) (in_use : BuffersInUse) (k : ℕ) (s : Shared) (t : Thread) (line : ℕ) (target : Target) (f : JniFunction) (args : List Actual) (rest : List Task) (p : Point) (own : Owners) where
+module _ (unit : SourceUnit) (classes : Classes) (in_use : BuffersInUse) (k : ℕ) (s : Shared) (t : Thread) (line : ℕ) (target : Target) (f : JniFunction) (args : List Actual) (rest : List Task) (p : Point) (own : Owners) where
   -- a local reference goes into a frame that is there
   local_completed : {weak : WeakNames} {now : Owners} (shared : Shared) (t' : Thread) (n : ℕ) (get : _) (frames : List Frame) → t'.frames ≡ frames → HasFrame frames → Stands weak now shared.statics t'.variables t'.frames p → ResultGoes target NewLocal get (GoesOn rest) p
       → Lands weak (with_target target p.regions.frames now) shared.statics (put target (ReferenceResult (Some n)) shared (record t' { frames = with_local n t'.frames; tasks = Some rest }))
@@ -129,13 +133,13 @@ module _ (classes : Classes) (in_use : BuffersInUse) (k : ℕ) (s : Shared) (t :
 
   -- the same for any result
   pub given_lands : {weak : WeakNames} {now : Owners} → ((y : Identifier) → now y ≡ left_by f args (length t.frames) own y) → (kind : ResultKind) (made : List Object) (s' : Shared) (t' : Thread) (given : CallResult) (get : _) → (prototype f).result ≡ kind → IsNoTest target → (kind ≡ NewLocal → HasFrame t'.frames) → Stands weak now s'.statics t'.variables t'.frames p → Gives kind given
-      → ResultGoes target kind get (GoesOn rest) p → LandsBy weak (Calls line target f args) (length t.frames) own s'.statics (completed classes in_use k s t line target f args rest made s' t' given)
+      → ResultGoes target kind get (GoesOn rest) p → LandsBy weak (Calls line target f args) (length t.frames) own s'.statics (completed unit classes in_use k s t line target f args rest made s' t' given)
   given_lands {weak} {now} left kind made s' t' given get is away room there (Plainly simple) h =
       let shared : Shared = record s' { heap = s'.heap ++ made } in
       put_by weak line f args (length t.frames) own now target (λ y other. left y) given s'.statics shared _ (
       subst (λ (result : ResultKind). Lands weak now s'.statics (put target given shared (record (received result given t') { tasks = Some (tasks_after line target (is_zero given) ++ rest); variables = tell_copy (address_given args 1) given t'.variables }))) (sym is)
       (subst (λ (r : Thread). Lands weak now s'.statics (put target given shared r)) (sym (resumed_is t' line rest target (address_given args 1) kind given away simple))
-      (result_lands classes in_use k shared t' rest p there target kind given get simple h)))
+      (result_lands unit classes in_use k shared t' rest p there target kind given get simple h)))
   given_lands {weak} {now} left kind made s' t' given get is away room there (ALocal n) h =
       let shared : Shared = record s' { heap = s'.heap ++ made } in
       put_by weak line f args (length t.frames) own (with_target target p.regions.frames now) target (λ y other. ap (λ (b : Bool). if b then Some p.regions.frames else now y) other ∙ left y) given s'.statics shared _ (
@@ -143,7 +147,7 @@ module _ (classes : Classes) (in_use : BuffersInUse) (k : ℕ) (s : Shared) (t :
       (subst (λ (r : Thread). Lands weak (with_target target p.regions.frames now) s'.statics (put target (ReferenceResult (Some n)) shared r)) (sym (resumed_local t' line rest target (address_given args 1) n away))
       (local_completed shared t' n get t'.frames refl (room refl) there h)))
 
-module _ (classes : Classes) (in_use : BuffersInUse) (k : ℕ) (s : Shared) (t : Thread) (line : ℕ) (target : Target) (f : JniFunction) (args : List Actual) (rest : List Task) (p : Point) {weak : WeakNames} {own : Owners} (stands : Stands weak own s.statics t.variables t.frames p) where
+module _ (unit : SourceUnit) (classes : Classes) (in_use : BuffersInUse) (k : ℕ) (s : Shared) (t : Thread) (line : ℕ) (target : Target) (f : JniFunction) (args : List Actual) (rest : List Task) (p : Point) {weak : WeakNames} {own : Owners} (stands : Stands weak own s.statics t.variables t.frames p) where
   -- the call ends no reference
   abbrev IsKept : Type 0
   IsKept = (y : Identifier) → own y ≡ left_by f args (length t.frames) own y
@@ -165,26 +169,26 @@ module _ (classes : Classes) (in_use : BuffersInUse) (k : ℕ) (s : Shared) (t :
       }))
 
   pub completed_lands : IsKept → (made : List Object) (s' : Shared) (t' : Thread) (given : CallResult) (get : _) → IsNoTest target → t'.variables ≡ t.variables → references_of t'.frames ≡ references_of t.frames → s'.statics ≡ s.statics → Simple (prototype f).result given → ResultGoes target (prototype f).result get (GoesOn rest) p
-      → LandsBy weak (Calls line target f args) (length t.frames) own s'.statics (completed classes in_use k s t line target f args rest made s' t' given)
+      → LandsBy weak (Calls line target f args) (length t.frames) own s'.statics (completed unit classes in_use k s t line target f args rest made s' t' given)
   completed_lands left made s' t' given get away vs fs ss simple h =
       let shared : Shared = record s' { heap = s'.heap ++ made } in
       put_by weak line f args (length t.frames) own own target (λ y other. left y) given s'.statics shared _
       (subst (λ (r : Thread). Lands weak own s'.statics (put target given shared r)) (sym (resumed_is t' line rest target (address_given args 1) (prototype f).result given away simple))
-      (result_lands classes in_use k shared t' rest p (stands_again s' t' vs fs ss) target (prototype f).result given get simple h))
+      (result_lands unit classes in_use k shared t' rest p (stands_again s' t' vs fs ss) target (prototype f).result given get simple h))
 
   -- such a call leads to a point again
   pub quiet_lands : IsKept → (get : _) (e : CallEffect) → IsNoTest target → Goes weak own s.statics t t.tasks → ((prototype f).result ≡ NewLocal → HasFrame t.frames) → IsQuiet s t (prototype f).result e → ResultGoes target (prototype f).result get (GoesOn rest) p
-      → LandsBy weak (Calls line target f args) (length t.frames) own s.statics (after_call classes in_use k s t line target f args rest e)
+      → LandsBy weak (Calls line target f args) (length t.frames) own s.statics (after_call unit classes in_use k s t line target f args rest e)
   quiet_lands left get (Throws c) away whole room quiet h = completed_lands left (fresh_object classes c ∷ []) s (record t { pending = Some (next_name s.heap) }) (failure (prototype f).result) get away refl refl refl quiet h
   quiet_lands left get (Halts trap) away whole room quiet h = (whole, λ x r e. (r, e))
   quiet_lands left get (Leaves made s' t' given) away whole room quiet h =
-      subst (λ (ss : Statics). LandsBy weak (Calls line target f args) (length t.frames) own ss (completed classes in_use k s t line target f args rest made s' t' given)) quiet.2
-      (given_lands classes in_use k s t line target f args rest p own left (prototype f).result made s' t' given get refl away (λ e. frame_again t'.frames t.frames quiet.1 (room e)) (stands_again s' t' quiet.0 quiet.1 quiet.2) quiet.3 h)
+      subst (λ (ss : Statics). LandsBy weak (Calls line target f args) (length t.frames) own ss (completed unit classes in_use k s t line target f args rest made s' t' given)) quiet.2
+      (given_lands unit classes in_use k s t line target f args rest p own left (prototype f).result made s' t' given get refl away (λ e. frame_again t'.frames t.frames quiet.1 (room e)) (stands_again s' t' quiet.0 quiet.1 quiet.2) quiet.3 h)
 
   -- and so does one whose allocation is refused, if it has one
   pub refused_lands : IsKept → (get : _) (makes : Bool) → IsNoTest target → Simple (prototype f).result (failure (prototype f).result) → ResultGoes target (prototype f).result get (GoesOn rest) p
-      → LandsByIfPossible weak (Calls line target f args) (length t.frames) own s.statics (after_refusal classes in_use k s t line target f args rest makes)
+      → LandsByIfPossible weak (Calls line target f args) (length t.frames) own s.statics (after_refusal unit classes in_use k s t line target f args rest makes)
   refused_lands left get true away simple h =
-      by_if_possible weak (Calls line target f args) (length t.frames) own s.statics (completed classes in_use k s t line target f args rest [] s (record t { pending = Some (out_of_memory classes) }) (failure (prototype f).result))
+      by_if_possible weak (Calls line target f args) (length t.frames) own s.statics (completed unit classes in_use k s t line target f args rest [] s (record t { pending = Some (out_of_memory classes) }) (failure (prototype f).result))
       (completed_lands left [] s (record t { pending = Some (out_of_memory classes) }) (failure (prototype f).result) get away refl refl refl simple h)
   refused_lands left get false away simple h = tt

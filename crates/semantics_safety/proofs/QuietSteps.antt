@@ -19,6 +19,7 @@ use Rattle.semantics.specs.Task.{Task, Target, Declared, Assigned, Tested, Dropp
 use Rattle.semantics.specs.Thread.{Frame, Thread, Shared, BuffersInUse}
 use Rattle.semantics.specs.Effect.{Calls}
 use Rattle.base.specs.Bytes.{Identifier}
+use Rattle.syntax.specs.Tree.{SourceUnit}
 use Rattle.semantics_safety.proofs.OwnerLaws.{LandsBy, LandsByIfPossible}
 use Rattle.semantics_safety.specs.Owners.{Owners, left_by}
 use Rattle.semantics_safety.specs.Points.{Point}
@@ -70,7 +71,7 @@ has_room classes heap t buffer f args none is =
     (lacks_room (prototype f).result (slice_get (frames_after f t.frames) 0))
     ExceptionPending DeletedReference NullReference WrongObject NoCapacity none)
 
-module _ (classes : Classes) (in_use : BuffersInUse) (k : ℕ) (s : Shared) (t : Thread) (line : ℕ) (f : JniFunction) (args : List Actual) (rest : List Task) (p : Point) {weak : WeakNames} {own : Owners} (stands : Stands weak own s.statics t.variables t.frames p) (quiet : IsQuietFunction f) (whole : Goes weak own s.statics t t.tasks) where
+module _ (unit : SourceUnit) (classes : Classes) (in_use : BuffersInUse) (k : ℕ) (s : Shared) (t : Thread) (line : ℕ) (f : JniFunction) (args : List Actual) (rest : List Task) (p : Point) {weak : WeakNames} {own : Owners} (stands : Stands weak own s.statics t.variables t.frames p) (quiet : IsQuietFunction f) (whole : Goes weak own s.statics t t.tasks) where
   goes_at : (target : Target) (operands : List Operand) → ResultGoes target (prototype f).result (get_of (call_seen f operands)) (GoesOn rest) (at p (states.after_call p.regions (call_seen f operands)))
       → ResultGoes target (prototype f).result (get_of (call_seen f operands)) (GoesOn rest) p
   goes_at target operands h = subst (λ (regions : RegionState). ResultGoes target (prototype f).result (get_of (call_seen f operands)) (GoesOn rest) (at p regions)) (free_call f p.regions (map operand_argument operands) (quiet_free f quiet)) h
@@ -82,28 +83,28 @@ module _ (classes : Classes) (in_use : BuffersInUse) (k : ℕ) (s : Shared) (t :
   room target none is = has_frame t.frames (subst (λ (frames : List Frame). is_full (slice_get frames 0) ≡ false) (frames_stay f t.frames (quiet_free f quiet)) (has_room classes s.heap t (target_element t.variables target) f args none is))
 
   lands_at : (target : Target) (operands : List Operand) → IsNoTest target → ResultGoes target (prototype f).result (get_of (call_seen f operands)) (GoesOn rest) p
-      → LandsBy weak (Calls line target f args) (length t.frames) own s.statics (call_step classes in_use k s t line target f args rest false)
+      → LandsBy weak (Calls line target f args) (length t.frames) own s.statics (call_step unit classes in_use k s t line target f args rest false)
   lands_at target operands away h = by_trap (trap_of_call classes s t target f args) refl
     where
-      by_trap : (o : Option Trap) → trap_of_call classes s t target f args ≡ o → LandsBy weak (Calls line target f args) (length t.frames) own s.statics (after_call classes in_use k s t line target f args rest (checked o (call_effect classes in_use k s t args f)))
+      by_trap : (o : Option Trap) → trap_of_call classes s t target f args ≡ o → LandsBy weak (Calls line target f args) (length t.frames) own s.statics (after_call unit classes in_use k s t line target f args rest (checked o (call_effect unit classes in_use k s t args f)))
       by_trap None e =
-          quiet_lands classes in_use k s t line target f args rest p stands left (get_of (call_seen f operands)) (call_effect classes in_use k s t args f) away whole (room target e)
-          (effect_quiet classes in_use k s t args f quiet) h
+          quiet_lands unit classes in_use k s t line target f args rest p stands left (get_of (call_seen f operands)) (call_effect unit classes in_use k s t args f) away whole (room target e)
+          (effect_quiet unit classes in_use k s t args f quiet) h
       by_trap (Some trap) e = (whole, λ x r g. (r, g))
 
   refused_at : (target : Target) (operands : List Operand) → IsNoTest target → ResultGoes target (prototype f).result (get_of (call_seen f operands)) (GoesOn rest) p
-      → LandsByIfPossible weak (Calls line target f args) (length t.frames) own s.statics (call_step classes in_use k s t line target f args rest true)
-  refused_at target operands away h = refused_lands classes in_use k s t line target f args rest p stands left (get_of (call_seen f operands)) _ away (fails_simply f quiet) h
+      → LandsByIfPossible weak (Calls line target f args) (length t.frames) own s.statics (call_step unit classes in_use k s t line target f args rest true)
+  refused_at target operands away h = refused_lands unit classes in_use k s t line target f args rest p stands left (get_of (call_seen f operands)) _ away (fails_simply f quiet) h
 
   -- the call's step, unmarked
-  pub call_lands : (target : Target) (operands : List Operand) → Runs (Invoke line target f operands) (GoesOn rest) p → LandsBy weak (Calls line target f args) (length t.frames) own s.statics (call_step classes in_use k s t line target f args rest false)
+  pub call_lands : (target : Target) (operands : List Operand) → Runs (Invoke line target f operands) (GoesOn rest) p → LandsBy weak (Calls line target f args) (length t.frames) own s.statics (call_step unit classes in_use k s t line target f args rest false)
   call_lands (Tested a b) operands r = absurd (quiet_no_push f quiet r.1)
   call_lands (Declared kind x) operands r = lands_at (Declared kind x) operands tt (goes_at (Declared kind x) operands r.2)
   call_lands (Assigned x) operands r = lands_at (Assigned x) operands tt (goes_at (Assigned x) operands r.2)
   call_lands Dropped operands r = lands_at Dropped operands tt (goes_at Dropped operands r.2)
 
   -- and marked as refused
-  pub refused_call_lands : (target : Target) (operands : List Operand) → Runs (Invoke line target f operands) (GoesOn rest) p → LandsByIfPossible weak (Calls line target f args) (length t.frames) own s.statics (call_step classes in_use k s t line target f args rest true)
+  pub refused_call_lands : (target : Target) (operands : List Operand) → Runs (Invoke line target f operands) (GoesOn rest) p → LandsByIfPossible weak (Calls line target f args) (length t.frames) own s.statics (call_step unit classes in_use k s t line target f args rest true)
   refused_call_lands (Tested a b) operands r = absurd (quiet_no_push f quiet r.1)
   refused_call_lands (Declared kind x) operands r = refused_at (Declared kind x) operands tt (goes_at (Declared kind x) operands r.2)
   refused_call_lands (Assigned x) operands r = refused_at (Assigned x) operands tt (goes_at (Assigned x) operands r.2)

@@ -12,7 +12,7 @@ use Rattle.type_rules.specs.Sorts as sort
 use Rattle.semantics.specs.CallEffects.{ReferenceResult, with_local}
 use Rattle.semantics.specs.CallStep.{put, put_assigned}
 use Rattle.region_rules.specs.RegionStates.{VariableState, ReferenceAt, BufferIn, with_new, with_changed}
-use Rattle.semantics.specs.Task.{Task, Target, Declared, Assigned, Tested, Dropped, VariableKind, ScalarKind, ReferenceKind, FieldKind, BufferKind}
+use Rattle.semantics.specs.Task.{Task, Target, Declared, Assigned, Tested, Dropped, VariableKind, ScalarKind, ReferenceKind, FieldKind, MethodKind, BufferKind}
 use Rattle.semantics.specs.Thread.{Thread, Shared, Frame}
 use Rattle.semantics.specs.Variable.{Variable, LocalRef, Elements, Buffer, Variables, Statics, assign}
 use Rattle.semantics_safety.specs.Owners.{Owners, is_target}
@@ -184,6 +184,7 @@ module _ (s : Shared) (t : Thread) (rest : List Task) (frame : Frame) (below : L
       ((at (named p x sort.Ref) (with_new p.regions x (ReferenceAt p.regions.frames true)), stands_declared s.statics t.variables frame below p stands n x (λ y other. ap (λ (b : Bool). if b then Some p.regions.frames else own y) (name_other x y other)) (ap (λ (b : Bool). if b then Some p.regions.frames else own x) (name_same x)) new, g), same_statics s.statics)
   declared ScalarKind x get h = absurd h
   declared FieldKind x get h = absurd h
+  declared MethodKind x get h = absurd h
   declared (BufferKind u) x get h = absurd h
 
   assigned : (x : Identifier) (o : Option Sort) (get : Option (Access × Option Identifier)) → sort_in p.names x ≡ o → AssignsResult p o x NewLocal get (GoesOn rest) → Lands weak (with_target (Assigned x) p.regions.frames own) s.statics (put_assigned x (ReferenceResult (Some n)) s with_it (lookup x t.variables))

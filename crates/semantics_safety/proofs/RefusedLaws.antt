@@ -40,14 +40,14 @@ checked_none : (o : Option Trap) (e : CallEffect) → makes_objects e ≡ false 
 checked_none None e h = h
 checked_none (Some trap) e h = refl
 
-module _ (classes : Classes) (in_use : BuffersInUse) (k : ℕ) (s : Shared) (t : Thread) (line : ℕ) (rest : List Task) (weak : WeakNames) (own : Owners) where
+module _ (unit : SourceUnit) (classes : Classes) (in_use : BuffersInUse) (k : ℕ) (s : Shared) (t : Thread) (line : ℕ) (rest : List Task) (weak : WeakNames) (own : Owners) where
   -- a call that makes no object has nothing to refuse
-  nothing_refused : (f : JniFunction) (target : Target) (args : List Actual) (b : Bool) → b ≡ false → LandsByIfPossible weak (Calls line target f args) (length t.frames) own s.statics (after_refusal classes in_use k s t line target f args rest b)
+  nothing_refused : (f : JniFunction) (target : Target) (args : List Actual) (b : Bool) → b ≡ false → LandsByIfPossible weak (Calls line target f args) (length t.frames) own s.statics (after_refusal unit classes in_use k s t line target f args rest b)
   nothing_refused f target args false e = tt
   nothing_refused f target args true e = absurd (cc)
 
-  none_refused : (f : JniFunction) (target : Target) (args : List Actual) → makes_objects (call_effect classes in_use k s t args f) ≡ false → LandsByIfPossible weak (Calls line target f args) (length t.frames) own s.statics (call_step classes in_use k s t line target f args rest true)
-  none_refused f target args h = nothing_refused f target args _ (checked_none (trap_of_call classes s t target f args) (call_effect classes in_use k s t args f) h)
+  none_refused : (f : JniFunction) (target : Target) (args : List Actual) → makes_objects (call_effect unit classes in_use k s t args f) ≡ false → LandsByIfPossible weak (Calls line target f args) (length t.frames) own s.statics (call_step unit classes in_use k s t line target f args rest true)
+  none_refused f target args h = nothing_refused f target args _ (checked_none (trap_of_call classes s t target f args) (call_effect unit classes in_use k s t args f) h)
 
   delete_none : (o : Option Variable) (r : Reference) → makes_objects (delete_local_effect s t o r) ≡ false
   delete_none o None = refl
@@ -78,34 +78,34 @@ module _ (classes : Classes) (in_use : BuffersInUse) (k : ℕ) (s : Shared) (t :
   release_none n x CopyBack = refl
   release_none n x FreeUncopied = refl
 
-  delete_local_made : (args : List Actual) → makes_objects (call_effect classes in_use k s t args DeleteLocalRef) ≡ false
+  delete_local_made : (args : List Actual) → makes_objects (call_effect unit classes in_use k s t args DeleteLocalRef) ≡ false
   unfolding call_effect
   delete_local_made args = delete_none (lookup (variable_given args 0) t.variables) (reference_given args 0)
 
-  delete_global_made : (args : List Actual) → makes_objects (call_effect classes in_use k s t args DeleteGlobalRef) ≡ false
+  delete_global_made : (args : List Actual) → makes_objects (call_effect unit classes in_use k s t args DeleteGlobalRef) ≡ false
   unfolding call_effect
   delete_global_made args = global_none (variable_given args 0) (lookup (variable_given args 0) s.statics)
 
-  delete_weak_made : (args : List Actual) → makes_objects (call_effect classes in_use k s t args DeleteWeakGlobalRef) ≡ false
+  delete_weak_made : (args : List Actual) → makes_objects (call_effect unit classes in_use k s t args DeleteWeakGlobalRef) ≡ false
   unfolding call_effect
   delete_weak_made args = weak_none (variable_given args 0) (lookup (variable_given args 0) s.statics)
 
-  push_made : (args : List Actual) → makes_objects (call_effect classes in_use k s t args PushLocalFrame) ≡ false
+  push_made : (args : List Actual) → makes_objects (call_effect unit classes in_use k s t args PushLocalFrame) ≡ false
   unfolding call_effect
   push_made args = push_none (number_given args 0)
 
-  pop_made : (args : List Actual) → makes_objects (call_effect classes in_use k s t args PopLocalFrame) ≡ false
+  pop_made : (args : List Actual) → makes_objects (call_effect unit classes in_use k s t args PopLocalFrame) ≡ false
   unfolding call_effect
   pop_made args = refl
 
-  get_made : (access : _) (args : List Actual) → makes_objects (call_effect classes in_use k s t args (GetBuffer access)) ≡ false
+  get_made : (access : _) (args : List Actual) → makes_objects (call_effect unit classes in_use k s t args (GetBuffer access)) ≡ false
   unfolding call_effect
   get_made (ElementsCopy u) args = refl
   get_made ArrayView args = refl
   get_made CharsCopy args = refl
   get_made CharsView args = refl
 
-  release_made : (access : _) (args : List Actual) → makes_objects (call_effect classes in_use k s t args (ReleaseBuffer access)) ≡ false
+  release_made : (access : _) (args : List Actual) → makes_objects (call_effect unit classes in_use k s t args (ReleaseBuffer access)) ≡ false
   unfolding call_effect
   release_made (ElementsCopy u) args = release_none (object_given args 0) (variable_given args 1) (mode_given args 2)
   release_made ArrayView args = refl
@@ -114,7 +114,7 @@ module _ (classes : Classes) (in_use : BuffersInUse) (k : ℕ) (s : Shared) (t :
 
   module _ (p : Point) (stands : Stands weak own s.statics t.variables t.frames p) (whole : Goes weak own s.statics t t.tasks) where
     -- the marked step of a call, by its function
-    pub each_refused_lands : (f : JniFunction) (target : Target) (operands : List Operand) (args : List Actual) → Runs (Invoke line target f operands) (GoesOn rest) p → LandsByIfPossible weak (Calls line target f args) (length t.frames) own s.statics (call_step classes in_use k s t line target f args rest true)
+    pub each_refused_lands : (f : JniFunction) (target : Target) (operands : List Operand) (args : List Actual) → Runs (Invoke line target f operands) (GoesOn rest) p → LandsByIfPossible weak (Calls line target f args) (length t.frames) own s.statics (call_step unit classes in_use k s t line target f args rest true)
     each_refused_lands DeleteLocalRef target operands args runs = none_refused DeleteLocalRef target args (delete_local_made args)
     each_refused_lands PushLocalFrame target operands args runs = none_refused PushLocalFrame target args (push_made args)
     each_refused_lands PopLocalFrame target operands args runs = none_refused PopLocalFrame target args (pop_made args)
@@ -123,18 +123,18 @@ module _ (classes : Classes) (in_use : BuffersInUse) (k : ℕ) (s : Shared) (t :
     each_refused_lands (GetBuffer access) target operands args runs = none_refused (GetBuffer access) target args (get_made access args)
     each_refused_lands (ReleaseBuffer access) target operands args runs = none_refused (ReleaseBuffer access) target args (release_made access args)
     each_refused_lands (GetArrayRegion u) (Tested a b) operands args runs = absurd (array_no_push u runs.1)
-    each_refused_lands (GetArrayRegion u) (Declared kind x) operands args runs = refused_lands classes in_use k s t line (Declared kind x) (GetArrayRegion u) args rest p stands (λ y. refl) None _ tt NoResultThere runs.2
-    each_refused_lands (GetArrayRegion u) (Assigned x) operands args runs = refused_lands classes in_use k s t line (Assigned x) (GetArrayRegion u) args rest p stands (λ y. refl) None _ tt NoResultThere runs.2
-    each_refused_lands (GetArrayRegion u) Dropped operands args runs = refused_lands classes in_use k s t line Dropped (GetArrayRegion u) args rest p stands (λ y. refl) None _ tt NoResultThere runs.2
+    each_refused_lands (GetArrayRegion u) (Declared kind x) operands args runs = refused_lands unit classes in_use k s t line (Declared kind x) (GetArrayRegion u) args rest p stands (λ y. refl) None _ tt NoResultThere runs.2
+    each_refused_lands (GetArrayRegion u) (Assigned x) operands args runs = refused_lands unit classes in_use k s t line (Assigned x) (GetArrayRegion u) args rest p stands (λ y. refl) None _ tt NoResultThere runs.2
+    each_refused_lands (GetArrayRegion u) Dropped operands args runs = refused_lands unit classes in_use k s t line Dropped (GetArrayRegion u) args rest p stands (λ y. refl) None _ tt NoResultThere runs.2
     each_refused_lands GetStringRegion (Tested a b) operands args runs = absurd (string_no_push runs.1)
-    each_refused_lands GetStringRegion (Declared kind x) operands args runs = refused_lands classes in_use k s t line (Declared kind x) GetStringRegion args rest p stands (λ y. refl) None _ tt NoResultThere runs.2
-    each_refused_lands GetStringRegion (Assigned x) operands args runs = refused_lands classes in_use k s t line (Assigned x) GetStringRegion args rest p stands (λ y. refl) None _ tt NoResultThere runs.2
-    each_refused_lands GetStringRegion Dropped operands args runs = refused_lands classes in_use k s t line Dropped GetStringRegion args rest p stands (λ y. refl) None _ tt NoResultThere runs.2
-    each_refused_lands f target operands args runs = refused_call_lands classes in_use k s t line f args rest p stands tt whole target operands runs
+    each_refused_lands GetStringRegion (Declared kind x) operands args runs = refused_lands unit classes in_use k s t line (Declared kind x) GetStringRegion args rest p stands (λ y. refl) None _ tt NoResultThere runs.2
+    each_refused_lands GetStringRegion (Assigned x) operands args runs = refused_lands unit classes in_use k s t line (Assigned x) GetStringRegion args rest p stands (λ y. refl) None _ tt NoResultThere runs.2
+    each_refused_lands GetStringRegion Dropped operands args runs = refused_lands unit classes in_use k s t line Dropped GetStringRegion args rest p stands (λ y. refl) None _ tt NoResultThere runs.2
+    each_refused_lands f target operands args runs = refused_call_lands unit classes in_use k s t line f args rest p stands tt whole target operands runs
 
 module _ (unit : SourceUnit) (classes : Classes) (in_use : BuffersInUse) (k : ℕ) (s : Shared) (t : Thread) (task : Task) (rest : List Task) (p : Point) {weak : WeakNames} {own : Owners} (stands : Stands weak own s.statics t.variables t.frames p) (runs : Runs task (GoesOn rest) p) (whole : Goes weak own s.statics t t.tasks) where
-  marked_lands : (e : Effect) → Follows weak own (sight_of s t) s.statics t.variables t.frames p rest e → LandsByIfPossible weak e (length t.frames) own s.statics (after_refused_effect classes in_use k s t rest e)
-  marked_lands (Calls line target f args) (operands, is, ready, r) = each_refused_lands classes in_use k s t line rest weak own p stands whole f target operands args r
+  marked_lands : (e : Effect) → Follows weak own (sight_of s t) s.statics t.variables t.frames p rest e → LandsByIfPossible weak e (length t.frames) own s.statics (after_refused_effect unit classes in_use k s t rest e)
+  marked_lands (Calls line target f args) (operands, is, ready, r) = each_refused_lands unit classes in_use k s t line rest weak own p stands whole f target operands args r
   marked_lands e h = tt
 
   -- each marked step within a call leads to a point again, where it is possible

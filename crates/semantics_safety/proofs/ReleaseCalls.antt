@@ -3,6 +3,7 @@ use Rattle.std.proofs.Common.{◌≡◌, ℕ, arith, Bool, true, false, inl, inr
 use Rattle.std.specs.Option.{option_map}
 use Rattle.std.specs.Str.{bytes_eq}
 use Rattle.base.specs.Bytes.{Identifier, lookup}
+use Rattle.syntax.specs.Tree.{SourceUnit}
 use Rattle.syntax.specs.Tree as tree
 use Rattle.class_rules.specs.Class.{Classes}
 use Rattle.jni.specs.Access.{Access, ElementsCopy, ArrayView, CharsCopy, CharsView, is_critical}
@@ -38,7 +39,7 @@ use Rattle.semantics_safety.proofs.StepLaws.{apart_buffer, sort_of_buffer, buffe
 null_buffer : (v u : _) (b : Buffer) → Elements v NoBuffer ≡ Elements u b → b ≡ NoBuffer
 null_buffer v u b e = cc
 
-module _ (classes : Classes) (in_use : BuffersInUse) (k : ℕ) (s : Shared) (t : Thread) (line : ℕ) (rest : List Task) (p : Point) {weak : WeakNames} {own : Owners} (stands : Stands weak own s.statics t.variables t.frames p) (whole : Goes weak own s.statics t t.tasks) where
+module _ (unit : SourceUnit) (classes : Classes) (in_use : BuffersInUse) (k : ℕ) (s : Shared) (t : Thread) (line : ℕ) (rest : List Task) (p : Point) {weak : WeakNames} {own : Owners} (stands : Stands weak own s.statics t.variables t.frames p) (whole : Goes weak own s.statics t t.tasks) where
   -- the point with a buffer given up
   abbrev freed_point : Identifier → Point
   freed_point x = at p (with_changed p.regions x made_free)
@@ -46,7 +47,7 @@ module _ (classes : Classes) (in_use : BuffersInUse) (k : ℕ) (s : Shared) (t :
   stands_free : (x : Identifier) (access : Access) (a : Identifier) (u : _) (b : Buffer) → state_of p.regions x ≡ Some (BufferIn (Usable access a)) → lookup x t.variables ≡ Some (Elements u b) → Stands weak own s.statics (assign x (Elements u NoBuffer) t.variables) t.frames (freed_point x)
   stands_free x access a u b e at_x = stands_at s.statics t.variables t.frames p stands x (Elements u NoBuffer) t.frames (freed_point x) (record {
     elsewhere = λ y other. known_other p.regions x y made_free other;
-    apart = λ y c access m level h at_c. apart_buffer classes in_use k s t rest p stands x u b at_x c m level at_c;
+    apart = λ y c access m level h at_c. apart_buffer unit classes in_use k s t rest p stands x u b at_x c m level at_c;
     here = λ v h.
         let both : Some (BufferIn Free) ≡ Some v = sym (known_same p.regions x made_free ∙ ap (option_map made_free) e) ∙ h in
         let one : BufferIn Free ≡ v = cc in
@@ -55,7 +56,7 @@ module _ (classes : Classes) (in_use : BuffersInUse) (k : ℕ) (s : Shared) (t :
       | inl same ↦
           subst (λ (z : Identifier). VariableFits r (lookup z (assign x (Elements u NoBuffer) t.variables)) (lookup z s.statics)) (sym same)
           (subst (λ (o : Option Variable). VariableFits r o (lookup x s.statics)) (sym (lookup_same x (Elements u NoBuffer) t.variables))
-          (sort_of_buffer classes in_use k s t rest p stands r (lookup x t.variables) (lookup x s.statics) u b NoBuffer at_x (stands.sorts x r (subst (λ (z : Identifier). sort_in p.names z ≡ Some r) same h))))
+          (sort_of_buffer unit classes in_use k s t rest p stands r (lookup x t.variables) (lookup x s.statics) u b NoBuffer at_x (stands.sorts x r (subst (λ (z : Identifier). sort_in p.names z ≡ Some r) same h))))
       | inr other ↦ subst (λ (o : Option Variable). VariableFits r o (lookup y s.statics)) (sym (lookup_other x y (Elements u NoBuffer) t.variables other)) (stands.sorts y r h)
     ];
     held = λ v c h. inl (null_buffer u v c h);
@@ -67,7 +68,7 @@ module _ (classes : Classes) (in_use : BuffersInUse) (k : ℕ) (s : Shared) (t :
         let kept = owners_kept us level m x made_free p.regions (free_owns us level m) in
         let same = owners_same t.variables us level m p.regions.variables (λ y. elim (one_or_other y x) [
           | inl is ↦ subst (λ (z : Identifier). is_copy level m (lookup z us) ≡ is_copy level m (lookup z t.variables)) (sym is)
-              (ap (is_copy level m) (lookup_same x (Elements u NoBuffer) t.variables) ∙ buffer_no_copy classes in_use k s t rest p stands level m u b NoBuffer (lookup x t.variables) at_x)
+              (ap (is_copy level m) (lookup_same x (Elements u NoBuffer) t.variables) ∙ buffer_no_copy unit classes in_use k s t rest p stands level m u b NoBuffer (lookup x t.variables) at_x)
           | inr other ↦ ap (is_copy level m) (lookup_other x y (Elements u NoBuffer) t.variables other)
         ]) in
         let enough = stands.backed level m in
@@ -83,17 +84,17 @@ module _ (classes : Classes) (in_use : BuffersInUse) (k : ℕ) (s : Shared) (t :
 
   module _ (access : Access) (a x : Identifier) (usable : state_of p.regions x ≡ Some (BufferIn (Usable access a))) (target : Target) (away : IsNoTest target) (args : List Actual) (get : _) where
     -- with the buffer given up
-    freed_lands : (s' : Shared) → s'.statics ≡ s.statics → ResultGoes target GivesNothing get (GoesOn rest) (freed_point x) → LandsBy weak (Calls line target (ReleaseBuffer access) args) (length t.frames) own s.statics (after_call classes in_use k s t line target (ReleaseBuffer access) args rest (Leaves [] s' (with_freed t x) NoResult))
+    freed_lands : (s' : Shared) → s'.statics ≡ s.statics → ResultGoes target GivesNothing get (GoesOn rest) (freed_point x) → LandsBy weak (Calls line target (ReleaseBuffer access) args) (length t.frames) own s.statics (after_call unit classes in_use k s t line target (ReleaseBuffer access) args rest (Leaves [] s' (with_freed t x) NoResult))
     freed_lands s' same goes =
-        subst (λ (ss : Statics). LandsBy weak (Calls line target (ReleaseBuffer access) args) (length t.frames) own ss (after_call classes in_use k s t line target (ReleaseBuffer access) args rest (Leaves [] s' (with_freed t x) NoResult))) same
-        (given_lands classes in_use k s t line target (ReleaseBuffer access) args rest (freed_point x) own (λ y. refl) GivesNothing [] s' (with_freed t x) NoResult get refl away (λ c. absurd (cc))
+        subst (λ (ss : Statics). LandsBy weak (Calls line target (ReleaseBuffer access) args) (length t.frames) own ss (after_call unit classes in_use k s t line target (ReleaseBuffer access) args rest (Leaves [] s' (with_freed t x) NoResult))) same
+        (given_lands unit classes in_use k s t line target (ReleaseBuffer access) args rest (freed_point x) own (λ y. refl) GivesNothing [] s' (with_freed t x) NoResult get refl away (λ c. absurd (cc))
         (subst (λ (ss : Statics). Stands weak own ss (change x freed t.variables) t.frames (freed_point x)) (sym same) (stands_freed x access a usable)) (Plainly NoResultThere) goes)
 
     -- with the buffer kept
-    kept_lands : (s' : Shared) → s'.statics ≡ s.statics → ResultGoes target GivesNothing get (GoesOn rest) p → LandsBy weak (Calls line target (ReleaseBuffer access) args) (length t.frames) own s.statics (after_call classes in_use k s t line target (ReleaseBuffer access) args rest (Leaves [] s' t NoResult))
+    kept_lands : (s' : Shared) → s'.statics ≡ s.statics → ResultGoes target GivesNothing get (GoesOn rest) p → LandsBy weak (Calls line target (ReleaseBuffer access) args) (length t.frames) own s.statics (after_call unit classes in_use k s t line target (ReleaseBuffer access) args rest (Leaves [] s' t NoResult))
     kept_lands s' same goes =
-        subst (λ (ss : Statics). LandsBy weak (Calls line target (ReleaseBuffer access) args) (length t.frames) own ss (after_call classes in_use k s t line target (ReleaseBuffer access) args rest (Leaves [] s' t NoResult))) same
-        (given_lands classes in_use k s t line target (ReleaseBuffer access) args rest p own (λ y. refl) GivesNothing [] s' t NoResult get refl away (λ c. absurd (cc)) (subst (λ (ss : Statics). Stands weak own ss t.variables t.frames p) (sym same) stands) (Plainly NoResultThere) goes)
+        subst (λ (ss : Statics). LandsBy weak (Calls line target (ReleaseBuffer access) args) (length t.frames) own ss (after_call unit classes in_use k s t line target (ReleaseBuffer access) args rest (Leaves [] s' t NoResult))) same
+        (given_lands unit classes in_use k s t line target (ReleaseBuffer access) args rest p own (λ y. refl) GivesNothing [] s' t NoResult get refl away (λ c. absurd (cc)) (subst (λ (ss : Statics). Stands weak own ss t.variables t.frames p) (sym same) stands) (Plainly NoResultThere) goes)
 
   -- the point after a release, by whether it commits
   abbrev released_point : Bool → Identifier → Point
@@ -107,25 +108,25 @@ module _ (classes : Classes) (in_use : BuffersInUse) (k : ℕ) (s : Shared) (t :
   abbrev given_to : Access → Identifier → Identifier → List Operand → List Actual
   given_to access a x modes = actuals (sight_of s t) (ReleaseBuffer access) (Given (tree.Value (tree.Variable a)) ∷ Given (tree.Value (tree.Variable x)) ∷ modes)
 
-  elements_is : (u : _) (a x : Identifier) (m : Operand) → call_effect classes in_use k s t (given_to (ElementsCopy u) a x (m ∷ [])) (ReleaseBuffer (ElementsCopy u)) ≡ release_effect s t (object_given (given_to (ElementsCopy u) a x (m ∷ [])) 0) x (mode_in_actual (Some (look_up (sight_of s t) (Mode, m))))
+  elements_is : (u : _) (a x : Identifier) (m : Operand) → call_effect unit classes in_use k s t (given_to (ElementsCopy u) a x (m ∷ [])) (ReleaseBuffer (ElementsCopy u)) ≡ release_effect s t (object_given (given_to (ElementsCopy u) a x (m ∷ [])) 0) x (mode_in_actual (Some (look_up (sight_of s t) (Mode, m))))
   unfolding call_effect
   elements_is u a x m = refl
 
-  view_is : (a x : Identifier) (modes : List Operand) → call_effect classes in_use k s t (given_to ArrayView a x modes) (ReleaseBuffer ArrayView) ≡ Leaves [] s (with_freed t x) NoResult
+  view_is : (a x : Identifier) (modes : List Operand) → call_effect unit classes in_use k s t (given_to ArrayView a x modes) (ReleaseBuffer ArrayView) ≡ Leaves [] s (with_freed t x) NoResult
   unfolding call_effect
   view_is a x modes = refl
 
-  chars_is : (a x : Identifier) (modes : List Operand) → call_effect classes in_use k s t (given_to CharsCopy a x modes) (ReleaseBuffer CharsCopy) ≡ Leaves [] s (with_freed t x) NoResult
+  chars_is : (a x : Identifier) (modes : List Operand) → call_effect unit classes in_use k s t (given_to CharsCopy a x modes) (ReleaseBuffer CharsCopy) ≡ Leaves [] s (with_freed t x) NoResult
   unfolding call_effect
   chars_is a x modes = refl
 
-  chars_view_is : (a x : Identifier) (modes : List Operand) → call_effect classes in_use k s t (given_to CharsView a x modes) (ReleaseBuffer CharsView) ≡ Leaves [] s (with_freed t x) NoResult
+  chars_view_is : (a x : Identifier) (modes : List Operand) → call_effect unit classes in_use k s t (given_to CharsView a x modes) (ReleaseBuffer CharsView) ≡ Leaves [] s (with_freed t x) NoResult
   unfolding call_effect
   chars_view_is a x modes = refl
 
   module _ (a x : Identifier) (target : Target) (away : IsNoTest target) (get : _) where
     elements_released : (u : _) (m : Operand) → state_of p.regions x ≡ Some (BufferIn (Usable (ElementsCopy u) a)) → OperandsFit p (Mode ∷ []) (m ∷ []) → ResultGoes target GivesNothing get (GoesOn rest) (released_point (has_commit (operand_argument m ∷ [])) x)
-        → LandsBy weak (Calls line target (ReleaseBuffer (ElementsCopy u)) (given_to (ElementsCopy u) a x (m ∷ []))) (length t.frames) own s.statics (after_call classes in_use k s t line target (ReleaseBuffer (ElementsCopy u)) (given_to (ElementsCopy u) a x (m ∷ [])) rest (release_effect s t (object_given (given_to (ElementsCopy u) a x (m ∷ [])) 0) x (mode_in_actual (Some (look_up (sight_of s t) (Mode, m))))))
+        → LandsBy weak (Calls line target (ReleaseBuffer (ElementsCopy u)) (given_to (ElementsCopy u) a x (m ∷ []))) (length t.frames) own s.statics (after_call unit classes in_use k s t line target (ReleaseBuffer (ElementsCopy u)) (given_to (ElementsCopy u) a x (m ∷ [])) rest (release_effect s t (object_given (given_to (ElementsCopy u) a x (m ∷ [])) 0) x (mode_in_actual (Some (look_up (sight_of s t) (Mode, m))))))
     elements_released u (Given (tree.Value (tree.Number n unsigned))) usable fit goes = freed_lands (ElementsCopy u) a x usable target away (given_to (ElementsCopy u) a x (Given (tree.Value (tree.Number n unsigned)) ∷ [])) get (record s { heap = with_numbers s.heap (object_given (given_to (ElementsCopy u) a x (Given (tree.Value (tree.Number n unsigned)) ∷ [])) 0) (copied_elements (lookup x t.variables)) }) refl goes
     elements_released u (Given (tree.Value (tree.Named tree.Commit))) usable fit goes = kept_lands (ElementsCopy u) a x usable target away (given_to (ElementsCopy u) a x (Given (tree.Value (tree.Named tree.Commit)) ∷ [])) get (record s { heap = with_numbers s.heap (object_given (given_to (ElementsCopy u) a x (Given (tree.Value (tree.Named tree.Commit)) ∷ [])) 0) (copied_elements (lookup x t.variables)) }) refl goes
     elements_released u (Given (tree.Value (tree.Named tree.Abort))) usable fit goes = freed_lands (ElementsCopy u) a x usable target away (given_to (ElementsCopy u) a x (Given (tree.Value (tree.Named tree.Abort)) ∷ [])) get s refl goes
@@ -134,30 +135,30 @@ module _ (classes : Classes) (in_use : BuffersInUse) (k : ℕ) (s : Shared) (t :
 
     released : (access : Access) (modes : List Operand) → state_of p.regions x ≡ Some (BufferIn (Usable access a)) → (has_commit (map operand_argument modes) ≡ true → is_critical access ≡ false) → OperandsFit p (release_mode access) modes
         → ResultGoes target GivesNothing get (GoesOn rest) (released_point (has_commit (map operand_argument modes)) x)
-        → LandsBy weak (Calls line target (ReleaseBuffer access) (given_to access a x modes)) (length t.frames) own s.statics (after_call classes in_use k s t line target (ReleaseBuffer access) (given_to access a x modes) rest (call_effect classes in_use k s t (given_to access a x modes) (ReleaseBuffer access)))
+        → LandsBy weak (Calls line target (ReleaseBuffer access) (given_to access a x modes)) (length t.frames) own s.statics (after_call unit classes in_use k s t line target (ReleaseBuffer access) (given_to access a x modes) rest (call_effect unit classes in_use k s t (given_to access a x modes) (ReleaseBuffer access)))
     released (ElementsCopy u) (m ∷ []) usable commits fit goes =
-        subst (λ (e : CallEffect). LandsBy weak (Calls line target (ReleaseBuffer (ElementsCopy u)) (given_to (ElementsCopy u) a x (m ∷ []))) (length t.frames) own s.statics (after_call classes in_use k s t line target (ReleaseBuffer (ElementsCopy u)) (given_to (ElementsCopy u) a x (m ∷ [])) rest e)) (sym (elements_is u a x m)) (elements_released u m usable fit goes)
+        subst (λ (e : CallEffect). LandsBy weak (Calls line target (ReleaseBuffer (ElementsCopy u)) (given_to (ElementsCopy u) a x (m ∷ []))) (length t.frames) own s.statics (after_call unit classes in_use k s t line target (ReleaseBuffer (ElementsCopy u)) (given_to (ElementsCopy u) a x (m ∷ [])) rest e)) (sym (elements_is u a x m)) (elements_released u m usable fit goes)
     released (ElementsCopy u) (m ∷ o ∷ modes) usable commits fit goes = absurd fit.1
     released (ElementsCopy u) [] usable commits fit goes = absurd fit
     released ArrayView modes usable commits fit goes =
-        subst (λ (e : CallEffect). LandsBy weak (Calls line target (ReleaseBuffer ArrayView) (given_to ArrayView a x modes)) (length t.frames) own s.statics (after_call classes in_use k s t line target (ReleaseBuffer ArrayView) (given_to ArrayView a x modes) rest e)) (sym (view_is a x modes))
+        subst (λ (e : CallEffect). LandsBy weak (Calls line target (ReleaseBuffer ArrayView) (given_to ArrayView a x modes)) (length t.frames) own s.statics (after_call unit classes in_use k s t line target (ReleaseBuffer ArrayView) (given_to ArrayView a x modes) rest e)) (sym (view_is a x modes))
         (freed_lands ArrayView a x usable target away (given_to ArrayView a x modes) get s refl (uncommitted (has_commit (map operand_argument modes)) x target get commits goes))
     released CharsCopy [] usable commits fit goes =
-        subst (λ (e : CallEffect). LandsBy weak (Calls line target (ReleaseBuffer CharsCopy) (given_to CharsCopy a x [])) (length t.frames) own s.statics (after_call classes in_use k s t line target (ReleaseBuffer CharsCopy) (given_to CharsCopy a x []) rest e)) (sym (chars_is a x [])) (freed_lands CharsCopy a x usable target away (given_to CharsCopy a x []) get s refl goes)
+        subst (λ (e : CallEffect). LandsBy weak (Calls line target (ReleaseBuffer CharsCopy) (given_to CharsCopy a x [])) (length t.frames) own s.statics (after_call unit classes in_use k s t line target (ReleaseBuffer CharsCopy) (given_to CharsCopy a x []) rest e)) (sym (chars_is a x [])) (freed_lands CharsCopy a x usable target away (given_to CharsCopy a x []) get s refl goes)
     released CharsCopy (m ∷ modes) usable commits fit goes = absurd fit
     released CharsView [] usable commits fit goes =
-        subst (λ (e : CallEffect). LandsBy weak (Calls line target (ReleaseBuffer CharsView) (given_to CharsView a x [])) (length t.frames) own s.statics (after_call classes in_use k s t line target (ReleaseBuffer CharsView) (given_to CharsView a x []) rest e)) (sym (chars_view_is a x [])) (freed_lands CharsView a x usable target away (given_to CharsView a x []) get s refl goes)
+        subst (λ (e : CallEffect). LandsBy weak (Calls line target (ReleaseBuffer CharsView) (given_to CharsView a x [])) (length t.frames) own s.statics (after_call unit classes in_use k s t line target (ReleaseBuffer CharsView) (given_to CharsView a x []) rest e)) (sym (chars_view_is a x [])) (freed_lands CharsView a x usable target away (given_to CharsView a x []) get s refl goes)
     released CharsView (m ∷ modes) usable commits fit goes = absurd fit
 
     released_at : (access : Access) (modes : List Operand) (o : Option Trap) → state_of p.regions x ≡ Some (BufferIn (Usable access a)) → (has_commit (map operand_argument modes) ≡ true → is_critical access ≡ false) → OperandsFit p (release_mode access) modes
         → ResultGoes target GivesNothing get (GoesOn rest) (released_point (has_commit (map operand_argument modes)) x)
-        → LandsBy weak (Calls line target (ReleaseBuffer access) (given_to access a x modes)) (length t.frames) own s.statics (after_call classes in_use k s t line target (ReleaseBuffer access) (given_to access a x modes) rest (checked o (call_effect classes in_use k s t (given_to access a x modes) (ReleaseBuffer access))))
+        → LandsBy weak (Calls line target (ReleaseBuffer access) (given_to access a x modes)) (length t.frames) own s.statics (after_call unit classes in_use k s t line target (ReleaseBuffer access) (given_to access a x modes) rest (checked o (call_effect unit classes in_use k s t (given_to access a x modes) (ReleaseBuffer access))))
     released_at access modes None usable commits fit goes = released access modes usable commits fit goes
     released_at access modes (Some trap) usable commits fit goes = (whole, λ y r g. (r, g))
 
   release_operands : (access : Access) (target : Target) (operands : List Operand) → IsNoTest target → CallKeeps p (ReleaseBuffer access) (map operand_argument operands) → OperandsFit p (prototype (ReleaseBuffer access)).parameters operands
       → ResultGoes target GivesNothing None (GoesOn rest) (at p (states.after_call p.regions (call_seen (ReleaseBuffer access) operands)))
-      → LandsBy weak (Calls line target (ReleaseBuffer access) (actuals (sight_of s t) (ReleaseBuffer access) operands)) (length t.frames) own s.statics (call_step classes in_use k s t line target (ReleaseBuffer access) (actuals (sight_of s t) (ReleaseBuffer access) operands) rest false)
+      → LandsBy weak (Calls line target (ReleaseBuffer access) (actuals (sight_of s t) (ReleaseBuffer access) operands)) (length t.frames) own s.statics (call_step unit classes in_use k s t line target (ReleaseBuffer access) (actuals (sight_of s t) (ReleaseBuffer access) operands) rest false)
   release_operands access target (Given (tree.Value (tree.Variable a)) ∷ Given (tree.Value (tree.Variable x)) ∷ modes) away (usable, commits) fit goes =
       released_at a x target away None access modes (trap_of_call classes s t target (ReleaseBuffer access) (given_to access a x modes)) usable commits fit.1.1 goes
   release_operands access target operands away rules fit goes = absurd rules
@@ -167,7 +168,7 @@ module _ (classes : Classes) (in_use : BuffersInUse) (k : ℕ) (s : Shared) (t :
 
   -- the calls that release a buffer
   pub release_lands : (access : Access) (target : Target) (operands : List Operand) → Runs (Invoke line target (ReleaseBuffer access) operands) (GoesOn rest) p
-      → LandsBy weak (Calls line target (ReleaseBuffer access) (actuals (sight_of s t) (ReleaseBuffer access) operands)) (length t.frames) own s.statics (call_step classes in_use k s t line target (ReleaseBuffer access) (actuals (sight_of s t) (ReleaseBuffer access) operands) rest false)
+      → LandsBy weak (Calls line target (ReleaseBuffer access) (actuals (sight_of s t) (ReleaseBuffer access) operands)) (length t.frames) own s.statics (call_step unit classes in_use k s t line target (ReleaseBuffer access) (actuals (sight_of s t) (ReleaseBuffer access) operands) rest false)
   release_lands access (Tested a b) operands r = absurd (no_push access r.1)
   release_lands access (Declared kind x) operands r = release_operands access (Declared kind x) operands tt r.0.rules r.0.sorts r.2
   release_lands access (Assigned x) operands r = release_operands access (Assigned x) operands tt r.0.rules r.0.sorts r.2

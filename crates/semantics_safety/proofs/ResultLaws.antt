@@ -3,20 +3,22 @@ use Rattle.std.proofs.Common.{◌≡◌, ℕ, Bool, true, List, Option, Some, No
 use Rattle.std.specs.Prelude.{ℤ}
 use Rattle.base.specs.Bytes.{Identifier, lookup}
 use Rattle.base.specs.Element.{ElementType}
+use Rattle.syntax.specs.Tree.{SourceUnit}
 use Rattle.class_rules.specs.Class.{Classes}
 use Rattle.class_rules.specs.Fields.{FieldId}
 use Rattle.jni.specs.Access.{Access}
-use Rattle.jni.specs.Prototype.{ResultKind, NewLocal, NewGlobal, NewWeak, GivesFlag, GivesInt, GivesField, GivesNothing}
+use Rattle.jni.specs.Prototype.{ResultKind, NewLocal, NewGlobal, NewWeak, GivesFlag, GivesInt, GivesField, GivesMethod, GivesNothing}
 use Rattle.type_rules.specs.Sorts.{Sort, sort_in}
 use Rattle.type_rules.specs.Sorts as sort
 use Rattle.semantics.specs.Object.{Reference}
-use Rattle.semantics.specs.CallEffects.{CallResult, NoResult, NullResult, ScalarResult, ReferenceResult, WeakResult, FieldResult}
+use Rattle.semantics.specs.CallEffects.{CallResult, NoResult, NullResult, ScalarResult, ReferenceResult, WeakResult, FieldResult, MethodResult}
 use Rattle.semantics.specs.CallStep.{put, put_assigned, static_result}
-use Rattle.semantics.specs.Task.{Task, Target, Declared, Assigned, Tested, Dropped, VariableKind, ScalarKind, ReferenceKind, FieldKind, BufferKind}
+use Rattle.semantics.specs.Method.{MethodId}
+use Rattle.semantics.specs.Task.{Task, Target, Declared, Assigned, Tested, Dropped, VariableKind, ScalarKind, ReferenceKind, FieldKind, MethodKind, BufferKind}
 use Rattle.semantics.specs.Thread.{Thread, Shared, BuffersInUse}
 use Rattle.semantics.specs.ThreadStep.{with_tasks}
 use Rattle.semantics.specs.Value.{Value, Int, Flag}
-use Rattle.semantics.specs.Variable.{Variable, Scalar, LocalRef, FieldHandle, Elements, Buffer, StaticReference, Empty, Weakly}
+use Rattle.semantics.specs.Variable.{Variable, Scalar, LocalRef, FieldHandle, MethodHandle, Elements, Buffer, StaticReference, Empty, Weakly}
 use Rattle.semantics_safety.specs.Owners.{Owners}
 use Rattle.semantics_safety.specs.Points.{Point}
 use Rattle.semantics_safety.specs.Stands.{VariableFits, Stands}
@@ -32,7 +34,9 @@ pub data Simple : ResultKind → CallResult → Type 0 where
   AnInt : (z : ℤ) → Simple GivesInt (ScalarResult (Int z))
   AFlag : (b : Bool) → Simple GivesFlag (ScalarResult (Flag b))
   AField : (f : Option FieldId) → Simple GivesField (FieldResult f)
+  AMethod : (f : Option MethodId) → Simple GivesMethod (MethodResult f)
   NoField : Simple GivesField NullResult
+  NoMethod : Simple GivesMethod NullResult
   AGlobal : (r : Reference) → Simple NewGlobal (ReferenceResult r)
   NoGlobal : Simple NewGlobal NullResult
   AWeak : (r : Reference) → Simple NewWeak (WeakResult r)
@@ -41,7 +45,7 @@ pub data Simple : ResultKind → CallResult → Type 0 where
   NullLocal : Simple NewLocal (ReferenceResult None)
   NoResultThere : Simple GivesNothing NoResult
 
-module _ (classes : Classes) (in_use : BuffersInUse) (k : ℕ) (s : Shared) (t : Thread) (rest : List Task) (p : Point) {weak : WeakNames} {own : Owners} (stands : Stands weak own s.statics t.variables t.frames p) where
+module _ (unit : SourceUnit) (classes : Classes) (in_use : BuffersInUse) (k : ℕ) (s : Shared) (t : Thread) (rest : List Task) (p : Point) {weak : WeakNames} {own : Owners} (stands : Stands weak own s.statics t.variables t.frames p) where
   scalar_no_buffer : (v : Value) (u : ElementType) (b : Buffer) → Scalar v ≡ Elements u b → ⊥
   scalar_no_buffer v u b e = cc
 
@@ -51,8 +55,14 @@ module _ (classes : Classes) (in_use : BuffersInUse) (k : ℕ) (s : Shared) (t :
   field_no_buffer : (f : Option FieldId) (u : ElementType) (b : Buffer) → FieldHandle f ≡ Elements u b → ⊥
   field_no_buffer f u b e = cc
 
+  method_no_buffer : (f : Option MethodId) (u : ElementType) (b : Buffer) → MethodHandle f ≡ Elements u b → ⊥
+  method_no_buffer f u b e = cc
+
   field_no_ref : (f : Option FieldId) (level : ℕ) (r : _) → FieldHandle f ≡ LocalRef level r → ⊥
   field_no_ref f level r e = cc
+
+  method_no_ref : (f : Option MethodId) (level : ℕ) (r : _) → MethodHandle f ≡ LocalRef level r → ⊥
+  method_no_ref f level r e = cc
 
   stay : (x : Identifier) (r : StaticReference) → lookup x s.statics ≡ Some r → (q : StaticReference) × (lookup x s.statics ≡ Some q)
   stay x r e = (r, e)
@@ -64,13 +74,18 @@ module _ (classes : Classes) (in_use : BuffersInUse) (k : ℕ) (s : Shared) (t :
       ((named p x sort.Flag, stands_new s.statics t.variables t.frames p stands x (Scalar (Flag b)) sort.Flag new tt (Flag b, refl, refl) (λ u c d. absurd (scalar_no_buffer (Flag b) u c d)), g), stay)
   declared FieldKind x result given get (AField f) (new, g) =
       ((named p x sort.FieldId, stands_new s.statics t.variables t.frames p stands x (FieldHandle f) sort.FieldId new tt (f, refl) (λ u b c. absurd (field_no_buffer f u b c)), g), stay)
-  declared FieldKind x result given get NoField h = null_lands classes in_use k s t rest p stands (Declared FieldKind x) h
-  declared ReferenceKind x result given get NoLocal h = null_lands classes in_use k s t rest p stands (Declared ReferenceKind x) h
-  declared ReferenceKind x result given get NullLocal h = null_lands classes in_use k s t rest p stands (Declared ReferenceKind x) h
+  declared MethodKind x result given get (AMethod f) (new, g) =
+      ((named p x sort.MethodId, stands_new s.statics t.variables t.frames p stands x (MethodHandle f) sort.MethodId new tt (f, refl) (λ u b c. absurd (method_no_buffer f u b c)), g), stay)
+  declared FieldKind x result given get NoField h = null_lands unit classes in_use k s t rest p stands (Declared FieldKind x) h
+  declared MethodKind x result given get NoMethod h = null_lands unit classes in_use k s t rest p stands (Declared MethodKind x) h
+  declared ReferenceKind x result given get NoLocal h = null_lands unit classes in_use k s t rest p stands (Declared ReferenceKind x) h
+  declared ReferenceKind x result given get NullLocal h = null_lands unit classes in_use k s t rest p stands (Declared ReferenceKind x) h
   declared (BufferKind u) x result given get (AnInt z) h = absurd h
   declared (BufferKind u) x result given get (AFlag b) h = absurd h
   declared (BufferKind u) x result given get (AField f) h = absurd h
+  declared (BufferKind u) x result given get (AMethod f) h = absurd h
   declared (BufferKind u) x result given get NoField h = absurd h
+  declared (BufferKind u) x result given get NoMethod h = absurd h
   declared (BufferKind u) x result given get (AGlobal r) h = absurd h
   declared (BufferKind u) x result given get NoGlobal h = absurd h
   declared (BufferKind u) x result given get (AWeak r) h = absurd h
@@ -90,6 +105,11 @@ module _ (classes : Classes) (in_use : BuffersInUse) (k : ℕ) (s : Shared) (t :
       subst (λ (w : Option Variable). Lands weak own s.statics (put_assigned x (FieldResult f) s (with_tasks t rest) w)) (sym is)
       ((p, stands_kept s.statics t.variables t.frames p stands x (FieldHandle f) sort.FieldId (FieldHandle old) e (at_x ∙ is) (field_no_ref old) (field_no_buffer old) (f, refl) (λ u b c. absurd (field_no_buffer f u b c)), g), stay)
 
+  method_put : (x : Identifier) (f : Option MethodId) (o : Option Variable) → sort_in p.names x ≡ Some sort.MethodId → lookup x t.variables ≡ o → (old : Option MethodId) × (o ≡ Some (MethodHandle old)) → GoesOn rest p → Lands weak own s.statics (put_assigned x (MethodResult f) s (with_tasks t rest) o)
+  method_put x f o e at_x (old, is) g =
+      subst (λ (w : Option Variable). Lands weak own s.statics (put_assigned x (MethodResult f) s (with_tasks t rest) w)) (sym is)
+      ((p, stands_kept s.statics t.variables t.frames p stands x (MethodHandle f) sort.MethodId (MethodHandle old) e (at_x ∙ is) (method_no_ref old) (method_no_buffer old) (f, refl) (λ u b c. absurd (method_no_buffer f u b c)), g), stay)
+
   no_empty : (n : ℕ) → Empty ≡ Weakly n → ⊥
   no_empty n e = cc
 
@@ -100,17 +120,19 @@ module _ (classes : Classes) (in_use : BuffersInUse) (k : ℕ) (s : Shared) (t :
   static_put : (x : Identifier) (given : CallResult) (o : Option Variable) → ((n : ℕ) → static_result given ≡ Weakly n → weak x ≡ true) → o ≡ None → GoesOn rest p → Lands weak own s.statics (put_assigned x given s (with_tasks t rest) o)
   static_put x given o right none g =
       subst (λ (w : Option Variable). Lands weak own s.statics (put_assigned x given s (with_tasks t rest) w)) (sym none)
-      ((p, stands_static classes in_use k s t rest p stands x (static_result given) right, g), statics_stay classes in_use k s t rest p stands x (static_result given))
+      ((p, stands_static unit classes in_use k s t rest p stands x (static_result given) right, g), statics_stay unit classes in_use k s t rest p stands x (static_result given))
 
   assigned : (x : Identifier) (o : Option Sort) (result : ResultKind) (given : CallResult) (get : Option (Access × Option Identifier)) → sort_in p.names x ≡ o → Simple result given → AssignsResult p o x result get (GoesOn rest) → Lands weak own s.statics (put_assigned x given s (with_tasks t rest) (lookup x t.variables))
   assigned x (Some sort.Jint) result given get e (AnInt z) g = let old = stands.sorts x sort.Jint e in number_put x sort.Jint (Int z) (lookup x t.variables) e refl (old.0, old.1) (Int z, refl, refl) g
   assigned x (Some sort.Flag) result given get e (AFlag b) g = let old = stands.sorts x sort.Flag e in number_put x sort.Flag (Flag b) (lookup x t.variables) e refl (old.0, old.1) (Flag b, refl, refl) g
   assigned x (Some sort.FieldId) result given get e (AField f) g = field_put x f (lookup x t.variables) e refl (stands.sorts x sort.FieldId e) g
-  assigned x (Some sort.FieldId) result given get e NoField g = assigned_lands classes in_use k s t rest p stands x (Some sort.FieldId) e g
-  assigned x (Some sort.Ref) result given get e NoLocal h = assigned_lands classes in_use k s t rest p stands x (Some sort.Ref) e h
+  assigned x (Some sort.MethodId) result given get e (AMethod f) g = method_put x f (lookup x t.variables) e refl (stands.sorts x sort.MethodId e) g
+  assigned x (Some sort.FieldId) result given get e NoField g = assigned_lands unit classes in_use k s t rest p stands x (Some sort.FieldId) e g
+  assigned x (Some sort.MethodId) result given get e NoMethod g = assigned_lands unit classes in_use k s t rest p stands x (Some sort.MethodId) e g
+  assigned x (Some sort.Ref) result given get e NoLocal h = assigned_lands unit classes in_use k s t rest p stands x (Some sort.Ref) e h
   assigned x (Some sort.Ref) result given get e NullLocal (may, g) =
       let shown = stands.shows x _ may.known in
-      subst (λ (v : Option Variable). Lands weak own s.statics (put_assigned x (ReferenceResult None) s (with_tasks t rest) v)) (sym shown.1) ((at p (with_changed p.regions x revived), nulled classes in_use k s t rest p stands x may e, g), stay)
+      subst (λ (v : Option Variable). Lands weak own s.statics (put_assigned x (ReferenceResult None) s (with_tasks t rest) v)) (sym shown.1) ((at p (with_changed p.regions x revived), nulled unit classes in_use k s t rest p stands x may e, g), stay)
   assigned x (Some sort.Global) result given get e (AGlobal r) g = static_put x (ReferenceResult r) (lookup x t.variables) (λ n c. absurd (no_global r n c)) ((stands.sorts x sort.Global e).0) g
   assigned x (Some sort.Global) result given get e NoGlobal g = static_put x NullResult (lookup x t.variables) (λ n c. absurd (no_empty n c)) ((stands.sorts x sort.Global e).0) g
   assigned x (Some sort.Weak) result given get e (AWeak r) g = static_put x (WeakResult r) (lookup x t.variables) (λ n c. stands.kinds x sort.Weak e) ((stands.sorts x sort.Weak e).0) g
@@ -118,7 +140,9 @@ module _ (classes : Classes) (in_use : BuffersInUse) (k : ℕ) (s : Shared) (t :
   assigned x (Some (sort.Buffer u w)) result given get e (AnInt z) h = absurd h
   assigned x (Some (sort.Buffer u w)) result given get e (AFlag b) h = absurd h
   assigned x (Some (sort.Buffer u w)) result given get e (AField f) h = absurd h
+  assigned x (Some (sort.Buffer u w)) result given get e (AMethod f) h = absurd h
   assigned x (Some (sort.Buffer u w)) result given get e NoField h = absurd h
+  assigned x (Some (sort.Buffer u w)) result given get e NoMethod h = absurd h
   assigned x (Some (sort.Buffer u w)) result given get e (AGlobal r) h = absurd h
   assigned x (Some (sort.Buffer u w)) result given get e NoGlobal h = absurd h
   assigned x (Some (sort.Buffer u w)) result given get e (AWeak r) h = absurd h

@@ -4,12 +4,13 @@ use Rattle.std.specs.Prelude.{IsTrue}
 use Rattle.std.specs.List.{AllZip}
 use Rattle.std.proofs.lemmas.List.Concat.{flat_map-cons}
 use Rattle.base.specs.Bytes.{Identifier, lookup}
+use Rattle.syntax.specs.Tree.{SourceUnit}
 use Rattle.class_rules.specs.Class.{Classes}
 use Rattle.jni.specs.JniFunction.{ExceptionClear}
-use Rattle.jni.specs.Prototype.{ResultKind, NewLocal, NewGlobal, NewWeak, GivesFlag, GivesInt, GivesField, GivesNothing, GivesBuffer}
+use Rattle.jni.specs.Prototype.{ResultKind, NewLocal, NewGlobal, NewWeak, GivesFlag, GivesInt, GivesField, GivesMethod, GivesNothing, GivesBuffer}
 use Rattle.semantics.specs.Object.{Reference}
 use Rattle.semantics.specs.World.{Invocation}
-use Rattle.semantics.specs.CallEffects.{CallResult, NoResult, NullResult, ScalarResult, ReferenceResult, WeakResult, FieldResult, BufferResult, with_local}
+use Rattle.semantics.specs.CallEffects.{CallResult, NoResult, NullResult, ScalarResult, ReferenceResult, WeakResult, FieldResult, MethodResult, BufferResult, with_local}
 use Rattle.semantics.specs.CallStep.{blank, filled, put, put_assigned, received}
 use Rattle.semantics.specs.Heap.{Heap}
 use Rattle.semantics.specs.Return.{ending_after, calls_after, fitted, given_back, resumed_in, return_into}
@@ -51,6 +52,7 @@ fitted_gives NewLocal m NullResult = Plainly NoLocal
 fitted_gives NewLocal m (ScalarResult v) = Plainly NoLocal
 fitted_gives NewLocal m (WeakResult r) = Plainly NoLocal
 fitted_gives NewLocal m (FieldResult f) = Plainly NoLocal
+fitted_gives NewLocal m (MethodResult f) = Plainly NoLocal
 fitted_gives NewLocal m (BufferResult b) = Plainly NoLocal
 fitted_gives GivesInt m (ScalarResult (Int z)) = Plainly (AnInt z)
 fitted_gives GivesInt m (ScalarResult (Word n)) = Plainly (AnInt (pos 0))
@@ -61,12 +63,14 @@ fitted_gives GivesInt m (WeakResult r) = Plainly (AnInt (pos 0))
 fitted_gives GivesInt m NoResult = Plainly (AnInt (pos 0))
 fitted_gives GivesInt m NullResult = Plainly (AnInt (pos 0))
 fitted_gives GivesInt m (FieldResult f) = Plainly (AnInt (pos 0))
+fitted_gives GivesInt m (MethodResult f) = Plainly (AnInt (pos 0))
 fitted_gives GivesInt m (BufferResult b) = Plainly (AnInt (pos 0))
 fitted_gives GivesNothing m given = Plainly NoResultThere
 fitted_gives NewGlobal m given = absurd m
 fitted_gives NewWeak m given = absurd m
 fitted_gives GivesFlag m given = absurd m
 fitted_gives GivesField m given = absurd m
+fitted_gives GivesMethod m given = absurd m
 fitted_gives (GivesBuffer access) m given = absurd m
 
 pub back_gives : (pending : Reference) (kind : ResultKind) → IsMethodResult kind → (given : CallResult) → Gives kind (given_back pending kind given)
@@ -78,6 +82,7 @@ back_gives (Some n) NewGlobal m given = absurd m
 back_gives (Some n) NewWeak m given = absurd m
 back_gives (Some n) GivesFlag m given = absurd m
 back_gives (Some n) GivesField m given = absurd m
+back_gives (Some n) GivesMethod m given = absurd m
 back_gives (Some n) (GivesBuffer access) m given = absurd m
 
 -- ---- into a caller
@@ -99,7 +104,7 @@ module _ (weak : WeakNames) (own new : Owners) where
   put_back (Tested a b) left given ss s t h = quiet_by weak 0 ExceptionClear [] 0 own new (Tested a b) left ss s t h
   put_back Dropped left given ss s t h = quiet_by weak 0 ExceptionClear [] 0 own new Dropped left ss s t h
 
-module _ (classes : Classes) (in_use : BuffersInUse) (k : ℕ) (s : Shared) (t : Thread) (c : Caller) (callers : List Caller) {weak : WeakNames} {own : Owners} (stands : CallerStands weak s.statics own c) where
+module _ (unit : SourceUnit) (classes : Classes) (in_use : BuffersInUse) (k : ℕ) (s : Shared) (t : Thread) (c : Caller) (callers : List Caller) {weak : WeakNames} {own : Owners} (stands : CallerStands weak s.statics own c) where
   -- the thread within its caller, its tasks aside
   abbrev within : Thread
   within = record t { callers = callers; variables = c.variables; frames = c.frames }
@@ -116,7 +121,7 @@ module _ (classes : Classes) (in_use : BuffersInUse) (k : ℕ) (s : Shared) (t :
       let goes = subst (λ (r : ResultKind). ResultGoes c.target r None (GoesOn c.tasks) stands.point) is stands.goes in
       subst (λ (u : Thread). LandsBack weak c.target own s.statics (put c.target given s u)) (sym (received_is (resumed_in t c callers) 0 [] kind given simple))
       (put_back weak own own c.target (λ y e. refl) given s.statics s (resumed_in t c callers)
-      (result_lands classes in_use k s within c.tasks stands.point stands.stands c.target kind given None simple goes))
+      (result_lands unit classes in_use k s within c.tasks stands.point stands.stands c.target kind given None simple goes))
   by_kind kind given is (ALocal n) =
       put_back weak own (with_target c.target stands.point.regions.frames own) c.target (λ y e. ap (λ (b : Bool). if b then Some stands.point.regions.frames else own y) e) (ReferenceResult (Some n)) s.statics s _
       (local_back n c.frames refl (has_frame c.frames (stands.room is)) c.result is stands.goes)

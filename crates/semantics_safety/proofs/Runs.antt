@@ -98,6 +98,7 @@ fits_later Global v g h stay (none, (r, e)) = (none, stay r e)
 fits_later Weak v g h stay (none, (r, e)) = (none, stay r e)
 fits_later Ref v g h stay fits = fits
 fits_later sort.FieldId v g h stay fits = fits
+fits_later sort.MethodId v g h stay fits = fits
 fits_later (Buffer t writable) v g h stay fits = fits
 fits_later (Array t size) v g h stay fits = fits
 fits_later Truth v g h stay fits = fits
@@ -267,7 +268,7 @@ module _ (unit : SourceUnit) (classes : Classes) (first : Statics) (enters : All
     returned given (o ∷ owners) (c ∷ callers) is stand =
         let back = given_back t.pending c.result given in
         back_on c.target o owners callers stand.1 (return_into s t back c callers)
-        (return_lands classes room k s t c callers stand.0 back (back_gives t.pending c.result (stand.0).method given))
+        (return_lands unit classes room k s t c callers stand.0 back (back_gives t.pending c.result (stand.0).method given))
         (put_keeps c.target back s (received c.result back (resumed_in t c callers)) (t.calls, callers) (received_calls c.result back (resumed_in t c callers)))
 
   -- ---- entries
@@ -306,18 +307,18 @@ module _ (unit : SourceUnit) (classes : Classes) (first : Statics) (enters : All
       unmarked : ((given : CallResult) × (effect_of (sight_of s t) task ≡ Returns given)) ⊎ IsNoReturn (effect_of (sight_of s t) task)
           → StepsOn false (after_tasks s t (Some (task ∷ rest)) own) s.statics (step_within unit classes room k s t false (Some (task ∷ rest)))
       unmarked (inl (given, is)) =
-          subst (λ (e : Effect). StepsOn false (λ event vs. after_step t own event e vs) s.statics (after_effect classes room k s t rest e)) (sym is)
+          subst (λ (e : Effect). StepsOn false (λ event vs. after_step t own event e vs) s.statics (after_effect unit classes room k s t rest e)) (sym is)
           (returned room k s t own sound.loads stands.only given own.callers t.callers refl sound.callers)
       unmarked (inr away) =
           lands_on s t task rest own away s.statics sound.callers sound.loads false (step_within unit classes room k s t false (Some (task ∷ rest)))
-          (each_step_lands unit classes room k s t task rest p stands runs sound.goes away) (calls_kept classes room k s t unit false task rest away)
+          (each_step_lands unit classes room k s t task rest p stands runs sound.goes away) (calls_kept unit classes room k s t false task rest away)
 
       marked : ((given : CallResult) × (effect_of (sight_of s t) task ≡ Returns given)) ⊎ IsNoReturn (effect_of (sight_of s t) task)
           → StepsOn true (after_tasks s t (Some (task ∷ rest)) own) s.statics (step_within unit classes room k s t true (Some (task ∷ rest)))
-      marked (inl (given, is)) = subst (λ (e : Effect). StepsOn true (λ event vs. after_step t own event e vs) s.statics (after_refused_effect classes room k s t rest e)) (sym is) refl
+      marked (inl (given, is)) = subst (λ (e : Effect). StepsOn true (λ event vs. after_step t own event e vs) s.statics (after_refused_effect unit classes room k s t rest e)) (sym is) refl
       marked (inr away) =
           lands_if_possible s t task rest own away s.statics sound.callers sound.loads (step_within unit classes room k s t true (Some (task ∷ rest)))
-          (marked_step_lands unit classes room k s t task rest p stands runs sound.goes) (calls_kept classes room k s t unit true task rest away)
+          (marked_step_lands unit classes room k s t task rest p stands runs sound.goes) (calls_kept unit classes room k s t true task rest away)
 
     steps_at : (refused : Bool) (o : Option (List Task)) → Goes weak own.current s.statics t o → StepsOn refused (after_tasks s t o own) s.statics (step_within unit classes room k s t refused o)
     steps_at true None g = refl
@@ -445,7 +446,7 @@ module _ (unit : SourceUnit) (w : World) (enters : AllByRecursion (Enters (weak_
       (record { goes = (refl, λ e. c.0, null_held (weak_names unit) (statics_of unit)); callers = tt; loads = l.0 }, all_waiting (k + 1) threads l.1 c.1)
 
   start_running : Loads unit w → HasCalls w → Running (λ k. no_owners) (start unit w)
-  start_running loads has = record { sound = all_waiting 1 w.threads loads has; stay = λ x r e. (r, e); only = null_held (weak_names unit) (statics_of unit) }
+  start_running loads has = record { sound = all_waiting 1 w.threads loads.1 has; stay = λ x r e. (r, e); only = null_held (weak_names unit) (statics_of unit) }
 
   -- where each function's tasks break no rule, each thread is at a point, or before an entry, after each journal
   pub threads_are_sound : Loads unit w → HasCalls w → (journal : Journal) (s : State) (k : ℕ) (t : Thread) → replay_from unit w (start unit w) journal ≡ Some s → thread_at s k ≡ Some t → IsSound unit w.classes (owners_after unit w journal k) s.shared.statics t

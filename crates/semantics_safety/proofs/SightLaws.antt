@@ -40,6 +40,7 @@ null_seen : (s : Sort) (v : Option Variable) (g : Option StaticReference) (p : P
 null_seen sort.Ref v g p x n (level, r, e) = subst (λ (o : Option Variable). Answers (holds_null o g)) (sym e) tt
 null_seen sort.Global v g p x n (none, (r, e)) = subst (λ (o : Option Variable). Answers (holds_null o g)) (sym none) (subst (λ (o : Option StaticReference). Answers (static_is_null o)) (sym e) (static_seen r))
 null_seen sort.FieldId v g p x n (f, e) = subst (λ (o : Option Variable). Answers (holds_null o g)) (sym e) tt
+null_seen sort.MethodId v g p x n (f, e) = subst (λ (o : Option Variable). Answers (holds_null o g)) (sym e) tt
 null_seen (sort.Buffer t w) v g p x n (b, e) = subst (λ (o : Option Variable). Answers (holds_null o g)) (sym e) (buffer_seen t b)
 null_seen s v g p x n h = absurd n
 

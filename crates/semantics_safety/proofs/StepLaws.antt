@@ -12,7 +12,7 @@ use Rattle.semantics.specs.Task.{Task}
 use Rattle.semantics.specs.Thread.{Thread, Shared, BuffersInUse, Frame, Advance, Advances, NoAdvance}
 use Rattle.semantics.specs.ThreadStep.{set_element, with_tasks, after_effect}
 use Rattle.semantics.specs.Value.{Value, Word, Int, Flag, Truth, convert}
-use Rattle.semantics.specs.Variable.{Variable, Scalar, LocalRef, FieldHandle, Elements, LocalArray, Buffer, NoBuffer, Copy, View, StaticReference, Variables, Statics, assign}
+use Rattle.semantics.specs.Variable.{Variable, Scalar, LocalRef, FieldHandle, MethodHandle, Elements, LocalArray, Buffer, NoBuffer, Copy, View, StaticReference, Variables, Statics, assign}
 use Rattle.semantics_safety.specs.Owners.{Owners}
 use Rattle.semantics_safety.specs.Points.{Point, value_sort, ElementsFit, is_copy, owns}
 use Rattle.semantics_safety.specs.Stands.{VariableFits, IsOf, Shows, Goes, Stands}
@@ -24,6 +24,7 @@ use Rattle.semantics_safety.specs.WeakNames.{WeakNames, IsOfKind}
 use Rattle.semantics_safety.proofs.NameLaws.{one_or_other, lookup_same, lookup_other, front_same, front_other}
 use Rattle.semantics.specs.Sight.{Sight}
 use Rattle.std.specs.Prelude.{length, filter, ◌&&◌}
+use Rattle.syntax.specs.Tree.{SourceUnit}
 use Rattle.semantics_safety.proofs.SetLaws.{stands_new, stands_kept, none_some, stands_at, owners_same, owners_elsewhere, sorts_named, kinds_named}
 
 -- the thread is at a point from which its tasks go on
@@ -38,7 +39,7 @@ Lands weak own ss NoAdvance = ⊥
 pub same_statics : (ss : Statics) (x : Identifier) (r : StaticReference) → lookup x ss ≡ Some r → (q : StaticReference) × (lookup x ss ≡ Some q)
 same_statics ss x r e = (r, e)
 
-module _ (classes : Classes) (in_use : BuffersInUse) (k : ℕ) (s : Shared) (t : Thread) (rest : List Task) (p : Point) {weak : WeakNames} {own : Owners} (stands : Stands weak own s.statics t.variables t.frames p) where
+module _ (unit : SourceUnit) (classes : Classes) (in_use : BuffersInUse) (k : ℕ) (s : Shared) (t : Thread) (rest : List Task) (p : Point) {weak : WeakNames} {own : Owners} (stands : Stands weak own s.statics t.variables t.frames p) where
   -- ---- numbers
 
   number_old : (sort : Sort) (o : Option Variable) (g : Option StaticReference) → IsNumberSort sort → VariableFits sort o g → (v : Value) × (o ≡ Some (Scalar v))
@@ -124,6 +125,7 @@ module _ (classes : Classes) (in_use : BuffersInUse) (k : ℕ) (s : Shared) (t :
   sort_of_buffer sort.Global o g u b c e (none, h) = absurd (none_some o (Elements u b) none e)
   sort_of_buffer sort.Weak o g u b c e (none, h) = absurd (none_some o (Elements u b) none e)
   sort_of_buffer sort.FieldId o g u b c e (f, h) = absurd (let d : Some (Elements u b) ≡ Some (FieldHandle f) = sym e ∙ h in cc)
+  sort_of_buffer sort.MethodId o g u b c e (f, h) = absurd (let d : Some (Elements u b) ≡ Some (MethodHandle f) = sym e ∙ h in cc)
   sort_of_buffer (sort.Buffer v w) o g u b c e (d, h) =
       let both : Some (Elements u b) ≡ Some (Elements v d) = sym e ∙ h in
       let same : u ≡ v = cc in
@@ -262,7 +264,7 @@ module _ (classes : Classes) (in_use : BuffersInUse) (k : ℕ) (s : Shared) (t :
   IsPlain (Returns given) = ⊥
   IsPlain e = Unit {0}
 
-  pub plain_lands : (sight : Sight) (e : Effect) → IsPlain e → Goes weak own s.statics t t.tasks → Follows weak own sight s.statics t.variables t.frames p rest e → Lands weak own s.statics (after_effect classes in_use k s t rest e)
+  pub plain_lands : (sight : Sight) (e : Effect) → IsPlain e → Goes weak own s.statics t t.tasks → Follows weak own sight s.statics t.variables t.frames p rest e → Lands weak own s.statics (after_effect unit classes in_use k s t rest e)
   plain_lands sight (Becomes tasks) plain whole (q, there, g) = ((q, there, g), same_statics s.statics)
   plain_lands sight (Sets x v) plain whole h = (sets_lands x v h.0 h.1, same_statics s.statics)
   plain_lands sight (SetsNull target) plain whole h = absurd plain

@@ -6,7 +6,7 @@ use Rattle.std.proofs.lemmas.Slice.Eq.{bytes_eq-Decides}
 use Rattle.base.specs.Bytes.{Identifier, lookup}
 use Rattle.syntax.specs.Tree as tree
 use Rattle.jni.specs.JniFunction.{JniFunction, GetBuffer, ReleaseBuffer, DeleteLocalRef, PopLocalFrame, prototype}
-use Rattle.jni.specs.Prototype.{ResultKind, NewLocal, NewGlobal, NewWeak, GivesFlag, GivesInt, GivesField, GivesNothing, GivesBuffer, IsCopy}
+use Rattle.jni.specs.Prototype.{ResultKind, NewLocal, NewGlobal, NewWeak, GivesFlag, GivesInt, GivesField, GivesMethod, GivesNothing, GivesBuffer, IsCopy}
 use Rattle.region_rules.specs.RegionStates.{RegionState, Free, BufferIn, state_of, get_of, after_call, after_pop}
 use Rattle.type_rules.specs.Sorts.{Sort, sort_in}
 use Rattle.type_rules.specs.Sorts as sort
@@ -14,10 +14,10 @@ use Rattle.type_rules.specs.SortGroups.{IsNumberSort}
 use Rattle.semantics.specs.Arguments.{Actual, look_up, actuals, address_in_actual}
 use Rattle.semantics.specs.Effect.{Effect, Sets, SetsNull, MakesArray, Calls}
 use Rattle.semantics.specs.Sight.{Sight}
-use Rattle.semantics.specs.Task.{Task, VariableKind, ScalarKind, ReferenceKind, FieldKind, BufferKind, Target, Declared, Assigned, Tested, Dropped, Operand, Given, Invoke}
+use Rattle.semantics.specs.Task.{Task, VariableKind, ScalarKind, ReferenceKind, FieldKind, MethodKind, BufferKind, Target, Declared, Assigned, Tested, Dropped, Operand, Given, Invoke}
 use Rattle.semantics.specs.Thread.{Frame}
 use Rattle.semantics.specs.Value.{Value}
-use Rattle.semantics.specs.Variable.{Variable, Scalar, LocalRef, FieldHandle, Elements, StaticReference, Variables, Statics}
+use Rattle.semantics.specs.Variable.{Variable, Scalar, LocalRef, FieldHandle, MethodHandle, Elements, StaticReference, Variables, Statics}
 use Rattle.semantics_safety.specs.Owners.{Owners, is_target}
 use Rattle.semantics_safety.specs.Follows.{Follows}
 use Rattle.semantics_safety.specs.Points.{Point, value_sort, OperandFits, OperandsFit}
@@ -40,6 +40,9 @@ reference_holds o level r e u b h = absurd (let c : Some (LocalRef level r) ≡ 
 
 field_holds : (o : Option Variable) (f : _) → o ≡ Some (FieldHandle f) → HoldsNoBuffer o
 field_holds o f e u b h = absurd (let c : Some (FieldHandle f) ≡ Some (Elements u b) = sym e ∙ h in cc)
+
+method_holds : (o : Option Variable) (f : _) → o ≡ Some (MethodHandle f) → HoldsNoBuffer o
+method_holds o f e u b h = absurd (let c : Some (MethodHandle f) ≡ Some (Elements u b) = sym e ∙ h in cc)
 
 none_holds : (o : Option Variable) → o ≡ None → HoldsNoBuffer o
 none_holds o e u b h = absurd (none_some o (Elements u b) e h)
@@ -83,12 +86,16 @@ module _ (ss : Statics) (vs : Variables) (frames : List Frame) (p : Point) {weak
   field_there : (x : Identifier) → sort_in p.names x ≡ Some sort.FieldId → Nothing x
   field_there x e = let h = stands.sorts x sort.FieldId e in field_holds (lookup x vs) h.0 h.1
 
+  method_there : (x : Identifier) → sort_in p.names x ≡ Some sort.MethodId → Nothing x
+  method_there x e = let h = stands.sorts x sort.MethodId e in method_holds (lookup x vs) h.0 h.1
+
   -- ---- NULL
 
   null_declared : (kind : VariableKind) (x : Identifier) (k : Point → Type 0) → DeclaresNull p kind x k → Nothing x
   null_declared ScalarKind x k h = absurd h
   null_declared ReferenceKind x k h = new_holds x h.0
   null_declared FieldKind x k h = new_holds x h.0
+  null_declared MethodKind x k h = new_holds x h.0
   null_declared (BufferKind t) x k h = new_holds x h.0
 
   null_assigned : (o : Option Sort) (x : Identifier) (k : Point → Type 0) → sort_in p.names x ≡ o → AssignsNull p o x k → Nothing x
@@ -96,6 +103,7 @@ module _ (ss : Statics) (vs : Variables) (frames : List Frame) (p : Point) {weak
   null_assigned (Some sort.Global) x k e h = static_there x e
   null_assigned (Some sort.Weak) x k e h = weak_there x e
   null_assigned (Some sort.FieldId) x k e h = field_there x e
+  null_assigned (Some sort.MethodId) x k e h = method_there x e
   null_assigned o x k e h = absurd h
 
   null_holds : (target : Target) (k : Point → Type 0) (x : Identifier) → is_target target x ≡ true → SetsNullThere p target k → Nothing x
@@ -111,6 +119,7 @@ module _ (ss : Statics) (vs : Variables) (frames : List Frame) (p : Point) {weak
   result_declared ScalarKind x GivesFlag get k h = new_holds x h.0
   result_declared ReferenceKind x NewLocal get k h = new_holds x h.0
   result_declared FieldKind x GivesField get k h = new_holds x h.0
+  result_declared MethodKind x GivesMethod get k h = new_holds x h.0
   result_declared (BufferKind t) x (GivesBuffer access) get k h = new_holds x h.0
   result_declared kind x result get k h = absurd h
 
@@ -121,6 +130,7 @@ module _ (ss : Statics) (vs : Variables) (frames : List Frame) (p : Point) {weak
   result_assigned (Some sort.Global) x NewGlobal get k e h = static_there x e
   result_assigned (Some sort.Weak) x NewWeak get k e h = weak_there x e
   result_assigned (Some sort.FieldId) x GivesField get k e h = field_there x e
+  result_assigned (Some sort.MethodId) x GivesMethod get k e h = method_there x e
   result_assigned (Some (sort.Buffer t w)) x (GivesBuffer access) get k e h = free_holds x h.0
   result_assigned o x result get k e h = absurd h
 
@@ -136,6 +146,7 @@ no_result : (q : Point) (target : Target) (get : _) (k : Point → Type 0) (x : 
 no_result q (Declared ScalarKind y) get k x is h = h
 no_result q (Declared ReferenceKind y) get k x is h = h
 no_result q (Declared FieldKind y) get k x is h = h
+no_result q (Declared MethodKind y) get k x is h = h
 no_result q (Declared (BufferKind t) y) get k x is h = h
 no_result q (Assigned y) get k x is h = by_sort (sort_in q.names y) h
   where
@@ -147,6 +158,7 @@ no_result q (Assigned y) get k x is h = by_sort (sort_in q.names y) h
     by_sort (Some sort.Global) h = h
     by_sort (Some sort.Weak) h = h
     by_sort (Some sort.FieldId) h = h
+    by_sort (Some sort.MethodId) h = h
     by_sort (Some (sort.Buffer t w)) h = h
     by_sort (Some s) h = h
 no_result q (Tested a b) get k x is h = h

@@ -41,6 +41,7 @@ abbrev pub NullTestFits : Point → Identifier → Option Sort → Type 0
 NullTestFits p x (Some Ref) = IsLive p x
 NullTestFits p x (Some Global) = Unit {0}
 NullTestFits p x (Some sort.FieldId) = Unit {0}
+NullTestFits p x (Some sort.MethodId) = Unit {0}
 NullTestFits p x (Some (Buffer t writable)) = Unit {0}
 NullTestFits p x s = ⊥
 

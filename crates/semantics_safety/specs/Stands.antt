@@ -11,6 +11,7 @@ use Rattle.type_rules.specs.Sorts.{Sort, Truth, Ref, Global, Weak, Buffer, Array
 use Rattle.type_rules.specs.Sorts as sort
 use Rattle.jni.specs.Prototype.{ResultKind, NewLocal, GivesInt, GivesNothing}
 use Rattle.semantics.specs.Checks.{is_full}
+use Rattle.semantics.specs.Method.{MethodId}
 use Rattle.semantics.specs.Object.{Reference}
 use Rattle.semantics.specs.Load.{call_loads}
 use Rattle.region_rules.specs.RegionStates.{VariableState, BufferState, Free, Untested, Usable, ReferenceAt, BufferIn, state_of}
@@ -18,7 +19,7 @@ use Rattle.semantics.specs.Step.{is_unfinished}
 use Rattle.semantics.specs.Task.{Task}
 use Rattle.semantics.specs.Thread.{Thread, Caller, Frame}
 use Rattle.semantics.specs.Value.{Value}
-use Rattle.semantics.specs.Variable.{Variable, Scalar, LocalRef, FieldHandle, Elements, LocalArray, Buffer as Buffer_, NoBuffer, Copy, View, StaticReference, Variables, Statics}
+use Rattle.semantics.specs.Variable.{Variable, Scalar, LocalRef, FieldHandle, MethodHandle, Elements, LocalArray, Buffer as Buffer_, NoBuffer, Copy, View, StaticReference, Variables, Statics}
 use Rattle.semantics_safety.specs.Owners.{Owners, ThreadOwners}
 use Rattle.semantics_safety.specs.Points.{Point, AreOnce, value_sort, owners}
 use Rattle.semantics_safety.specs.StepSafe.{references_at, has_calls}
@@ -33,6 +34,7 @@ VariableFits Ref v g = (level : ℕ) × (r : Reference) × (v ≡ Some (LocalRef
 VariableFits Global v g = (v ≡ None) × ((r : StaticReference) × (g ≡ Some r))
 VariableFits Weak v g = (v ≡ None) × ((r : StaticReference) × (g ≡ Some r))
 VariableFits sort.FieldId v g = (f : Option FieldId) × (v ≡ Some (FieldHandle f))
+VariableFits sort.MethodId v g = (m : Option MethodId) × (v ≡ Some (MethodHandle m))
 VariableFits (Buffer t writable) v g = (b : Buffer_) × (v ≡ Some (Elements t b))
 VariableFits (Array t size) v g = (zs : List ℤ) × (v ≡ Some (LocalArray t zs))
 VariableFits Truth v g = ⊥

@@ -5,7 +5,7 @@ use Rattle.syntax.specs.Tree as tree
 use Rattle.syntax.specs.Tree.{Stmt, If, IfElse, While, Block, End, Next, Argument, Expr, TestExpr, TestCall}
 use Rattle.jni.specs.Access.{Access, is_critical}
 use Rattle.jni.specs.JniFunction.{JniFunction, GetBuffer, ReleaseBuffer, DeleteLocalRef, PushLocalFrame, PopLocalFrame, prototype}
-use Rattle.jni.specs.Prototype.{ResultKind, NewLocal, NewGlobal, NewWeak, GivesFlag, GivesInt, GivesField, GivesBuffer}
+use Rattle.jni.specs.Prototype.{ResultKind, NewLocal, NewGlobal, NewWeak, GivesFlag, GivesInt, GivesField, GivesMethod, GivesBuffer}
 use Rattle.type_rules.specs.Sorts.{Sort, Jint, Flag, Truth, Ref, Global, Weak, Buffer, Array, sort_in, is_buffer_for}
 use Rattle.type_rules.specs.Sorts as sort
 use Rattle.type_rules.specs.SortGroups.{IsIndexSort, IsNumberSort}
@@ -13,7 +13,7 @@ use Rattle.region_rules.specs.RegionRules.{is_critical_call}
 use Rattle.region_rules.specs.RegionStates.{RegionState, VariableState, Free, Untested, Usable, ReferenceAt, BufferIn, state_of, with_new, with_changed, made_free, after_call, get_of, buffer_from, has_commit, FunctionCall}
 use Rattle.region_rules.specs.Regions.{made_usable}
 use Rattle.semantics.specs.Task as task
-use Rattle.semantics.specs.Task.{Task, SetScalar, SetElement, SetNull, MakeArray, Invoke, Print, Branch, EndIf, Loop, EndTurn, Target, Declared, Assigned, Tested, Dropped, VariableKind, ScalarKind, ReferenceKind, FieldKind, BufferKind, Operand, NumberOperand, Given, task_of}
+use Rattle.semantics.specs.Task.{Task, SetScalar, SetElement, SetNull, MakeArray, Invoke, Print, Branch, EndIf, Loop, EndTurn, Target, Declared, Assigned, Tested, Dropped, VariableKind, ScalarKind, ReferenceKind, FieldKind, MethodKind, BufferKind, Operand, NumberOperand, Given, task_of}
 use Rattle.semantics.specs.Term.{Term, Done, Read, IsNull, term_of}
 use Rattle.semantics.specs.Term as term
 use Rattle.semantics.specs.Value.{Value}
@@ -84,6 +84,7 @@ abbrev pub DeclaresNull : Point → VariableKind → Identifier → (Point → T
 DeclaresNull p ScalarKind x k = ⊥
 DeclaresNull p ReferenceKind x k = IsNew p x × k (at (named p x Ref) (with_new p.regions x (ReferenceAt p.regions.frames true)))
 DeclaresNull p FieldKind x k = IsNew p x × k (named p x sort.FieldId)
+DeclaresNull p MethodKind x k = IsNew p x × k (named p x sort.MethodId)
 DeclaresNull p (BufferKind t) x k = IsNew p x × ((writable : Bool) × k (at (named p x (Buffer t writable)) (with_new p.regions x (BufferIn Free))))
 
 -- a reference is set where the frames are those of its declaration, and no buffer is of it
@@ -103,6 +104,7 @@ AssignsNull p (Some Ref) x k = MaySet p x × k (at p (with_changed p.regions x r
 AssignsNull p (Some Global) x k = k p
 AssignsNull p (Some Weak) x k = k p
 AssignsNull p (Some sort.FieldId) x k = k p
+AssignsNull p (Some sort.MethodId) x k = k p
 AssignsNull p s x k = ⊥
 
 -- NULL goes to a target
@@ -117,6 +119,7 @@ DeclaresResult p ScalarKind x GivesInt get k = IsNew p x × k (named p x Jint)
 DeclaresResult p ScalarKind x GivesFlag get k = IsNew p x × k (named p x Flag)
 DeclaresResult p ReferenceKind x NewLocal get k = IsNew p x × k (at (named p x Ref) (with_new p.regions x (ReferenceAt p.regions.frames true)))
 DeclaresResult p FieldKind x GivesField get k = IsNew p x × k (named p x sort.FieldId)
+DeclaresResult p MethodKind x GivesMethod get k = IsNew p x × k (named p x sort.MethodId)
 DeclaresResult p (BufferKind t) x (GivesBuffer access) get k =
     IsNew p x × ((writable : Bool) × (is_buffer_for access (Some (Buffer t writable)) ≡ true)
     × k (at (named p x (Buffer t writable)) (with_new p.regions x (BufferIn (buffer_from get)))))
@@ -130,6 +133,7 @@ AssignsResult p (Some Ref) x NewLocal get k = MaySet p x × k (at p (with_change
 AssignsResult p (Some Global) x NewGlobal get k = k p
 AssignsResult p (Some Weak) x NewWeak get k = k p
 AssignsResult p (Some sort.FieldId) x GivesField get k = k p
+AssignsResult p (Some sort.MethodId) x GivesMethod get k = k p
 AssignsResult p (Some (Buffer t writable)) x (GivesBuffer access) get k =
     (state_of p.regions x ≡ Some (BufferIn Free)) × (is_buffer_for access (Some (Buffer t writable)) ≡ true)
     × k (at p (with_changed p.regions x (λ old. BufferIn (buffer_from get))))

@@ -23,7 +23,7 @@ use Rattle.semantics.specs.Sight.{Sight, seen, held_field, held_reference}
 use Rattle.semantics.specs.Task.{Operand, Given}
 use Rattle.semantics.specs.Thread.{Thread, Frame}
 use Rattle.semantics.specs.Value.{Trap, ExceptionPending, DeletedReference, NullReference, WrongObject, NoCapacity}
-use Rattle.semantics.specs.Variable.{Variable, FieldHandle, Scalar, LocalRef, Elements, LocalArray, StaticReference, Empty, Live, Deleted, Variables, Statics, Weakly, Cleared}
+use Rattle.semantics.specs.Variable.{Variable, FieldHandle, MethodHandle, Scalar, LocalRef, Elements, LocalArray, StaticReference, Empty, Live, Deleted, Variables, Statics, Weakly, Cleared}
 use Rattle.semantics_safety.specs.Owners.{Owners}
 use Rattle.semantics_safety.specs.Points.{Point, OperandFits, OperandsFit}
 use Rattle.semantics_safety.specs.Stands.{Stands}
@@ -113,6 +113,7 @@ held_argument (Some (LocalRef level None)) s = tt
 held_argument (Some (LocalRef level (Some n))) s = tt
 held_argument (Some (Scalar v)) s = tt
 held_argument (Some (FieldHandle f)) s = tt
+held_argument (Some (MethodHandle f)) s = tt
 held_argument (Some (Elements t b)) s = tt
 held_argument (Some (LocalArray t zs)) s = tt
 held_argument None (Some Empty) = tt
@@ -176,6 +177,7 @@ module _ (classes : Classes) (heap : Heap) (ss : Statics) (vs : Variables) (fram
   held_declared None h f e = absurd (cc)
   held_declared (Some (FieldHandle None)) h f e = absurd (cc)
   held_declared (Some (FieldHandle (Some g))) h f e = let same : g ≡ f = cc in subst (IsDeclared classes) same (h (FieldHandle (Some g)) refl)
+  held_declared (Some (MethodHandle m)) h f e = absurd (cc)
   held_declared (Some (Scalar v)) h f e = absurd (cc)
   held_declared (Some (LocalRef level r)) h f e = absurd (cc)
   held_declared (Some (Elements t b)) h f e = absurd (cc)

@@ -10,7 +10,8 @@ use lib.ListN.{length-set}
 use Rattle.std.proofs.lemmas.List.{append-nil, length-take-le, length-drop}
 use Rattle.base.specs.Bytes.{Identifier, lookup}
 use Rattle.base.specs.Element.{ElementType, JChar}
-use Rattle.class_rules.specs.BuiltIns.{built_ins, class_class, string_class, throwable_class, number_array, has_own_making, no_class_def_found_error, no_such_field_error, array_index_out_of_bounds, string_index_out_of_bounds, array_store_exception, negative_array_size, illegal_monitor_state}
+use Rattle.syntax.specs.Tree.{SourceUnit}
+use Rattle.class_rules.specs.BuiltIns.{built_ins, class_class, string_class, throwable_class, number_array, has_own_making, no_class_def_found_error, no_such_field_error, no_such_method_error, array_index_out_of_bounds, string_index_out_of_bounds, array_store_exception, negative_array_size, illegal_monitor_state}
 use Rattle.class_rules.specs.Class.{FieldType, NumberField, ReferenceField, Plain, ArrayOfObjects, Class, Classes, class_at, class_named, class_kind, is_plain, element_class, assignable, array_class_of}
 use Rattle.class_rules.specs.Fields.{FieldId, find_field, find_static}
 use Rattle.class_rules.specs.Grown.{IsGrown}
@@ -20,13 +21,14 @@ use Rattle.jni.specs.JniFunction.{JniFunction, prototype}
 use Rattle.jni.specs.Prototype.{ParameterKind, ClassObject, ObjectArray, StringObject, NumberArray, FieldID, TextBytes, ArrayVariable}
 use Rattle.type_rules.specs.Sorts.{Buffer, is_buffer_for}
 use Rattle.semantics.specs.Arguments.{Actual, ReleaseMode, CopyBackAndFree, CopyBack, FreeUncopied, number_given, reference_given, object_given, text_given, field_given, variable_given, mode_given}
-use Rattle.semantics.specs.CallEffects.{CallResult, NoResult, ScalarResult, ReferenceResult, FieldResult, BufferResult, CallEffect, Throws, Halts, Leaves, with_capacity, frames_effect, ensure_effect, push_effect, delete_local_effect, delete_global_effect, delete_weak_effect, heap_effect, new_effect, found_class_effect, found_field_effect, new_array_effect, string_object, at_index, at_region, overwritten, local_array, begun_with, get_region_effect, set_region_effect, store_effect, copy_effect, view_effect, copied_elements, freed, with_freed, release_effect, with_message, throw_new_effect, enter_effect, exit_effect}
+use Rattle.semantics.specs.CallEffects.{CallResult, NoResult, ScalarResult, ReferenceResult, FieldResult, BufferResult, CallEffect, Throws, Halts, Leaves, with_capacity, frames_effect, ensure_effect, push_effect, delete_local_effect, delete_global_effect, delete_weak_effect, heap_effect, new_effect, found_class_effect, found_field_effect, found_method_effect, new_array_effect, string_object, at_index, at_region, overwritten, local_array, begun_with, get_region_effect, set_region_effect, store_effect, copy_effect, view_effect, copied_elements, freed, with_freed, release_effect, with_message, throw_new_effect, enter_effect, exit_effect}
 use Rattle.semantics.specs.CallTable.{go_together, call_effect}
 use Rattle.semantics.specs.Heap.{Heap, object_at, class_of, values_of, next_name, with_value_at, with_numbers, numbers_of, field_place, static_place, is_instance, fits_class, holds_number, fits_type}
+use Rattle.semantics.specs.Method.{MethodId, find_method}
 use Rattle.semantics.specs.Object.{ObjectValue, Number, Refers, Reference, Object}
 use Rattle.semantics.specs.Thread.{Thread, Shared, Frame, Monitor, BuffersInUse, capacities, monitor_of}
 use Rattle.semantics.specs.Value.{Int, convert, OutOfRange}
-use Rattle.semantics.specs.Variable.{Variable, Scalar, LocalRef, FieldHandle, Elements, LocalArray, NoBuffer, Copy, View, Variables, change, StaticReference, Empty, Live, Weakly, Cleared, Deleted}
+use Rattle.semantics.specs.Variable.{Variable, Scalar, LocalRef, FieldHandle, MethodHandle, Elements, LocalArray, NoBuffer, Copy, View, Variables, change, StaticReference, Empty, Live, Weakly, Cleared, Deleted}
 use Rattle.semantics.specs.Variable as variable
 use Rattle.semantics.specs.World.{fresh_object}
 use Rattle.world_values.specs.WorldRules.{is_in_range}
@@ -62,10 +64,11 @@ EffectFits classes u heap before (Halts trap) = Unit {0}
 EffectFits classes u heap before (Leaves made s t given) = IsLeft classes u heap before (s.heap ++ made) t.variables given
 
 -- what is known of some calls beside their arguments
-abbrev pub IsReady : ElementType → Variables → JniFunction → List Actual → Type 0
-IsReady u vs (jni.ReleaseBuffer (ElementsCopy t)) args = (kind : ElementType) × (zs : List ℤ) × (lookup (variable_given args 1) vs ≡ Some (Elements kind (Copy (object_given args 0) zs)))
-IsReady u vs (jni.GetBuffer access) args = (writable : Bool) × (is_buffer_for access (Some (Buffer u writable)) ≡ true)
-IsReady u vs f args = Unit {0}
+abbrev pub IsReady : Classes → ElementType → Variables → JniFunction → List Actual → Type 0
+IsReady classes u vs (jni.ReleaseBuffer (ElementsCopy t)) args = (kind : ElementType) × (zs : List ℤ) × (lookup (variable_given args 1) vs ≡ Some (Elements kind (Copy (object_given args 0) zs)))
+IsReady classes u vs (jni.GetBuffer access) args = (writable : Bool) × (is_buffer_for access (Some (Buffer u writable)) ≡ true)
+IsReady classes u vs jni.GetStaticMethodID args = IsMakeable classes no_such_method_error
+IsReady classes u vs f args = Unit {0}
 
 -- ---- texts
 
@@ -103,10 +106,11 @@ freed_typed classes heap (Scalar v) h = tt
 freed_typed classes heap (LocalRef level r) h = tt
 freed_typed classes heap (FieldHandle None) h = tt
 freed_typed classes heap (FieldHandle (Some f)) h = h
+freed_typed classes heap (MethodHandle m) h = tt
 freed_typed classes heap (LocalArray t zs) h = h
 freed_typed classes heap (Elements t b) h = tt
 
-module _ (classes : Classes) (well : DeclaresWell classes) (g : IsGrown classes) (in_use : BuffersInUse) (k : ℕ) (s : Shared) (t : Thread) (typed : AreTypedObjects classes s.heap) (vars : AreTypedVariables classes s.heap t.variables) (u : ElementType) where
+module _ (unit : SourceUnit) (classes : Classes) (well : DeclaresWell classes) (g : IsGrown classes) (in_use : BuffersInUse) (k : ℕ) (s : Shared) (t : Thread) (typed : AreTypedObjects classes s.heap) (vars : AreTypedVariables classes s.heap t.variables) (u : ElementType) where
   abbrev Fits : CallEffect → Type 0
   Fits e = EffectFits classes u s.heap t.variables e
 
@@ -183,6 +187,10 @@ module _ (classes : Classes) (well : DeclaresWell classes) (g : IsGrown classes)
   field_fits : (o : Option FieldId) → ((f : FieldId) → o ≡ Some f → IsDeclared classes f) → Fits (found_field_effect s t no_such_field_error o)
   field_fits None h = no_field_found
   field_fits (Some f) h = still _ _ vars (h f refl)
+
+  method_fits : IsMakeable classes no_such_method_error → (o : Option MethodId) → Fits (found_method_effect s t no_such_method_error o)
+  method_fits makes None = makes
+  method_fits makes (Some m) = still _ _ vars tt
 
   frames_fit : (frames : List Frame) → Fits (frames_effect classes s t frames)
   frames_fit frames = cond_both (nat_le (capacities frames) 1024) _ _ Fits (λ e. still _ _ vars tt) (λ e. still _ _ vars tt)
@@ -546,7 +554,7 @@ module _ (classes : Classes) (well : DeclaresWell classes) (g : IsGrown classes)
 
     -- ---- all functions
 
-    pub effect_fits : (f : JniFunction) → Known f → Together f → IsReady u t.variables f args → Fits (call_effect classes in_use k s t args f)
+    pub effect_fits : (f : JniFunction) → Known f → Together f → IsReady classes u t.variables f args → Fits (call_effect unit classes in_use k s t args f)
     unfolding call_effect
     effect_fits jni.FindClass h together ready = class_fits (class_named classes (text_given args 0))
     effect_fits jni.AllocObject h together ready = alloc h together
@@ -557,6 +565,7 @@ module _ (classes : Classes) (well : DeclaresWell classes) (g : IsGrown classes)
     effect_fits jni.PushLocalFrame h together ready = push_fits (number_given args 0)
     effect_fits jni.GetFieldID h together ready = field_fits (find_field classes (object_given args 0) (text_given args 1) (text_given args 2)) (λ f e. found_field classes (object_given args 0) (text_given args 1) (text_given args 2) f e)
     effect_fits jni.GetStaticFieldID h together ready = field_fits (find_static classes (object_given args 0) (text_given args 1) (text_given args 2)) (λ f e. found_static classes (object_given args 0) (text_given args 1) (text_given args 2) f e)
+    effect_fits jni.GetStaticMethodID h together ready = method_fits ready (find_method unit classes (object_given args 0) (text_given args 1) (text_given args 2))
     effect_fits (jni.SetField e) h together ready = field_set e h together
     effect_fits jni.SetObjectField h together ready = object_field_set h together
     effect_fits (jni.SetStaticField e) h together ready = static_set e h together

@@ -8,7 +8,7 @@ use Rattle.class_rules.specs.BuiltIns.{class_class}
 use Rattle.class_rules.specs.Class.{FieldType, NumberField, ReferenceField, Classes, assignable}
 use Rattle.semantics.specs.Heap.{Heap, object_at, class_of, values_of, with_values}
 use Rattle.semantics.specs.Object.{ObjectValue, Number, Refers, Reference, Object}
-use Rattle.semantics.specs.Variable.{Variable, Scalar, LocalRef, FieldHandle, Elements, LocalArray, NoBuffer, Copy, View, Variables}
+use Rattle.semantics.specs.Variable.{Variable, Scalar, LocalRef, FieldHandle, MethodHandle, Elements, LocalArray, NoBuffer, Copy, View, Variables}
 use Rattle.semantics_typing.specs.Objects.{ReferenceFits, ValueFits, PlaceFits, element_type_of, fields_of, type_at, IsTypedObject, AreTypedObjects, HasNumbers, IsTypedVariable, AreTypedVariables, ShapesStay}
 use Rattle.semantics_typing.proofs.Lists.{get_set, set_there, set_elsewhere, get_more, get_last, all_later}
 
@@ -65,6 +65,7 @@ module _ (classes : Classes) (before after : Heap) (stay : ShapesStay before aft
   variable_later (LocalRef level r) h = tt
   variable_later (FieldHandle None) h = tt
   variable_later (FieldHandle (Some f)) h = h
+  variable_later (MethodHandle m) h = tt
   variable_later (LocalArray t zs) h = h
   variable_later (Elements t NoBuffer) h = tt
   variable_later (Elements t (View n)) h = numbers_later t n h

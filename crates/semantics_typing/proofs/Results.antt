@@ -4,19 +4,20 @@ use Rattle.std.specs.Str.{bytes_eq}
 use Rattle.std.proofs.lemmas.List.{append-nil}
 use Rattle.base.specs.Bytes.{Identifier, lookup}
 use Rattle.base.specs.Element.{ElementType}
+use Rattle.syntax.specs.Tree.{SourceUnit}
 use Rattle.class_rules.specs.Class.{Classes}
 use Rattle.jni.specs.JniFunction.{JniFunction, prototype}
-use Rattle.jni.specs.Prototype.{ResultKind, NewLocal, NewGlobal, NewWeak, GivesFlag, GivesInt, GivesField, GivesNothing, GivesBuffer}
+use Rattle.jni.specs.Prototype.{ResultKind, NewLocal, NewGlobal, NewWeak, GivesFlag, GivesInt, GivesField, GivesMethod, GivesNothing, GivesBuffer}
 use Rattle.semantics.specs.Arguments.{Actual, address_given}
-use Rattle.semantics.specs.CallEffects.{CallResult, NoResult, NullResult, ScalarResult, ReferenceResult, WeakResult, FieldResult, BufferResult, CallEffect, Throws, Halts, Leaves, out_of_memory}
+use Rattle.semantics.specs.CallEffects.{CallResult, NoResult, NullResult, ScalarResult, ReferenceResult, WeakResult, FieldResult, MethodResult, BufferResult, CallEffect, Throws, Halts, Leaves, out_of_memory}
 use Rattle.semantics.specs.CallStep.{blank, filled, is_zero, put, put_assigned, tell_copy, failure, element_type, target_element, resumed, completed, after_call, after_refusal}
 use Rattle.semantics.specs.Effect.{tasks_after}
 use Rattle.semantics.specs.Heap.{Heap, next_name}
 use Rattle.semantics.specs.Object.{Object}
-use Rattle.semantics.specs.Task.{Task, VariableKind, ScalarKind, ReferenceKind, FieldKind, BufferKind, Target, Declared, Assigned, Tested, Dropped}
+use Rattle.semantics.specs.Task.{Task, VariableKind, ScalarKind, ReferenceKind, FieldKind, MethodKind, BufferKind, Target, Declared, Assigned, Tested, Dropped}
 use Rattle.semantics.specs.Thread.{Thread, Shared, BuffersInUse, Advance, Advances, NoAdvance}
 use Rattle.semantics.specs.Value.{Flag}
-use Rattle.semantics.specs.Variable.{Variable, Scalar, LocalRef, FieldHandle, Elements, LocalArray, Buffer, NoBuffer, Copy, View, Variables, assign}
+use Rattle.semantics.specs.Variable.{Variable, Scalar, LocalRef, FieldHandle, MethodHandle, Elements, LocalArray, Buffer, NoBuffer, Copy, View, Variables, assign}
 use Rattle.semantics.specs.World.{fresh_object}
 use Rattle.semantics_safety.proofs.NameLaws.{one_or_other, lookup_same, lookup_other}
 use Rattle.semantics_typing.specs.Objects.{AreTypedObjects, IsTypedVariable, AreTypedVariables}
@@ -27,9 +28,9 @@ use Rattle.semantics_typing.proofs.TaskTexts.{TargetHasTexts, HaveTexts, TasksHa
 use Rattle.semantics_typing.proofs.Writes.{fresh_typed}
 
 -- what a step leaves
-abbrev pub AdvanceFits : Classes → Heap → Advance → Type 0
-AdvanceFits classes heap (Advances s t event) = Keeps classes heap s.heap × AreTypedVariables classes s.heap t.variables × TasksHaveTexts t.tasks
-AdvanceFits classes heap NoAdvance = Unit {0}
+abbrev pub AdvanceFits : (methods : Bool) → Classes → Heap → Advance → Type 0
+AdvanceFits methods classes heap (Advances s t event) = Keeps classes heap s.heap × AreTypedVariables classes s.heap t.variables × TasksHaveTexts methods t.tasks
+AdvanceFits methods classes heap NoAdvance = Unit {0}
 
 -- ---- variables
 
@@ -60,6 +61,9 @@ filled_typed classes u before heap vs (LocalRef level q) given h r e = tt
 filled_typed classes u before heap vs (FieldHandle f) (FieldResult g) h r e = r
 filled_typed classes u before heap vs (FieldHandle f) NullResult h r e = tt
 filled_typed classes u before heap vs (FieldHandle f) given h r e = h
+filled_typed classes u before heap vs (MethodHandle m) (MethodResult n) h r e = tt
+filled_typed classes u before heap vs (MethodHandle m) NullResult h r e = tt
+filled_typed classes u before heap vs (MethodHandle m) given h r e = tt
 filled_typed classes u before heap vs (Elements d b) (BufferResult c) h r e = subst (λ (x : ElementType). IsTypedVariable classes heap (Elements x c)) (sym e) r.0
 filled_typed classes u before heap vs (Elements d b) NullResult h r e = tt
 filled_typed classes u before heap vs (Elements d b) given h r e = h
@@ -69,6 +73,7 @@ blank_typed : (classes : Classes) (heap : Heap) (kind : VariableKind) (n : ℕ) 
 blank_typed classes heap ScalarKind n = tt
 blank_typed classes heap ReferenceKind n = tt
 blank_typed classes heap FieldKind n = tt
+blank_typed classes heap MethodKind n = tt
 blank_typed classes heap (BufferKind e) n = tt
 
 found_typed : (classes : Classes) (heap : Heap) (x : Identifier) (vs : Variables) (v : Variable) → AreTypedVariables classes heap vs → lookup x vs ≡ Some v → IsTypedVariable classes heap v
@@ -87,19 +92,19 @@ TargetFits u (Declared kind x) vs given = (n : ℕ) → ElementFits u (blank kin
 TargetFits u (Assigned x) vs given = (v : Variable) → lookup x vs ≡ Some v → ElementFits u v given
 TargetFits u target vs given = Unit {0}
 
-assigned_fits : (classes : Classes) (u : ElementType) (before : Variables) (old : Heap) (vs : Variables) (x : Identifier) (given : CallResult) (s : Shared) (t : Thread) (o : Option Variable) → lookup x t.variables ≡ o
-    → Keeps classes old s.heap → AreTypedVariables classes s.heap t.variables → TasksHaveTexts t.tasks → ResultFits classes u before s.heap vs given → ((v : Variable) → o ≡ Some v → ElementFits u v given) → AdvanceFits classes old (put_assigned x given s t o)
-assigned_fits classes u before old vs x given s t None at keeps h texts r e = (keeps, h, texts)
-assigned_fits classes u before old vs x given s t (Some v) at keeps h texts r e =
+assigned_fits : (methods : Bool) (classes : Classes) (u : ElementType) (before : Variables) (old : Heap) (vs : Variables) (x : Identifier) (given : CallResult) (s : Shared) (t : Thread) (o : Option Variable) → lookup x t.variables ≡ o
+    → Keeps classes old s.heap → AreTypedVariables classes s.heap t.variables → TasksHaveTexts methods t.tasks → ResultFits classes u before s.heap vs given → ((v : Variable) → o ≡ Some v → ElementFits u v given) → AdvanceFits methods classes old (put_assigned x given s t o)
+assigned_fits methods classes u before old vs x given s t None at keeps h texts r e = (keeps, h, texts)
+assigned_fits methods classes u before old vs x given s t (Some v) at keeps h texts r e =
     (keeps, assign_typed classes s.heap x (filled v given) t.variables h (filled_typed classes u before s.heap vs v given (found_typed classes s.heap x t.variables v h at) r (e v refl)), texts)
 
-pub put_fits : (classes : Classes) (u : ElementType) (before : Variables) (old : Heap) (vs : Variables) (target : Target) (given : CallResult) (s : Shared) (t : Thread)
-    → Keeps classes old s.heap → AreTypedVariables classes s.heap t.variables → TasksHaveTexts t.tasks → ResultFits classes u before s.heap vs given → TargetFits u target t.variables given → AdvanceFits classes old (put target given s t)
-put_fits classes u before old vs (Declared kind x) given s t keeps h texts r e =
+pub put_fits : (methods : Bool) (classes : Classes) (u : ElementType) (before : Variables) (old : Heap) (vs : Variables) (target : Target) (given : CallResult) (s : Shared) (t : Thread)
+    → Keeps classes old s.heap → AreTypedVariables classes s.heap t.variables → TasksHaveTexts methods t.tasks → ResultFits classes u before s.heap vs given → TargetFits u target t.variables given → AdvanceFits methods classes old (put target given s t)
+put_fits methods classes u before old vs (Declared kind x) given s t keeps h texts r e =
     (keeps, assign_typed classes s.heap x (filled (blank kind (length t.frames)) given) t.variables h (filled_typed classes u before s.heap vs (blank kind (length t.frames)) given (blank_typed classes s.heap kind (length t.frames)) r (e (length t.frames))), texts)
-put_fits classes u before old vs (Assigned x) given s t keeps h texts r e = assigned_fits classes u before old vs x given s t (lookup x t.variables) refl keeps h texts r (λ v g. e v g)
-put_fits classes u before old vs (Tested a b) given s t keeps h texts r e = (keeps, h, texts)
-put_fits classes u before old vs Dropped given s t keeps h texts r e = (keeps, h, texts)
+put_fits methods classes u before old vs (Assigned x) given s t keeps h texts r e = assigned_fits methods classes u before old vs x given s t (lookup x t.variables) refl keeps h texts r (λ v g. e v g)
+put_fits methods classes u before old vs (Tested a b) given s t keeps h texts r e = (keeps, h, texts)
+put_fits methods classes u before old vs Dropped given s t keeps h texts r e = (keeps, h, texts)
 
 -- ---- whether a buffer is a copy
 
@@ -114,11 +119,13 @@ told_typed classes heap (Some y) (ScalarResult v) vs h = h
 told_typed classes heap (Some y) (ReferenceResult r) vs h = h
 told_typed classes heap (Some y) (WeakResult r) vs h = h
 told_typed classes heap (Some y) (FieldResult f) vs h = h
+told_typed classes heap (Some y) (MethodResult f) vs h = h
 
 element_found : (o : Option Variable) (v : Variable) → o ≡ Some v → ElementIs (element_type o) v
 element_found o (Scalar w) e = tt
 element_found o (LocalRef level r) e = tt
 element_found o (FieldHandle f) e = tt
+element_found o (MethodHandle f) e = tt
 element_found o (LocalArray d zs) e = tt
 element_found o (Elements d b) e = sym (ap element_type e)
 
@@ -143,11 +150,12 @@ blank_element : (kind : VariableKind) (x : Identifier) (vs : Variables) (n : ℕ
 blank_element ScalarKind x vs n = tt
 blank_element ReferenceKind x vs n = tt
 blank_element FieldKind x vs n = tt
+blank_element MethodKind x vs n = tt
 blank_element (BufferKind e) x vs n = refl
 
 -- ---- a call's step
 
-module _ (classes : Classes) (in_use : BuffersInUse) (k : ℕ) (s : Shared) (t : Thread) (typed : AreTypedObjects classes s.heap) (vars : AreTypedVariables classes s.heap t.variables) (line : ℕ) (target : Target) (f : JniFunction) (args : List Actual) (rest : List Task) (texts : HaveTexts rest) (target_texts : TargetHasTexts target) where
+module _ (methods : Bool) (unit : SourceUnit) (classes : Classes) (in_use : BuffersInUse) (k : ℕ) (s : Shared) (t : Thread) (typed : AreTypedObjects classes s.heap) (vars : AreTypedVariables classes s.heap t.variables) (line : ℕ) (target : Target) (f : JniFunction) (args : List Actual) (rest : List Task) (texts : HaveTexts methods rest) (target_texts : TargetHasTexts methods target) where
   abbrev u : ElementType
   u = target_element t.variables target
 
@@ -159,6 +167,7 @@ module _ (classes : Classes) (in_use : BuffersInUse) (k : ℕ) (s : Shared) (t :
   told_target (Declared kind x) y (ReferenceResult q) heap vs r = λ n. tt
   told_target (Declared kind x) y (WeakResult q) heap vs r = λ n. tt
   told_target (Declared kind x) y (FieldResult g) heap vs r = λ n. tt
+  told_target (Declared kind x) y (MethodResult g) heap vs r = λ n. tt
   told_target (Assigned x) y (BufferResult b) heap vs r = λ v e. element_told x y b t.variables v (subst (λ (l : Variables). lookup x (tell_copy y (BufferResult b) l) ≡ Some v) r.1 e)
   told_target (Assigned x) y NoResult heap vs r = λ v e. tt
   told_target (Assigned x) y NullResult heap vs r = λ v e. tt
@@ -166,14 +175,15 @@ module _ (classes : Classes) (in_use : BuffersInUse) (k : ℕ) (s : Shared) (t :
   told_target (Assigned x) y (ReferenceResult q) heap vs r = λ v e. tt
   told_target (Assigned x) y (WeakResult q) heap vs r = λ v e. tt
   told_target (Assigned x) y (FieldResult g) heap vs r = λ v e. tt
+  told_target (Assigned x) y (MethodResult g) heap vs r = λ v e. tt
   told_target (Tested a b) y given heap vs r = tt
   told_target Dropped y given heap vs r = tt
 
-  completed_fits : (made : List Object) (s' : Shared) (t' : Thread) (given : CallResult) → IsLeft classes u s.heap t.variables (s'.heap ++ made) t'.variables given → AdvanceFits classes s.heap (completed classes in_use k s t line target f args rest made s' t' given)
+  completed_fits : (made : List Object) (s' : Shared) (t' : Thread) (given : CallResult) → IsLeft classes u s.heap t.variables (s'.heap ++ made) t'.variables given → AdvanceFits methods classes s.heap (completed unit classes in_use k s t line target f args rest made s' t' given)
   completed_fits made s' t' given left =
-      put_fits classes u t.variables s.heap t'.variables target given (record s' { heap = s'.heap ++ made }) (resumed classes in_use k s t line target f args rest t' given)
+      put_fits methods classes u t.variables s.heap t'.variables target given (record s' { heap = s'.heap ++ made }) (resumed unit classes in_use k s t line target f args rest t' given)
       left.keeps (told_typed classes (s'.heap ++ made) (address_given args 1) given t'.variables left.variables)
-      (all_append _ (tasks_after line target (is_zero given)) rest (after_texts line target (is_zero given) target_texts) texts)
+      (all_append _ (tasks_after line target (is_zero given)) rest (after_texts methods line target (is_zero given) target_texts) texts)
       left.result (told_target target (address_given args 1) given (s'.heap ++ made) t'.variables left.result)
 
   failure_fits : (kind : ResultKind) (heap : Heap) → ResultFits classes u t.variables heap t.variables (failure kind)
@@ -183,10 +193,11 @@ module _ (classes : Classes) (in_use : BuffersInUse) (k : ℕ) (s : Shared) (t :
   failure_fits GivesFlag heap = tt
   failure_fits GivesInt heap = tt
   failure_fits GivesField heap = tt
+  failure_fits GivesMethod heap = tt
   failure_fits GivesNothing heap = tt
   failure_fits (GivesBuffer access) heap = tt
 
-  pub after_fits : TasksHaveTexts t.tasks → (e : CallEffect) → EffectFits classes u s.heap t.variables e → AdvanceFits classes s.heap (after_call classes in_use k s t line target f args rest e)
+  pub after_fits : TasksHaveTexts methods t.tasks → (e : CallEffect) → EffectFits classes u s.heap t.variables e → AdvanceFits methods classes s.heap (after_call unit classes in_use k s t line target f args rest e)
   after_fits own (Throws c) h =
       let keeps = keeps_more classes s.heap typed (fresh_object classes c) (fresh_typed classes s.heap (length s.heap + 1) c h) in
       completed_fits (fresh_object classes c ∷ []) s (record t { pending = Some (next_name s.heap) }) (failure (prototype f).result)
@@ -197,6 +208,6 @@ module _ (classes : Classes) (in_use : BuffersInUse) (k : ℕ) (s : Shared) (t :
   nothing_made : (given : CallResult) → ((heap : Heap) → ResultFits classes u t.variables heap t.variables given) → IsLeft classes u s.heap t.variables (s.heap ++ []) t.variables given
   nothing_made given r = subst (λ (h : Heap). IsLeft classes u s.heap t.variables h t.variables given) (sym (append-nil s.heap)) (record { keeps = keeps_same classes s.heap typed; variables = vars; result = r s.heap })
 
-  pub refusal_fits : (makes : Bool) → AdvanceFits classes s.heap (after_refusal classes in_use k s t line target f args rest makes)
+  pub refusal_fits : (makes : Bool) → AdvanceFits methods classes s.heap (after_refusal unit classes in_use k s t line target f args rest makes)
   refusal_fits true = completed_fits [] s (record t { pending = Some (out_of_memory classes) }) (failure (prototype f).result) (nothing_made (failure (prototype f).result) (λ heap. failure_fits (prototype f).result heap))
   refusal_fits false = tt

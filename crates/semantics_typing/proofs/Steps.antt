@@ -10,29 +10,30 @@ use Rattle.base.specs.Element.{ElementType, JInt}
 use Rattle.syntax.specs.Parts.{functions_of}
 use Rattle.syntax.specs.Tree as tree
 use Rattle.syntax.specs.Tree.{Argument, Function, Parameter, SourceUnit}
+use Rattle.class_rules.specs.BuiltIns.{no_such_method_error}
 use Rattle.class_rules.specs.Class.{Classes}
 use Rattle.class_rules.specs.Grown.{IsGrown}
 use Rattle.jni.specs.Access.{Access, ElementsCopy, ArrayView, CharsCopy, CharsView}
-use Rattle.jni.specs.JniFunction.{JniFunction, GetBuffer, ReleaseBuffer, PushLocalFrame, prototype}
-use Rattle.jni.specs.Prototype.{ResultKind, NewLocal, NewGlobal, NewWeak, GivesFlag, GivesInt, GivesField, GivesNothing, GivesBuffer}
+use Rattle.jni.specs.JniFunction.{JniFunction, GetBuffer, ReleaseBuffer, PushLocalFrame, GetStaticMethodID, prototype}
+use Rattle.jni.specs.Prototype.{ResultKind, NewLocal, NewGlobal, NewWeak, GivesFlag, GivesInt, GivesField, GivesMethod, GivesNothing, GivesBuffer}
 use Rattle.type_rules.specs.Sorts.{Sort, Buffer, is_buffer_for, sort_in}
 use Rattle.type_rules.specs.Sorts as sort
 use Rattle.semantics.specs.Activation.{function_at, class_of_function, parameter_variables, entered, entered_function, enter, entry_advance}
 use Rattle.semantics.specs.Arguments.{Actual, ReferenceActual, actuals, object_given, variable_given, reference_in_actual, name_or_zero}
-use Rattle.semantics.specs.CallEffects.{CallResult, NoResult, NullResult, ScalarResult, ReferenceResult, WeakResult, FieldResult, BufferResult}
+use Rattle.semantics.specs.CallEffects.{CallResult, NoResult, NullResult, ScalarResult, ReferenceResult, WeakResult, FieldResult, MethodResult, BufferResult}
 use Rattle.semantics.specs.CallStep.{blank, put, received, element_type, target_element, trap_of_call, checked, makes_objects, effect_of_call, call_step}
 use Rattle.semantics.specs.CallTable.{call_effect}
 use Rattle.semantics.specs.Effect.{Effect, Becomes, Sets, SetsNull, SetsElement, MakesArray, Prints, Calls, Returns, TrapsAt, NoEffect, effect_of}
 use Rattle.semantics.specs.Heap.{Heap, with_value_at}
 use Rattle.semantics.specs.Object.{ObjectValue, Number, Refers, Reference}
 use Rattle.semantics.specs.Sight.{Sight, seen, held_reference}
-use Rattle.semantics.specs.Task.{Task, Invoke, Target, Declared, Assigned, Tested, Dropped, VariableKind, ScalarKind, ReferenceKind, FieldKind, BufferKind, Operand, Given}
+use Rattle.semantics.specs.Task.{Task, Invoke, Target, Declared, Assigned, Tested, Dropped, VariableKind, ScalarKind, ReferenceKind, FieldKind, MethodKind, BufferKind, Operand, Given}
 use Rattle.semantics.specs.Return.{fitted, given_back, nothing_of, resumed_in, return_by}
 use Rattle.semantics.specs.Thread.{Thread, Caller, Shared, BuffersInUse, Frame, Advance, sight_of}
 use Rattle.semantics.specs.ThreadStep.{set_element, with_tasks, after_effect, after_refused_effect, step_within, thread_step}
 use Rattle.semantics.specs.Value as value
 use Rattle.semantics.specs.Value.{Trap, convert}
-use Rattle.semantics.specs.Variable.{Variable, Scalar, LocalRef, FieldHandle, Elements, LocalArray, NoBuffer, Copy, View, Variables, Statics}
+use Rattle.semantics.specs.Variable.{Variable, Scalar, LocalRef, FieldHandle, MethodHandle, Elements, LocalArray, NoBuffer, Copy, View, Variables, Statics}
 use Rattle.semantics.specs.World.{Invocation}
 use Rattle.world_values.specs.WorldRules.{is_in_range}
 use Rattle.semantics_safety.specs.Follows.{Follows}
@@ -44,17 +45,22 @@ use Rattle.semantics_safety.specs.Wanted.{CallFits, CallKeeps, DeclaresResult, A
 use Rattle.semantics_safety.proofs.EffectLaws.{effect_follows, call_fits}
 use Rattle.semantics_typing.specs.Objects.{PlaceFits, type_at, AreTypedObjects, AreInRange, HasNumbers, IsTypedVariable, AreTypedVariables}
 use Rattle.world_values.specs.DeclaredFields.{DeclaresWell}
-use Rattle.semantics_typing.specs.Texts.{BlockHasTexts, HasTexts}
 use Rattle.semantics_typing.proofs.Arguments.{HasActualText, ArePassed, passed, all_known, variable_typed}
 use Rattle.semantics_typing.proofs.Calls.{EffectFits, IsReady, ResultFits, effect_fits}
 use Rattle.semantics_typing.proofs.Heaps.{Keeps, keeps_same, variables_later}
 use Rattle.semantics_typing.proofs.Lists.{all_append, all_set}
 use Rattle.semantics_typing.proofs.Ranges.{convert_in_range, zero_in_range}
 use Rattle.semantics_typing.proofs.Results.{AdvanceFits, ElementFits, TargetFits, assign_typed, put_fits, after_fits, refusal_fits}
-use Rattle.semantics_typing.proofs.TaskTexts.{TaskHasTexts, TargetHasTexts, HaveTexts, TasksHaveTexts, EffectHasTexts, effect_texts, block_texts}
+use Rattle.semantics_typing.proofs.TableKinds.{IsMakeable}
+use Rattle.semantics_typing.proofs.TaskTexts.{MayCall, BlockFits, UnitFits, TaskHasTexts, TargetHasTexts, HaveTexts, TasksHaveTexts, EffectHasTexts, effect_texts, block_texts}
 use Rattle.semantics_typing.proofs.Writes.{keeps_place}
 
 -- ---- what is known of calls that get and release buffers
+
+-- there is the class of the exception that GetStaticMethodID throws
+abbrev CanThrow : Classes → JniFunction → Type 0
+CanThrow classes GetStaticMethodID = IsMakeable classes no_such_method_error
+CanThrow classes f = Unit {0}
 
 module _ (heap : Heap) (ss : Statics) (vs : Variables) (frames : List Frame) (p : Point) {weak : WeakNames} {own : Owners} (stands : Stands weak own ss vs frames p) (k : Point → Type 0) where
   abbrev sight : Sight
@@ -66,6 +72,7 @@ module _ (heap : Heap) (ss : Statics) (vs : Variables) (frames : List Frame) (p 
   got_declared ScalarKind q x access get h = absurd h
   got_declared ReferenceKind q x access get h = absurd h
   got_declared FieldKind q x access get h = absurd h
+  got_declared MethodKind q x access get h = absurd h
 
   got_assigned : (o : Option Sort) (q : Point) (x : Identifier) (access : Access) (get : _) → sort_in p.names x ≡ o → AssignsResult q o x (GivesBuffer access) get k → (writable : Bool) × (is_buffer_for access (Some (Buffer (element_type (lookup x vs)) writable)) ≡ true)
   got_assigned (Some (sort.Buffer t w)) q x access get e h =
@@ -94,17 +101,18 @@ module _ (heap : Heap) (ss : Statics) (vs : Variables) (frames : List Frame) (p 
       (shown.0, copy.0, shown.2 ∙ ap (λ (b : _). Some (Elements shown.0 b)) copy.1 ∙ ap (λ (n : ℕ). Some (Elements shown.0 (Copy n copy.0))) (sym there))
   released e operands h = absurd h
 
-  ready : (line : ℕ) (target : Target) (f : JniFunction) (operands : List Operand) → Runs (Invoke line target f operands) k p → CallFits p f operands → IsReady (target_element vs target) vs f (actuals sight f operands)
-  ready line target (GetBuffer access) operands r fits = got line target access operands r
-  ready line target (ReleaseBuffer (ElementsCopy e)) operands r fits = released e operands fits.rules
-  ready line target (ReleaseBuffer ArrayView) operands r fits = tt
-  ready line target (ReleaseBuffer CharsCopy) operands r fits = tt
-  ready line target (ReleaseBuffer CharsView) operands r fits = tt
-  ready line target f operands r fits = tt
+  ready : (classes : Classes) (line : ℕ) (target : Target) (f : JniFunction) (operands : List Operand) → CanThrow classes f → Runs (Invoke line target f operands) k p → CallFits p f operands → IsReady classes (target_element vs target) vs f (actuals sight f operands)
+  ready classes line target (GetBuffer access) operands can r fits = got line target access operands r
+  ready classes line target (ReleaseBuffer (ElementsCopy e)) operands can r fits = released e operands fits.rules
+  ready classes line target (ReleaseBuffer ArrayView) operands can r fits = tt
+  ready classes line target (ReleaseBuffer CharsCopy) operands can r fits = tt
+  ready classes line target (ReleaseBuffer CharsView) operands can r fits = tt
+  ready classes line target GetStaticMethodID operands can r fits = can
+  ready classes line target f operands can r fits = tt
 
 -- a caller's variables are typed, and the texts of what it has still to do are of bytes
-abbrev pub CallerFits : Classes → Heap → Caller → Type 0
-CallerFits classes heap c = AreTypedVariables classes heap c.variables × HaveTexts c.tasks
+abbrev pub CallerFits : (methods : Bool) → Classes → Heap → Caller → Type 0
+CallerFits methods classes heap c = AreTypedVariables classes heap c.variables × HaveTexts methods c.tasks
 
 -- a result that is neither field nor buffer
 abbrev IsPlainResult : CallResult → Type 0
@@ -120,6 +128,7 @@ nothing_plain NewWeak = tt
 nothing_plain GivesFlag = tt
 nothing_plain GivesInt = tt
 nothing_plain GivesField = tt
+nothing_plain GivesMethod = tt
 nothing_plain GivesNothing = tt
 nothing_plain (GivesBuffer access) = tt
 
@@ -130,6 +139,7 @@ fitted_plain NewLocal NullResult = tt
 fitted_plain NewLocal (ScalarResult v) = tt
 fitted_plain NewLocal (WeakResult r) = tt
 fitted_plain NewLocal (FieldResult f) = tt
+fitted_plain NewLocal (MethodResult f) = tt
 fitted_plain NewLocal (BufferResult b) = tt
 fitted_plain GivesInt (ScalarResult (value.Int z)) = tt
 fitted_plain GivesInt (ScalarResult (value.Word n)) = tt
@@ -140,11 +150,13 @@ fitted_plain GivesInt NullResult = tt
 fitted_plain GivesInt (ReferenceResult r) = tt
 fitted_plain GivesInt (WeakResult r) = tt
 fitted_plain GivesInt (FieldResult f) = tt
+fitted_plain GivesInt (MethodResult f) = tt
 fitted_plain GivesInt (BufferResult b) = tt
 fitted_plain NewGlobal given = tt
 fitted_plain NewWeak given = tt
 fitted_plain GivesFlag given = tt
 fitted_plain GivesField given = tt
+fitted_plain GivesMethod given = tt
 fitted_plain GivesNothing given = tt
 fitted_plain (GivesBuffer access) given = tt
 
@@ -159,6 +171,7 @@ plain_fits classes heap before vs (ScalarResult v) h = tt
 plain_fits classes heap before vs (ReferenceResult r) h = tt
 plain_fits classes heap before vs (WeakResult r) h = tt
 plain_fits classes heap before vs (FieldResult f) h = absurd h
+plain_fits classes heap before vs (MethodResult m) h = tt
 plain_fits classes heap before vs (BufferResult b) h = absurd h
 
 plain_element : (v : Variable) (given : CallResult) → IsPlainResult given → ElementFits JInt v given
@@ -168,6 +181,7 @@ plain_element v (ScalarResult w) h = tt
 plain_element v (ReferenceResult r) h = tt
 plain_element v (WeakResult r) h = tt
 plain_element v (FieldResult f) h = absurd h
+plain_element v (MethodResult m) h = tt
 plain_element v (BufferResult b) h = absurd h
 
 plain_target : (target : Target) (vs : Variables) (given : CallResult) → IsPlainResult given → TargetFits JInt target vs given
@@ -185,37 +199,42 @@ received_variables NewLocal NullResult u = (refl, refl)
 received_variables NewLocal (ScalarResult v) u = (refl, refl)
 received_variables NewLocal (WeakResult r) u = (refl, refl)
 received_variables NewLocal (FieldResult f) u = (refl, refl)
+received_variables NewLocal (MethodResult f) u = (refl, refl)
 received_variables NewLocal (BufferResult b) u = (refl, refl)
 received_variables kind given u = (refl, refl)
 
-module _ (unit : SourceUnit) (classes : Classes) (well : DeclaresWell classes) (g : IsGrown classes) (in_use : BuffersInUse) (k : ℕ) (s : Shared) (t : Thread) (typed : AreTypedObjects classes s.heap) (vars : AreTypedVariables classes s.heap t.variables) (own_texts : TasksHaveTexts t.tasks) (below : AllByRecursion (CallerFits classes s.heap) t.callers) where
+module _ (methods : Bool) (unit : SourceUnit) (classes : Classes) (well : DeclaresWell classes) (g : IsGrown classes) (error : methods ≡ true → IsMakeable classes no_such_method_error) (in_use : BuffersInUse) (k : ℕ) (s : Shared) (t : Thread) (typed : AreTypedObjects classes s.heap) (vars : AreTypedVariables classes s.heap t.variables) (own_texts : TasksHaveTexts methods t.tasks) (below : AllByRecursion (CallerFits methods classes s.heap) t.callers) where
   abbrev Fits : Advance → Type 0
-  Fits e = AdvanceFits classes s.heap e
+  Fits e = AdvanceFits methods classes s.heap e
 
   abbrev same : Keeps classes s.heap s.heap
   same = keeps_same classes s.heap typed
 
-  module _ (rest : List Task) (texts : HaveTexts rest) where
+  module _ (rest : List Task) (texts : HaveTexts methods rest) where
     -- ---- calls
 
     call_checked : (line : ℕ) (target : Target) (f : JniFunction) (args : List Actual) (o : Option Trap) → trap_of_call classes s t target f args ≡ o
-        → (trap_of_call classes s t target f args ≡ None → EffectFits classes (target_element t.variables target) s.heap t.variables (call_effect classes in_use k s t args f))
-        → EffectFits classes (target_element t.variables target) s.heap t.variables (checked o (call_effect classes in_use k s t args f))
+        → (trap_of_call classes s t target f args ≡ None → EffectFits classes (target_element t.variables target) s.heap t.variables (call_effect unit classes in_use k s t args f))
+        → EffectFits classes (target_element t.variables target) s.heap t.variables (checked o (call_effect unit classes in_use k s t args f))
     call_checked line target f args (Some trap) e h = tt
     call_checked line target f args None e h = h e
 
-    call_fitting : (line : ℕ) (target : Target) (f : JniFunction) (args : List Actual) → AllByRecursion HasActualText args → TargetHasTexts target → (p : Point) {weak : WeakNames} {own : Owners} (stands : Stands weak own s.statics t.variables t.frames p)
-        → (operands : List Operand) → args ≡ actuals (sight_of s t) f operands → Runs (Invoke line target f operands) (GoesOn rest) p → Fits (call_step classes in_use k s t line target f args rest false)
-    call_fitting line target f args arg_texts target_texts p stands operands is runs =
-        after_fits classes in_use k s t typed vars line target f args rest texts target_texts own_texts (effect_of_call classes in_use k s t line target f args rest)
+    can_throw : (f : JniFunction) → MayCall methods f → CanThrow classes f
+    can_throw GetStaticMethodID h = error h
+    can_throw f h = tt
+
+    call_fitting : (line : ℕ) (target : Target) (f : JniFunction) (args : List Actual) → AllByRecursion HasActualText args → TargetHasTexts methods target → MayCall methods f → (p : Point) {weak : WeakNames} {own : Owners} (stands : Stands weak own s.statics t.variables t.frames p)
+        → (operands : List Operand) → args ≡ actuals (sight_of s t) f operands → Runs (Invoke line target f operands) (GoesOn rest) p → Fits (call_step unit classes in_use k s t line target f args rest false)
+    call_fitting line target f args arg_texts target_texts may p stands operands is runs =
+        after_fits methods unit classes in_use k s t typed vars line target f args rest texts target_texts own_texts (effect_of_call unit classes in_use k s t line target f args rest)
         (call_checked line target f args (trap_of_call classes s t target f args) refl (λ none.
         let checks = passed classes s.heap t (target_element t.variables target) f args none in
         let fits = call_fits s.heap s.statics t.variables t.frames p stands rest line target f operands runs in
         let with_args = subst (λ (l : List Actual). AllByRecursion HasActualText l × ArePassed classes s.heap (target_element t.variables target) f l) is (arg_texts, checks) in
         let known = all_known classes s.heap s.statics t.variables t.frames p stands vars (prototype f).parameters operands fits.sorts with_args.0 with_args.1.present with_args.1.given with_args.1.kinds in
-        subst (λ (l : List Actual). EffectFits classes (target_element t.variables target) s.heap t.variables (call_effect classes in_use k s t l f)) (sym is)
-        (effect_fits classes well g in_use k s t typed vars (target_element t.variables target) (actuals (sight_of s t) f operands) f known with_args.1.together
-        (ready s.heap s.statics t.variables t.frames p stands (GoesOn rest) line target f operands runs fits))))
+        subst (λ (l : List Actual). EffectFits classes (target_element t.variables target) s.heap t.variables (call_effect unit classes in_use k s t l f)) (sym is)
+        (effect_fits unit classes well g in_use k s t typed vars (target_element t.variables target) (actuals (sight_of s t) f operands) f known with_args.1.together
+        (ready s.heap s.statics t.variables t.frames p stands (GoesOn rest) classes line target f operands (can_throw f may) runs fits))))
 
     -- ---- an element
 
@@ -239,6 +258,7 @@ module _ (unit : SourceUnit) (classes : Classes) (well : DeclaresWell classes) (
     element_set x i z (Some (Scalar v)) at = tt
     element_set x i z (Some (LocalRef level r)) at = tt
     element_set x i z (Some (FieldHandle f)) at = tt
+    element_set x i z (Some (MethodHandle f)) at = tt
     element_set x i z None at = tt
 
     zeros_in_range : (e : ElementType) (n : ℕ) → AreInRange e (replicate n (pos 0))
@@ -246,7 +266,7 @@ module _ (unit : SourceUnit) (classes : Classes) (well : DeclaresWell classes) (
     zeros_in_range e (suc n) = (zero_in_range e, zeros_in_range e n)
 
     null_target : (target : Target) → Fits (put target NullResult s (with_tasks t rest))
-    null_target target = put_fits classes JInt t.variables s.heap t.variables target NullResult s (with_tasks t rest) same vars texts tt (null_fits target)
+    null_target target = put_fits methods classes JInt t.variables s.heap t.variables target NullResult s (with_tasks t rest) same vars texts tt (null_fits target)
       where
         null_fits : (target : Target) → TargetFits JInt target t.variables NullResult
         null_fits (Declared kind x) = λ n. tt
@@ -256,35 +276,35 @@ module _ (unit : SourceUnit) (classes : Classes) (well : DeclaresWell classes) (
 
     -- ---- returns
 
-    returned : (given : CallResult) (callers : List Caller) → AllByRecursion (CallerFits classes s.heap) callers → Fits (return_by k s t given callers)
+    returned : (given : CallResult) (callers : List Caller) → AllByRecursion (CallerFits methods classes s.heap) callers → Fits (return_by k s t given callers)
     returned given [] h = (same, tt, tt)
     returned given (c ∷ callers) h =
         let back = given_back t.pending c.result given in
         let u = received c.result back (resumed_in t c callers) in
         let kept = received_variables c.result back (resumed_in t c callers) in
         let plain = back_plain t.pending c.result given in
-        put_fits classes JInt u.variables s.heap u.variables c.target back s u same
+        put_fits methods classes JInt u.variables s.heap u.variables c.target back s u same
         (subst (AreTypedVariables classes s.heap) (sym kept.0) (h.0).0)
-        (subst TasksHaveTexts (sym kept.1) (h.0).1)
+        (subst (TasksHaveTexts methods) (sym kept.1) (h.0).1)
         (plain_fits classes s.heap u.variables u.variables back plain)
         (plain_target c.target u.variables back plain)
 
     -- ---- effects
 
-    effect_step : (p : Point) {weak : WeakNames} {own : Owners} (stands : Stands weak own s.statics t.variables t.frames p) (e : Effect) → EffectHasTexts e → Follows weak own (sight_of s t) s.statics t.variables t.frames p rest e → Fits (after_effect classes in_use k s t rest e)
-    effect_step p stands (Becomes tasks) h f = (same, vars, all_append TaskHasTexts tasks rest h texts)
+    effect_step : (p : Point) {weak : WeakNames} {own : Owners} (stands : Stands weak own s.statics t.variables t.frames p) (e : Effect) → EffectHasTexts methods e → Follows weak own (sight_of s t) s.statics t.variables t.frames p rest e → Fits (after_effect unit classes in_use k s t rest e)
+    effect_step p stands (Becomes tasks) h f = (same, vars, all_append (TaskHasTexts methods) tasks rest h texts)
     effect_step p stands (Sets x v) h f = (same, assign_typed classes s.heap x (Scalar v) t.variables vars tt, texts)
     effect_step p stands (SetsNull target) h f = null_target target
     effect_step p stands (SetsElement x i z) h f = element_set x i z (lookup x t.variables) refl
     effect_step p stands (MakesArray e x n) h f = (same, assign_typed classes s.heap x (LocalArray e (replicate n (pos 0))) t.variables vars (zeros_in_range e n), texts)
     effect_step p stands (Prints z) h f = (same, vars, texts)
-    effect_step p stands (Calls line target fn args) h f = call_fitting line target fn args h.0 h.1 p stands f.0 f.1 f.3
+    effect_step p stands (Calls line target fn args) h f = call_fitting line target fn args h.0 h.1 h.2 p stands f.0 f.1 f.3
     effect_step p stands (Returns given) h f = returned given t.callers below
     effect_step p stands (TrapsAt trap line) h f = (same, vars, own_texts)
     effect_step p stands NoEffect h f = tt
 
-    refused_step : (e : Effect) → EffectHasTexts e → Fits (after_refused_effect classes in_use k s t rest e)
-    refused_step (Calls line target fn args) h = refusal_fits classes in_use k s t typed vars line target fn args rest texts h.1 (makes_objects (effect_of_call classes in_use k s t line target fn args rest))
+    refused_step : (e : Effect) → EffectHasTexts methods e → Fits (after_refused_effect unit classes in_use k s t rest e)
+    refused_step (Calls line target fn args) h = refusal_fits methods unit classes in_use k s t typed vars line target fn args rest texts h.1 (makes_objects (effect_of_call unit classes in_use k s t line target fn args rest))
     refused_step e h = tt
 
   -- ---- entries
@@ -294,35 +314,35 @@ module _ (unit : SourceUnit) (classes : Classes) (well : DeclaresWell classes) (
   parameters_typed ((p, Number z) ∷ all) = (tt, parameters_typed all)
   parameters_typed ((p, Refers r) ∷ all) = (tt, parameters_typed all)
 
-  found_texts : (fs : List Function) (name : Identifier) (f : Function) → AllByRecursion (λ (f : Function). BlockHasTexts f.body) fs → find (λ (g : Function). bytes_eq g.name name) fs ≡ Some f → BlockHasTexts f.body
+  found_texts : (fs : List Function) (name : Identifier) (f : Function) → AllByRecursion (λ (f : Function). BlockFits methods f.body) fs → find (λ (g : Function). bytes_eq g.name name) fs ≡ Some f → BlockFits methods f.body
   found_texts [] name f h e = absurd (cc)
   found_texts (d ∷ fs) name f h e = by_test (bytes_eq d.name name) e (found_texts fs name f h.1)
     where
-      by_test : (b : Bool) → (if b then Some d else find (λ (g : Function). bytes_eq g.name name) fs) ≡ Some f → (find (λ (g : Function). bytes_eq g.name name) fs ≡ Some f → BlockHasTexts f.body) → BlockHasTexts f.body
-      by_test true e later = let is : d ≡ f = cc in subst (λ (x : Function). BlockHasTexts x.body) is h.0
+      by_test : (b : Bool) → (if b then Some d else find (λ (g : Function). bytes_eq g.name name) fs) ≡ Some f → (find (λ (g : Function). bytes_eq g.name name) fs ≡ Some f → BlockFits methods f.body) → BlockFits methods f.body
+      by_test true e later = let is : d ≡ f = cc in subst (λ (x : Function). BlockFits methods x.body) is h.0
       by_test false e later = later e
 
-  class_entry : (call : Invocation) (calls : List Invocation) (f : Function) → BlockHasTexts f.body → (o : Option ℕ) → Fits (entry_advance s (option_map (λ c. entered t calls f c call.arguments) o))
+  class_entry : (call : Invocation) (calls : List Invocation) (f : Function) → BlockFits methods f.body → (o : Option ℕ) → Fits (entry_advance s (option_map (λ c. entered t calls f c call.arguments) o))
   class_entry call calls f h None = tt
-  class_entry call calls f h (Some c) = (same, (tt, parameters_typed (zip f.parameters call.arguments)), block_texts f.body h)
+  class_entry call calls f h (Some c) = (same, (tt, parameters_typed (zip f.parameters call.arguments)), block_texts methods f.body h)
 
-  function_entry : (call : Invocation) (calls : List Invocation) (o : Option Function) → ((f : Function) → o ≡ Some f → BlockHasTexts f.body) → Fits (entry_advance s (entered_function classes t call calls o))
+  function_entry : (call : Invocation) (calls : List Invocation) (o : Option Function) → ((f : Function) → o ≡ Some f → BlockFits methods f.body) → Fits (entry_advance s (entered_function classes t call calls o))
   function_entry call calls None h = tt
   function_entry call calls (Some f) h = class_entry call calls f (h f refl) (class_of_function classes f)
 
-  entry_fits : HasTexts unit → (calls : List Invocation) → Fits (entry_advance s (enter unit classes t calls))
+  entry_fits : UnitFits methods unit → (calls : List Invocation) → Fits (entry_advance s (enter unit classes t calls))
   entry_fits all [] = tt
   entry_fits all (call ∷ calls) = function_entry call calls (function_at unit call.function) (λ f e. found_texts (functions_of unit) call.function f all e)
 
   -- ---- a thread's step
 
-  within_fits : HasTexts unit → (weak : WeakNames) (own : Owners) (refused : Bool) (o : Option (List Task)) → TasksHaveTexts o → Goes weak own s.statics t o → Fits (step_within unit classes in_use k s t refused o)
+  within_fits : UnitFits methods unit → (weak : WeakNames) (own : Owners) (refused : Bool) (o : Option (List Task)) → TasksHaveTexts methods o → Goes weak own s.statics t o → Fits (step_within unit classes in_use k s t refused o)
   within_fits all weak own true None texts goes = tt
   within_fits all weak own false None texts goes = entry_fits all t.calls
   within_fits all weak own refused (Some []) texts goes = absurd (goes.2)
   within_fits all weak own false (Some (task ∷ rest)) texts (p, stands, runs) =
-      effect_step rest texts.1 p stands (effect_of (sight_of s t) task) (effect_texts (sight_of s t) task texts.0) (effect_follows s.heap s.statics t.variables t.frames p stands rest task runs)
-  within_fits all weak own true (Some (task ∷ rest)) texts (p, stands, runs) = refused_step rest texts.1 (effect_of (sight_of s t) task) (effect_texts (sight_of s t) task texts.0)
+      effect_step rest texts.1 p stands (effect_of (sight_of s t) task) (effect_texts methods (sight_of s t) task texts.0) (effect_follows s.heap s.statics t.variables t.frames p stands rest task runs)
+  within_fits all weak own true (Some (task ∷ rest)) texts (p, stands, runs) = refused_step rest texts.1 (effect_of (sight_of s t) task) (effect_texts methods (sight_of s t) task texts.0)
 
-  pub step_fits : HasTexts unit → (weak : WeakNames) (own : Owners) → Goes weak own s.statics t t.tasks → (refused : Bool) → Fits (thread_step unit classes in_use k s t refused)
+  pub step_fits : UnitFits methods unit → (weak : WeakNames) (own : Owners) → Goes weak own s.statics t t.tasks → (refused : Bool) → Fits (thread_step unit classes in_use k s t refused)
   step_fits all weak own goes refused = within_fits all weak own refused t.tasks own_texts goes

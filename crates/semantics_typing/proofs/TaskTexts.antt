@@ -1,16 +1,23 @@
--- The texts that are given in the tasks of a thread are of bytes, from each step to the next.
-use Rattle.std.proofs.Common.{◌≡◌, ℕ, Bool, true, false, List, [], ◌∷◌, ◌++◌, map, zip, Option, Some, None, refl}
+-- The texts that are given in the tasks of a thread are of bytes, and methods are asked for only where they are allowed, from each step
+-- to the next.
+use Rattle.std.proofs.Common.{◌≡◌, ℕ, Bool, true, false, not, ◌||◌, List, [], ◌∷◌, ◌++◌, map, zip, Option, Some, None, refl, sym, ap, ◌∙◌, subst, find, bytes_eq, if◌then◌else◌}
 use Rattle.std.specs.Prelude.{ℤ}
-use Rattle.std.specs.List.{AllByRecursion}
+use Rattle.std.specs.List.{AllByRecursion, list_any}
 use Rattle.std.proofs.lemmas.Bool.{cond_both}
+use Rattle.std.proofs.lemmas.List.Folds.{list_any-append}
+use Rattle.std.proofs.lemmas.Slice.Eq.{bytes_eq-Decides}
 use Rattle.base.specs.Bytes.{Identifier}
+use Rattle.base.specs.Options.{some_passes}
+use Rattle.syntax.specs.Parts.{functions_of, statements_of, statements_within, own_call, call_of_right_side}
 use Rattle.syntax.specs.Tree as tree
-use Rattle.syntax.specs.Tree.{Argument, Call, RightSide, FromExpr, FromCall, Expr, Test, TestExpr, TestCall, Stmt, Block, End, Next, VariableType}
-use Rattle.jni.specs.JniFunction.{JniFunction, prototype, function_named}
+use Rattle.syntax.specs.Tree.{Argument, Call, RightSide, FromExpr, FromCall, Expr, Test, TestExpr, TestCall, Stmt, Block, End, Next, Function, SourceUnit}
+use Rattle.jni.specs.JniFunction.{JniFunction, GetStaticMethodID, prototype, all_functions, function_named}
 use Rattle.jni.specs.Prototype.{ParameterKind, FieldID, IntNumber, ArrayVariable, BufferVariable, Mode, IsCopy}
 use Rattle.semantics.specs.Arguments.{look_up, look_up_expression, reference_argument, field_argument, actuals}
 use Rattle.semantics.specs.CallEffects.{ScalarResult}
+use Rattle.semantics.specs.Load.{methods_load}
 use Rattle.semantics.specs.Variable.{StaticReference}
+use Rattle.semantics.specs.World.{World}
 use Rattle.semantics.specs.Effect.{Effect, Becomes, Sets, SetsElement, Calls, Returns, at_line, goes_on, with_value, print_effect, branch_effect, loop_effect, element_effect, is_ready, reduce_number, reduce_first, call_effect_of, tasks_after, returned_name, return_effect, effect_of}
 use Rattle.semantics.specs.Sight.{Sight}
 use Rattle.semantics.specs.Task as task
@@ -18,35 +25,58 @@ use Rattle.semantics.specs.Task.{Task, SetScalar, SetElement, SetNull, MakeArray
 use Rattle.semantics.specs.Term as term
 use Rattle.semantics.specs.Term.{Term, Done, Read, reduce, index_of}
 use Rattle.semantics.specs.Value.{Value, Int, Truth, Outcome, Gives, Traps, Stuck, outcome_map}
-use Rattle.semantics_typing.specs.Texts.{IsTextual, HasText, CallHasTexts, RightHasTexts, TestHasTexts, BlockHasTexts, StmtHasTexts}
+use Rattle.semantics_typing.specs.Texts.{IsTextual, HasText, CallHasTexts, RightHasTexts, TestHasTexts, BlockHasTexts, StmtHasTexts, HasTexts}
 use Rattle.semantics_typing.proofs.Arguments.{HasActualText}
 use Rattle.semantics_typing.proofs.Lists.{all_append}
 
+-- ---- what tasks have
+
+-- a call of GetStaticMethodID
+abbrev asks : Call → Bool
+asks c = bytes_eq c.function (prototype GetStaticMethodID).name
+
+-- a statement that has one
+abbrev pub asks_method : Stmt → Bool
+asks_method s = some_passes asks (own_call s)
+
+-- where one of the statements has one, methods are allowed
+abbrev pub MayAsk : (methods : Bool) → List Stmt → Type 0
+MayAsk methods statements = list_any asks_method statements ≡ true → methods ≡ true
+
+-- methods are allowed, where this function is GetStaticMethodID
+abbrev pub MayCall : (methods : Bool) → JniFunction → Type 0
+MayCall methods GetStaticMethodID = methods ≡ true
+MayCall methods f = Unit {0}
+
+-- the texts of a block are of bytes, and it asks for methods only where they are allowed
+abbrev pub BlockFits : (methods : Bool) → Block → Type 0
+BlockFits methods b = BlockHasTexts b × MayAsk methods (statements_of b)
+
 -- the blocks of a test
-abbrev pub TargetHasTexts : Target → Type 0
-TargetHasTexts (Tested a b) = BlockHasTexts a × BlockHasTexts b
-TargetHasTexts target = Unit {0}
+abbrev pub TargetHasTexts : (methods : Bool) → Target → Type 0
+TargetHasTexts methods (Tested a b) = BlockFits methods a × BlockFits methods b
+TargetHasTexts methods target = Unit {0}
 
--- the texts of a task, and of the blocks in it
-abbrev pub TaskHasTexts : Task → Type 0
-TaskHasTexts (Invoke line target f operands) = AllByRecursion HasText operands × TargetHasTexts target
-TaskHasTexts (Branch line t a b) = BlockHasTexts a × BlockHasTexts b
-TaskHasTexts (Loop line test t body) = BlockHasTexts body
-TaskHasTexts (EndTurn line test body) = BlockHasTexts body
-TaskHasTexts task = Unit {0}
+-- the same of a task, and of the blocks in it
+abbrev pub TaskHasTexts : (methods : Bool) → Task → Type 0
+TaskHasTexts methods (Invoke line target f operands) = AllByRecursion HasText operands × TargetHasTexts methods target × MayCall methods f
+TaskHasTexts methods (Branch line t a b) = BlockFits methods a × BlockFits methods b
+TaskHasTexts methods (Loop line test t body) = BlockFits methods body
+TaskHasTexts methods (EndTurn line test body) = BlockFits methods body
+TaskHasTexts methods task = Unit {0}
 
-abbrev pub HaveTexts : List Task → Type 0
-HaveTexts tasks = AllByRecursion TaskHasTexts tasks
+abbrev pub HaveTexts : (methods : Bool) → List Task → Type 0
+HaveTexts methods tasks = AllByRecursion (TaskHasTexts methods) tasks
 
-abbrev pub TasksHaveTexts : Option (List Task) → Type 0
-TasksHaveTexts None = Unit {0}
-TasksHaveTexts (Some tasks) = HaveTexts tasks
+abbrev pub TasksHaveTexts : (methods : Bool) → Option (List Task) → Type 0
+TasksHaveTexts methods None = Unit {0}
+TasksHaveTexts methods (Some tasks) = HaveTexts methods tasks
 
 -- the same of an effect
-abbrev pub EffectHasTexts : Effect → Type 0
-EffectHasTexts (Becomes tasks) = HaveTexts tasks
-EffectHasTexts (Calls line target f args) = AllByRecursion HasActualText args × TargetHasTexts target
-EffectHasTexts e = Unit {0}
+abbrev pub EffectHasTexts : (methods : Bool) → Effect → Type 0
+EffectHasTexts methods (Becomes tasks) = HaveTexts methods tasks
+EffectHasTexts methods (Calls line target f args) = AllByRecursion HasActualText args × TargetHasTexts methods target × MayCall methods f
+EffectHasTexts methods e = Unit {0}
 
 -- ---- statements
 
@@ -61,90 +91,168 @@ operands_texts [] args h = tt
 operands_texts (kind ∷ kinds) [] h = tt
 operands_texts (kind ∷ kinds) (a ∷ args) h = (operand_texts kind a h.0, operands_texts kinds args h.1)
 
-invocation_texts : (line : ℕ) (target : Target) (call : Call) (f : Option JniFunction) → CallHasTexts call → TargetHasTexts target → TaskHasTexts (invocation line target call f)
-invocation_texts line target call None h g = tt
-invocation_texts line target call (Some f) h g = (operands_texts (prototype f).parameters call.arguments h, g)
+-- what holds of a test of two holds of each
+first_so : (a b methods : Bool) → ((a || b) ≡ true → methods ≡ true) → a ≡ true → methods ≡ true
+first_so true b methods h e = h refl
+first_so false b methods h e = absurd (cc)
 
-set_texts : (line : ℕ) (target : Target) (x : Identifier) (e : Expr) → TaskHasTexts (set_task line target x e)
-set_texts line target x (tree.Named tree.Null) = tt
-set_texts line target x e = tt
+second_so : (a b methods : Bool) → ((a || b) ≡ true → methods ≡ true) → b ≡ true → methods ≡ true
+second_so true b methods h e = h refl
+second_so false b methods h e = h e
 
-right_texts : (line : ℕ) (target : Target) (x : Identifier) (right : RightSide) → RightHasTexts right → TargetHasTexts target → TaskHasTexts (right_side_task line target x right)
-right_texts line target x (FromExpr e) h g = set_texts line target x e
-right_texts line target x (FromCall call) h g = invocation_texts line target call (function_named call.function) h g
+module _ (methods : Bool) where
+  front_may : (a b : List Stmt) → MayAsk methods (a ++ b) → MayAsk methods a
+  front_may a b h e = first_so (list_any asks_method a) (list_any asks_method b) methods (λ g. h (list_any-append asks_method a b ∙ g)) e
 
-if_texts : (line : ℕ) (test : Test) (a b : Block) → TestHasTexts test → BlockHasTexts a → BlockHasTexts b → TaskHasTexts (if_task line test a b)
-if_texts line (TestExpr e) a b h x y = (x, y)
-if_texts line (TestCall call) a b h x y = invocation_texts line (Tested a b) call (function_named call.function) h (x, y)
+  back_may : (a b : List Stmt) → MayAsk methods (a ++ b) → MayAsk methods b
+  back_may a b h e = second_so (list_any asks_method a) (list_any asks_method b) methods (λ g. h (list_any-append asks_method a b ∙ g)) e
 
-stmt_texts : (s : Stmt) → StmtHasTexts s → TaskHasTexts (task_of s)
-stmt_texts (tree.Declare line type x right) h = right_texts line (Declared (kind_of type) x) x right h tt
-stmt_texts (tree.DeclareBuffer line kind x right) h = right_texts line _ x right h tt
-stmt_texts (tree.DeclareChars line x right) h = right_texts line _ x right h tt
-stmt_texts (tree.DeclareArray line kind x n) h = tt
-stmt_texts (tree.Assign line x right) h = right_texts line (Assigned x) x right h tt
-stmt_texts (tree.AssignElement line x i e) h = tt
-stmt_texts (tree.Perform line call) h = invocation_texts line Dropped call (function_named call.function) h tt
-stmt_texts (tree.PutJint line e) h = tt
-stmt_texts (tree.If line test then') h = if_texts line test then' (End line) h.0 h.1 tt
-stmt_texts (tree.IfElse line test then' else') h = if_texts line test then' else' h.0 h.1 h.2
-stmt_texts (tree.While line test body) h = h
-stmt_texts (tree.Return line) h = tt
-stmt_texts (tree.ReturnValue line e) h = tt
+  own_may : (s : Stmt) (inner : List Stmt) → MayAsk methods (s ∷ inner) → asks_method s ≡ true → methods ≡ true
+  own_may s inner h e = first_so (asks_method s) (list_any asks_method inner) methods h e
 
-pub block_texts : (b : Block) → BlockHasTexts b → HaveTexts (tasks_of b)
-block_texts (End line) h = tt
-block_texts (Next s rest) h = (stmt_texts s h.0, block_texts rest h.1)
+  inner_may : (s : Stmt) (inner : List Stmt) → MayAsk methods (s ∷ inner) → MayAsk methods inner
+  inner_may s inner h e = second_so (asks_method s) (list_any asks_method inner) methods h e
+
+  none_may : MayAsk methods []
+  none_may e = absurd (cc)
+
+  -- the function of a name has that name
+  found_named : (fs : List JniFunction) (name : Identifier) (f : JniFunction) → find (λ g. bytes_eq (prototype g).name name) fs ≡ Some f → bytes_eq (prototype f).name name ≡ true
+  found_named [] name f h = absurd (cc)
+  found_named (g ∷ fs) name f h = by_test (bytes_eq (prototype g).name name) refl h (λ e. found_named fs name f e)
+    where
+      by_test : (b : Bool) → bytes_eq (prototype g).name name ≡ b → (if b then Some g else find (λ g. bytes_eq (prototype g).name name) fs) ≡ Some f
+          → (find (λ g. bytes_eq (prototype g).name name) fs ≡ Some f → bytes_eq (prototype f).name name ≡ true) → bytes_eq (prototype f).name name ≡ true
+      by_test true is e later = let same : g ≡ f = cc in subst (λ (x : JniFunction). bytes_eq (prototype x).name name ≡ true) same is
+      by_test false is e later = later e
+
+  is_named : (name : Identifier) (f : JniFunction) → function_named name ≡ Some f → bytes_eq name (prototype f).name ≡ true
+  unfolding function_named
+  is_named name f h = (bytes_eq-Decides name (prototype f).name).1 (sym ((bytes_eq-Decides (prototype f).name name).0 (found_named all_functions name f h)))
+
+  may_call : (c : Call) (f : JniFunction) → bytes_eq c.function (prototype f).name ≡ true → (asks c ≡ true → methods ≡ true) → MayCall methods f
+  may_call c GetStaticMethodID is h = h is
+  may_call c f is h = tt
+
+  invocation_texts : (line : ℕ) (target : Target) (call : Call) (f : Option JniFunction) → function_named call.function ≡ f → CallHasTexts call → (asks call ≡ true → methods ≡ true) → TargetHasTexts methods target → TaskHasTexts methods (invocation line target call f)
+  invocation_texts line target call None is h may g = tt
+  invocation_texts line target call (Some f) is h may g = (operands_texts (prototype f).parameters call.arguments h, g, may_call call f (is_named call.function f is) may)
+
+  set_texts : (line : ℕ) (target : Target) (x : Identifier) (e : Expr) → TaskHasTexts methods (set_task line target x e)
+  set_texts line target x (tree.Named tree.Null) = tt
+  set_texts line target x e = tt
+
+  right_texts : (line : ℕ) (target : Target) (x : Identifier) (right : RightSide) → RightHasTexts right → (some_passes asks (call_of_right_side (Some right)) ≡ true → methods ≡ true) → TargetHasTexts methods target → TaskHasTexts methods (right_side_task line target x right)
+  right_texts line target x (FromExpr e) h may g = set_texts line target x e
+  right_texts line target x (FromCall call) h may g = invocation_texts line target call (function_named call.function) refl h may g
+
+  if_texts : (line : ℕ) (test : Test) (a b : Block) → TestHasTexts test → (some_passes asks (own_call (tree.IfElse line test a b)) ≡ true → methods ≡ true) → BlockFits methods a → BlockFits methods b → TaskHasTexts methods (if_task line test a b)
+  if_texts line (TestExpr e) a b h may x y = (x, y)
+  if_texts line (TestCall call) a b h may x y = invocation_texts line (Tested a b) call (function_named call.function) refl h may (x, y)
+
+  -- an `if` asks as with an empty `else`
+  same_test : (line : ℕ) (test : Test) (a b : Block) → own_call (tree.IfElse line test a b) ≡ own_call (tree.If line test a)
+  same_test line (TestExpr e) a b = refl
+  same_test line (TestCall c) a b = refl
+
+  stmt_texts : (s : Stmt) → StmtHasTexts s → MayAsk methods (statements_within s) → TaskHasTexts methods (task_of s)
+  stmt_texts (tree.Declare line type x right) h may = right_texts line (Declared (kind_of type) x) x right h (own_may (tree.Declare line type x right) [] may) tt
+  stmt_texts (tree.DeclareBuffer line kind x right) h may = right_texts line _ x right h (own_may (tree.DeclareBuffer line kind x right) [] may) tt
+  stmt_texts (tree.DeclareChars line x right) h may = right_texts line _ x right h (own_may (tree.DeclareChars line x right) [] may) tt
+  stmt_texts (tree.DeclareArray line kind x n) h may = tt
+  stmt_texts (tree.Assign line x right) h may = right_texts line (Assigned x) x right h (own_may (tree.Assign line x right) [] may) tt
+  stmt_texts (tree.AssignElement line x i e) h may = tt
+  stmt_texts (tree.Perform line call) h may = invocation_texts line Dropped call (function_named call.function) refl h (own_may (tree.Perform line call) [] may) tt
+  stmt_texts (tree.PutJint line e) h may = tt
+  stmt_texts (tree.If line test then') h may =
+      let s = tree.If line test then' in
+      if_texts line test then' (End line) h.0
+      (λ e. own_may s (statements_of then') may (ap (some_passes asks) (sym (same_test line test then' (End line))) ∙ e))
+      (h.1, inner_may s (statements_of then') may) (tt, none_may)
+  stmt_texts (tree.IfElse line test then' else') h may =
+      let s = tree.IfElse line test then' else' in
+      let inner = inner_may s (statements_of then' ++ statements_of else') may in
+      if_texts line test then' else' h.0 (own_may s (statements_of then' ++ statements_of else') may)
+      (h.1, front_may (statements_of then') (statements_of else') inner) (h.2, back_may (statements_of then') (statements_of else') inner)
+  stmt_texts (tree.While line test body) h may = (h, inner_may (tree.While line test body) (statements_of body) may)
+  stmt_texts (tree.Return line) h may = tt
+  stmt_texts (tree.ReturnValue line e) h may = tt
+
+  pub block_texts : (b : Block) → BlockFits methods b → HaveTexts methods (tasks_of b)
+  block_texts (End line) h = tt
+  block_texts (Next s rest) (h, may) =
+      (stmt_texts s h.0 (front_may (statements_within s) (statements_of rest) may), block_texts rest (h.1, back_may (statements_within s) (statements_of rest) may))
+
+-- ---- functions
+
+-- each function's body
+abbrev pub UnitFits : (methods : Bool) → SourceUnit → Type 0
+UnitFits methods unit = AllByRecursion (λ (f : Function). BlockFits methods f.body) (functions_of unit)
+
+functions_fit : (methods : Bool) (fs : List Function) → AllByRecursion (λ (f : Function). BlockHasTexts f.body) fs → (list_any (λ (f : Function). list_any asks_method (statements_of f.body)) fs ≡ true → methods ≡ true) → AllByRecursion (λ (f : Function). BlockFits methods f.body) fs
+functions_fit methods [] h may = tt
+functions_fit methods (f ∷ fs) h may =
+    let own = list_any asks_method (statements_of f.body) in
+    let others = list_any (λ (f : Function). list_any asks_method (statements_of f.body)) fs in
+    ((h.0, λ e. first_so own others methods may e), functions_fit methods fs h.1 (λ e. second_so own others methods may e))
+
+asked : (asks methods : Bool) → (not asks || methods) ≡ true → asks ≡ true → methods ≡ true
+asked true methods h e = h
+asked false methods h e = absurd (cc)
+
+-- a world that loads allows methods, where they are asked for
+pub unit_fits : (unit : SourceUnit) (w : World) → HasTexts unit → methods_load unit w ≡ true → UnitFits w.methods unit
+unit_fits unit w all loads = functions_fit w.methods (functions_of unit) all (λ e. asked (list_any (λ (f : Function). list_any asks_method (statements_of f.body)) (functions_of unit)) w.methods loads e)
 
 -- ---- effects
 
-module _ (sight : Sight) where
-  goes_texts : {A : Type 0} (line : ℕ) (task : A → Task) (o : Outcome A) → ((a : A) → o ≡ Gives a → TaskHasTexts (task a)) → EffectHasTexts (goes_on line task o)
+module _ (methods : Bool) (sight : Sight) where
+  goes_texts : {A : Type 0} (line : ℕ) (task : A → Task) (o : Outcome A) → ((a : A) → o ≡ Gives a → TaskHasTexts methods (task a)) → EffectHasTexts methods (goes_on line task o)
   goes_texts line task (Gives a) h = (h a refl, tt)
   goes_texts line task (Traps trap) h = tt
   goes_texts line task Stuck h = tt
 
-  valued : (line : ℕ) (use_value : Value → Effect) (task : Term → Task) (t : Term) → ((v : Value) → EffectHasTexts (use_value v)) → ((u : Term) → TaskHasTexts (task u)) → EffectHasTexts (with_value sight line use_value task t)
+  valued : (line : ℕ) (use_value : Value → Effect) (task : Term → Task) (t : Term) → ((v : Value) → EffectHasTexts methods (use_value v)) → ((u : Term) → TaskHasTexts methods (task u)) → EffectHasTexts methods (with_value sight line use_value task t)
   valued line use_value task (Done v) h g = h v
   valued line use_value task t h g = goes_texts line task (reduce sight t) (λ u e. g u)
 
-  print_texts : (v : Value) → EffectHasTexts (print_effect v)
+  print_texts : (v : Value) → EffectHasTexts methods (print_effect v)
   print_texts (Int z) = tt
   print_texts v = tt
 
-  way_texts : (b : Block) (last : Task) → BlockHasTexts b → TaskHasTexts last → HaveTexts (tasks_of b ++ last ∷ [])
-  way_texts b last h g = all_append TaskHasTexts (tasks_of b) (last ∷ []) (block_texts b h) (g, tt)
+  way_texts : (b : Block) (last : Task) → BlockFits methods b → TaskHasTexts methods last → HaveTexts methods (tasks_of b ++ last ∷ [])
+  way_texts b last h g = all_append (TaskHasTexts methods) (tasks_of b) (last ∷ []) (block_texts methods b h) (g, tt)
 
-  branch_texts : (a b : Block) (v : Value) → BlockHasTexts a → BlockHasTexts b → EffectHasTexts (branch_effect a b v)
+  branch_texts : (a b : Block) (v : Value) → BlockFits methods a → BlockFits methods b → EffectHasTexts methods (branch_effect a b v)
   branch_texts a b (Truth true) x y = way_texts a EndIf x tt
   branch_texts a b (Truth false) x y = way_texts b EndIf y tt
   branch_texts a b v x y = tt
 
-  loop_texts : (line : ℕ) (test : Expr) (body : Block) (v : Value) → BlockHasTexts body → EffectHasTexts (loop_effect line test body v)
+  loop_texts : (line : ℕ) (test : Expr) (body : Block) (v : Value) → BlockFits methods body → EffectHasTexts methods (loop_effect line test body v)
   loop_texts line test body (Truth true) h = way_texts body (EndTurn line test body) h h
   loop_texts line test body (Truth false) h = tt
   loop_texts line test body v h = tt
 
-  old_texts : (line : ℕ) (x : Identifier) (n : ℕ) (z : ℤ) (o : Outcome ℤ) → EffectHasTexts (at_line line (λ (old : ℤ). SetsElement x n z) o)
+  old_texts : (line : ℕ) (x : Identifier) (n : ℕ) (z : ℤ) (o : Outcome ℤ) → EffectHasTexts methods (at_line line (λ (old : ℤ). SetsElement x n z) o)
   old_texts line x n z (Gives old) = tt
   old_texts line x n z (Traps trap) = tt
   old_texts line x n z Stuck = tt
 
-  place_texts : (line : ℕ) (x : Identifier) (z : ℤ) (o : Outcome ℕ) → EffectHasTexts (at_line line (λ n. at_line line (λ (old : ℤ). SetsElement x n z) (sight.element x n)) o)
+  place_texts : (line : ℕ) (x : Identifier) (z : ℤ) (o : Outcome ℕ) → EffectHasTexts methods (at_line line (λ n. at_line line (λ (old : ℤ). SetsElement x n z) (sight.element x n)) o)
   place_texts line x z (Gives n) = old_texts line x n z (sight.element x n)
   place_texts line x z (Traps trap) = tt
   place_texts line x z Stuck = tt
 
-  element_texts : (line : ℕ) (x : Identifier) (i v : Value) → EffectHasTexts (element_effect sight line x i v)
+  element_texts : (line : ℕ) (x : Identifier) (i v : Value) → EffectHasTexts methods (element_effect sight line x i v)
   element_texts line x i (Int z) = place_texts line x z (index_of i)
   element_texts line x i v = tt
 
-  name_texts : (line : ℕ) (o : Outcome Value) (r : StaticReference) → EffectHasTexts (returned_name line o r)
+  name_texts : (line : ℕ) (o : Outcome Value) (r : StaticReference) → EffectHasTexts methods (returned_name line o r)
   name_texts line (Gives v) r = (tt, tt)
   name_texts line (Traps trap) r = tt
   name_texts line Stuck r = tt
 
-  return_texts : (line : ℕ) (t : Term) → EffectHasTexts (return_effect sight line t)
+  return_texts : (line : ℕ) (t : Term) → EffectHasTexts methods (return_effect sight line t)
   return_texts line (term.Named tree.Null) = tt
   return_texts line (Read x) = name_texts line (sight.number x) (sight.reference x)
   return_texts line t = valued line (λ v. Returns (ScalarResult v)) (task.ReturnValue line) t (λ v. tt) (λ u. tt)
@@ -202,26 +310,26 @@ module _ (sight : Sight) where
   first_well (NumberOperand t ∷ rest) h = reduced_well t rest (reduce sight t) (reduce_first sight rest) h.1 (first_well rest h.1)
   first_well (Given a ∷ rest) h = further_well (Given a) (reduce_first sight rest) h.0 (first_well rest h.1)
 
-  stepped_texts : (line : ℕ) (target : Target) (f : JniFunction) (o : Outcome (List Operand)) → TargetHasTexts target → StepsWell o → EffectHasTexts (goes_on line (Invoke line target f) o)
-  stepped_texts line target f (Gives operands) g h = ((h, g), tt)
-  stepped_texts line target f (Traps trap) g h = tt
-  stepped_texts line target f Stuck g h = tt
+  stepped_texts : (line : ℕ) (target : Target) (f : JniFunction) (o : Outcome (List Operand)) → TargetHasTexts methods target → MayCall methods f → StepsWell o → EffectHasTexts methods (goes_on line (Invoke line target f) o)
+  stepped_texts line target f (Gives operands) g may h = ((h, g, may), tt)
+  stepped_texts line target f (Traps trap) g may h = tt
+  stepped_texts line target f Stuck g may h = tt
 
-  call_texts : (line : ℕ) (target : Target) (f : JniFunction) (operands : List Operand) → AllByRecursion HasText operands → TargetHasTexts target → EffectHasTexts (call_effect_of sight line target f operands)
-  call_texts line target f operands h g =
-      cond_both (is_ready operands) (Calls line target f (actuals sight f operands)) (goes_on line (Invoke line target f) (reduce_first sight operands)) EffectHasTexts
-      (λ e. (actuals_texts (prototype f).parameters operands h, g))
-      (λ e. stepped_texts line target f (reduce_first sight operands) g (first_well operands h))
+  call_texts : (line : ℕ) (target : Target) (f : JniFunction) (operands : List Operand) → AllByRecursion HasText operands → TargetHasTexts methods target → MayCall methods f → EffectHasTexts methods (call_effect_of sight line target f operands)
+  call_texts line target f operands h g may =
+      cond_both (is_ready operands) (Calls line target f (actuals sight f operands)) (goes_on line (Invoke line target f) (reduce_first sight operands)) (EffectHasTexts methods)
+      (λ e. (actuals_texts (prototype f).parameters operands h, g, may))
+      (λ e. stepped_texts line target f (reduce_first sight operands) g may (first_well operands h))
 
   -- ---- all tasks
 
-  pub effect_texts : (t : Task) → TaskHasTexts t → EffectHasTexts (effect_of sight t)
+  pub effect_texts : (t : Task) → TaskHasTexts methods t → EffectHasTexts methods (effect_of sight t)
   effect_texts (SetScalar line x t) h = valued line (Sets x) (SetScalar line x) t (λ v. tt) (λ u. tt)
   effect_texts (SetElement line x i t) h =
       valued line _ (λ u. SetElement line x u t) i (λ v. valued line (element_effect sight line x v) (SetElement line x (Done v)) t (λ w. element_texts line x v w) (λ u. tt)) (λ u. tt)
   effect_texts (SetNull target) h = tt
   effect_texts (MakeArray t x size) h = tt
-  effect_texts (Invoke line target f operands) h = call_texts line target f operands h.0 h.1
+  effect_texts (Invoke line target f operands) h = call_texts line target f operands h.0 h.1 h.2
   effect_texts (Print line t) h = valued line print_effect (Print line) t print_texts (λ u. tt)
   effect_texts (Branch line t a b) h = valued line (branch_effect a b) (λ u. Branch line u a b) t (λ v. branch_texts a b v h.0 h.1) (λ u. h)
   effect_texts EndIf h = tt
@@ -232,8 +340,8 @@ module _ (sight : Sight) where
   effect_texts Impossible h = tt
 
 -- the test of an `if`, after its call
-pub after_texts : (line : ℕ) (target : Target) (gave_zero : Bool) → TargetHasTexts target → HaveTexts (tasks_after line target gave_zero)
-after_texts line (Tested a b) gave_zero h = (h, tt)
-after_texts line (Declared kind x) gave_zero h = tt
-after_texts line (Assigned x) gave_zero h = tt
-after_texts line Dropped gave_zero h = tt
+pub after_texts : (methods : Bool) (line : ℕ) (target : Target) (gave_zero : Bool) → TargetHasTexts methods target → HaveTexts methods (tasks_after line target gave_zero)
+after_texts methods line (Tested a b) gave_zero h = (h, tt)
+after_texts methods line (Declared kind x) gave_zero h = tt
+after_texts methods line (Assigned x) gave_zero h = tt
+after_texts methods line Dropped gave_zero h = tt

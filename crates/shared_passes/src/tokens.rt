@@ -27,14 +27,14 @@ pub trait Naming {
 }
 
 impl Naming for Brand {
-    ghost use Rattle.std.specs.Prelude.{[]};
+    ghost use Rattle.std.specs.Prelude.{[], false};
     ghost use Rattle.shared_passes.specs.Tokens.{no_cell};
 
     ghost cell = { no_cell };
 
     ghost unit = { [] };
 
-    ghost world = { record { cells = 0; classes = []; objects = []; threads = [] } };
+    ghost world = { record { heap_line = 0; methods = false; cells = 0; classes = []; objects = []; threads = [] } };
 }
 
 /// What the accounts become.

@@ -7,11 +7,11 @@ use Rattle.base.specs.Element.{JChar}
 use Rattle.base.specs.Options.{some_passes}
 use Rattle.syntax.specs.Tree.{Commit, Abort}
 use Rattle.syntax.specs.Parts.{statements_of, statements_within, line_of, declared_name, right_side, own_call, own_expressions, used_names, assigned_name, written_name, names_declared, parameter_names}
-use Rattle.syntax.specs.Tree.{ResultType, Void, IntResult, ReferenceResult, ParameterType, IntParameter, ReferenceParameter, VariableType, UInt32, JIntVariable, JSize, JBoolean, JFieldId, ReferenceVariable, Expr, Number, Named, Variable, Argument, Value, Call, RightSide, FromExpr, FromCall, Test, TestExpr, TestCall, Stmt, Declare, DeclareBuffer, DeclareChars, DeclareArray, Assign, AssignElement, Perform, PutJint, If, IfElse, While, Return, ReturnValue, Block, End, Next, Function, StaticType, ReferenceStatic, WeakStatic, Static, Item, StaticItem, FunctionItem, SourceUnit}
+use Rattle.syntax.specs.Tree.{ResultType, Void, IntResult, ReferenceResult, ParameterType, IntParameter, ReferenceParameter, VariableType, UInt32, JIntVariable, JSize, JBoolean, JFieldId, JMethodId, ReferenceVariable, Expr, Number, Named, Variable, Argument, Value, Call, RightSide, FromExpr, FromCall, Test, TestExpr, TestCall, Stmt, Declare, DeclareBuffer, DeclareChars, DeclareArray, Assign, AssignElement, Perform, PutJint, If, IfElse, While, Return, ReturnValue, Block, End, Next, Function, StaticType, ReferenceStatic, WeakStatic, Static, Item, StaticItem, FunctionItem, SourceUnit}
 use Rattle.class_rules.specs.Mangling.{unmangle}
 use Rattle.jni.specs.JniFunction.{JniFunction, PushLocalFrame, function_named, prototype}
-use Rattle.jni.specs.Prototype.{ParameterKind, Mode, ResultKind, GivesNothing, GivesInt, GivesFlag, NewLocal, NewGlobal, NewWeak, GivesField, GivesBuffer}
-use Rattle.type_rules.specs.Sorts.{Sort, Word, Jint, Flag, Ref, Global, Weak, FieldId, Buffer, Array, Scope, sort_in, is_unknown, sort_of, is_word, is_jint, is_flag, is_truth, is_ref, is_field, is_index, has_elements, is_buffer_for, is_read_only, is_null, name_sort, call_arguments_fit}
+use Rattle.jni.specs.Prototype.{ParameterKind, Mode, ResultKind, GivesNothing, GivesInt, GivesFlag, NewLocal, NewGlobal, NewWeak, GivesField, GivesMethod, GivesBuffer}
+use Rattle.type_rules.specs.Sorts.{Sort, Word, Jint, Flag, Ref, Global, Weak, FieldId, MethodId, Buffer, Array, Scope, sort_in, is_unknown, sort_of, is_word, is_jint, is_flag, is_truth, is_ref, is_field, is_method, is_index, has_elements, is_buffer_for, is_read_only, is_null, name_sort, call_arguments_fit}
 
 -- ---- places: the forms of a unit that a rule can be broken at
 
@@ -36,6 +36,7 @@ variable_sort JIntVariable = Jint
 variable_sort JSize = Jint
 variable_sort JBoolean = Flag
 variable_sort JFieldId = FieldId
+variable_sort JMethodId = MethodId
 variable_sort (ReferenceVariable r) = Ref
 
 -- the sort of a parameter
@@ -112,6 +113,7 @@ result_fits s NewGlobal = false
 result_fits (Some Weak) NewWeak = true
 result_fits s NewWeak = false
 result_fits s GivesField = is_field s
+result_fits s GivesMethod = is_method s
 result_fits s (GivesBuffer a) = is_buffer_for a s
 
 -- PushLocalFrame occurs only in a test
@@ -150,6 +152,7 @@ value_sets scope (Some Ref) e = is_null e || is_some (name_sort scope e)
 value_sets scope (Some Global) e = is_null e
 value_sets scope (Some Weak) e = is_null e
 value_sets scope (Some FieldId) e = is_null e
+value_sets scope (Some MethodId) e = is_null e
 value_sets scope s e = false
 
 -- a right side that sets a variable of a sort

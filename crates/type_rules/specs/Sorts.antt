@@ -12,7 +12,7 @@ use Rattle.jni.specs.Prototype.{ParameterKind, FieldID, IntNumber, TextBytes, Is
 
 -- what a name or an expression is; all reference types are one sort, and a static is of another, or of a third where it is weak
 pub data Sort : Type 0 where
-  Word Jint Flag Truth Ref Global Weak FieldId : Sort
+  Word Jint Flag Truth Ref Global Weak FieldId MethodId : Sort
   Buffer : ElementType → (writable : Bool) → Sort
   Array : ElementType → (size : ℕ) → Sort
 
@@ -89,6 +89,7 @@ abbrev pub is_nullable : Option Sort → Bool
 is_nullable (Some Ref) = true
 is_nullable (Some Global) = true
 is_nullable (Some FieldId) = true
+is_nullable (Some MethodId) = true
 is_nullable (Some (Buffer t writable)) = true
 is_nullable s = false
 
@@ -154,6 +155,11 @@ is_weak s = false
 abbrev pub is_field : Option Sort → Bool
 is_field (Some FieldId) = true
 is_field s = false
+
+-- a method ID
+abbrev pub is_method : Option Sort → Bool
+is_method (Some MethodId) = true
+is_method s = false
 
 -- a local array of a type
 abbrev pub is_array_of : ElementType → Option Sort → Bool

@@ -25,6 +25,7 @@ pub enum Sort {
     /// A weak reference that all functions share.
     Weak,
     FieldId,
+    MethodId,
     /// A buffer, and whether it may be written.
     Buffer(ElementType, bool),
     /// A local array, and its size.
@@ -40,6 +41,7 @@ pub fn variable_sort(kind: VariableType) -> Sort
         VariableType::Jint | VariableType::Jsize => Sort::Jint,
         VariableType::Jboolean => Sort::Flag,
         VariableType::JfieldId => Sort::FieldId,
+        VariableType::JmethodId => Sort::MethodId,
         VariableType::Reference(_) => Sort::Ref,
     }
 }
