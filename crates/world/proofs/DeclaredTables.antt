@@ -9,15 +9,15 @@ use Rattle.std.proofs.lemmas.List.Folds.{list_any-append}
 use Rattle.base.specs.Bytes.{Identifier}
 use Rattle.base.specs.Element.{JInt}
 use Rattle.base.specs.Options.{some_passes}
-use Rattle.class_rules.specs.Additions.{ClassRule, NameTaken, new_class, with_class, with_changed_class, declared_fields}
+use Rattle.class_rules.specs.Additions.{ClassRule, NameTaken, new_class, with_class, with_changed_class, declared_fields, built_in_count}
 use Rattle.class_rules.specs.BuiltIns.{built_ins, class_class, string_class, throwable_class, object_array_class, has_own_making}
 use Rattle.class_rules.specs.Class.{Field, FieldType, NumberField, ReferenceField, Plain, ArrayOfObjects, Class, Classes, class_at, class_named, class_kind, is_plain, superclass, above, ancestry_within, array_name, array_class_of}
 use Rattle.class_rules.specs.Fields.{FieldId, own_fields, own_statics, signature, field_types, type_of_signature}
 use Rattle.class_rules.specs.Mangling.{is_class_name}
 use Rattle.world_values.specs.DeclaredFields.{IsDeclared, DeclaresWell}
-use Rattle.world_values.specs.WorldLines.{WorldLine, ClassLine, FieldLine, StaticLine, ObjectLine, ObjectsLine, ArrayLine, StringLine, ThreadLine, CallLine}
+use Rattle.world_values.specs.WorldLines.{WorldLine, MethodsLine, ClassLine, FieldLine, StaticLine, ObjectLine, ObjectsLine, ArrayLine, StringLine, ThreadLine, CallLine}
 use Rattle.world_values.specs.WorldMeaning.{class_number, superclass_number, field_of, table_with}
-use Rattle.world_values.specs.WorldRules.{is_well_formed, is_class_allowed, breaks_class_rule}
+use Rattle.world_values.specs.WorldRules.{is_well_formed, is_world_class, is_class_allowed, breaks_class_rule}
 use Rattle.world_lines.proofs.Tests.{both, neither, less, are_same_bytes, bytes_eq-sym}
 use Rattle.world.proofs.ChangedClasses.{changed}
 use Rattle.world.proofs.KeptBuiltIns.{KeepsBuiltIns}
@@ -298,12 +298,12 @@ module _ (change : Class → Class) (same_name : (d : Class) → (change d).name
 
 -- ---- one more line
 
-plain_there : (T : Classes) (name : Identifier) (d : Class) → some_passes (λ c. nat_lt (length built_ins) c && is_plain (class_kind T c)) (class_named T name) ≡ true → class_at T (class_number T name) ≡ Some d → is_plain d.kind ≡ true
-plain_there T name d h e = by_value (class_named T name) h e
+plain_there : (methods : Bool) (T : Classes) (name : Identifier) (d : Class) → is_world_class methods T name ≡ true → class_at T (class_number T name) ≡ Some d → is_plain d.kind ≡ true
+plain_there methods T name d h e = by_value (class_named T name) h e
   where
-    by_value : (o : Option ℕ) → some_passes (λ c. nat_lt (length built_ins) c && is_plain (class_kind T c)) o ≡ true → class_at T (unwrap_or o 0) ≡ Some d → is_plain d.kind ≡ true
+    by_value : (o : Option ℕ) → some_passes (λ c. nat_lt (built_in_count methods) c && is_plain (class_kind T c)) o ≡ true → class_at T (unwrap_or o 0) ≡ Some d → is_plain d.kind ≡ true
     by_value None h e = absurd (cc)
-    by_value (Some c) h e = ap (λ (o : Option Class). is_plain (option_map_or (λ (d : Class). d.kind) o Plain)) (sym e) ∙ (both (nat_lt (length built_ins) c) (is_plain (class_kind T c)) h).1
+    by_value (Some c) h e = ap (λ (o : Option Class). is_plain (option_map_or (λ (d : Class). d.kind) o Plain)) (sym e) ∙ (both (nat_lt (built_in_count methods) c) (is_plain (class_kind T c)) h).1
 
 -- no field of a class has the name of a new one
 not_declared : (T : Classes) (class name : Identifier) (d : Class) → list_any (λ (f : Field). bytes_eq f.name name) (declared_fields T (class_named T class)) ≡ false → is_some (class_named T class) ≡ true → class_at T (class_number T class) ≡ Some d
@@ -330,9 +330,10 @@ plain_array : {P : Type 0} (b : Bool) → b ≡ true → b ≡ false → P
 plain_array b h k = absurd (let clash : true ≡ false = sym h ∙ k in cc)
 
 module _ (T : Classes) (t : IsWorldTable T) (h : Declares T) where
-  pub line_declares : (line : WorldLine) → ((rule : ClassRule) → breaks_class_rule rule T line ≡ false) → is_well_formed T line ≡ true → is_class_allowed T line ≡ true → Declares (table_with T line)
-  line_declares (ClassLine name above) rules well allowed = class_declares T name (superclass_number T above) t h (no_value (class_named T name) (rules NameTaken)) well
-  line_declares (FieldLine class name signature) rules well allowed =
+  pub line_declares : (methods : Bool) (line : WorldLine) → ((rule : ClassRule) → breaks_class_rule rule T line ≡ false) → is_well_formed T line ≡ true → is_class_allowed methods T line ≡ true → Declares (table_with T line)
+  line_declares methods MethodsLine rules well allowed = absurd (let no : false ≡ true = well in cc)
+  line_declares methods (ClassLine name over) rules well allowed = class_declares T name (superclass_number T over) t h (no_value (class_named T name) (rules NameTaken)) well
+  line_declares methods (FieldLine class name signature) rules well allowed =
       change_declares (λ d. record d { fields = d.fields ++ field_of T name signature ∷ [] }) (λ d. refl) (λ d. refl) (class_number T class) T h
       (λ d at was.
       let new = not_declared T class name d (rules NameTaken) (passes_some _ (class_named T class) allowed) at in
@@ -341,9 +342,9 @@ module _ (T : Classes) (t : IsWorldTable T) (h : Declares T) where
         statics_once = was.statics_once;
         fields_of_classes = of_classes_more d.fields (field_of T name signature) was.fields_of_classes (field_of_class T name signature);
         statics_of_classes = was.statics_of_classes;
-        arrays_bare = λ e. plain_array (is_plain d.kind) (plain_there T class d allowed at) e;
+        arrays_bare = λ e. plain_array (is_plain d.kind) (plain_there methods T class d allowed at) e;
       })
-  line_declares (StaticLine class name signature) rules well allowed =
+  line_declares methods (StaticLine class name signature) rules well allowed =
       change_declares (λ d. record d { statics = d.statics ++ field_of T name signature ∷ [] }) (λ d. refl) (λ d. refl) (class_number T class) T h
       (λ d at was.
       let new = not_declared T class name d (rules NameTaken) (passes_some _ (class_named T class) allowed) at in
@@ -354,12 +355,12 @@ module _ (T : Classes) (t : IsWorldTable T) (h : Declares T) where
         statics_of_classes = of_classes_more d.statics (field_of T name signature) was.statics_of_classes (field_of_class T name signature);
         arrays_bare = was.arrays_bare;
       })
-  line_declares (ObjectLine x class values) rules well allowed = h
-  line_declares (ObjectsLine x class values) rules well allowed = h
-  line_declares (ArrayLine x e values) rules well allowed = h
-  line_declares (StringLine x text) rules well allowed = h
-  line_declares (ThreadLine function arguments) rules well allowed = h
-  line_declares (CallLine function arguments) rules well allowed = h
+  line_declares methods (ObjectLine x class values) rules well allowed = h
+  line_declares methods (ObjectsLine x class values) rules well allowed = h
+  line_declares methods (ArrayLine x e values) rules well allowed = h
+  line_declares methods (StringLine x text) rules well allowed = h
+  line_declares methods (ThreadLine function arguments) rules well allowed = h
+  line_declares methods (CallLine function arguments) rules well allowed = h
 
 -- ---- what it comes to
 

@@ -18,7 +18,7 @@ use Rattle.semantics.specs.Object.{ObjectValue, Refers, Object}
 use Rattle.semantics.specs.World.{class_object, class_objects, fresh_object, made_before}
 use Rattle.world_values.specs.CallArguments.{is_argument}
 use Rattle.world_values.specs.SoundWorlds.{types_by_kind, value_fits, IsObjectAfter}
-use Rattle.world_values.specs.WorldLines.{WorldValue, NumberValue, NullValue, NamedObject, NamedClass, WorldLine, ClassLine, FieldLine, StaticLine, ObjectLine, ObjectsLine, ArrayLine, StringLine, ThreadLine, CallLine, Lines}
+use Rattle.world_values.specs.WorldLines.{WorldValue, NumberValue, NullValue, NamedObject, NamedClass, WorldLine, MethodsLine, ClassLine, FieldLine, StaticLine, ObjectLine, ObjectsLine, ArrayLine, StringLine, ThreadLine, CallLine, Lines}
 use Rattle.world_values.specs.WorldMeaning.{class_number, table_of, object_defined, objects_defined, class_of_object, value_of, values_of_line, object_of}
 use Rattle.world_values.specs.WorldRules.{is_object_class, layout_types, is_known_value, holds_value, each_holds, value_in_range, each_in_range}
 use Rattle.world.proofs.GrownClasses.{named_open}
@@ -314,6 +314,7 @@ module _ (L : Lines) where
     object_fits cells n (ObjectsLine x class values) k o h = subst (IsObjectAfter T made) (cc) (array_fits class values k.allowed k.known k.held k.ranged)
     object_fits cells n (ArrayLine x t values) k o h = subst (IsObjectAfter T made) (cc) (numbers_fit t values k.known k.held k.ranged)
     object_fits cells n (StringLine x text) k o h = subst (IsObjectAfter T made) (cc) (string_fits text (both (is_simple_name x) (list_all (is_from_to 32 126) text) k.well).1)
+    object_fits cells n MethodsLine k o h = absurd (cc)
     object_fits cells n (ClassLine name superclass) k o h = absurd (cc)
     object_fits cells n (FieldLine class name signature) k o h = absurd (cc)
     object_fits cells n (StaticLine class name signature) k o h = absurd (cc)

@@ -18,8 +18,8 @@ use Rattle.world.specs.Gathered.{Gathered, gather, is_known, can_hold, each_can_
 use Rattle.world_lines.specs.ClassRules.{broken_class_rule, is_formed}
 use Rattle.world_lines.specs.LineContents.{written_values, name_given, cells_added}
 use Rattle.world.specs.ReadingWorlds.{rule_broken, least_rule as least_of}
-use Rattle.world_values.specs.WorldLines.{WorldValue, NumberValue, NullValue, NamedObject, NamedClass, WorldLine, ClassLine, FieldLine, StaticLine, ObjectLine, ObjectsLine, ArrayLine, StringLine, ThreadLine, CallLine, Lines}
-use Rattle.world_values.specs.WorldMeaning.{table_of, object_defined, objects_defined, values_of_line, invocation_of_line, with_last, threads_with, threads_of, cells_of}
+use Rattle.world_values.specs.WorldLines.{WorldValue, NumberValue, NullValue, NamedObject, NamedClass, WorldLine, MethodsLine, ClassLine, FieldLine, StaticLine, ObjectLine, ObjectsLine, ArrayLine, StringLine, ThreadLine, CallLine, Lines}
+use Rattle.world_values.specs.WorldMeaning.{table_of, object_defined, objects_defined, values_of_line, invocation_of_line, with_last, threads_with, threads_of, has_methods, cells_of}
 use Rattle.world_values.specs.WorldRules.{part_of, is_in_order, is_formed_value, is_well_formed, is_class_allowed, is_name_taken, is_known_value, holds_value, types_of_line, each_holds, value_in_range, each_in_range, is_within_limits, line_breaks}
 use Rattle.world.proofs.GrownLines.{defined_grow, threads_grow}
 use Rattle.world.proofs.OrderedLines.{AreOrdered, order_told}
@@ -103,6 +103,7 @@ numbers_all p h [] = refl
 numbers_all p h (b ∷ text) = and_from (p (NumberValue (pos b))) (list_all p (map (λ b. NumberValue (pos b)) text)) (h b) (numbers_all p h text)
 
 written_all : (p : WorldValue → Bool) → ((b : ℕ) → p (NumberValue (pos b)) ≡ true) → (line : WorldLine) → list_all p (written_values line) ≡ list_all p (values_of_line line)
+written_all p h MethodsLine = refl
 written_all p h (ClassLine name superclass) = refl
 written_all p h (FieldLine class name signature) = refl
 written_all p h (StaticLine class name signature) = refl
@@ -120,7 +121,7 @@ text_in_range (b ∷ text) h =
     let low = at_most b 126 (both (nat_le 32 b) (nat_le b 126) first.0).1 in
     and_from (nat_le b 2147483647) (list_all (value_in_range JInt) (map (λ b. NumberValue (pos b)) text)) (at_most_so b 2147483647 (omega (arith, low))) (text_in_range text first.1)
 
-module _ (cells part : ℕ) (L : Lines) where
+module _ (heap_line cells part : ℕ) (L : Lines) where
   abbrev T : Classes
   T = table_of L
 
@@ -128,7 +129,7 @@ module _ (cells part : ℕ) (L : Lines) where
   N = objects_defined L
 
   abbrev g : Gathered
-  g = gather cells part L
+  g = gather heap_line cells part L
 
   known_same : (v : WorldValue) → is_known T N v ≡ is_known_value L v
   known_same (NumberValue z) = refl
@@ -159,6 +160,7 @@ module _ (cells part : ℕ) (L : Lines) where
     known_told = (λ i. list_all (λ v. known_same v i) (written_values line)) ∙ written_all (is_known_value L) (λ b. refl) line
 
   taken_same : (line : WorldLine) → some_passes (λ x. is_some (lookup x N)) (name_given line) ≡ is_name_taken L line
+  taken_same MethodsLine = refl
   taken_same (ClassLine name superclass) = refl
   taken_same (FieldLine class name signature) = refl
   taken_same (StaticLine class name signature) = refl
@@ -170,6 +172,7 @@ module _ (cells part : ℕ) (L : Lines) where
   taken_same (CallLine function arguments) = refl
 
   held_same : (line : WorldLine) → each_can_hold T N (types_of_line T line) (written_values line) ≡ each_holds L (types_of_line T line) (values_of_line line)
+  held_same MethodsLine = refl
   held_same (ClassLine name superclass) = refl
   held_same (FieldLine class name signature) = refl
   held_same (StaticLine class name signature) = refl
@@ -181,6 +184,7 @@ module _ (cells part : ℕ) (L : Lines) where
   held_same (CallLine function arguments) = refl
 
   ranged_same : (line : WorldLine) → is_formed T line ≡ true → each_in_range (types_of_line T line) (written_values line) ≡ each_in_range (types_of_line T line) (values_of_line line)
+  ranged_same MethodsLine h = refl
   ranged_same (ClassLine name superclass) h = refl
   ranged_same (FieldLine class name signature) h = refl
   ranged_same (StaticLine class name signature) h = refl
@@ -193,10 +197,10 @@ module _ (cells part : ℕ) (L : Lines) where
   ranged_same (ThreadLine function arguments) h = refl
   ranged_same (CallLine function arguments) h = refl
 
-  named_told : (line : WorldLine) → not (is_named T N line)
-      ≡ (is_name_taken L line || not (is_class_allowed T line) || not (list_all (is_known_value L) (values_of_line line)) || not (each_holds L (types_of_line T line) (values_of_line line)))
+  named_told : (line : WorldLine) → not (is_named (has_methods L) T N line)
+      ≡ (is_name_taken L line || not (is_class_allowed (has_methods L) T line) || not (list_all (is_known_value L) (values_of_line line)) || not (each_holds L (types_of_line T line) (values_of_line line)))
   named_told line =
-      (λ i. not (not (taken_same line i) && is_class_allowed T line && known_told line i && held_same line i)) ∙ by_tests (is_name_taken L line) (is_class_allowed T line) _ _
+      (λ i. not (not (taken_same line i) && is_class_allowed (has_methods L) T line && known_told line i && held_same line i)) ∙ by_tests (is_name_taken L line) (is_class_allowed (has_methods L) T line) _ _
     where
       by_tests : (a b c d : Bool) → not (not a && b && c && d) ≡ (a || not b || not c || not d)
       by_tests true b c d = refl
@@ -272,7 +276,7 @@ module _ (cells part : ℕ) (L : Lines) where
       limits_told : is_within_limits next ≡ limits_of (N ++ option_to_list (object_defined T line)) (threads_with L (threads_of L) (n, line))
       limits_told = λ i. limits_of (defined_grow L n line ordered i) (threads_grow L n line ordered s.sound.known own i)
 
-      cells_told : is_class_allowed T line ≡ true → cells_of next ≡ cells_of L + cells_added line
+      cells_told : is_class_allowed (has_methods L) T line ≡ true → cells_of next ≡ cells_of L + cells_added line
       cells_told allowed = cells_grow L n line s.sound.built_ins ordered s.sound.known own allowed
 
     -- ---- the last two rules
@@ -303,7 +307,9 @@ module _ (cells part : ℕ) (L : Lines) where
     room_left : not (nat_le (cells_of L + 0) cells) ≡ false
     room_left = let low = s.sound.fits in ap not (at_most_so (cells_of L + 0) cells (omega (arith, low)))
 
-    last_same : (n : ℕ) (line : WorldLine) (ranged : Bool) → is_in_order L line ≡ true → list_all (is_known_value L) (values_of_line line) ≡ true → is_class_allowed T line ≡ true → asked_last n line ranged ≡ said_last n line ranged
+    last_same : (n : ℕ) (line : WorldLine) (ranged : Bool) → is_in_order L line ≡ true → list_all (is_known_value L) (values_of_line line) ≡ true → is_class_allowed (has_methods L) T line ≡ true → asked_last n line ranged ≡ said_last n line ranged
+    last_same n MethodsLine ranged ordered own allowed =
+        last_told n MethodsLine ranged (limits_told n MethodsLine ordered own ∙ no_name) (above_is_full 6 (cells_of (L ++ (n, MethodsLine) ∷ [])) (cells_told n MethodsLine ordered own allowed))
     last_same n (ClassLine name superclass) ranged ordered own allowed =
         let line = ClassLine name superclass in last_told n line ranged (limits_told n line ordered own ∙ no_name) (above_is_full (cells_added line) (cells_of (L ++ (n, line) ∷ [])) (cells_told n line ordered own allowed))
     last_same n (FieldLine class name signature) ranged ordered own allowed =
@@ -332,30 +338,30 @@ module _ (cells part : ℕ) (L : Lines) where
       abbrev ranged : Bool
       ranged = each_in_range (types_of_line T line) (written_values line)
 
-      later_same : is_in_order L line ≡ true → least_broken None (is_formed T line) (is_named T N line) (ranged && has_place g line) (nat_le (cells_of L + cells_added line) cells) ≡ later_rules breaks
+      later_same : is_in_order L line ≡ true → least_broken None (is_formed T line) (is_named (has_methods L) T N line) (ranged && has_place g line) (nat_le (cells_of L + cells_added line) cells) ≡ later_rules breaks
       later_same ordered = by_form (is_formed T line) refl
         where
           form_broken : breaks LineForm ≡ not (is_formed T line)
           form_broken = de_morgan (is_well_formed T line) (list_all is_formed_value (values_of_line line)) ∙ ap not (sym (form_same line))
 
-          names_broken : breaks WrongName ≡ not (is_named T N line)
+          names_broken : breaks WrongName ≡ not (is_named (has_methods L) T N line)
           names_broken = sym (named_told line)
 
-          by_names : is_formed T line ≡ true → (b : Bool) → is_named T N line ≡ b
+          by_names : is_formed T line ≡ true → (b : Bool) → is_named (has_methods L) T N line ≡ b
               → cond (not b) (Some WrongName) (cond (not (ranged && has_place g line)) (Some OutOfLimit) (cond (not (nat_le (cells_of L + cells_added line) cells)) (Some HeapFull) None))
               ≡ cond (not b) (Some WrongName) (said_last n line (each_in_range (types_of_line T line) (values_of_line line)))
           by_names formed false e = refl
           by_names formed true e =
-              let a = both (not (some_passes (λ x. is_some (lookup x N)) (name_given line)) && is_class_allowed T line && list_all (is_known T N) (written_values line)) (each_can_hold T N (types_of_line T line) (written_values line)) e in
-              let b = both (not (some_passes (λ x. is_some (lookup x N)) (name_given line)) && is_class_allowed T line) (list_all (is_known T N) (written_values line)) a.0 in
-              let c = both (not (some_passes (λ x. is_some (lookup x N)) (name_given line))) (is_class_allowed T line) b.0 in
+              let a = both (not (some_passes (λ x. is_some (lookup x N)) (name_given line)) && is_class_allowed (has_methods L) T line && list_all (is_known T N) (written_values line)) (each_can_hold T N (types_of_line T line) (written_values line)) e in
+              let b = both (not (some_passes (λ x. is_some (lookup x N)) (name_given line)) && is_class_allowed (has_methods L) T line) (list_all (is_known T N) (written_values line)) a.0 in
+              let c = both (not (some_passes (λ x. is_some (lookup x N)) (name_given line))) (is_class_allowed (has_methods L) T line) b.0 in
               last_same n line ranged ordered (sym (known_told line) ∙ b.1) c.1 ∙ ap (said_last n line) (ranged_same line formed)
 
-          by_form : (b : Bool) → is_formed T line ≡ b → least_broken None (is_formed T line) (is_named T N line) (ranged && has_place g line) (nat_le (cells_of L + cells_added line) cells) ≡ later_rules breaks
-          by_form false e = ap (λ f. least_broken None f (is_named T N line) (ranged && has_place g line) (nat_le (cells_of L + cells_added line) cells)) e ∙ sym (ap (λ b. cond b (Some LineForm) (cond (breaks WrongName) (Some WrongName) (said_last n line (each_in_range (types_of_line T line) (values_of_line line))))) (form_broken ∙ ap not e))
+          by_form : (b : Bool) → is_formed T line ≡ b → least_broken None (is_formed T line) (is_named (has_methods L) T N line) (ranged && has_place g line) (nat_le (cells_of L + cells_added line) cells) ≡ later_rules breaks
+          by_form false e = ap (λ f. least_broken None f (is_named (has_methods L) T N line) (ranged && has_place g line) (nat_le (cells_of L + cells_added line) cells)) e ∙ sym (ap (λ b. cond b (Some LineForm) (cond (breaks WrongName) (Some WrongName) (said_last n line (each_in_range (types_of_line T line) (values_of_line line))))) (form_broken ∙ ap not e))
           by_form true e =
-              ap (λ f. least_broken None f (is_named T N line) (ranged && has_place g line) (nat_le (cells_of L + cells_added line) cells)) e
-              ∙ by_names e (is_named T N line) refl
+              ap (λ f. least_broken None f (is_named (has_methods L) T N line) (ranged && has_place g line) (nat_le (cells_of L + cells_added line) cells)) e
+              ∙ by_names e (is_named (has_methods L) T N line) refl
               ∙ ap (λ b. cond b (Some WrongName) (said_last n line (each_in_range (types_of_line T line) (values_of_line line)))) (sym names_broken)
               ∙ sym (ap (λ b. cond b (Some LineForm) (cond (breaks WrongName) (Some WrongName) (said_last n line (each_in_range (types_of_line T line) (values_of_line line))))) (form_broken ∙ ap not e))
 
@@ -364,7 +370,7 @@ module _ (cells part : ℕ) (L : Lines) where
       rule_same = ap by_order (sym (order_told L part line s.ordered)) ∙ in_order (is_in_order L line) refl
         where
           by_order : Bool → Option LineRule
-          by_order b = cond b (least_broken (broken_class_rule T line) (is_formed T line) (is_named T N line) (ranged && has_place g line) (nat_le (cells_of L + cells_added line) cells)) (Some LineForm)
+          by_order b = cond b (least_broken (broken_class_rule T line) (is_formed T line) (is_named (has_methods L) T N line) (ranged && has_place g line) (nat_le (cells_of L + cells_added line) cells)) (Some LineForm)
 
           in_order : (b : Bool) → is_in_order L line ≡ b → by_order (is_in_order L line) ≡ rule_broken cells L (n, line)
           in_order false e = ap by_order e ∙ sym (ap (λ b. least_of (cond b (filter breaks line_rules) (LineForm ∷ []))) e)

@@ -12,8 +12,8 @@ use Rattle.semantics.specs.Object.{ObjectValue, Number}
 use Rattle.world.specs.Gathered.{Gathered, gather, value_at, with_object, with_line}
 use Rattle.world_lines.specs.LineContents.{cells_added}
 use Rattle.world.specs.ReadingWorlds.{rule_broken}
-use Rattle.world_values.specs.WorldLines.{WorldValue, NumberValue, NullValue, NamedObject, NamedClass, WorldLine, ClassLine, FieldLine, StaticLine, ObjectLine, ObjectsLine, ArrayLine, StringLine, ThreadLine, CallLine, Lines}
-use Rattle.world_values.specs.WorldMeaning.{class_number, superclass_number, table_with, table_of, object_defined, objects_defined, value_of, object_of, invocation_of_line, with_last, threads_with, threads_of, cells_of}
+use Rattle.world_values.specs.WorldLines.{WorldValue, NumberValue, NullValue, NamedObject, NamedClass, WorldLine, MethodsLine, ClassLine, FieldLine, StaticLine, ObjectLine, ObjectsLine, ArrayLine, StringLine, ThreadLine, CallLine, Lines}
+use Rattle.world_values.specs.WorldMeaning.{class_number, superclass_number, table_with, table_of, object_defined, objects_defined, value_of, object_of, invocation_of_line, with_last, threads_with, threads_of, has_methods, cells_of}
 use Rattle.world_values.specs.WorldRules.{part_of, is_in_order, broken_by_line}
 use Rattle.world.proofs.GatheredLines.{AreGathered, length-with_last}
 use Rattle.world.proofs.GrownLines.{objects_of, table_grows, defined_grow, objects_grow, threads_grow, no_threads}
@@ -22,7 +22,7 @@ use Rattle.world.proofs.KeptLines.{IsKept, kept_line}
 use Rattle.world.proofs.Places.{position-found}
 use Rattle.world.proofs.OrderedLines.{order_told, more_ordered}
 use Rattle.world.proofs.ReadWorlds.{least_none}
-use Rattle.world.proofs.Soundness.{line_sound}
+use Rattle.world.proofs.Soundness.{line_sound, methods_stay}
 use Rattle.world_lines.proofs.Tests.{both, later_number, not_false}
 use Rattle.world.proofs.WorldCells.{cells_grow}
 
@@ -53,7 +53,7 @@ superclass_told T name (Some above) k h = named_number T above (not_false (some_
 
 -- ---- one more line
 
-module _ (cells part : ℕ) (L : Lines) (s : AreGathered cells part L) (n : ℕ) where
+module _ (heap_line cells part : ℕ) (L : Lines) (s : AreGathered cells part L) (n : ℕ) where
   abbrev T : Classes
   T = table_of L
 
@@ -61,7 +61,7 @@ module _ (cells part : ℕ) (L : Lines) (s : AreGathered cells part L) (n : ℕ)
   N = objects_defined L
 
   abbrev g : Gathered
-  g = gather cells part L
+  g = gather heap_line cells part L
 
   value_same : (v : WorldValue) → value_of L v ≡ value_at T N v
   value_same (NumberValue z) = refl
@@ -79,6 +79,8 @@ module _ (cells part : ℕ) (L : Lines) (s : AreGathered cells part L) (n : ℕ)
   -- what there is of each kind after a line, by the lines before it
   abbrev grown : WorldLine → Gathered
   grown line = record {
+    heap_line = heap_line;
+    methods = has_methods L;
     cells = cells;
     classes = table_with T line;
     names = N ++ option_to_list (object_defined T line);
@@ -93,6 +95,7 @@ module _ (cells part : ℕ) (L : Lines) (s : AreGathered cells part L) (n : ℕ)
   more_object x class values held size e k = λ i. record g { names = N ++ (x, class) ∷ []; objects = objects_of L ++ (record { class = class; values = e i }) ∷ []; used = cells_of L + (3 + sym k i); part = 1 }
 
   line_added : (line : WorldLine) → IsKept cells L (n, line) → grown line ≡ with_line g n line
+  line_added MethodsLine k = absurd (let no : false ≡ true = k.well in cc)
   line_added (ClassLine name superclass) k =
       let above = superclass_told T name superclass s.sound.built_ins (k.class_rules BadSuperclass) in
       λ i. record g { classes = with_class T (new_class name (sym above i)); names = append-nil N i; objects = append-nil (objects_of L) i; used = cells_of L + 6; part = 0 }
@@ -123,9 +126,11 @@ module _ (cells part : ℕ) (L : Lines) (s : AreGathered cells part L) (n : ℕ)
     threads_next : threads_of next ≡ threads_with L (threads_of L) (n, line)
     threads_next = threads_grow L n line k.ordered s.sound.known k.known
 
-    pub gathered_next : gather cells (part_of line) next ≡ with_line g n line
+    pub gathered_next : gather heap_line cells (part_of line) next ≡ with_line g n line
     gathered_next =
         (λ i. record {
+          heap_line = heap_line;
+          methods = methods_stay cells L n line s.sound k i;
           cells = cells;
           classes = table_grows L n line i;
           names = defined_grow L n line k.ordered i;
@@ -142,6 +147,7 @@ module _ (cells part : ℕ) (L : Lines) (s : AreGathered cells part L) (n : ℕ)
 
     -- whether there is one
     started_next : (l : WorldLine) → l ≡ line → (length (threads_of next) == 0) ≡ not (part_of l == 2)
+    started_next MethodsLine e = let p = ap part_of e in before_threads (omega (arith, p)) (ap (λ l. threads_with L (threads_of L) (n, l)) (sym e))
     started_next (ClassLine name superclass) e = let p = ap part_of e in before_threads (omega (arith, p)) (ap (λ l. threads_with L (threads_of L) (n, l)) (sym e))
     started_next (FieldLine class name signature) e = let p = ap part_of e in before_threads (omega (arith, p)) (ap (λ l. threads_with L (threads_of L) (n, l)) (sym e))
     started_next (StaticLine class name signature) e = let p = ap part_of e in before_threads (omega (arith, p)) (ap (λ l. threads_with L (threads_of L) (n, l)) (sym e))

@@ -7,7 +7,7 @@ use Rattle.class_rules.specs.Additions.{ClassRule, NameTaken, BadSuperclass, cla
 use Rattle.class_rules.specs.BuiltIns.{built_ins, has_own_making}
 use Rattle.class_rules.specs.Class.{Classes, class_kind, class_named, is_plain}
 use Rattle.class_rules.specs.Grown.{IsGrown, BuiltIns, WithClass, WithField, WithStatic}
-use Rattle.world_values.specs.WorldLines.{WorldLine, ClassLine, FieldLine, StaticLine, ObjectLine, ObjectsLine, ArrayLine, StringLine, ThreadLine, CallLine}
+use Rattle.world_values.specs.WorldLines.{WorldLine, MethodsLine, ClassLine, FieldLine, StaticLine, ObjectLine, ObjectsLine, ArrayLine, StringLine, ThreadLine, CallLine}
 use Rattle.world_values.specs.WorldMeaning.{class_number, superclass_number, field_of, table_with}
 use Rattle.world_values.specs.WorldRules.{is_well_formed, breaks_class_rule}
 use Rattle.world_lines.proofs.Tests.{not_false, not_true}
@@ -54,6 +54,7 @@ module _ (T : Classes) (t : IsGrownTable T) where
 
   -- one more line keeps the rules on classes
   pub line_grows : (line : WorldLine) → ((rule : ClassRule) → breaks_class_rule rule T line ≡ false) → is_well_formed T line ≡ true → IsGrownTable (table_with T line)
+  line_grows MethodsLine rules well = absurd (let no : false ≡ true = well in cc)
   line_grows (ClassLine name superclass) rules well =
       let above = superclass_open name superclass (rules BadSuperclass) in
       record {

@@ -12,7 +12,7 @@ use Rattle.class_rules.specs.BuiltIns.{built_ins}
 use Rattle.class_rules.specs.Class.{Classes, class_named}
 use Rattle.semantics.specs.Object.{Object, Refers}
 use Rattle.semantics.specs.World.{Invocation}
-use Rattle.world_values.specs.WorldLines.{WorldValue, NumberValue, NullValue, NamedObject, NamedClass, WorldLine, ClassLine, FieldLine, StaticLine, ObjectLine, ObjectsLine, ArrayLine, StringLine, ThreadLine, CallLine, Lines}
+use Rattle.world_values.specs.WorldLines.{WorldValue, NumberValue, NullValue, NamedObject, NamedClass, WorldLine, MethodsLine, ClassLine, FieldLine, StaticLine, ObjectLine, ObjectsLine, ArrayLine, StringLine, ThreadLine, CallLine, Lines}
 use Rattle.world_values.specs.WorldMeaning.{table_with, table_of, object_defined, objects_defined, class_of_object, object_number, value_of, values_of_line, object_of, with_last, threads_with, threads_of}
 use Rattle.world_values.specs.WorldRules.{part_of, is_thread_line, is_call_line, is_in_order, is_known_value}
 use Rattle.world.proofs.Places.{found, position-found, kept_place}
@@ -41,6 +41,7 @@ within_more p q le (l ∷ lines) h =
 
 -- a line of the first part, or of a later one
 pub first_or_later : (line : WorldLine) → (part_of line ≡ 0) ⊎ (0 < part_of line)
+first_or_later MethodsLine = inl refl
 first_or_later (ClassLine name superclass) = inl refl
 first_or_later (FieldLine class name signature) = inl refl
 first_or_later (StaticLine class name signature) = inl refl
@@ -53,6 +54,7 @@ first_or_later (CallLine function arguments) = inr (omega arith)
 
 -- a line of a thread, or of an earlier part
 pub before_or_thread : (line : WorldLine) → (part_of line ≤ 1) ⊎ (part_of line ≡ 2)
+before_or_thread MethodsLine = inl (omega arith)
 before_or_thread (ClassLine name superclass) = inl (omega arith)
 before_or_thread (FieldLine class name signature) = inl (omega arith)
 before_or_thread (StaticLine class name signature) = inl (omega arith)
@@ -66,6 +68,7 @@ before_or_thread (CallLine function arguments) = inr refl
 -- ---- what a line of a part defines
 
 no_object : (T : Classes) (line : WorldLine) → nat_le (part_of line) 0 ≡ true → object_defined T line ≡ None
+no_object T MethodsLine h = refl
 no_object T (ClassLine name superclass) h = refl
 no_object T (FieldLine class name signature) h = refl
 no_object T (StaticLine class name signature) h = refl
@@ -78,6 +81,7 @@ no_object T (CallLine function arguments) h = refl
 
 -- the lines of threads define none either
 pub thread_no_object : (T : Classes) (line : WorldLine) → part_of line ≡ 2 → object_defined T line ≡ None
+thread_no_object T MethodsLine h = refl
 thread_no_object T (ClassLine name superclass) h = refl
 thread_no_object T (FieldLine class name signature) h = refl
 thread_no_object T (StaticLine class name signature) h = refl
@@ -89,6 +93,7 @@ thread_no_object T (ThreadLine function arguments) h = refl
 thread_no_object T (CallLine function arguments) h = refl
 
 no_value : (line : WorldLine) → nat_le (part_of line) 0 ≡ true → values_of_line line ≡ []
+no_value MethodsLine h = refl
 no_value (ClassLine name superclass) h = refl
 no_value (FieldLine class name signature) h = refl
 no_value (StaticLine class name signature) h = refl
@@ -100,6 +105,7 @@ no_value (ThreadLine function arguments) h = absurd (let no : false ≡ true = h
 no_value (CallLine function arguments) h = absurd (let no : false ≡ true = h in cc)
 
 pub no_thread : (L : Lines) (threads : List (List Invocation)) (n : ℕ) (line : WorldLine) → nat_le (part_of line) 1 ≡ true → threads_with L threads (n, line) ≡ threads
+no_thread L threads n MethodsLine h = refl
 no_thread L threads n (ClassLine name superclass) h = refl
 no_thread L threads n (FieldLine class name signature) h = refl
 no_thread L threads n (StaticLine class name signature) h = refl
@@ -111,6 +117,7 @@ no_thread L threads n (ThreadLine function arguments) h = absurd (let no : false
 no_thread L threads n (CallLine function arguments) h = absurd (let no : false ≡ true = h in cc)
 
 same_classes : (T : Classes) (line : WorldLine) → 0 < part_of line → table_with T line ≡ T
+same_classes T MethodsLine h = absurd (omega (arith, h))
 same_classes T (ClassLine name superclass) h = absurd (omega (arith, h))
 same_classes T (FieldLine class name signature) h = absurd (omega (arith, h))
 same_classes T (StaticLine class name signature) h = absurd (omega (arith, h))
@@ -306,6 +313,7 @@ module _ (earlier : Lines) (n : ℕ) (line : WorldLine) where
 
       -- what a thread or call line of known values adds
       pub thread_kept : (threads : List (List Invocation)) (m : ℕ) (l : WorldLine) → list_all (is_known_value earlier) (values_of_line l) ≡ true → threads_with next threads (m, l) ≡ threads_with earlier threads (m, l)
+      thread_kept threads m MethodsLine h = refl
       thread_kept threads m (ClassLine name superclass) h = refl
       thread_kept threads m (FieldLine class name signature) h = refl
       thread_kept threads m (StaticLine class name signature) h = refl

@@ -5,7 +5,7 @@ use Rattle.std.specs.List.{list_all}
 use Rattle.class_rules.specs.Additions.{ClassRule, NameTaken, BadSuperclass, BadSignature, TooMany}
 use Rattle.world_schedules.specs.LineRules.{LineRule, OfClass, LineForm, WrongName, OutOfLimit, HeapFull, line_rules}
 use Rattle.world_values.specs.WorldLines.{WorldLine, Lines}
-use Rattle.world_values.specs.WorldMeaning.{table_of, objects_defined, values_of_line, threads_of, cells_of}
+use Rattle.world_values.specs.WorldMeaning.{table_of, objects_defined, values_of_line, threads_of, has_methods, cells_of}
 use Rattle.world_values.specs.WorldRules.{part_of, is_in_order, is_formed_value, is_well_formed, is_class_allowed, is_name_taken, is_known_value, types_of_line, each_holds, each_in_range, is_within_limits, breaks_class_rule, line_breaks, broken_by_line, broken_after}
 use Rattle.world_lines.proofs.Tests.{both, neither, not_false, filter_none, at_most, not_less, less_so}
 
@@ -16,7 +16,7 @@ pub record IsKept (cells : ℕ) (earlier : Lines) (line : ℕ × WorldLine) : Ty
   pub well : is_well_formed (table_of earlier) line.1 ≡ true
   pub formed : list_all is_formed_value (values_of_line line.1) ≡ true
   pub new : is_name_taken earlier line.1 ≡ false
-  pub allowed : is_class_allowed (table_of earlier) line.1 ≡ true
+  pub allowed : is_class_allowed (has_methods earlier) (table_of earlier) line.1 ≡ true
   pub known : list_all (is_known_value earlier) (values_of_line line.1) ≡ true
   pub held : each_holds earlier (types_of_line (table_of earlier) line.1) (values_of_line line.1) ≡ true
   pub ranged : each_in_range (types_of_line (table_of earlier) line.1) (values_of_line line.1) ≡ true
@@ -60,9 +60,9 @@ module _ (cells : ℕ) (earlier : Lines) (n : ℕ) (line : WorldLine) where
       let vs = values_of_line line in
       let next = earlier ++ (n, line) ∷ [] in
       let form = neither (not (is_well_formed T line)) (not (list_all is_formed_value vs)) (keeps LineForm) in
-      let held = neither (is_name_taken earlier line || not (is_class_allowed T line) || not (list_all (is_known_value earlier) vs)) (not (each_holds earlier (types_of_line T line) vs)) (keeps WrongName) in
-      let known = neither (is_name_taken earlier line || not (is_class_allowed T line)) (not (list_all (is_known_value earlier) vs)) held.0 in
-      let allowed = neither (is_name_taken earlier line) (not (is_class_allowed T line)) known.0 in
+      let held = neither (is_name_taken earlier line || not (is_class_allowed (has_methods earlier) T line) || not (list_all (is_known_value earlier) vs)) (not (each_holds earlier (types_of_line T line) vs)) (keeps WrongName) in
+      let known = neither (is_name_taken earlier line || not (is_class_allowed (has_methods earlier) T line)) (not (list_all (is_known_value earlier) vs)) held.0 in
+      let allowed = neither (is_name_taken earlier line) (not (is_class_allowed (has_methods earlier) T line)) known.0 in
       let limit = neither (not (each_in_range (types_of_line T line) vs)) (not (is_within_limits next)) (keeps OutOfLimit) in
       let limits = both (nat_le (length (objects_defined next)) 65536 && nat_le (length (threads_of next)) 8) (list_all (λ calls. nat_le (length calls) 256) (threads_of next)) (not_false (is_within_limits next) limit.1) in
       let counts = both (nat_le (length (objects_defined next)) 65536) (nat_le (length (threads_of next)) 8) limits.0 in

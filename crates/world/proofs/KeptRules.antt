@@ -22,7 +22,7 @@ pub record Keeps (g : Gathered) (line : WorldLine) : Type 0 where
   pub class_rules : broken_class_rule g.classes line ≡ None
   pub formed : is_formed g.classes line ≡ true
   pub new : some_passes (λ x. is_some (lookup x g.names)) (name_given line) ≡ false
-  pub allowed : is_class_allowed g.classes line ≡ true
+  pub allowed : is_class_allowed g.methods g.classes line ≡ true
   pub known : list_all (is_known g.classes g.names) (written_values line) ≡ true
   pub held : each_can_hold g.classes g.names (types_of_line g.classes line) (written_values line) ≡ true
   pub ranged : each_in_range (types_of_line g.classes line) (written_values line) ≡ true
@@ -52,7 +52,7 @@ keeps g line h = by_order (comes_in_order g line) refl h
         least_broken
         (broken_class_rule g.classes line)
         (is_formed g.classes line)
-        (is_named g.classes g.names line)
+        (is_named g.methods g.classes g.names line)
         (each_in_range (types_of_line g.classes line) (written_values line) && has_place g line)
         (nat_le (g.used + cells_added line) g.cells)
 
@@ -62,9 +62,9 @@ keeps g line h = by_order (comes_in_order g line) refl h
         let are = none_is_broken _ _ _ _ _ k in
         let taken = some_passes (λ x. is_some (lookup x g.names)) (name_given line) in
         let known = list_all (is_known g.classes g.names) (written_values line) in
-        let held = both (not taken && is_class_allowed g.classes line && known) (each_can_hold g.classes g.names (types_of_line g.classes line) (written_values line)) are.named in
-        let rest = both (not taken && is_class_allowed g.classes line) known held.0 in
-        let first = both (not taken) (is_class_allowed g.classes line) rest.0 in
+        let held = both (not taken && is_class_allowed g.methods g.classes line && known) (each_can_hold g.classes g.names (types_of_line g.classes line) (written_values line)) are.named in
+        let rest = both (not taken && is_class_allowed g.methods g.classes line) known held.0 in
+        let first = both (not taken) (is_class_allowed g.methods g.classes line) rest.0 in
         let limits = both (each_in_range (types_of_line g.classes line) (written_values line)) (has_place g line) are.limited in
         record {
           ordered = e;

@@ -18,3 +18,4 @@ pub mod ReadWorlds
 pub mod GatheredLines
 pub mod GatheredNext
 pub mod ReadingGathered
+pub mod FirstLines

@@ -1,5 +1,5 @@
 -- The names of objects in memory, by name and by place.
-use Rattle.std.proofs.Common.{◌≡◌, ℕ, suc, ◌+◌, Bool, cond, List, [], ◌∷◌, ◌++◌, length, position, Option, Some, None, Result, Ok, Err, is_err, true, false, nat_lt, refl, ap}
+use Rattle.std.proofs.Common.{◌≡◌, ℕ, suc, ◌+◌, Bool, cond, List, [], ◌∷◌, ◌++◌, length, position, Some, None, Result, Ok, Err, is_err, true, false, nat_lt, refl, ap}
 use Rattle.std.specs.Prelude.{not, OnOk}
 use Rattle.std.specs.List.{prefix_len}
 use Rattle.std.specs.Str.{bytes_eq}

@@ -4,7 +4,7 @@ use Rattle.std.specs.Prelude.{not, ◌&&◌, ◌||◌, ◌==◌, nat_le}
 use Rattle.std.specs.List.{list_any}
 use Rattle.std.proofs.lemmas.Bool.Decides.{nat_tests}
 use Rattle.std.proofs.lemmas.List.Folds.{list_all-append, list_any-append}
-use Rattle.world_values.specs.WorldLines.{WorldLine, ClassLine, FieldLine, StaticLine, ObjectLine, ObjectsLine, ArrayLine, StringLine, ThreadLine, CallLine, Lines}
+use Rattle.world_values.specs.WorldLines.{WorldLine, MethodsLine, ClassLine, FieldLine, StaticLine, ObjectLine, ObjectsLine, ArrayLine, StringLine, ThreadLine, CallLine, Lines}
 use Rattle.world_values.specs.WorldRules.{part_of, is_thread_line, is_call_line, is_in_order}
 use Rattle.world.proofs.GrownLines.{are_within}
 use Rattle.world_lines.proofs.Tests.{both, at_most, at_most_so}
@@ -42,6 +42,7 @@ or_none a b h k = (λ i. h i || (k i || false))
 thread_after : (part : ℕ) (line : WorldLine) → nat_le part (part_of line) ≡ true → (not (is_call_line line) || (part == 2)) ≡ true → ((part == 2) || (is_thread_line line || false)) ≡ (part_of line == 2)
 thread_after part (ThreadLine function vs) h k = or_right (part == 2) true refl
 thread_after part (CallLine function vs) h k = or_left (part == 2) false k
+thread_after part MethodsLine h k = let low = at_most part 0 h in or_none (part == 2) false (grind (arith, nat_tests, low)) refl
 thread_after part (ClassLine name superclass) h k = let low = at_most part 0 h in or_none (part == 2) false (grind (arith, nat_tests, low)) refl
 thread_after part (FieldLine class name signature) h k = let low = at_most part 0 h in or_none (part == 2) false (grind (arith, nat_tests, low)) refl
 thread_after part (StaticLine class name signature) h k = let low = at_most part 0 h in or_none (part == 2) false (grind (arith, nat_tests, low)) refl

@@ -1,6 +1,6 @@
 -- The worlds that are read are those that texts mean.
 use Rattle.std.proofs.Common.{◌≡◌, ℕ, ◌≤◌, Bool, true, false, cond, List, [], ◌∷◌, ◌++◌, Option, Some, None, Ok, refl, sym, ap, ◌∙◌, subst, append_assoc, append-nil}
-use Rattle.std.specs.Prelude.{◌&&◌, nat_le}
+use Rattle.std.specs.Prelude.{◌&&◌, ◌||◌, nat_le, Result}
 use Rattle.std.specs.List.{list_all, list_any, AllZip}
 use Rattle.std.proofs.lemmas.Bool.{and_from}
 use Rattle.base.specs.Element.{JInt}
@@ -9,13 +9,14 @@ use Rattle.semantics.specs.World.{World}
 use Rattle.world_schedules.specs.LineRules.{LineRule}
 use Rattle.world_schedules.specs.Reading.{◌>>=◌, refused}
 use Rattle.world_schedules.specs.declared.fault.Rule.TheVariants as held
+use Rattle.world_schedules.specs.declared.fault.TextFault.{TextFault}
 use Rattle.world_schedules.proofs.WordLaws.{and_then_ok}
-use Rattle.world_lines.specs.ReadingLines.{heap_of_line, line_of}
+use Rattle.world_lines.specs.ReadingLines.{HeapLine, heap_of_line, line_of}
 use Rattle.world.specs.ReadingWorlds.{least_rule, rule_broken, ruled, line_read, lines_read, heap_read, last_number, world_read, numbered_read, world_of_text}
 use Rattle.world.specs.TextLaws.{WorldsAreRead}
-use Rattle.world_values.specs.WorldLines.{WorldValue, NumberValue, NullValue, NamedObject, NamedClass, WorldLine, ClassLine, FieldLine, StaticLine, ObjectLine, ObjectsLine, ArrayLine, StringLine, ThreadLine, CallLine, Lines, text_lines}
-use Rattle.world_values.specs.WorldMeaning.{world_of}
-use Rattle.world_values.specs.WorldRules.{is_thread_line, holds_value, each_holds, value_in_range, each_in_range, broken_by_line, broken_after, IsNumberedLine, IsWorldText, MeansOneWorld}
+use Rattle.world_values.specs.WorldLines.{WorldValue, NumberValue, NullValue, NamedObject, NamedClass, WorldLine, MethodsLine, ClassLine, FieldLine, StaticLine, ObjectLine, ObjectsLine, ArrayLine, StringLine, ThreadLine, CallLine, Lines, spaced, IsLineText, text_lines}
+use Rattle.world_values.specs.WorldMeaning.{is_methods_line, has_methods, world_of}
+use Rattle.world_values.specs.WorldRules.{is_thread_line, holds_value, each_holds, value_in_range, each_in_range, broken_by_line, broken_after, IsNumberedLine, heap_words, first_lines, IsWorldText, MeansOneWorld}
 use Rattle.world_lines.proofs.HeapLines.{heap_is_read, heap_is_written}
 use Rattle.world.proofs.KeptLines.{IsKept, kept_line, each_keeps, none_breaks}
 use Rattle.world_lines.specs.LineContents.{written_values}
@@ -40,6 +41,7 @@ ranged L (ReferenceField c ∷ types) (NamedObject x ∷ vs) h r = ranged L type
 ranged L (ReferenceField c ∷ types) (NamedClass x ∷ vs) h r = ranged L types vs ((both (holds_value L (ReferenceField c) (NamedClass x)) (each_holds L types vs) h).1) r
 
 pub kept_range : (cells : ℕ) (earlier : Lines) (n : ℕ) (line : WorldLine) → IsKept cells earlier (n, line) → list_all (value_in_range JInt) (written_values line) ≡ true
+kept_range cells earlier n MethodsLine k = refl
 kept_range cells earlier n (ClassLine name superclass) k = refl
 kept_range cells earlier n (FieldLine class name signature) k = refl
 kept_range cells earlier n (StaticLine class name signature) k = refl
@@ -125,48 +127,80 @@ lines_are_taken cells earlier ((number, bytes) ∷ numbered) ((n, line) ∷ rest
 
 -- ---- the whole
 
-heap_was_read : (number : ℕ) (o : Option ℕ) (cells : ℕ) → heap_read number o ≡ Ok cells → (o ≡ Some cells) × (512 ≤ cells) × (cells ≤ 1048576)
+heap_was_read : (number : ℕ) (o : Option HeapLine) (cells : ℕ) (methods : Bool) → heap_read number o ≡ Ok (cells, methods) → (o ≡ Some (cells, methods)) × (512 ≤ cells) × (cells ≤ 1048576)
 unfolding heap_read
-heap_was_read number None cells h = absurd (cc)
-heap_was_read number (Some c) cells h = by_test (nat_le 512 c && nat_le c 1048576) refl h
+heap_was_read number None cells methods h = absurd (cc)
+heap_was_read number (Some (c, m)) cells methods h = by_test (nat_le 512 c && nat_le c 1048576) refl h
   where
-    by_test : (b : Bool) → (nat_le 512 c && nat_le c 1048576) ≡ b → cond b (Ok c) (refused held.Limit number) ≡ Ok cells → (Some c ≡ Some cells) × (512 ≤ cells) × (cells ≤ 1048576)
+    by_test : (b : Bool) → (nat_le 512 c && nat_le c 1048576) ≡ b → cond {A = Result HeapLine TextFault} b (Ok (c, m)) (refused held.Limit number) ≡ Ok (cells, methods) → (◌≡◌ {A = Option HeapLine} (Some (c, m)) (Some (cells, methods))) × (512 ≤ cells) × (cells ≤ 1048576)
     by_test false e k = absurd (cc)
     by_test true e k =
-        let is : c ≡ cells = cc in
+        let both_are : ◌≡◌ {A = HeapLine} (c, m) (cells, methods) = cc in
+        let is : c ≡ cells = ap (λ (x : HeapLine). x.0) both_are in
         let b = both (nat_le 512 c) (nat_le c 1048576) e in
-        (ap (λ n. Some n) is, subst (λ n. 512 ≤ n) is (at_most 512 c b.0), subst (λ n. n ≤ 1048576) is (at_most c 1048576 b.1))
+        (ap (λ (x : HeapLine). Some x) both_are, subst (λ n. 512 ≤ n) is (at_most 512 c b.0), subst (λ n. n ≤ 1048576) is (at_most c 1048576 b.1))
 
-heap_is_taken : (number cells : ℕ) → 512 ≤ cells → cells ≤ 1048576 → heap_read number (Some cells) ≡ Ok cells
+heap_is_taken : (number cells : ℕ) (methods : Bool) → 512 ≤ cells → cells ≤ 1048576 → heap_read number (Some (cells, methods)) ≡ Ok (cells, methods)
 unfolding heap_read
-heap_is_taken number cells low high = (λ i. cond (at_most_so 512 cells low i && at_most_so cells 1048576 high i) (Ok cells) (refused held.Limit number))
+heap_is_taken number cells methods low high =
+    let read : Result HeapLine TextFault = Ok (cells, methods) in
+    (λ i. cond (at_most_so 512 cells low i && at_most_so cells 1048576 high i) read (refused held.Limit number))
 
-world_was_read : (cells last : ℕ) (lines : Lines) (world : World) → world_read cells last lines ≡ Ok world → (list_any (λ (l : ℕ × WorldLine). is_thread_line l.1) lines ≡ true) × (world_of cells lines ≡ world)
+world_was_read : (heap_line cells last : ℕ) (lines : Lines) (world : World) → world_read heap_line cells last lines ≡ Ok world → (list_any (λ (l : ℕ × WorldLine). is_thread_line l.1) lines ≡ true) × (world_of heap_line cells lines ≡ world)
 unfolding world_read
-world_was_read cells last lines world h = by_test (list_any (λ (l : ℕ × WorldLine). is_thread_line l.1) lines) h
+world_was_read heap_line cells last lines world h = by_test (list_any (λ (l : ℕ × WorldLine). is_thread_line l.1) lines) h
   where
-    by_test : (b : Bool) → cond b (Ok (world_of cells lines)) (refused held.Limit last) ≡ Ok world → (b ≡ true) × (world_of cells lines ≡ world)
+    by_test : (b : Bool) → cond b (Ok (world_of heap_line cells lines)) (refused held.Limit last) ≡ Ok world → (b ≡ true) × (world_of heap_line cells lines ≡ world)
     by_test false k = absurd (cc)
     by_test true k = (refl, cc)
 
-world_is_taken : (cells last : ℕ) (lines : Lines) → list_any (λ (l : ℕ × WorldLine). is_thread_line l.1) lines ≡ true → world_read cells last lines ≡ Ok (world_of cells lines)
+world_is_taken : (heap_line cells last : ℕ) (lines : Lines) → list_any (λ (l : ℕ × WorldLine). is_thread_line l.1) lines ≡ true → world_read heap_line cells last lines ≡ Ok (world_of heap_line cells lines)
 unfolding world_read
-world_is_taken cells last lines h = ap (λ b. cond b (Ok (world_of cells lines)) (refused held.Limit last)) h
+world_is_taken heap_line cells last lines h = ap (λ b. cond b (Ok (world_of heap_line cells lines)) (refused held.Limit last)) h
+
+-- the line of the heap is no thread's
+same_threads : (n : ℕ) (methods : Bool) (lines : Lines) → list_any (λ (l : ℕ × WorldLine). is_thread_line l.1) (first_lines n methods ++ lines) ≡ list_any (λ (l : ℕ × WorldLine). is_thread_line l.1) lines
+same_threads n true lines = refl
+same_threads n false lines = refl
+
+-- nor has it another say on methods than these
+allows : (n : ℕ) (methods : Bool) (lines : Lines) → has_methods lines ≡ false → has_methods (first_lines n methods ++ lines) ≡ methods
+allows n true lines h = refl
+allows n false lines h = h
+
+no_methods_text : (bytes : List ℕ) (line : WorldLine) → IsLineText bytes line → is_methods_line line ≡ false
+no_methods_text bytes MethodsLine h = absurd (let no : false ≡ true = h.0 in cc)
+no_methods_text bytes (ClassLine name superclass) h = refl
+no_methods_text bytes (FieldLine class name signature) h = refl
+no_methods_text bytes (StaticLine class name signature) h = refl
+no_methods_text bytes (ObjectLine x class values) h = refl
+no_methods_text bytes (ObjectsLine x class values) h = refl
+no_methods_text bytes (ArrayLine x t values) h = refl
+no_methods_text bytes (StringLine x text) h = refl
+no_methods_text bytes (ThreadLine function arguments) h = refl
+no_methods_text bytes (CallLine function arguments) h = refl
+
+none_allow : (numbered : List (ℕ × List ℕ)) (lines : Lines) → AllZip IsNumberedLine numbered lines → has_methods lines ≡ false
+none_allow [] [] h = refl
+none_allow [] (l ∷ lines) h = absurd h
+none_allow (w ∷ numbered) [] h = refl
+none_allow (w ∷ numbered) (l ∷ lines) h = (λ i. no_methods_text w.1 l.1 h.0.1 i || none_allow numbered lines h.1 i)
 
 -- what was read of a text's lines
 module _ (text : List ℕ) (number : ℕ) (bytes : List ℕ) (more : List (ℕ × List ℕ)) (text_is : text_lines text ≡ (number, bytes) ∷ more) where
-  lines_meant : (cells : ℕ) (lines : Lines) → heap_of_line bytes ≡ Some cells → 512 ≤ cells → cells ≤ 1048576 → AreReadLines cells [] more lines → list_any (λ (l : ℕ × WorldLine). is_thread_line l.1) lines ≡ true → IsWorldText text (world_of cells lines)
-  lines_meant cells lines heap low high r some =
+  lines_meant : (cells : ℕ) (methods : Bool) (lines : Lines) → heap_of_line bytes ≡ Some (cells, methods) → 512 ≤ cells → cells ≤ 1048576 → AreReadLines cells (first_lines number methods) more lines
+      → list_any (λ (l : ℕ × WorldLine). is_thread_line l.1) lines ≡ true → IsWorldText text (world_of number cells lines)
+  lines_meant cells methods lines heap low high r some =
+      let told : has_methods lines ≡ methods = ap has_methods r.are ∙ allows number methods r.rest (none_allow more r.rest r.spelled) in
       record {
-        heap_line = number;
         written = more;
-        lines = lines;
-        spelled = text_is ∙ ap (λ (bs : List ℕ). (number, bs) ∷ more) (heap_is_written bytes cells heap low high);
-        lines_spelled = subst (AllZip IsNumberedLine more) (sym r.are) r.spelled;
+        lines = r.rest;
+        spelled = text_is ∙ ap (λ (bs : List ℕ). (number, bs) ∷ more) (heap_is_written bytes cells methods heap low high) ∙ ap (λ m. (number, spaced (heap_words cells m)) ∷ more) (sym told);
+        lines_spelled = r.spelled;
         size = (low, high);
-        rules = ap (broken_after cells []) r.are ∙ r.rules;
-        threads = some;
-        meant = refl;
+        rules = ap (λ m. broken_after cells (first_lines number m) r.rest) told ∙ r.rules;
+        threads = sym (same_threads number methods r.rest) ∙ ap (list_any (λ (l : ℕ × WorldLine). is_thread_line l.1)) (sym r.are) ∙ some;
+        meant = ap (world_of number cells) (r.are ∙ ap (λ m. first_lines number m ++ r.rest) (sym told));
       }
 
 read_is_meant : (text : List ℕ) (world : World) → world_of_text text ≡ Ok world → IsWorldText text world
@@ -176,20 +210,23 @@ read_is_meant text world h = by_lines (text_lines text) refl h
     by_lines : (numbered : List (ℕ × List ℕ)) → text_lines text ≡ numbered → numbered_read numbered ≡ Ok world → IsWorldText text world
     by_lines [] e k = absurd (cc)
     by_lines ((number, bytes) ∷ more) e k =
-        let a = and_then_ok (heap_read number (heap_of_line bytes)) (λ cells. lines_read cells [] more >>= λ lines. world_read cells (last_number number more) lines) world k in
-        let heap = heap_was_read number (heap_of_line bytes) a.0 a.1 in
-        let b = and_then_ok (lines_read a.0 [] more) (λ lines. world_read a.0 (last_number number more) lines) world a.2 in
-        let c = world_was_read a.0 (last_number number more) b.0 world b.2 in
-        subst (IsWorldText text) c.1 (lines_meant text number bytes more e a.0 b.0 heap.0 heap.1 heap.2 (lines_were_read a.0 [] more b.0 b.1) c.0)
+        let a = and_then_ok (heap_read number (heap_of_line bytes)) (λ heap. lines_read heap.0 (first_lines number heap.1) more >>= λ lines. world_read number heap.0 (last_number number more) lines) world k in
+        let heap = heap_was_read number (heap_of_line bytes) a.0.0 a.0.1 a.1 in
+        let b = and_then_ok (lines_read a.0.0 (first_lines number a.0.1) more) (λ lines. world_read number a.0.0 (last_number number more) lines) world a.2 in
+        let c = world_was_read number a.0.0 (last_number number more) b.0 world b.2 in
+        subst (IsWorldText text) c.1 (lines_meant text number bytes more e a.0.0 a.0.1 b.0 heap.0 heap.1 heap.2 (lines_were_read a.0.0 (first_lines number a.0.1) more b.0 b.1) c.0)
 
 meant_is_read : (text : List ℕ) (world : World) → IsWorldText text world → world_of_text text ≡ Ok world
 unfolding numbered_read
 meant_is_read text world m =
+    let n = world.heap_line in
+    let first = first_lines n world.methods in
+    let last = last_number n m.written in
     ap numbered_read m.spelled
-    ∙ ap (λ o. heap_read m.heap_line o >>= λ cells. lines_read cells [] m.written >>= λ lines. world_read cells (last_number m.heap_line m.written) lines) (heap_is_read world.cells m.size.0 m.size.1)
-    ∙ ap (λ r. r >>= λ cells. lines_read cells [] m.written >>= λ lines. world_read cells (last_number m.heap_line m.written) lines) (heap_is_taken m.heap_line world.cells m.size.0 m.size.1)
-    ∙ ap (λ r. r >>= λ lines. world_read world.cells (last_number m.heap_line m.written) lines) (lines_are_taken world.cells [] m.written m.lines m.lines_spelled m.rules)
-    ∙ world_is_taken world.cells (last_number m.heap_line m.written) m.lines m.threads
+    ∙ ap (λ o. heap_read n o >>= λ heap. lines_read heap.0 (first_lines n heap.1) m.written >>= λ lines. world_read n heap.0 last lines) (heap_is_read world.cells world.methods m.size.0 m.size.1)
+    ∙ ap (λ (r : Result HeapLine TextFault). r >>= λ heap. lines_read heap.0 (first_lines n heap.1) m.written >>= λ lines. world_read n heap.0 last lines) (heap_is_taken n world.cells world.methods m.size.0 m.size.1)
+    ∙ ap (λ r. r >>= λ lines. world_read n world.cells last lines) (lines_are_taken world.cells first m.written m.lines m.lines_spelled m.rules)
+    ∙ world_is_taken n world.cells last (first ++ m.lines) (same_threads n world.methods m.lines ∙ m.threads)
     ∙ ap (λ (w : World). Ok w) (sym m.meant)
 
 -- a world is read of exactly the texts that mean it
@@ -198,38 +235,8 @@ worlds_read text world = (read_is_meant text world, meant_is_read text world)
 
 -- ---- one world
 
-same_lines : (cells : ℕ) (earlier : Lines) (numbered : List (ℕ × List ℕ)) (xs ys : Lines) → AllZip IsNumberedLine numbered xs → AllZip IsNumberedLine numbered ys → broken_after cells earlier xs ≡ [] → broken_after cells earlier ys ≡ [] → xs ≡ ys
-same_lines cells earlier [] [] [] p q a b = refl
-same_lines cells earlier [] [] (y ∷ ys) p q a b = absurd q
-same_lines cells earlier [] (x ∷ xs) ys p q a b = absurd p
-same_lines cells earlier (w ∷ ws) [] ys p q a b = absurd p
-same_lines cells earlier (w ∷ ws) (x ∷ xs) [] p q a b = absurd q
-same_lines cells earlier (w ∷ ws) ((m, k) ∷ xs) ((n, l) ∷ ys) p q a b =
-    let f = each_keeps cells earlier xs (m, k) a in
-    let g = each_keeps cells earlier ys (n, l) b in
-    let one = line_is_read w.1 k p.0.1 (kept_range cells earlier m k (kept_line cells earlier m k f.0)) in
-    let other = line_is_read w.1 l q.0.1 (kept_range cells earlier n l (kept_line cells earlier n l g.0)) in
-    let line : k ≡ l = cc (sym one ∙ other) in
-    let number : m ≡ n = sym p.0.0 ∙ q.0.0 in
-    let same : ◌≡◌ {A = ℕ × WorldLine} (m, k) (n, l) = ap (λ i. (i, k)) number ∙ ap (λ (x : WorldLine). (n, x)) line in
-    let others = same_lines cells (earlier ++ (m, k) ∷ []) ws xs ys p.1 q.1 f.1 (ap (λ (x : ℕ × WorldLine). broken_after cells (earlier ++ x ∷ []) ys) same ∙ g.1) in
-    ap (λ (x : ℕ × WorldLine). x ∷ xs) same ∙ ap (λ (zs : Lines). (n, l) ∷ zs) others
-
-abbrev first_text : List (ℕ × List ℕ) → List ℕ
-first_text [] = []
-first_text (l ∷ ls) = l.1
-
-abbrev other_texts : List (ℕ × List ℕ) → List (ℕ × List ℕ)
-other_texts [] = []
-other_texts (l ∷ ls) = ls
-
 -- a text means one world at most
 pub one_world : MeansOneWorld
 one_world text a b x y =
-    let heads = sym x.spelled ∙ y.spelled in
-    let read : Some a.cells ≡ Some b.cells = sym (heap_is_read a.cells x.size.0 x.size.1) ∙ ap (λ ls. heap_of_line (first_text ls)) heads ∙ heap_is_read b.cells y.size.0 y.size.1 in
-    let cells : a.cells ≡ b.cells = cc in
-    let written : x.written ≡ y.written = ap other_texts heads in
-    let lines : x.lines ≡ y.lines =
-    same_lines a.cells [] x.written x.lines y.lines x.lines_spelled (subst (λ ws. AllZip IsNumberedLine ws y.lines) (sym written) y.lines_spelled) x.rules (ap (λ n. broken_after n [] y.lines) cells ∙ y.rules) in
-    x.meant ∙ ap (λ n. world_of n x.lines) cells ∙ ap (world_of b.cells) lines ∙ sym y.meant
+    let same : ◌≡◌ {A = Result World TextFault} (Ok a) (Ok b) = sym (meant_is_read text a x) ∙ meant_is_read text b y in
+    cc

@@ -1,20 +1,20 @@
 -- How many cells are used at load, and what one more line adds.
-use Rattle.std.proofs.Common.{◌≡◌, ℕ, suc, ◌+◌, ◌-◌, ◌<◌, ◌≤◌, take, get_or, Option, true, List, [], ◌∷◌, ◌++◌, length, map, Some, None, refl, sym, ap, ◌∙◌, subst, arith, sum_by, length-append}
-use Rattle.std.specs.Prelude.{pos, flat_map, reverse, slice_get}
+use Rattle.std.proofs.Common.{◌≡◌, ℕ, suc, ◌+◌, ◌-◌, ◌<◌, ◌≤◌, Bool, take, get_or, Option, true, List, [], ◌∷◌, ◌++◌, length, map, Some, None, refl, sym, ap, ◌∙◌, subst, arith, sum_by, length-append}
+use Rattle.std.specs.Prelude.{codes, pos, flat_map, reverse, slice_get}
 use Rattle.std.specs.Option.{option_map_or, option_to_list}
 use Rattle.std.specs.List.{list_all, enumerate_from}
 use Rattle.std.proofs.lemmas.List.{length-map}
 use Rattle.std.proofs.lemmas.List.Sums.{sum_by-append, sum_by-cons, sum_by_more, sum_by-take-le}
 use Rattle.std.proofs.lemmas.Option.{slice_get-get_or}
 use Rattle.class_rules.specs.Additions.{new_class}
-use Rattle.class_rules.specs.BuiltIns.{built_ins, string_class, number_array, object_array_class, out_of_memory_error}
+use Rattle.class_rules.specs.BuiltIns.{built_ins, incompatible_class_change_error, string_class, number_array, object_array_class, out_of_memory_error}
 use Rattle.class_rules.specs.Class.{Field, Class, Classes, class_at, superclass, above, ancestry_within, ancestry, array_name}
 use Rattle.class_rules.specs.Fields.{FieldId, own_fields, own_statics, layout}
 use Rattle.semantics.specs.Object.{Object, size, sizes}
 use Rattle.semantics.specs.World.{initial, fresh_object, class_object, class_objects}
 use Rattle.world_lines.specs.LineContents.{cells_added}
-use Rattle.world_values.specs.WorldLines.{WorldValue, NumberValue, WorldLine, ClassLine, FieldLine, StaticLine, ObjectLine, ObjectsLine, ArrayLine, StringLine, ThreadLine, CallLine, Lines}
-use Rattle.world_values.specs.WorldMeaning.{class_number, superclass_number, field_of, table_with, table_of, value_of, values_of_line, object_of, cells_of}
+use Rattle.world_values.specs.WorldLines.{WorldValue, NumberValue, WorldLine, MethodsLine, ClassLine, FieldLine, StaticLine, ObjectLine, ObjectsLine, ArrayLine, StringLine, ThreadLine, CallLine, Lines}
+use Rattle.world_values.specs.WorldMeaning.{class_number, superclass_number, field_of, table_with, table_of, value_of, values_of_line, object_of, has_methods, cells_of}
 use Rattle.world_values.specs.WorldRules.{is_in_order, is_known_value, is_class_allowed}
 use Rattle.world.proofs.ChangedClasses.{changed-sum}
 use Rattle.world.proofs.GrownLines.{objects_of, are_known, table_grows, objects_grow}
@@ -104,34 +104,37 @@ module _ (L : Lines) where
   static_more : (field : Field) (d : Class) → class_cells (record d { statics = d.statics ++ field ∷ [] }) ≡ class_cells d + 1
   static_more field d = omega (arith, length-append d.statics (field ∷ []))
 
-  adds : (line : WorldLine) → is_class_allowed T line ≡ true → sum_by class_cells (table_with T line) + sizes (option_to_list (object_of L line)) ≡ sum_by class_cells T + cells_added line
-  adds (ClassLine name superclass) h =
+  adds : (methods : Bool) (line : WorldLine) → is_class_allowed methods T line ≡ true → sum_by class_cells (table_with T line) + sizes (option_to_list (object_of L line)) ≡ sum_by class_cells T + cells_added line
+  adds methods MethodsLine h =
+      let new = new_class (codes "java/lang/NoSuchMethodError") (Some incompatible_class_change_error) in
+      omega (arith, sum_by-append class_cells T (new ∷ object_array_class (length T + 1, new) ∷ []))
+  adds methods (ClassLine name superclass) h =
       let new = new_class name (Some (superclass_number T superclass)) in
       omega (arith, sum_by-append class_cells T (new ∷ object_array_class (length T + 1, new) ∷ []))
-  adds (FieldLine class name signature) h =
-      let w = world_class T class h in
+  adds methods (FieldLine class name signature) h =
+      let w = world_class methods T class h in
       let same : (d : Class) → class_cells (record d { fields = d.fields ++ field_of T name signature ∷ [] }) ≡ class_cells d + 0 = λ d. omega arith in
       omega (arith, changed-sum (λ d. record d { fields = d.fields ++ field_of T name signature ∷ [] }) (class_number T class) class_cells 0 same T (omega (arith, w.after_built_ins)) w.within)
-  adds (StaticLine class name signature) h =
-      let w = world_class T class h in
+  adds methods (StaticLine class name signature) h =
+      let w = world_class methods T class h in
       omega (arith, changed-sum (λ d. record d { statics = d.statics ++ field_of T name signature ∷ [] }) (class_number T class) class_cells 1 (static_more (field_of T name signature)) T (omega (arith, w.after_built_ins)) w.within)
-  adds (ObjectLine x class values) h = ap (λ n. sum_by class_cells T + n) (made_size (class_number T class) values)
-  adds (ObjectsLine x class values) h = ap (λ n. sum_by class_cells T + n) (made_size (class_number T (array_name class)) values)
-  adds (ArrayLine x t values) h = ap (λ n. sum_by class_cells T + n) (made_size (number_array t) values)
-  adds (StringLine x text) h = ap (λ n. sum_by class_cells T + n) (made_size string_class (map (λ b. NumberValue (pos b)) text) ∙ ap (λ n. 3 + n) (length-map text (λ b. NumberValue (pos b))))
-  adds (ThreadLine function arguments) h = omega arith
-  adds (CallLine function arguments) h = omega arith
+  adds methods (ObjectLine x class values) h = ap (λ n. sum_by class_cells T + n) (made_size (class_number T class) values)
+  adds methods (ObjectsLine x class values) h = ap (λ n. sum_by class_cells T + n) (made_size (class_number T (array_name class)) values)
+  adds methods (ArrayLine x t values) h = ap (λ n. sum_by class_cells T + n) (made_size (number_array t) values)
+  adds methods (StringLine x text) h = ap (λ n. sum_by class_cells T + n) (made_size string_class (map (λ b. NumberValue (pos b)) text) ∙ ap (λ n. 3 + n) (length-map text (λ b. NumberValue (pos b))))
+  adds methods (ThreadLine function arguments) h = omega arith
+  adds methods (CallLine function arguments) h = omega arith
 
   -- one more line of known values, in its order, whose class is allowed
-  pub cells_grow : (n : ℕ) (line : WorldLine) → KeepsBuiltIns T → is_in_order L line ≡ true → are_known L ≡ true → list_all (is_known_value L) (values_of_line line) ≡ true → is_class_allowed T line ≡ true
+  pub cells_grow : (n : ℕ) (line : WorldLine) → KeepsBuiltIns T → is_in_order L line ≡ true → are_known L ≡ true → list_all (is_known_value L) (values_of_line line) ≡ true → is_class_allowed (has_methods L) T line ≡ true
       → cells_of (L ++ (n, line) ∷ []) ≡ cells_of L + cells_added line
   cells_grow n line k ordered known own allowed =
       let next = L ++ (n, line) ∷ [] in
       let table = table_grows L n line in
-      let told = cells_told next (subst KeepsBuiltIns (sym table) (line_kept T k line allowed)) in
+      let told = cells_told next (subst KeepsBuiltIns (sym table) (line_kept T k (has_methods L) line allowed)) in
       let objects : sizes (objects_of next) ≡ sizes (objects_of L) + sizes (option_to_list (object_of L line)) = ap sizes (objects_grow L n line ordered known own) ∙ sum_by-append size (objects_of L) (option_to_list (object_of L line)) in
       let classes : sum_by class_cells (table_of next) ≡ sum_by class_cells (table_with T line) = ap (sum_by class_cells) table in
-      omega (arith, told, objects, classes, cells_told L k, adds line allowed)
+      omega (arith, told, objects, classes, cells_told L k, adds (has_methods L) line allowed)
 
 -- ---- where a world defines nothing
 

@@ -5,7 +5,7 @@ use Rattle.std.specs.List.{list_all}
 use Rattle.base.specs.Limits.{most_calls}
 use Rattle.base.specs.Bytes.{Identifier, ByName, lookup}
 use Rattle.base.specs.Options.{some_passes}
-use Rattle.class_rules.specs.Additions.{ClassRule, new_class, with_class, with_field, with_static}
+use Rattle.class_rules.specs.Additions.{ClassRule, new_class, with_class, with_field, with_static, with_methods}
 use Rattle.class_rules.specs.BuiltIns.{class_class, string_class, number_array}
 use Rattle.class_rules.specs.Class.{FieldType, NumberField, ReferenceField, Classes, class_named, array_name, assignable}
 use Rattle.semantics.specs.Object.{ObjectValue, Number, Refers, Object, object_size}
@@ -16,14 +16,17 @@ use Rattle.world_schedules.specs.declared.fault.TextFault.{TextFault}
 use Rattle.world_schedules.specs.Reading.{◌>>=◌, refused, Fails}
 use Rattle.world_lines.specs.ClassRules.{broken_class_rule, is_formed}
 use Rattle.world_lines.specs.LineContents.{written_values, name_given, cells_added, is_number}
-use Rattle.world_lines.specs.ReadingLines.{line_of}
+use Rattle.world_lines.specs.ReadingLines.{HeapLine, line_of}
 use Rattle.world.specs.ReadingWorlds.{ruled, lines_read, last_number, world_read}
 use Rattle.world_schedules.specs.LineRules.{LineRule, OfClass, LineForm, WrongName, OutOfLimit, HeapFull}
-use Rattle.world_values.specs.WorldLines.{WorldValue, NumberValue, NullValue, NamedObject, NamedClass, WorldLine, ClassLine, FieldLine, StaticLine, ObjectLine, ObjectsLine, ArrayLine, StringLine, ThreadLine, CallLine, Lines}
-use Rattle.world_values.specs.WorldMeaning.{class_number, field_of, table_of, objects_defined, object_of, with_last, threads_of, cells_of}
-use Rattle.world_values.specs.WorldRules.{part_of, is_call_line, is_class_allowed, types_of_line, each_in_range}
+use Rattle.world_values.specs.WorldLines.{WorldValue, NumberValue, NullValue, NamedObject, NamedClass, WorldLine, MethodsLine, ClassLine, FieldLine, StaticLine, ObjectLine, ObjectsLine, ArrayLine, StringLine, ThreadLine, CallLine, Lines}
+use Rattle.world_values.specs.WorldMeaning.{class_number, field_of, table_of, objects_defined, object_of, with_last, threads_of, has_methods, cells_of}
+use Rattle.world_values.specs.WorldRules.{first_lines, part_of, is_call_line, is_class_allowed, types_of_line, each_in_range}
 
 pub record Gathered : Type 0 where
+  -- the line of the heap, and whether it allows methods
+  pub heap_line : ℕ
+  pub methods : Bool
   pub cells : ℕ
   pub classes : Classes
   -- the objects' names, each with its class
@@ -36,8 +39,10 @@ pub record Gathered : Type 0 where
   pub part : ℕ
 
 -- what these lines say, the last of which is of this part
-abbrev pub gather : (cells part : ℕ) → Lines → Gathered
-gather cells part lines = record {
+abbrev pub gather : (heap_line cells part : ℕ) → Lines → Gathered
+gather heap_line cells part lines = record {
+  heap_line = heap_line;
+  methods = has_methods lines;
   cells = cells;
   classes = table_of lines;
   names = objects_defined lines;
@@ -77,10 +82,10 @@ each_can_hold classes names (t ∷ types) (v ∷ values) = can_hold classes name
 each_can_hold classes names types values = true
 
 -- whether its names are free, allowed and known, and its values are held
-abbrev pub is_named : Classes → ByName ℕ → WorldLine → Bool
-is_named classes names line =
+abbrev pub is_named : (methods : Bool) → Classes → ByName ℕ → WorldLine → Bool
+is_named methods classes names line =
     not (some_passes (λ x. is_some (lookup x names)) (name_given line))
-    && is_class_allowed classes line
+    && is_class_allowed methods classes line
     && list_all (is_known classes names) (written_values line)
     && each_can_hold classes names (types_of_line classes line) (written_values line)
 
@@ -112,7 +117,7 @@ least_rule g line =
     then least_broken
     (broken_class_rule g.classes line)
     (is_formed g.classes line)
-    (is_named g.classes g.names line)
+    (is_named g.methods g.classes g.names line)
     (each_in_range (types_of_line g.classes line) (written_values line) && has_place g line)
     (nat_le (g.used + cells_added line) g.cells)
     else Some LineForm
@@ -153,6 +158,7 @@ array_number classes element = class_number classes (array_name element)
 
 -- what is there after the line of this number
 abbrev pub with_line : Gathered → ℕ → WorldLine → Gathered
+with_line g number MethodsLine = record g { methods = true; classes = with_methods g.classes; used = g.used + 6; part = 0 }
 with_line g number (ClassLine name superclass) = record g {
   classes = with_class g.classes (new_class name (class_named g.classes (unwrap_or superclass (codes "java/lang/Object"))));
   used = g.used + 6;
@@ -187,7 +193,7 @@ OnGathered (Err e) new read = Fails e read
 
 -- the world that is gathered
 abbrev pub gathered_world : Gathered → World
-gathered_world g = record { cells = g.cells; classes = g.classes; objects = g.objects; threads = g.threads }
+gathered_world g = record { heap_line = g.heap_line; methods = g.methods; cells = g.cells; classes = g.classes; objects = g.objects; threads = g.threads }
 
 -- what is there, where a thread is among it; else the last line is told
 abbrev pub whole_read : Gathered → (last : ℕ) → Result Gathered TextFault
@@ -199,5 +205,5 @@ all_read g last [] = whole_read g last
 all_read g last ((number, bytes) ∷ more) = gathered_read g number (line_of bytes) >>= λ next. all_read next number more
 
 -- the world that these lines mean after that of the heap, which is of this number
-abbrev pub world_left : (cells number : ℕ) → List (ℕ × List ℕ) → Result World TextFault
-world_left cells number more = lines_read cells [] more >>= λ lines. world_read cells (last_number number more) lines
+abbrev pub world_left : HeapLine → (number : ℕ) → List (ℕ × List ℕ) → Result World TextFault
+world_left heap number more = lines_read heap.0 (first_lines number heap.1) more >>= λ lines. world_read number heap.0 (last_number number more) lines

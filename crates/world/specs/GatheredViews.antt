@@ -5,6 +5,8 @@ use Rattle.world.specs.Gathered.{Gathered}
 
 abbrev pub gathered_of : WorldBuilder → Gathered
 gathered_of b = record {
+  heap_line = b.heap_line;
+  methods = b.methods;
   cells = b.cells;
   classes = b.classes;
   names = b.names;

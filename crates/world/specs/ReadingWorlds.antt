@@ -9,10 +9,10 @@ use Rattle.world_schedules.specs.declared.fault.Rule.{Rule}
 use Rattle.world_schedules.specs.declared.fault.Rule.TheVariants as held
 use Rattle.world_schedules.specs.declared.fault.TextFault.{TextFault}
 use Rattle.semantics.specs.World.{World}
-use Rattle.world_lines.specs.ReadingLines.{heap_of_line, line_of}
+use Rattle.world_lines.specs.ReadingLines.{HeapLine, heap_of_line, line_of}
 use Rattle.world_values.specs.WorldLines.{WorldLine, Lines, text_lines}
 use Rattle.world_values.specs.WorldMeaning.{world_of}
-use Rattle.world_values.specs.WorldRules.{is_thread_line, broken_by_line}
+use Rattle.world_values.specs.WorldRules.{first_lines, is_thread_line, broken_by_line}
 
 -- a rule as it is held in memory
 abbrev pub held_rule : LineRule → Rule
@@ -53,10 +53,11 @@ lines_read cells earlier ((number, bytes) ∷ more) = line_read cells earlier nu
 
 -- ---- a text
 
--- the size of the heap, by the first line
-unfoldable pub heap_read : (number : ℕ) → Option ℕ → Result ℕ TextFault
+-- the heap, by the first line
+unfoldable pub heap_read : (number : ℕ) → Option HeapLine → Result HeapLine TextFault
 heap_read number None = refused held.Form number
-heap_read number (Some cells) = if nat_le least_cells cells && nat_le cells most_cells then Ok cells else refused held.Limit number
+heap_read number (Some (cells, methods)) =
+    if nat_le least_cells cells && nat_le cells most_cells then Ok (cells, methods) else refused held.Limit number
 
 -- the number of the last line
 abbrev pub last_number : (number : ℕ) → List (ℕ × List ℕ) → ℕ
@@ -64,14 +65,15 @@ last_number number [] = number
 last_number number ((n, bytes) ∷ more) = last_number n more
 
 -- the world of these lines, where a thread is among them; else the last line is told
-unfoldable pub world_read : (cells last : ℕ) → Lines → Result World TextFault
-world_read cells last lines = if list_any (λ (l : ℕ × WorldLine). is_thread_line l.1) lines then Ok (world_of cells lines) else refused held.Limit last
+unfoldable pub world_read : (heap_line cells last : ℕ) → Lines → Result World TextFault
+world_read heap_line cells last lines =
+    if list_any (λ (l : ℕ × WorldLine). is_thread_line l.1) lines then Ok (world_of heap_line cells lines) else refused held.Limit last
 
 -- the world of lines with their numbers
 unfoldable pub numbered_read : List (ℕ × List ℕ) → Result World TextFault
 numbered_read [] = refused held.Form 1
 numbered_read ((number, bytes) ∷ more) =
-    heap_read number (heap_of_line bytes) >>= λ cells. lines_read cells [] more >>= λ lines. world_read cells (last_number number more) lines
+    heap_read number (heap_of_line bytes) >>= λ heap. lines_read heap.0 (first_lines number heap.1) more >>= λ lines. world_read number heap.0 (last_number number more) lines
 
 -- the world that is read of a text
 abbrev pub world_of_text : List ℕ → Result World TextFault

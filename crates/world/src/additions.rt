@@ -1,12 +1,13 @@
 //! What one more line adds to what the lines so far say.
 
-ghost use Rattle.std.specs.Prelude.{◌≡◌, ◌+◌, ◌<◌, ◌≤◌, ◌++◌, ◌∷◌, [], None, pos, length, map, codes, unwrap_or, IfOk, OnOk, IsTrue, if◌then◌else◌};
+ghost use Rattle.std.specs.Prelude.{◌≡◌, ◌+◌, ◌<◌, ◌≤◌, ◌++◌, ◌∷◌, [], None, true, pos, length, map, codes, unwrap_or, IfOk, OnOk, IsTrue, if◌then◌else◌};
 ghost use Rattle.std.specs.List.{list_all};
 ghost use Rattle.std.specs.Option.{option_map};
 ghost use Rattle.base.specs.Limits.{most_objects};
 ghost use Rattle.base.specs.Bytes.{lookup};
 ghost use Rattle.base.specs.Element.{JInt};
-ghost use Rattle.class_rules.specs.Additions.{new_class, with_class};
+ghost use Rattle.class_rules.specs.Additions.{new_class, with_class, with_methods};
+ghost use Rattle.class_rules.specs.BuiltIns.{built_ins};
 ghost use Rattle.class_rules.specs.Class.{class_named};
 ghost use Rattle.class_rules.specs.Mangling.{is_class_name};
 ghost use Rattle.classes.specs.FieldViews.{with_declared, declared_field};
@@ -118,6 +119,25 @@ impl WorldBuilder {
         }
         self.used += 6;
         self.part = 0;
+        Ok(())
+    }
+
+    /// The classes that a world of methods has, before any line.
+    pub fn allow_methods(&mut self) -> Result<(), AllocError>
+        requires begun { self.old.classes ≡ built_ins }
+        requires room { self.old.used + 6 ≤ self.old.cells }
+        requires first { self.old.part ≡ 0 }
+        ensures { OnOk result (gathered_of self.new ≡ record (gathered_of self.old) {
+          methods = true;
+          classes = with_methods built_ins;
+          used = self.old.used + 6;
+        }) }
+    {
+        self.put_class_below(
+            b"java/lang/NoSuchMethodError",
+            b"java/lang/IncompatibleClassChangeError",
+        )?;
+        self.methods = true;
         Ok(())
     }
 

@@ -10,6 +10,10 @@ use world_values::{Call, Object};
 /// What the lines so far say.
 #[derive(Drop)]
 pub struct WorldBuilder {
+    /// The line of the heap.
+    pub heap_line: usize,
+    /// Whether it allows methods.
+    pub methods: bool,
     pub cells: u32,
     pub classes: ClassTable,
     pub names: ObjectNames,

@@ -154,11 +154,11 @@ fn each_can_hold(classes: &ClassTable, names: &ObjectNames, line: &Line) -> bool
     }
 }
 
-fn is_named(classes: &ClassTable, names: &ObjectNames, line: &Line) -> bool
-    ensures { result ≡ is_named classes.now names.now (line_view line.now) }
+fn is_named(methods: bool, classes: &ClassTable, names: &ObjectNames, line: &Line) -> bool
+    ensures { result ≡ is_named methods classes.now names.now (line_view line.now) }
 {
     !is_name_taken(names, line)
-        && is_class_allowed(classes, line)
+        && is_class_allowed(classes, methods, line)
         && has_known_values(classes, names, line)
         && each_can_hold(classes, names, line)
 }
@@ -223,7 +223,7 @@ impl WorldBuilder {
         if !is_formed(&self.classes, line) {
             return Some(Rule::Form);
         }
-        if !is_named(&self.classes, &self.names, line) {
+        if !is_named(self.methods, &self.classes, &self.names, line) {
             return Some(Rule::Name);
         }
         if !each_in_range(&self.classes, line) || !self.has_place(line) {

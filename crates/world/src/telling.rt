@@ -44,15 +44,15 @@ fn formless(line: &[u8]) -> Detail {
 }
 
 /// What no line says, by the first line, of the heap; or what is told of that line, which is nothing where memory is refused.
-fn builder_of(alloc: Global, line: &[u8]) -> Result<WorldBuilder, Detail> {
+fn builder_of(alloc: Global, number: usize, line: &[u8]) -> Result<WorldBuilder, Detail> {
     match heap_of_line(alloc, line) {
         Err(_) => Err(Detail::none()),
         Ok(None) => Err(Detail::of(b"wanted `heap CELLS` first")),
-        Ok(Some(cells)) => {
+        Ok(Some((cells, methods))) => {
             if cells < u64::from(LEAST_CELLS) || cells > u64::from(MOST_CELLS) {
                 return Err(Detail::of(b"wanted 512 to 1048576 cells"));
             }
-            match begun(alloc, cells as u32) {
+            match begun(alloc, number, cells as u32, methods) {
                 Ok(builder) => Ok(builder),
                 Err(_) => Err(Detail::none()),
             }
@@ -189,7 +189,7 @@ fn misnamed(builder: &WorldBuilder, line: &Line<'_>) -> Detail {
             return Detail::of(b"@").words(name).words(b" is taken");
         }
     }
-    if !is_class_allowed(&builder.classes, line) {
+    if !is_class_allowed(&builder.classes, builder.methods, line) {
         return wrong_class(&builder.classes, line);
     }
     match unknown_value(builder, line) {
@@ -276,7 +276,7 @@ fn take_any(
     if let Some(builder) = builder {
         return take_or_tell(alloc, builder, number, line);
     }
-    match builder_of(alloc, line) {
+    match builder_of(alloc, number, line) {
         Ok(begun) => {
             *builder = Some(begun);
             None

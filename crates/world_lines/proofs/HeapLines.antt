@@ -6,8 +6,9 @@ use Rattle.std.proofs.lemmas.Bool.{and_from}
 use Rattle.std.proofs.lemmas.Fmt.{first_decimal}
 use Rattle.world_schedules.specs.Numbers.{natural_of}
 use Rattle.world_schedules.specs.Split.{parts_of}
-use Rattle.world_lines.specs.ReadingLines.{below_zero, cells_named, heap_by_words, heap_of_line}
+use Rattle.world_lines.specs.ReadingLines.{HeapLine, below_zero, cells_named, heap_named, heap_by_words, heap_of_line}
 use Rattle.world_values.specs.WorldLines.{has_no_space, spaced}
+use Rattle.world_values.specs.WorldRules.{heap_words}
 use Rattle.base.specs.Bytes.{is_some_byte}
 use Rattle.world_schedules.proofs.MeantSchedules.{natural_of-decimal}
 use Rattle.world_schedules.proofs.ScheduleLaws.{decimal-natural_of}
@@ -16,8 +17,8 @@ use Rattle.world_lines.proofs.ReadValues.{decimal_word}
 use Rattle.world_lines.proofs.Tests.{both, mapped, same_bytes, later_number}
 
 -- the line of a heap of this number of cells
-abbrev pub heap_text : ℕ → List ℕ
-heap_text cells = spaced (codes "heap" ∷ decimal cells ∷ [])
+abbrev pub heap_text : (cells : ℕ) (methods : Bool) → List ℕ
+heap_text cells methods = spaced (heap_words cells methods)
 
 cells_are : (bytes : List ℕ) (n : ℕ) → 48 < get_or bytes 0 0 → natural_of bytes ≡ Some n → n ≤ 1048576 → cells_named bytes ≡ Some n
 cells_are [] n first h high = absurd (cc)
@@ -27,12 +28,27 @@ cells_are (sign ∷ digits) n first h high =
     ∙ ap (option_map (λ m. min m (2 ^ 64 - 1))) h
     ∙ ap (λ m. Some m) small
 
-pub heap_is_read : (cells : ℕ) → 512 ≤ cells → cells ≤ 1048576 → heap_of_line (heap_text cells) ≡ Some cells
+-- what such a line says
+abbrev told : (methods : Bool) → ℕ → HeapLine
+told methods n = (n, methods)
+
+pub heap_is_read : (cells : ℕ) (methods : Bool) → 512 ≤ cells → cells ≤ 1048576 → heap_of_line (heap_text cells methods) ≡ Some (cells, methods)
 unfolding heap_of_line
-heap_is_read cells low high =
-    let word = both (is_some_byte (decimal cells)) (has_no_space (decimal cells)) (decimal_word cells (omega (arith, high))) in
-    ap heap_by_words (spaced_parts (codes "heap") (decimal cells ∷ []) refl (and_from (has_no_space (decimal cells)) true word.1 refl))
-    ∙ cells_are (decimal cells) cells (first_decimal cells (omega (arith, low)) (omega (arith, high))) (natural_of-decimal cells (omega (arith, low)) (omega (arith, high))) high
+heap_is_read cells methods low high = by_methods methods
+  where
+    word : (is_some_byte (decimal cells) ≡ true) × (has_no_space (decimal cells) ≡ true)
+    word = both (is_some_byte (decimal cells)) (has_no_space (decimal cells)) (decimal_word cells (omega (arith, high)))
+
+    are : cells_named (decimal cells) ≡ Some cells
+    are = cells_are (decimal cells) cells (first_decimal cells (omega (arith, low)) (omega (arith, high))) (natural_of-decimal cells (omega (arith, low)) (omega (arith, high))) high
+
+    by_methods : (m : Bool) → heap_by_words (parts_of 32 (heap_text cells m)) ≡ Some (cells, m)
+    by_methods false =
+        ap heap_by_words (spaced_parts (codes "heap") (decimal cells ∷ []) refl (and_from (has_no_space (decimal cells)) true word.1 refl))
+        ∙ ap (option_map (told false)) are
+    by_methods true =
+        ap heap_by_words (spaced_parts (codes "heap") (decimal cells ∷ codes "methods" ∷ []) refl (and_from (has_no_space (decimal cells)) true word.1 refl))
+        ∙ ap (option_map (told true)) are
 
 zero_below : (o : Option ℕ) (cells : ℕ) → below_zero o ≡ Some cells → cells ≡ 0
 zero_below None cells h = absurd (cc)
@@ -53,16 +69,33 @@ cells_written (sign ∷ digits) cells h low high = by_sign (sign == 45) h
         let same : n.0 ≡ cells = omega (arith, n.2, high) in
         sym (decimal-natural_of (sign ∷ digits) n.0 n.1 (omega (arith, same, high))) ∙ ap decimal same
 
-pub heap_is_written : (bytes : List ℕ) (cells : ℕ) → heap_of_line bytes ≡ Some cells → 512 ≤ cells → cells ≤ 1048576 → bytes ≡ heap_text cells
-unfolding heap_of_line
-heap_is_written bytes cells h low high = sym (parts_spaced bytes) ∙ by_parts (parts_of 32 bytes) h
+named_written : (more : Bool) (word number : List ℕ) (cells : ℕ) (methods : Bool) → heap_named more word number ≡ Some (cells, methods) → 512 ≤ cells → cells ≤ 1048576
+    → (word ≡ codes "heap") × (number ≡ decimal cells) × (more ≡ methods)
+named_written more word number cells methods k low high = by_test (bytes_eq word (codes "heap")) refl k
   where
-    by_parts : (parts : List (List ℕ)) → heap_by_words parts ≡ Some cells → spaced parts ≡ heap_text cells
+    by_test : (b : Bool) → bytes_eq word (codes "heap") ≡ b → cond b (option_map (told more) (cells_named number)) None ≡ Some (cells, methods)
+        → (word ≡ codes "heap") × (number ≡ decimal cells) × (more ≡ methods)
+    by_test false e j = absurd (cc)
+    by_test true e j =
+        let n = mapped (told more) (cells_named number) (cells, methods) j in
+        let same : n.0 ≡ cells = ap (λ (h : ℕ × Bool). h.0) n.2 in
+        (same_bytes word (codes "heap") e, cells_written number cells (n.1 ∙ ap Some same) low high, ap (λ (h : ℕ × Bool). h.1) n.2)
+
+pub heap_is_written : (bytes : List ℕ) (cells : ℕ) (methods : Bool) → heap_of_line bytes ≡ Some (cells, methods) → 512 ≤ cells → cells ≤ 1048576 → bytes ≡ heap_text cells methods
+unfolding heap_of_line
+heap_is_written bytes cells methods h low high = sym (parts_spaced bytes) ∙ by_parts (parts_of 32 bytes) h
+  where
+    by_parts : (parts : List (List ℕ)) → heap_by_words parts ≡ Some (cells, methods) → spaced parts ≡ heap_text cells methods
     by_parts [] k = absurd (cc)
     by_parts (word ∷ []) k = absurd (cc)
-    by_parts (word ∷ number ∷ []) k = by_test (bytes_eq word (codes "heap")) refl k
+    by_parts (word ∷ number ∷ []) k =
+        let n = named_written false word number cells methods k low high in
+        (λ i. spaced (n.0 i ∷ n.1 i ∷ [])) ∙ ap (heap_text cells) n.2
+    by_parts (word ∷ number ∷ more ∷ []) k = by_more (bytes_eq more (codes "methods")) refl k
       where
-        by_test : (b : Bool) → bytes_eq word (codes "heap") ≡ b → cond b (cells_named number) None ≡ Some cells → spaced (word ∷ number ∷ []) ≡ heap_text cells
-        by_test false e j = absurd (cc)
-        by_test true e j = (λ i. spaced (same_bytes word (codes "heap") e i ∷ cells_written number cells j low high i ∷ []))
-    by_parts (word ∷ number ∷ more ∷ words) k = absurd (cc)
+        by_more : (b : Bool) → bytes_eq more (codes "methods") ≡ b → cond b (heap_named true word number) None ≡ Some (cells, methods) → spaced (word ∷ number ∷ more ∷ []) ≡ heap_text cells methods
+        by_more false e j = absurd (cc)
+        by_more true e j =
+            let n = named_written true word number cells methods j low high in
+            (λ i. spaced (n.0 i ∷ n.1 i ∷ same_bytes more (codes "methods") e i ∷ [])) ∙ ap (heap_text cells) n.2
+    by_parts (word ∷ number ∷ more ∷ next ∷ words) k = absurd (cc)

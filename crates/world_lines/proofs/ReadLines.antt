@@ -9,7 +9,7 @@ use Rattle.base.specs.Element.{JInt}
 use Rattle.world_schedules.specs.Split.{parts_of}
 use Rattle.world_lines.specs.LineContents.{written_values}
 use Rattle.world_lines.specs.ReadingLines.{string_by_words, object_line, array_line, words_by_kind, line_by_words, line_of}
-use Rattle.world_values.specs.WorldLines.{WorldValue, WorldLine, ClassLine, FieldLine, StaticLine, ObjectLine, ObjectsLine, ArrayLine, StringLine, ThreadLine, CallLine, has_no_space, is_line_word, is_value_word, has_words, spaced, at_name, value_text, element_letter, line_text, IsLineText}
+use Rattle.world_values.specs.WorldLines.{WorldValue, WorldLine, MethodsLine, ClassLine, FieldLine, StaticLine, ObjectLine, ObjectsLine, ArrayLine, StringLine, ThreadLine, CallLine, has_no_space, is_line_word, is_value_word, has_words, spaced, at_name, value_text, element_letter, line_text, IsLineText}
 use Rattle.world_values.specs.WorldRules.{value_in_range}
 use Rattle.world_lines.proofs.LineWords.{first_part, spaced_parts, parts_spaced, words_some, words_free}
 use Rattle.world_lines.proofs.ReadValues.{value_words, values_read, element_read, element_word}
@@ -34,6 +34,7 @@ call_words : (function : List ℕ) (vs : List WorldValue) → is_line_word funct
 call_words function vs b c range = and_from (is_line_word function) (list_all is_line_word (map value_text vs)) b (value_words vs c range)
 
 text_read : (line : WorldLine) → has_words line ≡ true → list_all (value_in_range JInt) (written_values line) ≡ true → line_of (line_text line) ≡ Some line
+text_read MethodsLine words range = absurd (cc)
 text_read (ClassLine name None) words range = by_kind (codes "class") (name ∷ []) refl refl (and_from (is_line_word name) true words refl)
 text_read (ClassLine name (Some superclass)) words range =
     let b = both (is_line_word name) (is_line_word superclass) words in
@@ -71,6 +72,7 @@ pub line_is_read : (bytes : List ℕ) (line : WorldLine) → IsLineText bytes li
 line_is_read bytes line (words, inl e) range = ap line_of e ∙ text_read line words range
 line_is_read bytes (StringLine x []) (words, inr e) range = ap line_of e ∙ by_words (spaced (codes "string" ∷ at_name x ∷ [])) (codes "string" ∷ at_name x ∷ []) (spaced_parts (codes "string") (at_name x ∷ []) refl (and_from (has_no_space x) true words refl))
 line_is_read bytes (StringLine x (c ∷ text)) (words, inr e) range = absurd e
+line_is_read bytes MethodsLine (words, inr e) range = absurd e
 line_is_read bytes (ClassLine name superclass) (words, inr e) range = absurd e
 line_is_read bytes (FieldLine class name signature) (words, inr e) range = absurd e
 line_is_read bytes (StaticLine class name signature) (words, inr e) range = absurd e

@@ -45,18 +45,19 @@ pub string_is : (line word : List ℕ) (words : Words) (d : Bor (List ℕ)) (x t
 string_is line word [] d x text some e named is = absurd (omega arith)
 string_is line word (w ∷ words) d x text some e named is = string_named line word w.now (bytes_of words) x text e named is
 
--- ---- the line of the heap has two words
+-- ---- the line of the heap has two words or three
 
 pub few_words : (words : Words) → length words < 2 → None ≡ heap_by_words (bytes_of words)
 few_words [] h = refl
 few_words (w ∷ []) h = refl
 few_words (w ∷ v ∷ words) h = absurd (omega arith)
 
-pub many_words : (words : Words) → 3 ≤ length words → None ≡ heap_by_words (bytes_of words)
+pub many_words : (words : Words) → 4 ≤ length words → None ≡ heap_by_words (bytes_of words)
 many_words [] h = absurd (omega arith)
 many_words (w ∷ []) h = absurd (omega arith)
 many_words (w ∷ v ∷ []) h = absurd (omega arith)
-many_words (w ∷ v ∷ u ∷ words) h = refl
+many_words (w ∷ v ∷ u ∷ []) h = absurd (omega arith)
+many_words (w ∷ v ∷ u ∷ t ∷ words) h = refl
 
 -- ---- the first word
 

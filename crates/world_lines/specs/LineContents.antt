@@ -2,7 +2,7 @@
 use Rattle.std.specs.Prelude.{ℕ, Bool, true, false, List, [], length, Option, Some, None}
 use Rattle.base.specs.Bytes.{Identifier}
 use Rattle.semantics.specs.Object.{object_size}
-use Rattle.world_values.specs.WorldLines.{WorldValue, NumberValue, WorldLine, ClassLine, StaticLine, ObjectLine, ObjectsLine, ArrayLine, StringLine, ThreadLine, CallLine}
+use Rattle.world_values.specs.WorldLines.{WorldValue, NumberValue, WorldLine, MethodsLine, ClassLine, StaticLine, ObjectLine, ObjectsLine, ArrayLine, StringLine, ThreadLine, CallLine}
 
 -- the values that it writes; a string writes none
 abbrev pub written_values : WorldLine → List WorldValue
@@ -23,6 +23,7 @@ name_given line = None
 
 -- the cells that it adds at load: of two class objects, of a static, or of an object
 abbrev pub cells_added : WorldLine → ℕ
+cells_added MethodsLine = 6
 cells_added (ClassLine name superclass) = 6
 cells_added (StaticLine class name signature) = 1
 cells_added (ObjectLine x class values) = object_size (length values)

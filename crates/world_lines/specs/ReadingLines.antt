@@ -1,5 +1,5 @@
 -- How a line of a world is read, by its words.
-use Rattle.std.specs.Prelude.{ℕ, ◌-◌, ◌^◌, List, [], ◌∷◌, codes, min, ◌==◌, Option, Some, None, bytes_eq, if◌then◌else◌}
+use Rattle.std.specs.Prelude.{ℕ, Bool, true, false, ◌-◌, ◌^◌, List, [], ◌∷◌, codes, min, ◌==◌, Option, Some, None, bytes_eq, if◌then◌else◌}
 use Rattle.std.specs.Option.{option_map}
 use Rattle.std.specs.List.{list_all}
 use Rattle.base.specs.Bytes.{Identifier, is_some_byte}
@@ -22,13 +22,22 @@ cells_named [] = None
 cells_named (sign ∷ digits) =
     if sign == 45 then below_zero (natural_of digits) else option_map (λ n. min n (2 ^ 64 - 1)) (natural_of (sign ∷ digits))
 
--- `heap N`, by its words
-abbrev pub heap_by_words : List (List ℕ) → Option ℕ
-heap_by_words (word ∷ number ∷ []) = if bytes_eq word (codes "heap") then cells_named number else None
+-- the heap's number of cells, and whether it allows methods
+abbrev pub HeapLine : Type 0
+HeapLine = ℕ × Bool
+
+-- a number of cells, where the word before it is `heap`
+abbrev pub heap_named : (methods : Bool) → (word number : List ℕ) → Option HeapLine
+heap_named methods word number = if bytes_eq word (codes "heap") then option_map (λ n. (n, methods)) (cells_named number) else None
+
+-- `heap N` or `heap N methods`, by its words
+abbrev pub heap_by_words : List (List ℕ) → Option HeapLine
+heap_by_words (word ∷ number ∷ []) = heap_named false word number
+heap_by_words (word ∷ number ∷ more ∷ []) = if bytes_eq more (codes "methods") then heap_named true word number else None
 heap_by_words words = None
 
--- the number of cells that a line of the heap gives it
-unfoldable pub heap_of_line : List ℕ → Option ℕ
+-- what a line of the heap says
+unfoldable pub heap_of_line : List ℕ → Option HeapLine
 heap_of_line bytes = heap_by_words (parts_of 32 bytes)
 
 -- ---- other lines, by the words after the first

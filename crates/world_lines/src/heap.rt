@@ -2,7 +2,7 @@
 
 ghost use Rattle.std.specs.Prelude.{◌≡◌, IfOk, map};
 ghost use Rattle.world_schedules.specs.Numbers.{natural_of};
-ghost use Rattle.world_lines.specs.ReadingLines.{below_zero, cells_named, heap_by_words, heap_of_line};
+ghost use Rattle.world_lines.specs.ReadingLines.{below_zero, cells_named, heap_named, heap_by_words, heap_of_line};
 
 use crate::line::split_words;
 use std::alloc::{AllocError, Global};
@@ -28,14 +28,27 @@ fn read_cells(word: &[u8]) -> Option<u64>
     }
 }
 
-/// `heap N`, by its words.
-fn heap_by_words(words: &[&[u8]]) -> Option<u64>
+/// A number of cells, where the word before it is `heap`.
+fn heap_named(methods: bool, word: &[u8], number: &[u8]) -> Option<(u64, bool)>
+    ensures { result ≡ heap_named methods word.now number.now }
+{
+    if word == b"heap".as_slice() {
+        let cells = read_cells(number)?;
+        Some((cells, methods))
+    } else {
+        None
+    }
+}
+
+/// `heap N` or `heap N methods`, by its words.
+fn heap_by_words(words: &[&[u8]]) -> Option<(u64, bool)>
     ensures { result ≡ heap_by_words (map (λ w. w.now) words.now) }
 {
     match words {
-        [word, number] => {
-            if *word == b"heap".as_slice() {
-                read_cells(*number)
+        [word, number] => heap_named(false, *word, *number),
+        [word, number, more] => {
+            if *more == b"methods".as_slice() {
+                heap_named(true, *word, *number)
             } else {
                 None
             }
@@ -44,10 +57,10 @@ fn heap_by_words(words: &[&[u8]]) -> Option<u64>
     }
 }
 
-/// The number of cells that a line of the heap gives it.
+/// The number of cells that a line of the heap gives it, and whether it allows methods.
 #[tactic(auto, unfolding(crate::specs::ReadingLines::heap_of_line))]
-pub fn heap_of_line(alloc: Global, line: &[u8]) -> Result<Option<u64>, AllocError>
-    ensures { IfOk result (λ cells. cells ≡ heap_of_line line.now) }
+pub fn heap_of_line(alloc: Global, line: &[u8]) -> Result<Option<(u64, bool)>, AllocError>
+    ensures { IfOk result (λ heap. heap ≡ heap_of_line line.now) }
 {
     let words = split_words(alloc, line)?;
     Ok(heap_by_words(&words))

@@ -65,12 +65,12 @@ fn is_object_class(classes: &ClassTable, name: &[u8]) -> bool
     }
 }
 
-/// Whether the world defines a class of this name.
-fn is_world_class(classes: &ClassTable, name: &[u8]) -> bool
-    ensures { result ≡ is_world_class classes.now name.now }
+/// Whether the world, which allows methods or doesn't, defines a class of this name.
+fn is_world_class(classes: &ClassTable, methods: bool, name: &[u8]) -> bool
+    ensures { result ≡ is_world_class methods classes.now name.now }
 {
     match classes.find(name) {
-        Some(class) => is_after_built_ins(class) && !classes.is_array(class),
+        Some(class) => is_after_built_ins(class, methods) && !classes.is_array(class),
         None => false,
     }
 }
@@ -120,13 +120,13 @@ pub fn is_formed(classes: &ClassTable, line: &Line) -> bool
     is_well_formed(classes, line) && has_formed_values(line)
 }
 
-/// Whether the class that a line speaks of is there, and of the kind that it may speak of.
-pub fn is_class_allowed(classes: &ClassTable, line: &Line) -> bool
-    ensures { result ≡ is_class_allowed classes.now (line_view line.now) }
+/// Whether the class that a line speaks of is there, and of the kind that it may speak of, in a world that allows methods or doesn't.
+pub fn is_class_allowed(classes: &ClassTable, methods: bool, line: &Line) -> bool
+    ensures { result ≡ is_class_allowed methods classes.now (line_view line.now) }
 {
     match line {
-        Line::Field(field) => is_world_class(classes, field.class),
-        Line::Static(field) => is_world_class(classes, field.class),
+        Line::Field(field) => is_world_class(classes, methods, field.class),
+        Line::Static(field) => is_world_class(classes, methods, field.class),
         Line::Object(object) => is_object_class(classes, object.class),
         Line::Objects(object) => is_element_class(classes, object.class),
         _ => true,

@@ -1,1 +1,2 @@
 pub mod LoadedWorlds
+pub mod MethodErrors

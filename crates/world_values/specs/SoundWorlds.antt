@@ -6,7 +6,7 @@ use Rattle.base.specs.Element.{JChar}
 use Rattle.class_rules.specs.BuiltIns.{class_class, string_class}
 use Rattle.class_rules.specs.Class.{FieldType, NumberField, ReferenceField, ClassKind, Plain, ArrayOfNumbers, ArrayOfObjects, Classes, class_kind}
 use Rattle.class_rules.specs.Fields.{FieldId, layout}
-use Rattle.class_rules.specs.Grown.{IsGrown}
+use Rattle.class_rules.specs.Grown.{IsGrown, HasMethodError}
 use Rattle.semantics.specs.Heap.{is_instance}
 use Rattle.semantics.specs.Object.{ObjectValue, Number, Refers, Reference, Object}
 use Rattle.semantics.specs.Reachable.{loaded_count}
@@ -57,6 +57,7 @@ has_call (call ∷ calls) = true
 
 pub record IsSound (w : World) : Type 0 where
   pub grown : IsGrown w.classes
+  pub methods : w.methods ≡ true → HasMethodError w.classes
   pub declares : DeclaresWell w.classes
   pub cells : w.cells ≤ most_cells
   pub fits : IsTrue (fits_cells w)

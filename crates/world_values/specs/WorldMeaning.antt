@@ -1,15 +1,16 @@
 -- The world that lines define.
-use Rattle.std.specs.Prelude.{ℕ, ◌+◌, pos, List, [], ◌∷◌, ◌++◌, length, map, position, Option, Some, None, filter_map, fold, unwrap_or, bytes_eq}
+use Rattle.std.specs.Prelude.{ℕ, ◌+◌, Bool, true, false, pos, List, [], ◌∷◌, ◌++◌, length, map, position, Option, Some, None, filter_map, fold, unwrap_or, bytes_eq}
 use Rattle.std.specs.Option.{option_map}
+use Rattle.std.specs.List.{list_any}
 use Rattle.base.specs.Bytes.{Identifier, ByName, lookup}
 use Rattle.base.specs.Element.{JInt}
 use Rattle.class_rules.specs.Class.{Field, NumberField, Classes, class_named, array_name}
 use Rattle.class_rules.specs.BuiltIns.{built_ins, object_class, string_class, number_array}
 use Rattle.class_rules.specs.Fields.{type_of_signature}
-use Rattle.class_rules.specs.Additions.{new_class, with_class, with_field, with_static}
+use Rattle.class_rules.specs.Additions.{new_class, with_class, with_field, with_static, with_methods}
 use Rattle.semantics.specs.Object.{Reference, ObjectValue, Number, Refers, Object, sizes}
 use Rattle.semantics.specs.World.{Invocation, World, loaded_objects}
-use Rattle.world_values.specs.WorldLines.{WorldValue, NumberValue, NamedObject, NamedClass, WorldLine, ClassLine, FieldLine, StaticLine, ObjectLine, ObjectsLine, ArrayLine, StringLine, ThreadLine, CallLine, Lines}
+use Rattle.world_values.specs.WorldLines.{WorldValue, NumberValue, NamedObject, NamedClass, WorldLine, MethodsLine, ClassLine, FieldLine, StaticLine, ObjectLine, ObjectsLine, ArrayLine, StringLine, ThreadLine, CallLine, Lines}
 
 -- ---- classes
 
@@ -28,6 +29,7 @@ field_of classes name signature = record { name = name; type = unwrap_or (type_o
 
 -- the classes after one more line
 abbrev pub table_with : Classes → WorldLine → Classes
+table_with classes MethodsLine = with_methods classes
 table_with classes (ClassLine name superclass) = with_class classes (new_class name (Some (superclass_number classes superclass)))
 table_with classes (FieldLine class name signature) = with_field classes (class_number classes class) (field_of classes name signature)
 table_with classes (StaticLine class name signature) = with_static classes (class_number classes class) (field_of classes name signature)
@@ -110,9 +112,20 @@ threads_of lines = fold (threads_with lines) [] lines
 
 -- ---- the whole
 
--- the world of a heap of this number of cells and these lines
-abbrev pub world_of : ℕ → Lines → World
-world_of cells lines = record {
+-- whether a line allows methods
+abbrev pub is_methods_line : WorldLine → Bool
+is_methods_line MethodsLine = true
+is_methods_line line = false
+
+-- whether one of several does
+abbrev pub has_methods : Lines → Bool
+has_methods lines = list_any (λ (l : ℕ × WorldLine). is_methods_line l.1) lines
+
+-- the world of a heap of this number of cells, told on this line, and these lines
+abbrev pub world_of : (heap_line cells : ℕ) → Lines → World
+world_of heap_line cells lines = record {
+  heap_line = heap_line;
+  methods = has_methods lines;
   cells = cells;
   classes = table_of lines;
   objects = filter_map (λ (l : ℕ × WorldLine). object_of lines l.1) lines;
@@ -121,4 +134,4 @@ world_of cells lines = record {
 
 -- the cells that are used at load
 abbrev pub cells_of : Lines → ℕ
-cells_of lines = sizes (loaded_objects (world_of 0 lines))
+cells_of lines = sizes (loaded_objects (world_of 0 0 lines))

@@ -6,19 +6,20 @@ use Rattle.base.specs.Bytes.{Identifier, is_from_to}
 use Rattle.base.specs.Element.{ElementType, JInt, JShort, JByte, JChar}
 use Rattle.base.specs.Options.{some_passes}
 use Rattle.class_rules.specs.Class.{FieldType, NumberField, ReferenceField, Classes, class_named, class_kind, is_plain, assignable}
-use Rattle.class_rules.specs.BuiltIns.{built_ins, class_class, has_own_making}
+use Rattle.class_rules.specs.BuiltIns.{class_class, has_own_making}
 use Rattle.class_rules.specs.Fields.{FieldId, layout}
-use Rattle.class_rules.specs.Additions.{ClassRule, class_breaks, field_breaks}
+use Rattle.class_rules.specs.Additions.{ClassRule, class_breaks, field_breaks, built_in_count}
 use Rattle.world_schedules.specs.LineRules.{LineRule, OfClass, LineForm, WrongName, OutOfLimit, HeapFull, line_rules}
 use Rattle.class_rules.specs.Mangling.{is_simple_name, is_class_name}
 use Rattle.semantics.specs.World.{World}
-use Rattle.world_values.specs.WorldLines.{WorldValue, NumberValue, NullValue, NamedObject, NamedClass, WorldLine, ClassLine, FieldLine, StaticLine, ObjectLine, ObjectsLine, ArrayLine, StringLine, ThreadLine, CallLine, Lines, spaced, IsLineText, text_lines}
-use Rattle.world_values.specs.WorldMeaning.{class_number, table_of, object_defined, objects_defined, class_of_object, values_of_line, threads_of, world_of, cells_of}
+use Rattle.world_values.specs.WorldLines.{WorldValue, NumberValue, NullValue, NamedObject, NamedClass, WorldLine, MethodsLine, ClassLine, FieldLine, StaticLine, ObjectLine, ObjectsLine, ArrayLine, StringLine, ThreadLine, CallLine, Lines, spaced, IsLineText, text_lines}
+use Rattle.world_values.specs.WorldMeaning.{class_number, table_of, object_defined, objects_defined, class_of_object, values_of_line, threads_of, has_methods, world_of, cells_of}
 
 -- ---- the form and the order of lines
 
 -- class and field lines, then objects, then threads
 abbrev pub part_of : WorldLine → ℕ
+part_of MethodsLine = 0
 part_of (ClassLine name superclass) = 0
 part_of (FieldLine class name signature) = 0
 part_of (StaticLine class name signature) = 0
@@ -55,8 +56,10 @@ is_object_class classes class = some_passes (λ c. not (has_own_making classes c
 abbrev pub layout_types : Classes → ℕ → List FieldType
 layout_types classes c = map (λ (f : FieldId). f.field.type) (layout classes c)
 
--- what a line defines is named as it should be, a string has text bytes, and an object has a value for each field
+-- what a line defines is named as it should be, a string has text bytes, and an object has a value for each field; that of
+-- methods is no line after that of the heap
 abbrev pub is_well_formed : Classes → WorldLine → Bool
+is_well_formed classes MethodsLine = false
 is_well_formed classes (ClassLine name superclass) = is_class_name name
 is_well_formed classes (FieldLine class name signature) = is_simple_name name
 is_well_formed classes (StaticLine class name signature) = is_simple_name name
@@ -71,16 +74,16 @@ is_well_formed classes (CallLine function arguments) = true
 -- ---- names and values
 
 -- a class that the world defines
-abbrev pub is_world_class : Classes → Identifier → Bool
-is_world_class classes class = some_passes (λ c. nat_lt (length built_ins) c && is_plain (class_kind classes c)) (class_named classes class)
+abbrev pub is_world_class : (methods : Bool) → Classes → Identifier → Bool
+is_world_class methods classes class = some_passes (λ c. nat_lt (built_in_count methods) c && is_plain (class_kind classes c)) (class_named classes class)
 
 -- whether a line's class is known and allowed
-abbrev pub is_class_allowed : Classes → WorldLine → Bool
-is_class_allowed classes (FieldLine class name signature) = is_world_class classes class
-is_class_allowed classes (StaticLine class name signature) = is_world_class classes class
-is_class_allowed classes (ObjectLine x class values) = is_object_class classes class
-is_class_allowed classes (ObjectsLine x class values) = some_passes (λ c. is_plain (class_kind classes c)) (class_named classes class)
-is_class_allowed classes line = true
+abbrev pub is_class_allowed : (methods : Bool) → Classes → WorldLine → Bool
+is_class_allowed methods classes (FieldLine class name signature) = is_world_class methods classes class
+is_class_allowed methods classes (StaticLine class name signature) = is_world_class methods classes class
+is_class_allowed methods classes (ObjectLine x class values) = is_object_class classes class
+is_class_allowed methods classes (ObjectsLine x class values) = some_passes (λ c. is_plain (class_kind classes c)) (class_named classes class)
+is_class_allowed methods classes line = true
 
 -- whether the name that a line gives its object is taken
 abbrev pub is_name_taken : Lines → WorldLine → Bool
@@ -158,7 +161,7 @@ line_breaks (OfClass rule) cells earlier (n, line) = breaks_class_rule rule (tab
 line_breaks LineForm cells earlier (n, line) = not (is_well_formed (table_of earlier) line) || not (list_all is_formed_value (values_of_line line))
 line_breaks WrongName cells earlier (n, line) =
     is_name_taken earlier line
-    || not (is_class_allowed (table_of earlier) line)
+    || not (is_class_allowed (has_methods earlier) (table_of earlier) line)
     || not (list_all (is_known_value earlier) (values_of_line line))
     || not (each_holds earlier (types_of_line (table_of earlier) line) (values_of_line line))
 line_breaks OutOfLimit cells earlier (n, line) =
@@ -181,17 +184,24 @@ broken_after cells earlier (line ∷ lines) = map (λ rule. (line.0, rule)) (bro
 abbrev pub IsNumberedLine : ℕ × List ℕ → ℕ × WorldLine → Type 0
 IsNumberedLine text line = (text.0 ≡ line.0) × IsLineText text.1 line.1
 
+-- the words of the line of the heap
+abbrev pub heap_words : (cells : ℕ) (methods : Bool) → List (List ℕ)
+heap_words cells methods = codes "heap" ∷ decimal cells ∷ (if methods then codes "methods" ∷ [] else [])
+
+-- what the line of the heap says of classes
+abbrev pub first_lines : (heap_line : ℕ) (methods : Bool) → Lines
+first_lines heap_line methods = if methods then (heap_line, MethodsLine) ∷ [] else []
+
 -- the world that a text means
 pub record IsWorldText (text : List ℕ) (world : World) : Type 0 where
-  pub heap_line : ℕ
   pub written : List (ℕ × List ℕ)
   pub lines : Lines
-  pub spelled : text_lines text ≡ (heap_line, spaced (codes "heap" ∷ decimal world.cells ∷ [])) ∷ written
+  pub spelled : text_lines text ≡ (world.heap_line, spaced (heap_words world.cells world.methods)) ∷ written
   pub lines_spelled : AllZip IsNumberedLine written lines
   pub size : (least_cells ≤ world.cells) × (world.cells ≤ most_cells)
-  pub rules : broken_after world.cells [] lines ≡ []
+  pub rules : broken_after world.cells (first_lines world.heap_line world.methods) lines ≡ []
   pub threads : IsTrue (list_any (λ (l : ℕ × WorldLine). is_thread_line l.1) lines)
-  pub meant : world ≡ world_of world.cells lines
+  pub meant : world ≡ world_of world.heap_line world.cells (first_lines world.heap_line world.methods ++ lines)
 
 -- what pins it from outside: a text means one world at most
 abbrev pub MeansOneWorld : Type 0

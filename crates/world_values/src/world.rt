@@ -76,6 +76,8 @@ impl Call {
 /// The heap's cells, the classes, the objects, and what each thread calls: seen as the world of the definitions. The objects
 /// fit their classes and the heap, and each thread has a call, which is given what is there.
 pub struct World {
+    heap_line: usize,
+    methods: bool,
     cells: u32,
     classes: ClassTable,
     objects: Vec<Object>,
@@ -86,6 +88,8 @@ pub struct World {
 impl Drop for World {
     fn drop(self) {
         let World {
+            heap_line: _,
+            methods: _,
             cells: _,
             classes,
             objects,
@@ -105,6 +109,8 @@ impl Model for World {
     ghost Value = { SourceWorld };
 
     ghost view = { λ w. record {
+      heap_line = w.heap_line;
+      methods = w.methods;
       cells = w.cells;
       classes = w.classes;
       objects = w.objects.items;
@@ -112,6 +118,8 @@ impl Model for World {
     } };
 
     ghost invariant = { λ w. IsSound (record {
+      heap_line = w.heap_line;
+      methods = w.methods;
       cells = w.cells;
       classes = w.classes;
       objects = w.objects.items;
@@ -122,20 +130,53 @@ impl Model for World {
 impl World {
     /// The world of these parts.
     pub fn new(
+        heap_line: usize,
+        methods: bool,
         cells: u32,
         classes: ClassTable,
         objects: Vec<Object>,
         threads: Vec<Vec<Call>>,
     ) -> World
-        requires { IsSound (record { cells = cells; classes = classes; objects = objects.items; threads = map (λ t. t.items) threads.items }) }
-        ensures { result ≡ record { cells = cells; classes = classes; objects = objects.items; threads = map (λ t. t.items) threads.items } }
+        requires { IsSound (record {
+          heap_line = heap_line;
+          methods = methods;
+          cells = cells;
+          classes = classes;
+          objects = objects.items;
+          threads = map (λ t. t.items) threads.items;
+        }) }
+        ensures { result ≡ record {
+          heap_line = heap_line;
+          methods = methods;
+          cells = cells;
+          classes = classes;
+          objects = objects.items;
+          threads = map (λ t. t.items) threads.items;
+        } }
     {
         World {
+            heap_line,
+            methods,
             cells,
             classes,
             objects,
             threads,
         }
+    }
+
+    /// The line of the world that tells the heap.
+    pub fn heap_line(&self) -> usize
+        ensures { result ≡ self.now.heap_line }
+    {
+        self.heap_line
+    }
+
+    /// Whether the world allows methods: it has java/lang/NoSuchMethodError then.
+    pub fn has_methods(&self) -> bool
+        ensures methods { result ≡ self.now.methods }
+        ensures sound { IsSound self.now }
+    {
+        self.methods
     }
 
     /// How many cells the heap has.

@@ -18,7 +18,7 @@ pub returns-clause-read : goal.returns-clause-read
 returns-clause-read c =
     let first = sym (text_left c.new-lines.result c.args.text.now c.new-lines.ensures.parts) ∙ c.in-Some.ensures.line in
     subst (Gives (λ w. w) c.read_lines.result)
-    (sym (heap_taken c.next_line.new.number c.in-Some.heap.now (lines_left c.next_line.new.number c.next_line.new.lines) c.args.text.now c.in_ok-cells.cells first c.in_ok-cells.ensures.read)) c.read_lines.ensures
+    (sym (heap_taken c.next_line.new.number c.in-Some.heap.now (lines_left c.next_line.new.number c.next_line.new.lines) c.args.text.now (c.in_ok-cells.cells, c.in_ok-cells.methods) first c.in_ok-cells.ensures.read)) c.read_lines.ensures
 
 pub returns-clause-means : goal.returns-clause-means
 returns-clause-means c = world_means c.args.text.now c.read_lines.result (returns-clause-read c)
