@@ -7,7 +7,7 @@ use Rattle.base.specs.Options.{some_passes}
 use Rattle.syntax.specs.Parts.{own_call, own_expressions, call_expressions}
 use Rattle.syntax.specs.Tree.{Expr, Number, Named, Variable, Element, Prefix, Binary, Paren, Call, FromExpr, FromCall, TestExpr, TestCall, ResultType, Void, IntResult, ReferenceResult, Stmt, Declare, DeclareBuffer, DeclareChars, DeclareArray, Assign, AssignElement, Perform, PutJint, If, IfElse, While, Return, ReturnValue}
 use Rattle.jni.specs.JniFunction.{function_named}
-use Rattle.type_rules.specs.Sorts.{Sort, Word, Jint, Flag, Truth, Ref, Global, Weak, FieldId, Buffer, Array, Scope, sort_in, sort_of, has_elements, is_index, is_word, is_jint, is_flag, is_truth, is_ref, is_null, name_sort, call_arguments_fit}
+use Rattle.type_rules.specs.Sorts.{Sort, Word, Jint, Flag, Truth, Ref, Global, Weak, FieldId, MethodId, Buffer, Array, Scope, sort_in, sort_of, has_elements, is_index, is_word, is_jint, is_flag, is_truth, is_ref, is_null, name_sort, call_arguments_fit}
 use Rattle.type_rules.specs.SortRules.{SortMisfit, is_formed, variable_sort, value_sets, return_fits, statement_fits, breaks_sort_rule}
 
 -- ---- one expression
@@ -54,6 +54,7 @@ value_formed known (Some Ref) e h = elim (or_cases (is_null e) (is_some (name_so
 value_formed known (Some Global) e h = null_formed known e h
 value_formed known (Some Weak) e h = null_formed known e h
 value_formed known (Some FieldId) e h = null_formed known e h
+value_formed known (Some MethodId) e h = null_formed known e h
 value_formed known (Some Truth) e h = absurd cc
 value_formed known (Some (Buffer t writable)) e h = absurd cc
 value_formed known (Some (Array t size)) e h = absurd cc

@@ -8,7 +8,7 @@ use Rattle.base.specs.Bytes.{Identifier}
 use Rattle.base.specs.Options.{some_passes}
 use Rattle.syntax.specs.Parts.{names_in, null_tested, own_call, own_expressions, assigned_name}
 use Rattle.syntax.specs.Tree.{Expr, Number, Named, Variable, Element, Prefix, Binary, Paren, PrefixOp, LogicalNot, Complement, ToWord, ToInt, Null, BinaryOp, Equal, NotEqual, FromExpr, FromCall, TestExpr, TestCall, ResultType, Void, IntResult, ReferenceResult, Stmt, Declare, DeclareBuffer, DeclareChars, DeclareArray, Assign, AssignElement, Perform, PutJint, If, IfElse, While, Return, ReturnValue}
-use Rattle.type_rules.specs.Sorts.{Scope, Sort, Word, Jint, Flag, Truth, Ref, Global, Weak, FieldId, Buffer, Array, sort_of, sort_in, prefix_sort, binary_sort, OperatorGroup, Logic, Equality, Order, OnWords, group, null_test_sort, has_elements, is_index, is_word, is_jint, is_flag, is_truth, is_ref, is_null, name_sort, is_nullable, is_unknown}
+use Rattle.type_rules.specs.Sorts.{Scope, Sort, Word, Jint, Flag, Truth, Ref, Global, Weak, FieldId, MethodId, Buffer, Array, sort_of, sort_in, prefix_sort, binary_sort, OperatorGroup, Logic, Equality, Order, OnWords, group, null_test_sort, has_elements, is_index, is_word, is_jint, is_flag, is_truth, is_ref, is_null, name_sort, is_nullable, is_unknown}
 use Rattle.type_rules.specs.SortRules.{SortMisfit, UnknownName, is_formed, variable_sort, value_sets, return_fits, statement_fits, breaks_sort_rule}
 use Rattle.type_rules.specs.Uses.{expr_uses, uses}
 use Rattle.type_rules.proofs.SortCases.{none_right}
@@ -119,6 +119,7 @@ value_known known (Some Ref) e h = elim (or_cases (is_null e) (is_some (name_sor
 value_known known (Some Global) e h = null_known known e h
 value_known known (Some Weak) e h = null_known known e h
 value_known known (Some FieldId) e h = null_known known e h
+value_known known (Some MethodId) e h = null_known known e h
 value_known known (Some Truth) e h = absurd cc
 value_known known (Some (Buffer t writable)) e h = absurd cc
 value_known known (Some (Array t size)) e h = absurd cc

@@ -16,7 +16,7 @@ ghost use Rattle.type_rules.specs.Uses.{argument_uses, call_uses};
 use crate::expressions::{has_unknown, is_formed, is_null, name_sort, sort_of};
 use crate::scope::{is_unknown, sort_in};
 use crate::sort::{
-    is_array_of, is_buffer_for, is_field, is_flag, is_global, is_jint, is_ref, is_weak,
+    is_array_of, is_buffer_for, is_field, is_flag, is_global, is_jint, is_method, is_ref, is_weak,
 };
 use jni::{JniFunction, ParameterKind, ResultKind};
 use syntax::{Argument, Call, Constant, Expr, Name};
@@ -180,6 +180,7 @@ fn result_fits(sort: Option<Sort>, kind: ResultKind) -> bool
         ResultKind::NewGlobal => is_global(sort),
         ResultKind::NewWeak => is_weak(sort),
         ResultKind::GivesField => is_field(sort),
+        ResultKind::GivesMethod => is_method(sort),
         ResultKind::GivesBuffer(access) => is_buffer_for(access, sort),
     }
 }

@@ -3,7 +3,7 @@
 ghost use Rattle.std.specs.Prelude.{◌≡◌};
 ghost use Rattle.std.specs.Option.{option_map};
 ghost use Rattle.base.specs.Element.{element_value};
-ghost use Rattle.type_rules.specs.Sorts.{is_word, is_jint, is_flag, is_truth, is_ref, is_global, is_weak, is_field, is_index, is_castable, has_elements, is_nullable, is_array_of, is_buffer_for, is_read_only};
+ghost use Rattle.type_rules.specs.Sorts.{is_word, is_jint, is_flag, is_truth, is_ref, is_global, is_weak, is_field, is_method, is_index, is_castable, has_elements, is_nullable, is_array_of, is_buffer_for, is_read_only};
 ghost use Rattle.jni.specs.Table.{access_value};
 ghost use Rattle.type_rules.specs.SortViews.{sort_value};
 
@@ -59,6 +59,12 @@ pub(crate) fn is_field(sort: Option<Sort>) -> bool
     matches!(sort, Some(Sort::FieldId))
 }
 
+pub(crate) fn is_method(sort: Option<Sort>) -> bool
+    ensures { result ≡ is_method (option_map sort_value sort) }
+{
+    matches!(sort, Some(Sort::MethodId))
+}
+
 /// What an index may be.
 pub(crate) fn is_index(sort: Option<Sort>) -> bool
     ensures { result ≡ is_index (option_map sort_value sort) }
@@ -86,7 +92,7 @@ pub(crate) fn is_nullable(sort: Option<Sort>) -> bool
 {
     matches!(
         sort,
-        Some(Sort::Ref | Sort::Global | Sort::FieldId | Sort::Buffer(..))
+        Some(Sort::Ref | Sort::Global | Sort::FieldId | Sort::MethodId | Sort::Buffer(..))
     )
 }
 

@@ -139,7 +139,7 @@ fn value_sets(known: &Known<'_, Sort>, sort: Option<Sort>, e: &Expr) -> bool
         Some(Sort::Jint) => is_jint(sort_of(known, e)),
         Some(Sort::Flag) => is_flag(sort_of(known, e)),
         Some(Sort::Ref) => is_null(e) || name_sort(known, e).is_some(),
-        Some(Sort::Global | Sort::Weak | Sort::FieldId) => is_null(e),
+        Some(Sort::Global | Sort::Weak | Sort::FieldId | Sort::MethodId) => is_null(e),
         _ => false,
     }
 }

@@ -70,6 +70,7 @@ fn with_sort(detail: Detail, sort: Option<Sort>) -> Detail {
         Some(Sort::Global) => detail.words(b"a static reference"),
         Some(Sort::Weak) => detail.words(b"jweak"),
         Some(Sort::FieldId) => detail.words(b"jfieldID"),
+        Some(Sort::MethodId) => detail.words(b"jmethodID"),
         Some(Sort::Buffer(element, true)) => detail.words(element_words(element)).words(b" *"),
         Some(Sort::Buffer(_, false)) => detail.words(b"const jchar *"),
         Some(Sort::Array(element, _)) => {
@@ -112,7 +113,7 @@ fn wanted_beside(op: BinaryOp, right: &Expr) -> &'static [u8] {
         BinaryOp::LogicalOr | BinaryOp::LogicalAnd => b"two truth values",
         BinaryOp::Equal | BinaryOp::NotEqual => {
             if is_null(right) {
-                b"the name of a reference, a jfieldID or a buffer"
+                b"the name of a reference, a jfieldID, a jmethodID or a buffer"
             } else {
                 b"two uint32_t, two jint or two jboolean"
             }
@@ -194,6 +195,7 @@ fn with_right_sides(detail: Detail, sort: Option<Sort>) -> Detail {
         Some(Sort::Global) => detail.words(b"NULL or a call of NewGlobalRef"),
         Some(Sort::Weak) => detail.words(b"NULL or a call of NewWeakGlobalRef"),
         Some(Sort::FieldId) => detail.words(b"NULL or a call that gives a jfieldID"),
+        Some(Sort::MethodId) => detail.words(b"NULL or a call that gives a jmethodID"),
         Some(Sort::Buffer(..)) => with_sort(detail.words(b"a call that gives "), sort),
         Some(Sort::Array(..)) => detail.words(b"an element of the array"),
         _ => with_sort(detail, sort),
@@ -210,6 +212,7 @@ fn with_result(detail: Detail, kind: ResultKind) -> Detail {
         ResultKind::NewGlobal => detail.words(b"a global reference"),
         ResultKind::NewWeak => detail.words(b"a weak global reference"),
         ResultKind::GivesField => detail.words(b"jfieldID"),
+        ResultKind::GivesMethod => detail.words(b"jmethodID"),
         ResultKind::GivesBuffer(access) => with_access(detail, access),
     }
 }
