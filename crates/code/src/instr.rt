@@ -87,7 +87,7 @@ pub enum NullableVariable {
     Local(u32),
     /// The global reference of this static.
     Static(u32),
-    /// The field ID in this slot.
+    /// The field ID or the method ID in this slot, as both share the slots.
     FieldId(u32),
     /// The buffer in this slot.
     Buffer(u32),
@@ -127,8 +127,10 @@ pub enum Target {
     Number(u32),
     /// Into this slot of local references.
     Local(u32),
-    /// Into this slot of field IDs.
+    /// Into this slot of field IDs and method IDs, a field ID.
     FieldId(u32),
+    /// Into this slot of field IDs and method IDs, a method ID.
+    MethodId(u32),
     /// Into the global reference of this static.
     Static(u32),
     /// Into this slot of buffers, where its variable's elements are of this type.

@@ -15,7 +15,7 @@ pub struct SlotCounts {
     pub references: u32,
     /// Statics, each with a global reference.
     pub statics: u32,
-    /// Slots of field IDs.
+    /// Slots of field IDs and method IDs, which share them.
     pub field_ids: u32,
     /// Slots of buffers.
     pub buffers: u32,
@@ -74,7 +74,7 @@ fn target_within(target: Target, slots: SlotCounts) -> bool
         Target::Dropped => true,
         Target::Number(slot) => slot < slots.numbers,
         Target::Local(slot) => slot < slots.references,
-        Target::FieldId(slot) => slot < slots.field_ids,
+        Target::FieldId(slot) | Target::MethodId(slot) => slot < slots.field_ids,
         Target::Static(index) => index < slots.statics,
         Target::Buffer(_, slot) => slot < slots.buffers,
         Target::Test => true,

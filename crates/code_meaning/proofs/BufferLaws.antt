@@ -10,7 +10,7 @@ use Rattle.semantics.specs.Task.{BufferKind}
 use Rattle.semantics.specs.Thread.{Shared, Thread}
 use Rattle.semantics.specs.Value.{Gives, outcome_then}
 use Rattle.semantics.specs.Variable as variable
-use Rattle.semantics.specs.Variable.{Variable, Scalar, LocalRef, FieldHandle, Elements, LocalArray, NoBuffer, Copy, View}
+use Rattle.semantics.specs.Variable.{Variable, Scalar, LocalRef, FieldHandle, MethodHandle, Elements, LocalArray, NoBuffer, Copy, View}
 use Rattle.code.specs.Depth.{Listing}
 use Rattle.code_meaning.specs.Layout.{Known}
 use Rattle.code_meaning.specs.Slots.{type_of_array, kind_of_variable, held_buffer, Visible, visible_to, IsAsBefore, is_no_buffer, IsBufferSet, Slots, Shows, elements_in, seen_element, SeesBuffers}
@@ -23,6 +23,7 @@ buffer_by_kind None t h = absurd (cc)
 buffer_by_kind (Some (Scalar v)) t h = absurd (cc)
 buffer_by_kind (Some (LocalRef level r)) t h = absurd (cc)
 buffer_by_kind (Some (FieldHandle f)) t h = absurd (cc)
+buffer_by_kind (Some (MethodHandle m)) t h = absurd (cc)
 buffer_by_kind (Some (Elements u b)) t h = let same : u ≡ t = cc in ap (λ (e : ElementType). Some (Elements e b)) same
 buffer_by_kind (Some (LocalArray u zs)) t h = absurd (cc)
 
@@ -64,6 +65,7 @@ array_stays heap heap' None t i h = absurd (cc)
 array_stays heap heap' (Some (Scalar v)) t i h = absurd (cc)
 array_stays heap heap' (Some (LocalRef level r)) t i h = absurd (cc)
 array_stays heap heap' (Some (FieldHandle f)) t i h = absurd (cc)
+array_stays heap heap' (Some (MethodHandle m)) t i h = absurd (cc)
 array_stays heap heap' (Some (Elements u b)) t i h = absurd (cc)
 array_stays heap heap' (Some (LocalArray u zs)) t i h = refl
 
@@ -75,6 +77,7 @@ heap_changes own s t heap x = record {
   element = λ u i array. array_stays s.heap heap (lookup x t.variables) u i array;
   reference = refl;
   field = refl;
+  method = refl;
   buffer = refl;
   array_type = refl;
   kind = refl;

@@ -9,7 +9,7 @@ use Rattle.std.proofs.lemmas.Bool.{eqb-true}
 use Rattle.std.proofs.lemmas.Bool.Decides.{not_from_Decides, Decides-eqb}
 use Rattle.std.proofs.lemmas.Slice.Eq.{bytes_eq-Decides}
 use Rattle.base.specs.Bytes.{Identifier, lookup}
-use Rattle.type_rules.specs.Sorts.{Sort, Jint, Ref, Global, Weak, FieldId, Buffer, Array}
+use Rattle.type_rules.specs.Sorts.{Sort, Jint, Ref, Global, Weak, FieldId, MethodId, Buffer, Array}
 use Rattle.type_rules.specs.Sorts as sort
 use Rattle.code.specs.Depth.{Listing}
 use Rattle.code_meaning.specs.Layout.{Slot, Known}
@@ -49,6 +49,7 @@ module _ (visible : Visible) (slots : Slots) (own : Identifier → Option ℕ) (
     reference = h.reference;
   }
   slot_shown FieldId i kept h = record { field = h.field; is = h.is; is_null = h.is_null; no_number = h.no_number; kind = h.kind; there = h.there }
+  slot_shown MethodId i kept h = record { method = h.method; is = h.is; is_null = h.is_null; no_number = h.no_number; kind = h.kind; there = h.there }
   slot_shown (Buffer t writable) i kept h = record { buffer = h.buffer; is = h.is; is_null = h.is_null; kind = h.kind; there = h.there }
   slot_shown (Array t size) i kept h = record { few = h.few; array_type = h.array_type; elements = h.elements; past = h.past }
 

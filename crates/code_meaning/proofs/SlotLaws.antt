@@ -2,6 +2,7 @@
 use Rattle.std.proofs.Common.{◌≡◌, ◌≢◌, ℕ, zero, suc, ℤ, pos, lit<, ◌+◌, ◌<◌, ◌≤◌, Bool, true, false, List, [], ◌∷◌, length, Option, Some, None, refl, sym, ap, ◌∙◌, subst, arith, if◌then◌else◌}
 use Rattle.std.specs.Prelude.{slice_get, slice_set, nat_lt, ◌==◌, FitsSigned}
 use Rattle.std.specs.Int.{w32, cast_unsigned}
+use Rattle.std.specs.Option.{option_map}
 use Rattle.std.specs.Str.{bytes_eq}
 use Rattle.std.proofs.lemmas.List.{length-set}
 use Rattle.std.proofs.lemmas.Bool.{ltb-true, ltb-false, eqb-true}
@@ -9,12 +10,13 @@ use Rattle.std.proofs.lemmas.Slice.Eq.{bytes_eq-Decides}
 use Rattle.std.proofs.lemmas.Bool.Decides.{not_from_Decides, Decides-eqb}
 use Rattle.base.specs.Bytes.{Identifier, lookup}
 use Rattle.base.specs.Element.{ElementType}
-use Rattle.type_rules.specs.Sorts.{Sort, Jint, Ref, Global, Weak, FieldId, Buffer, Array}
+use Rattle.type_rules.specs.Sorts.{Sort, Jint, Ref, Global, Weak, FieldId, MethodId, Buffer, Array}
 use Rattle.type_rules.specs.Sorts as sort
 use Rattle.type_rules.specs.SortGroups.{IsNumberSort}
 use Rattle.class_rules.specs.Fields as source
+use Rattle.semantics.specs.Method as method
 use Rattle.semantics.specs.Object.{Reference}
-use Rattle.semantics.specs.Task.{VariableKind, ScalarKind, ReferenceKind, FieldKind, BufferKind}
+use Rattle.semantics.specs.Task.{VariableKind, ScalarKind, ReferenceKind, FieldKind, MethodKind, BufferKind}
 use Rattle.semantics.specs.Value.{Value, Gives, convert}
 use Rattle.semantics.specs.Variable as variable
 use Rattle.semantics.specs.Variable.{NoBuffer, StaticReference, Empty, Statics, as_argument, assign}
@@ -25,8 +27,8 @@ use Rattle.code.specs.Effect.{cleared}
 use Rattle.code.proofs.Arrays.{cleared_element, cleared_before, cleared_after}
 use Rattle.code_meaning.specs.Layout.{Slot, Known}
 use Rattle.code_meaning.specs.Coding.{nullable_of}
-use Rattle.code_meaning.specs.Slots.{word_of, ValueHasSort, Visible, IsAsBefore, OthersStay, IsSet, IsNulled, IsReferred, IsFieldSet, IsBufferSet, IsMade, IsElementSet, IsHeld, HasNoVariable, is_empty, nulled_statics, static_index, Slots, ShowsNumber, ShowsElement, ShowsStatic, ShowsSlot, Shows, with_null}
-use Rattle.code_meaning.specs.Fits.{IsPlaceOf, IsBufferSort, IsOwn, IndexWithin, IsStaticSort}
+use Rattle.code_meaning.specs.Slots.{word_of, ValueHasSort, Visible, IsAsBefore, OthersStay, IsSet, IsNulled, IsReferred, IsFieldSet, IsMethodSet, IsBufferSet, IsMade, IsElementSet, IsHeld, HasNoVariable, is_empty, nulled_statics, static_index, Handle, OfField, OfMethod, Slots, ShowsNumber, ShowsElement, ShowsStatic, ShowsSlot, Shows, with_null}
+use Rattle.code_meaning.specs.Fits.{IsPlaceOf, IsBufferSort, IsHandleSort, IsOwn, IndexWithin, IsStaticSort}
 use Rattle.code_meaning.specs.Stands.{AreAmong, IsSlotOf}
 use Rattle.code_meaning.proofs.StaticPlaces.{StaticStays, statics_stay, assigned_stays, assigned_place, assigned_held, same_name}
 
@@ -100,7 +102,7 @@ module _ (old new : Visible) (x : Identifier) (slots slots' : Slots) (same : IsA
   number_stays : (kind : Sort) (i : ℕ) → slice_get slots'.numbers i ≡ slice_get slots.numbers i → ShowsNumber old x slots.numbers (record { sort = kind; index = i }) → ShowsNumber new x slots'.numbers (record { sort = kind; index = i })
   number_stays kind i word h = record { value = h.value; is = same.number ∙ h.is; kind = same.kind ∙ h.kind; sort = h.sort; word = word ∙ h.word }
 
-  pub slot_stays : (kind : Sort) (i : ℕ) → ((k : ℕ) → IsPlaceOf (record { sort = kind; index = i }) k → slice_get slots'.numbers k ≡ slice_get slots.numbers k) → (kind ≡ Ref → ReferenceStays slots slots' i) → (kind ≡ FieldId → slice_get slots'.fields i ≡ slice_get slots.fields i)
+  pub slot_stays : (kind : Sort) (i : ℕ) → ((k : ℕ) → IsPlaceOf (record { sort = kind; index = i }) k → slice_get slots'.numbers k ≡ slice_get slots.numbers k) → (kind ≡ Ref → ReferenceStays slots slots' i) → (IsHandleSort kind → slice_get slots'.fields i ≡ slice_get slots.fields i)
       → (IsBufferSort kind → slice_get slots'.buffers i ≡ slice_get slots.buffers i) → (IsStaticSort kind → StaticStays old.statics new.statics x) → ShowsSlot old x slots (record { sort = kind; index = i }) kind → ShowsSlot new x slots' (record { sort = kind; index = i }) kind
   slot_stays sort.Word i numbers references fields buffers statics h = number_stays sort.Word i (numbers i (omega arith, omega arith)) h
   slot_stays Jint i numbers references fields buffers statics h = number_stays Jint i (numbers i (omega arith, omega arith)) h
@@ -119,7 +121,8 @@ module _ (old new : Visible) (x : Identifier) (slots slots' : Slots) (same : IsA
     is_null = same.is_null ∙ h.is_null;
     reference = same.reference ∙ h.reference;
   }
-  slot_stays FieldId i numbers references fields buffers statics h = record { field = h.field; is = same.field ∙ h.is; is_null = same.is_null ∙ h.is_null; no_number = same.number ∙ h.no_number; kind = same.kind ∙ h.kind; there = fields refl ∙ h.there }
+  slot_stays FieldId i numbers references fields buffers statics h = record { field = h.field; is = same.field ∙ h.is; is_null = same.is_null ∙ h.is_null; no_number = same.number ∙ h.no_number; kind = same.kind ∙ h.kind; there = fields tt ∙ h.there }
+  slot_stays MethodId i numbers references fields buffers statics h = record { method = h.method; is = same.method ∙ h.is; is_null = same.is_null ∙ h.is_null; no_number = same.number ∙ h.no_number; kind = same.kind ∙ h.kind; there = fields tt ∙ h.there }
   slot_stays (Buffer t writable) i numbers references fields buffers statics h = record { buffer = h.buffer; is = same.buffer ∙ h.is; is_null = same.is_null ∙ h.is_null; kind = same.kind ∙ h.kind; there = buffers tt ∙ h.there }
   slot_stays (Array t size) i numbers references fields buffers statics h = record {
     few = h.few;
@@ -134,7 +137,7 @@ module _ (old new : Visible) (x : Identifier) (slots slots' : Slots) (same : IsA
 module _ (code : Listing) (known : Known) (old new : Visible) (slots slots' : Slots) (x : Identifier) (s : Slot) (shows : Shows code known old slots) (own : IsOwn known x s) (others : OthersStay old new x) (statics : (y : Identifier) → y ≢ x → StaticStays old.statics new.statics y) where
   pub with_changed : length slots'.numbers ≡ length slots.numbers → length slots'.references ≡ length slots.references → length slots'.owners ≡ length slots.owners → length slots'.fields ≡ length slots.fields → ((k : ℕ) → (IsPlaceOf s k → ⊥) → slice_get slots'.numbers k ≡ slice_get slots.numbers k)
       → ((i : ℕ) → (s.sort ≡ Ref → i ≢ s.index) → ReferenceStays slots slots' i)
-      → ((i : ℕ) → (s.sort ≡ FieldId → i ≢ s.index) → slice_get slots'.fields i ≡ slice_get slots.fields i)
+      → ((i : ℕ) → (IsHandleSort s.sort → i ≢ s.index) → slice_get slots'.fields i ≡ slice_get slots.fields i)
       → length slots'.buffers ≡ length slots.buffers → ((i : ℕ) → (IsBufferSort s.sort → i ≢ s.index) → slice_get slots'.buffers i ≡ slice_get slots.buffers i) → ShowsSlot new x slots' s s.sort → Shows code ((x, s) ∷ known) new slots'
   with_changed numbers references owners fields number reference field buffers buffer here = record {
     numbers = numbers ∙ shows.numbers;
@@ -183,7 +186,7 @@ shows_set code known old new slots x s v shows own n fits set =
     (λ i other. (refl, refl)) (λ i other. refl) refl (λ i other. refl)
     (number_shown new x (record slots { numbers = slice_set slots.numbers s.index (word_of v) }) s s.sort n (record { value = v; is = set.is; kind = set.kind; sort = fits; word = get-set_same slots.numbers s.index (word_of v) below }))
 
--- ---- a local reference or a field ID is set
+-- ---- a local reference, a field ID or a method ID is set
 
 -- a reference is written, and its level, if it is an object and the variable's own
 with_reference : (code : Listing) (known : Known) (old new : Visible) (slots : Slots) (x : Identifier) (i : ℕ) (r : Reference) (owners : List (Option ℕ)) → Shows code known old slots → IsSlotOf code known x (record { sort = Ref; index = i }) → IsReferred old x r new → length owners ≡ length slots.owners
@@ -202,12 +205,22 @@ shows_referred code known old new slots x i r shows own set =
     with_reference code known old new slots x i r (slice_set slots.owners i (new.owner x)) shows own set (length-set slots.owners i (new.owner x)) (λ j other. get-set_other slots.owners i j (new.owner x) other) (λ n level is owner. get-set_same slots.owners i (new.owner x) below ∙ ap (λ (o : Option ℕ). Some o) owner)
 
 pub shows_field_set : (code : Listing) (known : Known) (old new : Visible) (slots : Slots) (x : Identifier) (i : ℕ) (f : Option source.FieldId) → Shows code known old slots → IsSlotOf code known x (record { sort = FieldId; index = i }) → IsFieldSet old x f new
-    → Shows code ((x, record { sort = FieldId; index = i }) ∷ known) new (record slots { fields = slice_set slots.fields i f })
+    → Shows code ((x, record { sort = FieldId; index = i }) ∷ known) new (record slots { fields = slice_set slots.fields i (option_map OfField f) })
 shows_field_set code known old new slots x i f shows own set =
+    let h : Option Handle = option_map OfField f in
     let below : i < length slots.fields = omega (arith, own.within, shows.fields) in
-    with_changed code known old new slots (record slots { fields = slice_set slots.fields i f }) x (record { sort = FieldId; index = i }) shows own.own set.others (λ y other. statics_stay old.statics new.statics set.statics y)
-    refl refl refl (length-set slots.fields i f) (λ k outside. refl) (λ j other. (refl, refl)) (λ j other. get-set_other slots.fields i j f (other refl)) refl (λ j other. refl)
-    (record { field = f; is = set.field; is_null = set.is_null; no_number = set.number; kind = set.kind; there = get-set_same slots.fields i f below })
+    with_changed code known old new slots (record slots { fields = slice_set slots.fields i h }) x (record { sort = FieldId; index = i }) shows own.own set.others (λ y other. statics_stay old.statics new.statics set.statics y)
+    refl refl refl (length-set slots.fields i h) (λ k outside. refl) (λ j other. (refl, refl)) (λ j other. get-set_other slots.fields i j h (other tt)) refl (λ j other. refl)
+    (record { field = f; is = set.field; is_null = set.is_null; no_number = set.number; kind = set.kind; there = get-set_same slots.fields i h below })
+
+pub shows_method_set : (code : Listing) (known : Known) (old new : Visible) (slots : Slots) (x : Identifier) (i : ℕ) (m : Option method.MethodId) → Shows code known old slots → IsSlotOf code known x (record { sort = MethodId; index = i }) → IsMethodSet old x m new
+    → Shows code ((x, record { sort = MethodId; index = i }) ∷ known) new (record slots { fields = slice_set slots.fields i (option_map OfMethod m) })
+shows_method_set code known old new slots x i m shows own set =
+    let h : Option Handle = option_map OfMethod m in
+    let below : i < length slots.fields = omega (arith, own.within, shows.fields) in
+    with_changed code known old new slots (record slots { fields = slice_set slots.fields i h }) x (record { sort = MethodId; index = i }) shows own.own set.others (λ y other. statics_stay old.statics new.statics set.statics y)
+    refl refl refl (length-set slots.fields i h) (λ k outside. refl) (λ j other. (refl, refl)) (λ j other. get-set_other slots.fields i j h (other tt)) refl (λ j other. refl)
+    (record { method = m; is = set.method; is_null = set.is_null; no_number = set.number; kind = set.kind; there = get-set_same slots.fields i h below })
 
 -- ---- a buffer is set
 
@@ -253,6 +266,7 @@ no_variable_shown old new x slots h s Ref held shown = absurd (let e : Some Refe
 no_variable_shown old new x slots h s Global held shown = static_holds old new x s.index h shown held.statics held.after held.is_null held.reference
 no_variable_shown old new x slots h s Weak held shown = static_holds old new x s.index h shown held.statics held.after held.is_null held.reference
 no_variable_shown old new x slots h s FieldId held shown = absurd (let e : Some FieldKind ≡ None = sym shown.kind ∙ held.before.kind in cc)
+no_variable_shown old new x slots h s MethodId held shown = absurd (let e : Some MethodKind ≡ None = sym shown.kind ∙ held.before.kind in cc)
 no_variable_shown old new x slots h s (Buffer t writable) held shown = absurd (let e : Some (BufferKind t) ≡ None = sym shown.kind ∙ held.before.kind in cc)
 no_variable_shown old new x slots h s (Array t size) held shown = absurd (let e : Some t ≡ None = sym shown.array_type ∙ held.before.array_type in cc)
 
@@ -283,6 +297,7 @@ KindFits visible x i Ref kind = kind ≡ Some ReferenceKind
 KindFits visible x i Global kind = (kind ≡ None) × ShowsStatic visible x i
 KindFits visible x i Weak kind = (kind ≡ None) × ShowsStatic visible x i
 KindFits visible x i FieldId kind = kind ≡ Some FieldKind
+KindFits visible x i MethodId kind = kind ≡ Some MethodKind
 KindFits visible x i (Buffer t writable) kind = kind ≡ Some (BufferKind t)
 KindFits visible x i s kind = Unit {0}
 
@@ -312,6 +327,10 @@ shows_nulled code known old new slots x FieldId kind i variable shows own same e
     let is : nullable.FieldId i ≡ variable = cc in
     subst (λ v. Shows code ((x, record { sort = FieldId; index = i }) ∷ known) new (with_null v slots)) is
     (shows_field_set code known old new slots x i None shows own (record { number = set.number; is_null = set.is_null; field = set.field; kind = set.same_kind ∙ e; statics = nulled_stay old new x kind FieldKind e set.statics; others = set.others }))
+shows_nulled code known old new slots x MethodId kind i variable shows own same e set =
+    let is : nullable.FieldId i ≡ variable = cc in
+    subst (λ v. Shows code ((x, record { sort = MethodId; index = i }) ∷ known) new (with_null v slots)) is
+    (shows_method_set code known old new slots x i None shows own (record { number = set.number; is_null = set.is_null; method = set.method; kind = set.same_kind ∙ e; statics = nulled_stay old new x kind MethodKind e set.statics; others = set.others }))
 shows_nulled code known old new slots x (Buffer t writable) kind i variable shows own same e set =
     let is : nullable.Buffer i ≡ variable = cc in
     subst (λ v. Shows code ((x, record { sort = Buffer t writable; index = i }) ∷ known) new (with_null v slots)) is

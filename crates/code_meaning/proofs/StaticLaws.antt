@@ -9,7 +9,7 @@ use Rattle.base.specs.Bytes.{Identifier, lookup}
 use Rattle.semantics.specs.Sight.{scalar, held_reference, holds_null, static_is_null}
 use Rattle.semantics.specs.Thread.{Shared, Thread}
 use Rattle.semantics.specs.Value.{Gives}
-use Rattle.semantics.specs.Variable.{Variable, Scalar, LocalRef, FieldHandle, Elements, LocalArray, StaticReference, Empty, Live, Weakly, Cleared, Deleted, Statics, assign}
+use Rattle.semantics.specs.Variable.{Variable, Scalar, LocalRef, FieldHandle, MethodHandle, Elements, LocalArray, StaticReference, Empty, Live, Weakly, Cleared, Deleted, Statics, assign}
 use Rattle.code.specs.Depth.{Listing}
 use Rattle.type_rules.specs.Sorts.{Sort, Global, Weak}
 use Rattle.code_meaning.specs.Layout.{Slot, Known}
@@ -36,6 +36,7 @@ hidden_reference : (v : Variable) (a b : Option StaticReference) → held_refere
 hidden_reference (LocalRef level r) a b = refl
 hidden_reference (Scalar w) a b = refl
 hidden_reference (FieldHandle f) a b = refl
+hidden_reference (MethodHandle m) a b = refl
 hidden_reference (Elements t held) a b = refl
 hidden_reference (LocalArray t zs) a b = refl
 
@@ -45,6 +46,7 @@ no_kind (LocalArray t zs) kind array = let e : Some t ≡ None = array in cc
 no_kind (Scalar w) kind array = cc
 no_kind (LocalRef level r) kind array = cc
 no_kind (FieldHandle f) kind array = cc
+no_kind (MethodHandle m) kind array = cc
 no_kind (Elements t held) kind array = cc
 
 -- A thread, of which nothing changes, and a static that holds something else.
@@ -58,7 +60,7 @@ module _ (own : Identifier → Option ℕ) (shared : Shared) (t : Thread) (x : I
   -- a name shows what it did, if what it may show of a static is the same
   as_before : (y : Identifier) → holds_null (lookup y t.variables) (lookup y after.statics) ≡ holds_null (lookup y t.variables) (lookup y shared.statics)
       → held_reference (lookup y t.variables) (lookup y after.statics) ≡ held_reference (lookup y t.variables) (lookup y shared.statics) → IsAsBefore (visible_to own shared t) (visible_to own after t) y
-  as_before y is_null reference = record { number = refl; is_null = is_null; element = λ k i array. refl; reference = reference; field = refl; buffer = refl; array_type = refl; kind = refl; owner = refl }
+  as_before y is_null reference = record { number = refl; is_null = is_null; element = λ k i array. refl; reference = reference; field = refl; method = refl; buffer = refl; array_type = refl; kind = refl; owner = refl }
 
   others_as_before : (y : Identifier) → y ≢ x → IsAsBefore (visible_to own shared t) (visible_to own after t) y
   others_as_before y other =

@@ -6,7 +6,7 @@ use Rattle.base.specs.Bytes.{lookup}
 use Rattle.base.specs.Element.{ElementType, JInt, JShort, JByte, JChar}
 use Rattle.syntax.specs.Tree as tree
 use Rattle.syntax.specs.Tree.{Constant, PrefixOp, LogicalNot, Complement, ToWord, ToInt, BinaryOp, LogicalOr, LogicalAnd, BitOr, BitXor, BitAnd, Equal, NotEqual, Less, LessEqual, Greater, GreaterEqual, ShiftLeft, ShiftRight, Add, Subtract, Multiply, Divide, Remainder, Expr, Argument, RightSide, FromExpr, FromCall, Test, TestExpr, TestCall, Stmt, Block, End, Next, Function}
-use Rattle.type_rules.specs.Sorts.{Sort, Ref, Global, Weak, FieldId, Buffer, Array, is_jint}
+use Rattle.type_rules.specs.Sorts.{Sort, Ref, Global, Weak, FieldId, MethodId, Buffer, Array, is_jint}
 use Rattle.type_rules.specs.SortRules.{variable_sort}
 use Rattle.jni.specs.JniFunction.{JniFunction, prototype, function_named}
 use Rattle.jni.specs.Prototype.{ParameterKind, IntNumber, Mode}
@@ -40,6 +40,7 @@ nullable_of Ref i = Some (nullable.Local i)
 nullable_of Global i = Some (nullable.Static i)
 nullable_of Weak i = Some (nullable.Static i)
 nullable_of FieldId i = Some (nullable.FieldId i)
+nullable_of MethodId i = Some (nullable.FieldId i)
 nullable_of (Buffer t writable) i = Some (nullable.Buffer i)
 nullable_of s i = None
 
@@ -224,6 +225,7 @@ result_target Ref i = target.Local i
 result_target Global i = target.Static i
 result_target Weak i = target.Static i
 result_target FieldId i = target.FieldId i
+result_target MethodId i = target.MethodId i
 result_target (Buffer t writable) i = target.Buffer (element_of t) i
 result_target s i = target.Number i
 

@@ -1,6 +1,7 @@
 -- What the instruction at a place does.
 use Rattle.std.specs.Prelude.{◌≡◌, ℕ, ℤ, ◌+◌, ◌-◌, ◌<◌, ◌≤◌, ◌⊎◌, Bool, true, List, [], ◌∷◌, ◌++◌, length, flat_map, slice_get, slice_set, Option, Some, None, FitsSigned}
 use Rattle.std.specs.Bool.{beq}
+use Rattle.std.specs.Option.{option_map}
 use Rattle.std.specs.List.{AllZip}
 use Rattle.std.specs.Int.{w32, cast_signed, cast_unsigned}
 use Rattle.base.specs.Bytes.{Identifier, lookup}
@@ -8,14 +9,15 @@ use Rattle.base.specs.Element.{ElementType}
 use Rattle.syntax.specs.Tree.{Block}
 use Rattle.jni.specs.Access.{Access}
 use Rattle.jni.specs.JniFunction.{JniFunction, prototype}
-use Rattle.jni.specs.Prototype.{ParameterKind, FieldID, IntNumber, TextBytes, ArrayVariable, BufferVariable, Mode, IsCopy, ResultKind, NewLocal, GivesInt, GivesField}
+use Rattle.jni.specs.Prototype.{ParameterKind, FieldID, IntNumber, TextBytes, ArrayVariable, BufferVariable, Mode, IsCopy, ResultKind, NewLocal, GivesInt, GivesField, GivesMethod}
 use Rattle.type_rules.specs.SortRules.{is_droppable}
 use Rattle.type_rules.specs.Sorts.{Sort, Flag, Ref, FieldId, Buffer}
 use Rattle.class_rules.specs.Fields as source
+use Rattle.semantics.specs.Method as method
 use Rattle.semantics.specs.Object.{Reference}
 use Rattle.semantics.specs.Arguments.{Actual, ReferenceActual, FieldActual, NumberActual, TextActual, VariableActual, ModeActual, NothingActual, ReleaseMode}
 use Rattle.semantics.specs.Effect.{Effect, Becomes, Sets, SetsNull, SetsElement, MakesArray, Prints, Calls, Returns, TrapsAt, NoEffect}
-use Rattle.semantics.specs.Task.{Task, Branch, Target, Declared, Assigned, Tested, Dropped, VariableKind, ScalarKind, ReferenceKind, FieldKind, BufferKind}
+use Rattle.semantics.specs.Task.{Task, Branch, Target, Declared, Assigned, Tested, Dropped, VariableKind, ScalarKind, ReferenceKind, FieldKind, MethodKind, BufferKind}
 use Rattle.semantics.specs.Term.{Done}
 use Rattle.semantics.specs.Value.{Value, Trap, Int, Gives}
 use Rattle.semantics.specs.Value as value
@@ -38,7 +40,7 @@ use Rattle.code.specs.Depth.{Listing}
 use Rattle.code.specs.Effect.{truth_word, plain_of}
 use Rattle.code_meaning.specs.Coding.{mode_code, element_of}
 use Rattle.code_meaning.specs.Layout.{Known}
-use Rattle.code_meaning.specs.Slots.{word_of, ValueHasSort, Visible, Slots, Shows, IsSet, IsNulled, IsReferred, IsFieldSet, IsBufferSet, IsMade, IsElementSet, IsHeld, ShowsStatic, elements_in, with_element, slot_elements, holds_null, with_null}
+use Rattle.code_meaning.specs.Slots.{word_of, ValueHasSort, Visible, Slots, Shows, IsSet, IsNulled, IsReferred, IsFieldSet, IsMethodSet, IsBufferSet, IsMade, IsElementSet, IsHeld, OfField, OfMethod, ShowsStatic, elements_in, with_element, slot_elements, holds_null, with_null}
 use Rattle.code_meaning.specs.Stands.{target_name, number_sort, IsBufferResult, IsStaticResult, StandsFor}
 use Rattle.code_meaning.specs.Fits.{IsReferenceKind, TakesNull, TakesLocal, TakesGlobal, IsStaticIn, IsArray, HaveOwnSlots}
 
@@ -188,11 +190,12 @@ module _ (code : Listing) (known : Known) (place : ℕ) (stack : List ℕ) (slot
   kind_of_target (Assigned x) = visible.kind x
   kind_of_target target = None
 
-  -- a variable in a slot is of the kind that it has there, and a static, which is of none, has the number of its place
+  -- a variable in a slot is of the kind that it has there, or of one of two that share theirs, and a static, which is of none, has the
+  -- number of its place
   abbrev pub IsStoredIn : NullableVariable → Option VariableKind → Identifier → Type 0
   IsStoredIn (nullable.Local i) kind x = kind ≡ Some ReferenceKind
   IsStoredIn (nullable.Static i) kind x = (kind ≡ None) × ShowsStatic visible x i
-  IsStoredIn (nullable.FieldId i) kind x = kind ≡ Some FieldKind
+  IsStoredIn (nullable.FieldId i) kind x = (kind ≡ Some FieldKind) ⊎ (kind ≡ Some MethodKind)
   IsStoredIn (nullable.Buffer i) kind x = (t : ElementType) × (kind ≡ Some (BufferKind t))
 
   -- it makes a variable NULL, and the next place stands for these tasks
@@ -259,7 +262,15 @@ module _ (code : Listing) (known : Known) (place : ℕ) (stack : List ℕ) (slot
     pub within : i < length slots.fields
     pub names : Known
     pub shows : (f : Option source.FieldId) (new : Visible) → IsFieldSet visible x f new
-        → Shows code names new (record slots { fields = slice_set slots.fields i f })
+        → Shows code names new (record slots { fields = slice_set slots.fields i (option_map OfField f) })
+    pub stands : StandsFor code names (place + 1) [] tasks
+
+  -- the same of a method ID
+  pub record TakesMethod (i : ℕ) (x : Identifier) (tasks : List Task) : Type 0 where
+    pub within : i < length slots.fields
+    pub names : Known
+    pub shows : (m : Option method.MethodId) (new : Visible) → IsMethodSet visible x m new
+        → Shows code names new (record slots { fields = slice_set slots.fields i (option_map OfMethod m) })
     pub stands : StandsFor code names (place + 1) [] tasks
 
   -- the same of a global reference, which a static that is known holds then
@@ -299,6 +310,7 @@ module _ (code : Listing) (known : Known) (place : ℕ) (stack : List ℕ) (slot
       × GoesInto ScalarKind target (λ x. TakesNumber s i x tasks)
   TakesResult line (destination.Local i) gives target tasks = (gives ≡ NewLocal) × GoesInto ReferenceKind target (λ x. TakesReference i x tasks)
   TakesResult line (destination.FieldId i) gives target tasks = (gives ≡ GivesField) × GoesInto FieldKind target (λ x. TakesField i x tasks)
+  TakesResult line (destination.MethodId i) gives target tasks = (gives ≡ GivesMethod) × GoesInto MethodKind target (λ x. TakesMethod i x tasks)
   TakesResult line (destination.Static i) gives target tasks = IsStaticResult gives × ((x : Identifier) × (target ≡ Assigned x) × TakesStatic i x tasks)
   TakesResult line (destination.Buffer element i) gives target tasks =
       IsBufferResult gives × ((t : ElementType) × (element ≡ element_of t) × GoesInto (BufferKind t) target (λ x. TakesBuffer t i x tasks))

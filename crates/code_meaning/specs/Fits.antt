@@ -8,8 +8,8 @@ use Rattle.syntax.specs.Tree as tree
 use Rattle.syntax.specs.Tree.{LogicalNot, Complement, ToWord, ToInt, Expr, Argument, Call, RightSide, FromExpr, FromCall, Test, TestExpr, TestCall, Stmt, Block, End, Next, Function}
 use Rattle.jni.specs.Access.{Access}
 use Rattle.jni.specs.JniFunction.{JniFunction, function_named, prototype}
-use Rattle.jni.specs.Prototype.{ParameterKind, Nullable, NonNull, AnyReference, ClassObject, AnyArray, ObjectArray, StringObject, NumberArray, LocalVariable, StaticVariable, WeakVariable, FieldID, IntNumber, TextBytes, ArrayVariable, BufferVariable, Mode, IsCopy, ResultKind, NewLocal, NewGlobal, NewWeak, GivesFlag, GivesInt, GivesField, GivesBuffer, GivesNothing}
-use Rattle.type_rules.specs.Sorts.{Sort, Word, Jint, Flag, Truth, Ref, Global, Weak, FieldId, Buffer, Array, OperatorGroup, Logic, Equality, Order, OnWords, group, is_buffer_for}
+use Rattle.jni.specs.Prototype.{ParameterKind, Nullable, NonNull, AnyReference, ClassObject, AnyArray, ObjectArray, StringObject, NumberArray, LocalVariable, StaticVariable, WeakVariable, FieldID, IntNumber, TextBytes, ArrayVariable, BufferVariable, Mode, IsCopy, ResultKind, NewLocal, NewGlobal, NewWeak, GivesFlag, GivesInt, GivesField, GivesMethod, GivesBuffer, GivesNothing}
+use Rattle.type_rules.specs.Sorts.{Sort, Word, Jint, Flag, Truth, Ref, Global, Weak, FieldId, MethodId, Buffer, Array, group, is_buffer_for}
 use Rattle.type_rules.specs.SortRules.{variable_sort, is_droppable, is_mode}
 use Rattle.type_rules.specs.SortGroups.{IsIndexSort, IsNumberSort, OperatorFits}
 use Rattle.code.specs.declared.slots.SlotCounts.{SlotCounts}
@@ -33,6 +33,7 @@ abbrev pub IsNullable : Sort → Type 0
 IsNullable Ref = Unit {0}
 IsNullable Global = Unit {0}
 IsNullable FieldId = Unit {0}
+IsNullable MethodId = Unit {0}
 IsNullable (Buffer t writable) = Unit {0}
 IsNullable s = ⊥
 
@@ -96,6 +97,7 @@ IndexWithin slots Ref i = i < slots.references
 IndexWithin slots Global i = i < slots.statics
 IndexWithin slots Weak i = i < slots.statics
 IndexWithin slots FieldId i = i < slots.field_ids
+IndexWithin slots MethodId i = i < slots.field_ids
 IndexWithin slots (Buffer t writable) i = i < slots.buffers
 IndexWithin slots (Array t size) i = (0 < size) × (size ≤ most_elements) × (i + size ≤ slots.numbers)
 IndexWithin slots s i = i < slots.numbers
@@ -109,11 +111,17 @@ abbrev pub IsBufferSort : Sort → Type 0
 IsBufferSort (Buffer t writable) = Unit {0}
 IsBufferSort s = ⊥
 
+-- the sorts of field IDs and method IDs, which share their slots
+abbrev pub IsHandleSort : Sort → Type 0
+IsHandleSort FieldId = Unit {0}
+IsHandleSort MethodId = Unit {0}
+IsHandleSort s = ⊥
+
 -- two variables have no slot in common
 pub record AreApart (s t : Slot) : Type 0 where
   pub numbers : (k : ℕ) → IsPlaceOf s k → IsPlaceOf t k → ⊥
   pub references : s.sort ≡ Ref → t.sort ≡ Ref → s.index ≢ t.index
-  pub fields : s.sort ≡ FieldId → t.sort ≡ FieldId → s.index ≢ t.index
+  pub fields : IsHandleSort s.sort → IsHandleSort t.sort → s.index ≢ t.index
   pub buffers : IsBufferSort s.sort → IsBufferSort t.sort → s.index ≢ t.index
 
 -- no known name but this has the slot
@@ -261,6 +269,7 @@ ResultFits s NewLocal = s ≡ Ref
 ResultFits s NewGlobal = s ≡ Global
 ResultFits s NewWeak = s ≡ Weak
 ResultFits s GivesField = s ≡ FieldId
+ResultFits s GivesMethod = s ≡ MethodId
 ResultFits s (GivesBuffer access) = IsTrue (is_buffer_for access (Some s))
 ResultFits s GivesNothing = ⊥
 

@@ -4,13 +4,14 @@ use Rattle.base.specs.Bytes.{Identifier, ByName}
 use Rattle.base.specs.Element.{JChar}
 use Rattle.syntax.specs.Tree as tree
 use Rattle.syntax.specs.Tree.{Stmt, Block, End, Next, Parameter, ParameterType, IntParameter, ReferenceParameter, Function, Static}
-use Rattle.type_rules.specs.Sorts.{Sort, Word, Jint, Flag, Ref, Global, Weak, FieldId, Buffer, Array}
+use Rattle.type_rules.specs.Sorts.{Sort, Word, Jint, Flag, Ref, Global, Weak, FieldId, MethodId, Buffer, Array}
 use Rattle.type_rules.specs.SortRules.{variable_sort, static_sort}
 use Rattle.code.specs.declared.slots.SlotCounts.{SlotCounts}
 
 -- ---- slots
 
--- a name's sort, and the place of its slot among those of its kind; of an array that of the first element
+-- a name's sort, and the place of its slot among those of its kind, where field IDs and method IDs are one; of an array that of the
+-- first element
 pub record Slot : Type 0 where
   pub sort : Sort
   pub index : ℕ
@@ -38,6 +39,7 @@ next_index Ref slots = slots.references
 next_index Global slots = slots.statics
 next_index Weak slots = slots.statics
 next_index FieldId slots = slots.field_ids
+next_index MethodId slots = slots.field_ids
 next_index (Buffer t writable) slots = slots.buffers
 next_index s slots = slots.numbers
 
@@ -47,6 +49,7 @@ slots_after Ref slots = record slots { references = slots.references + 1 }
 slots_after Global slots = record slots { statics = slots.statics + 1 }
 slots_after Weak slots = record slots { statics = slots.statics + 1 }
 slots_after FieldId slots = record slots { field_ids = slots.field_ids + 1 }
+slots_after MethodId slots = record slots { field_ids = slots.field_ids + 1 }
 slots_after (Buffer t writable) slots = record slots { buffers = slots.buffers + 1 }
 slots_after s slots = record slots { numbers = slots.numbers + width s }
 

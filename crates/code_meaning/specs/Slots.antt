@@ -7,17 +7,18 @@ use Rattle.base.specs.Limits.{most_elements}
 use Rattle.base.specs.Bytes.{Identifier, lookup}
 use Rattle.base.specs.Element.{ElementType}
 use Rattle.syntax.specs.Tree.{ParameterType, IntParameter, ReferenceParameter, Parameter}
-use Rattle.type_rules.specs.Sorts.{Sort, Jint, Ref, Global, Weak, FieldId, Buffer, Array}
+use Rattle.type_rules.specs.Sorts.{Sort, Jint, Ref, Global, Weak, FieldId, MethodId, Buffer, Array}
 use Rattle.type_rules.specs.Sorts as sort
 use Rattle.class_rules.specs.Fields as source
 use Rattle.semantics.specs.Heap.{numbers_of}
+use Rattle.semantics.specs.Method as method
 use Rattle.semantics.specs.Object.{ObjectValue, Number, Refers, Reference}
 use Rattle.semantics.specs.Sight.{Sight, in_range}
-use Rattle.semantics.specs.Task.{VariableKind, ScalarKind, ReferenceKind, FieldKind, BufferKind}
+use Rattle.semantics.specs.Task.{VariableKind, ScalarKind, ReferenceKind, FieldKind, MethodKind, BufferKind}
 use Rattle.semantics.specs.Thread.{Shared, Thread, sight_of}
 use Rattle.semantics.specs.Value.{Value, Word, Int, Flag, Truth, OutOfRange, Outcome, Gives, Traps, Stuck, convert}
 use Rattle.semantics.specs.Variable as variable
-use Rattle.semantics.specs.Variable.{Variable, Scalar, LocalRef, FieldHandle, Elements, LocalArray, NoBuffer, Copy, View, StaticReference, Empty, Live, Weakly, Cleared, Deleted, Statics, as_static, as_argument, assign}
+use Rattle.semantics.specs.Variable.{Variable, Scalar, LocalRef, FieldHandle, MethodHandle, Elements, LocalArray, NoBuffer, Copy, View, StaticReference, Empty, Live, Weakly, Cleared, Deleted, Statics, as_static, as_argument, assign}
 use Rattle.code.specs.declared.instr.NullableVariable.{NullableVariable}
 use Rattle.code.specs.declared.instr.NullableVariable.TheVariants as nullable
 use Rattle.code.specs.Depth.{Listing}
@@ -43,12 +44,14 @@ ValueHasSort (Truth b) s = s ≡ sort.Truth
 -- ---- what can be seen
 
 -- what can be seen, the element types of local arrays, of what kind the other variables are declared, the levels of the references
--- that are variables' own, what buffers hold, what the statics do, in the unit's order, and the numbers of objects, by their names
+-- that are variables' own, what method IDs and buffers hold, what the statics do, in the unit's order, and the numbers of objects, by
+-- their names
 pub record Visible : Type 0 where
   pub sight : Sight
   pub array_type : Identifier → Option ElementType
   pub kind : Identifier → Option VariableKind
   pub owner : Identifier → Option ℕ
+  pub method : Identifier → Option method.MethodId
   pub buffer : Identifier → variable.Buffer
   pub statics : Statics
   pub numbers : ℕ → List ℤ
@@ -63,9 +66,15 @@ abbrev pub kind_of_variable : Option Variable → Option VariableKind
 kind_of_variable (Some (Scalar v)) = Some ScalarKind
 kind_of_variable (Some (LocalRef level r)) = Some ReferenceKind
 kind_of_variable (Some (FieldHandle f)) = Some FieldKind
+kind_of_variable (Some (MethodHandle m)) = Some MethodKind
 kind_of_variable (Some (Elements t b)) = Some (BufferKind t)
 kind_of_variable (Some (LocalArray t zs)) = None
 kind_of_variable None = None
+
+-- what a variable holds that is a method ID
+abbrev pub held_method : Option Variable → Option method.MethodId
+held_method (Some (MethodHandle m)) = m
+held_method v = None
 
 -- what a variable holds that is a buffer
 abbrev pub held_buffer : Option Variable → variable.Buffer
@@ -79,6 +88,7 @@ visible_to own s t = record {
   array_type = λ x. type_of_array (lookup x t.variables);
   kind = λ x. kind_of_variable (lookup x t.variables);
   owner = own;
+  method = λ x. held_method (lookup x t.variables);
   buffer = λ x. held_buffer (lookup x t.variables);
   statics = s.statics;
   numbers = numbers_of s.heap;
@@ -91,6 +101,7 @@ pub record IsAsBefore (old new : Visible) (x : Identifier) : Type 0 where
   pub element : (t : ElementType) (i : ℕ) → old.array_type x ≡ Some t → new.sight.element x i ≡ old.sight.element x i
   pub reference : new.sight.reference x ≡ old.sight.reference x
   pub field : new.sight.field x ≡ old.sight.field x
+  pub method : new.method x ≡ old.method x
   pub buffer : new.buffer x ≡ old.buffer x
   pub array_type : new.array_type x ≡ old.array_type x
   pub kind : new.kind x ≡ old.kind x
@@ -118,6 +129,7 @@ pub record IsNulled (old : Visible) (kind : Option VariableKind) (x : Identifier
   pub is_null : new.sight.is_null x ≡ Gives true
   pub reference : new.sight.reference x ≡ Empty
   pub field : new.sight.field x ≡ None
+  pub method : new.method x ≡ None
   pub buffer : new.buffer x ≡ NoBuffer
   pub array_type : new.array_type x ≡ None
   pub same_kind : new.kind x ≡ kind
@@ -165,6 +177,15 @@ pub record IsFieldSet (old : Visible) (x : Identifier) (f : Option source.FieldI
   pub statics : new.statics ≡ old.statics
   pub others : OthersStay old new x
 
+-- a method ID is NULL or that of this method
+pub record IsMethodSet (old : Visible) (x : Identifier) (m : Option method.MethodId) (new : Visible) : Type 0 where
+  pub number : new.sight.number x ≡ Stuck
+  pub is_null : new.sight.is_null x ≡ Gives (is_none m)
+  pub method : new.method x ≡ m
+  pub kind : new.kind x ≡ Some MethodKind
+  pub statics : new.statics ≡ old.statics
+  pub others : OthersStay old new x
+
 -- whether a buffer is NULL
 abbrev pub is_no_buffer : variable.Buffer → Bool
 is_no_buffer NoBuffer = true
@@ -196,14 +217,19 @@ pub record IsElementSet (old : Visible) (t : ElementType) (x : Identifier) (inde
 
 -- ---- slots
 
--- The words of the number variables and the elements of arrays, what the local references hold, and what the field IDs and the
--- buffers do: a copy has its elements, and a view the name of its object alone. The owners are the levels of those local references
--- that are variables' own.
+-- the ID of a field or that of a method, which share their slots
+pub data Handle : Type 0 where
+  OfField : source.FieldId → Handle
+  OfMethod : method.MethodId → Handle
+
+-- The words of the number variables and the elements of arrays, what the local references hold, and what the field IDs, the method
+-- IDs beside them, and the buffers do: a copy has its elements, and a view the name of its object alone. The owners are the levels of
+-- those local references that are variables' own.
 pub record Slots : Type 0 where
   pub numbers : List ℕ
   pub references : List Reference
   pub owners : List (Option ℕ)
-  pub fields : List (Option source.FieldId)
+  pub fields : List (Option Handle)
   pub buffers : List variable.Buffer
 
 -- a number variable has a value of its sort, whose word is in its slot
@@ -225,13 +251,22 @@ pub record ShowsReference (visible : Visible) (x : Identifier) (slots : Slots) (
   pub owner : (n level : ℕ) → reference ≡ Some n → visible.owner x ≡ Some level → slice_get slots.owners i ≡ Some (Some level)
 
 -- what a field ID holds is in its slot
-pub record ShowsField (visible : Visible) (x : Identifier) (fields : List (Option source.FieldId)) (i : ℕ) : Type 0 where
+pub record ShowsField (visible : Visible) (x : Identifier) (fields : List (Option Handle)) (i : ℕ) : Type 0 where
   pub field : Option source.FieldId
   pub is : visible.sight.field x ≡ field
   pub is_null : visible.sight.is_null x ≡ Gives (is_none field)
   pub no_number : visible.sight.number x ≡ Stuck
   pub kind : visible.kind x ≡ Some FieldKind
-  pub there : slice_get fields i ≡ Some field
+  pub there : slice_get fields i ≡ Some (option_map OfField field)
+
+-- what a method ID holds is in its slot
+pub record ShowsMethod (visible : Visible) (x : Identifier) (fields : List (Option Handle)) (i : ℕ) : Type 0 where
+  pub method : Option method.MethodId
+  pub is : visible.method x ≡ method
+  pub is_null : visible.sight.is_null x ≡ Gives (is_none method)
+  pub no_number : visible.sight.number x ≡ Stuck
+  pub kind : visible.kind x ≡ Some MethodKind
+  pub there : slice_get fields i ≡ Some (option_map OfMethod method)
 
 -- an element is in its slot, as a `jint`
 pub record ShowsElement (given : Outcome ℤ) (numbers : List ℕ) (i : ℕ) : Type 0 where
@@ -283,6 +318,7 @@ ShowsSlot visible x slots s Ref = ShowsReference visible x slots s.index
 ShowsSlot visible x slots s Global = ShowsStatic visible x s.index
 ShowsSlot visible x slots s Weak = ShowsStatic visible x s.index
 ShowsSlot visible x slots s FieldId = ShowsField visible x slots.fields s.index
+ShowsSlot visible x slots s MethodId = ShowsMethod visible x slots.fields s.index
 ShowsSlot visible x slots s (Buffer t writable) = ShowsBuffer visible x slots.buffers t s.index
 ShowsSlot visible x slots s (Array t size) = ShowsArray visible x slots.numbers t size s.index
 

@@ -7,13 +7,13 @@ use Rattle.syntax.specs.Tree as tree
 use Rattle.syntax.specs.Tree.{BitOr, Expr, Stmt, Block, End, Next}
 use Rattle.jni.specs.Access.{Access}
 use Rattle.jni.specs.JniFunction.{JniFunction, prototype}
-use Rattle.jni.specs.Prototype.{ParameterKind, FieldID, IntNumber, TextBytes, ArrayVariable, BufferVariable, Mode, IsCopy, ResultKind, NewLocal, NewGlobal, NewWeak, GivesFlag, GivesInt, GivesField, GivesBuffer}
-use Rattle.type_rules.specs.Sorts.{Sort, Jint, Ref, FieldId, Buffer, Array}
+use Rattle.jni.specs.Prototype.{ParameterKind, FieldID, IntNumber, TextBytes, ArrayVariable, BufferVariable, Mode, IsCopy, ResultKind, NewLocal, NewGlobal, NewWeak, GivesFlag, GivesInt, GivesField, GivesMethod, GivesBuffer}
+use Rattle.type_rules.specs.Sorts.{Sort, Jint, Ref, FieldId, MethodId, Buffer, Array}
 use Rattle.type_rules.specs.Sorts as sort
 use Rattle.type_rules.specs.SortRules.{is_droppable}
 use Rattle.type_rules.specs.SortGroups.{IsIndexSort, IsNumberSort}
 use Rattle.semantics.specs.Arguments.{mode_of}
-use Rattle.semantics.specs.Task.{Task, SetScalar, SetElement, SetNull, MakeArray, Invoke, Print, Branch, EndIf, Loop, EndTurn, Return, ReturnValue, Impossible, Target, Declared, Assigned, Tested, Dropped, VariableKind, ScalarKind, ReferenceKind, FieldKind, BufferKind, Operand, NumberOperand, Given}
+use Rattle.semantics.specs.Task.{Task, SetScalar, SetElement, SetNull, MakeArray, Invoke, Print, Branch, EndIf, Loop, EndTurn, Return, ReturnValue, Impossible, Target, Declared, Assigned, Tested, Dropped, VariableKind, ScalarKind, ReferenceKind, FieldKind, MethodKind, BufferKind, Operand, NumberOperand, Given}
 use Rattle.semantics.specs.Term as term
 use Rattle.semantics.specs.Term.{Term, Done, Read, And, Or, Prefix, Binary, term_of}
 use Rattle.semantics.specs.Value.{Truth}
@@ -130,6 +130,7 @@ kind_of_sort Jint = Some ScalarKind
 kind_of_sort sort.Flag = Some ScalarKind
 kind_of_sort Ref = Some ReferenceKind
 kind_of_sort FieldId = Some FieldKind
+kind_of_sort MethodId = Some MethodKind
 kind_of_sort (Buffer t writable) = Some (BufferKind t)
 kind_of_sort s = None
 
@@ -348,6 +349,8 @@ TargetStands code known after place line (destination.Local i) gives target = (g
     × ResultGoes code known after place (record { sort = Ref; index = i }) ReferenceKind target
 TargetStands code known after place line (destination.FieldId i) gives target = (gives ≡ GivesField)
     × ResultGoes code known after place (record { sort = FieldId; index = i }) FieldKind target
+TargetStands code known after place line (destination.MethodId i) gives target = (gives ≡ GivesMethod)
+    × ResultGoes code known after place (record { sort = MethodId; index = i }) MethodKind target
 TargetStands code known after place line (destination.Static i) gives target = IsStaticResult gives × StaticStands known after place i target
 TargetStands code known after place line (destination.Buffer element i) gives target = IsBufferResult gives × BufferGoes code known after place element i target
 TargetStands code known after place line destination.Test gives target = (gives ≡ GivesInt) × TestStands code known after place line target

@@ -11,8 +11,8 @@ use Rattle.syntax.specs.Tree as tree
 use Rattle.syntax.specs.Tree.{Expr, Argument, RightSide, FromExpr, FromCall, Test, TestExpr, TestCall, Stmt, Block, End, Next, VariableType, BitOr, Call}
 use Rattle.jni.specs.Access.{Access, ElementsCopy, ArrayView, CharsCopy, CharsView}
 use Rattle.jni.specs.JniFunction.{function_named, prototype}
-use Rattle.jni.specs.Prototype.{ParameterKind, LocalVariable, StaticVariable, FieldID, IntNumber, TextBytes, ArrayVariable, BufferVariable, Mode, IsCopy, ResultKind, NewLocal, NewGlobal, GivesFlag, GivesInt, GivesField, GivesBuffer, GivesNothing, AnyReference, WeakVariable, NewWeak}
-use Rattle.type_rules.specs.Sorts.{Sort, Jint, Ref, Global, Weak, FieldId, Buffer, Array, is_buffer_for}
+use Rattle.jni.specs.Prototype.{ParameterKind, LocalVariable, StaticVariable, FieldID, IntNumber, TextBytes, ArrayVariable, BufferVariable, Mode, IsCopy, ResultKind, NewLocal, NewGlobal, GivesFlag, GivesInt, GivesField, GivesMethod, GivesBuffer, GivesNothing, AnyReference, WeakVariable, NewWeak}
+use Rattle.type_rules.specs.Sorts.{Sort, Jint, Ref, Global, Weak, FieldId, MethodId, Buffer, Array, is_buffer_for}
 use Rattle.type_rules.specs.Sorts as sort
 use Rattle.type_rules.specs.SortRules.{variable_sort}
 use Rattle.type_rules.specs.SortGroups.{IsNumberSort}
@@ -26,10 +26,10 @@ use Rattle.code.specs.Effect.{truth_word}
 use Rattle.semantics.specs.Value.{Truth}
 use Rattle.semantics.specs.Term as term
 use Rattle.semantics.specs.Term.{Term, Done, Read, Binary, term_of}
-use Rattle.semantics.specs.Task.{Task, SetScalar, Branch, ReturnValue, Target, Declared, Assigned, Tested, Dropped, VariableKind, ScalarKind, ReferenceKind, FieldKind, BufferKind, kind_of, set_task, invocation, call_task, right_side_task, if_task, task_of, tasks_of, operand, Given, Operand}
+use Rattle.semantics.specs.Task.{Task, SetScalar, Branch, ReturnValue, Target, Declared, Assigned, Tested, Dropped, VariableKind, ScalarKind, ReferenceKind, FieldKind, MethodKind, BufferKind, kind_of, set_task, invocation, call_task, right_side_task, if_task, task_of, tasks_of, operand, Given, Operand}
 use Rattle.code_meaning.specs.Layout.{Slot, Known, Layout, new_slot, closed, layout_after, block_layout}
 use Rattle.code_meaning.specs.Coding.{nullable_of, store_of, write_code, of_slot, operand_of, address_operand, term_code, expr_code, value_code, right_code, assign_code, returned_code, return_code, ways_code, turn_code, loop_code, if_code, stmt_code, block_code, named_call_code, operand_code, argument_code, arguments_code, argument_text, arguments_texts, result_target}
-use Rattle.code_meaning.specs.Fits.{HasElements, IsUntouched, NumberFits, IndexWithin, IsLaidOut, HaveOwnSlots, HasRoomFor, IsVariable, TakesLocal, TakesGlobal, NameFits, ArrayFits, BufferFits, ArgumentFits, ValueFits, RightFits, TestFits, ReturnFits, StmtFits, BlockFits, CallFits, ReferenceFits, FieldFits, ResultFits, AnyReferenceFits, IsStaticSort, IsStaticIn}
+use Rattle.code_meaning.specs.Fits.{HasElements, IsUntouched, NumberFits, IndexWithin, IsLaidOut, HaveOwnSlots, HasRoomFor, IsVariable, TakesLocal, TakesGlobal, NameFits, ArrayFits, BufferFits, ArgumentFits, ValueFits, RightFits, TestFits, ReturnFits, StmtFits, BlockFits, CallFits, ReferenceFits, FieldFits, ResultFits, AnyReferenceFits, IsStaticSort}
 use Rattle.code_meaning.specs.Stands.{held, IsBegun, IsUnderWay, HasAt, AreAmong, IsSlotOf, kind_of_sort, GoesTo, ResultStands, ResultGoes, StaticStands, TargetStands, operand_text, operands_texts, target_name, BlockStands, TasksStand, OperandStands, AreUntouched, operand_rest, operands_rest}
 use Rattle.code_meaning.proofs.SlotLaws.{known_among, known_again, all_among}
 use Rattle.lower.proofs.CodePlaces.{has_front, has_back}
@@ -104,6 +104,7 @@ module _ (code : Listing) (known : Known) (line place : ℕ) (tail : List Task) 
   value_set target x Global i e names fits name goes at own among further = null_set target x (record { sort = Global; index = i }) e (nullable.Static i) names fits refl name goes at own among further
   value_set target x Weak i e names fits name goes at own among further = null_set target x (record { sort = Weak; index = i }) e (nullable.Static i) names fits refl name goes at own among further
   value_set target x FieldId i e names fits name goes at own among further = null_set target x (record { sort = FieldId; index = i }) e (nullable.FieldId i) names fits refl name goes at own among further
+  value_set target x MethodId i e names fits name goes at own among further = null_set target x (record { sort = MethodId; index = i }) e (nullable.FieldId i) names fits refl name goes at own among further
   value_set target x (Buffer t w) i e names fits name goes at own among further = null_set target x (record { sort = Buffer t w; index = i }) e (nullable.Buffer i) names fits refl name goes at own among further
   value_set target x (Array t n) i e names fits name goes at own among further = absurd fits
 
@@ -309,6 +310,7 @@ module _ (code : Listing) (known : Known) (line place : ℕ) (tail : List Task) 
   result_comes p i NewGlobal target x s name e = subst (ResultComes p i NewGlobal target x) (sym e) (λ goes stands. (tt, static_goes p i Global target x tt name goes stands))
   result_comes p i NewWeak target x s name e = subst (ResultComes p i NewWeak target x) (sym e) (λ goes stands. (tt, static_goes p i Weak target x tt name goes stands))
   result_comes p i GivesField target x s name e = subst (ResultComes p i GivesField target x) (sym e) (λ goes stands. (refl, result_goes p FieldKind (record { sort = FieldId; index = i }) target x refl name goes stands))
+  result_comes p i GivesMethod target x s name e = subst (ResultComes p i GivesMethod target x) (sym e) (λ goes stands. (refl, result_goes p MethodKind (record { sort = MethodId; index = i }) target x refl name goes stands))
   result_comes p i (GivesBuffer access) target x s name e =
       let is = buffer_sort access s e in
       subst (ResultComes p i (GivesBuffer access) target x) (sym is.2)
@@ -371,6 +373,7 @@ jint_given NewLocal e = absurd (let c : Jint ≡ Ref = e in cc)
 jint_given NewGlobal e = absurd (let c : Jint ≡ Global = e in cc)
 jint_given NewWeak e = absurd (let c : Jint ≡ Weak = e in cc)
 jint_given GivesField e = absurd (let c : Jint ≡ FieldId = e in cc)
+jint_given GivesMethod e = absurd (let c : Jint ≡ MethodId = e in cc)
 jint_given (GivesBuffer access) e = absurd (let is = buffer_sort access Jint e in let c : Jint ≡ Buffer is.0 is.1 = is.2 in cc)
 jint_given GivesNothing e = absurd e
 
@@ -480,6 +483,7 @@ declared_goes tree.JSize x l = refl
 declared_goes tree.JBoolean x l = refl
 declared_goes (tree.ReferenceVariable type) x l = refl
 declared_goes tree.JFieldId x l = refl
+declared_goes tree.JMethodId x l = refl
 
 pub stmt_begins : (code : Listing) (s : Stmt) → StmtBegins code s
 stmt_begins code (tree.Declare line t x r) l place tail at fits laid room further =

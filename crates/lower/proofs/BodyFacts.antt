@@ -118,6 +118,7 @@ variable_no_truth tree.JIntVariable e = cc
 variable_no_truth tree.JSize e = cc
 variable_no_truth tree.JBoolean e = cc
 variable_no_truth tree.JFieldId e = cc
+variable_no_truth tree.JMethodId e = cc
 variable_no_truth (tree.ReferenceVariable r) e = cc
 
 no_truth_after : (s : Stmt) (l : Layout) → HasNoTruth l.known → HasNoTruth (layout_after l s).known

@@ -4,6 +4,7 @@ use Rattle.lower.proofs.Tests.{and_left, and_right}
 use Rattle.std.proofs.Common.{◌≡◌, ℕ, ◌+◌, Bool, true, List, [], ◌∷◌, ◌++◌, length, Some, None, inl, inr, refl, sym, ap, ◌∙◌, subst, arith, append_assoc, length-append, suc, false, ℤ, pos}
 use Rattle.std.specs.Prelude.{slice_set, IsTrue, zip, map, FitsSigned, ◌||◌}
 use Rattle.std.specs.List.{list_any, AllZip}
+use Rattle.std.specs.Option.{option_map}
 use Rattle.std.specs.Int.{w32}
 use Rattle.std.proofs.lemmas.List.{append-nil}
 use Rattle.base.specs.Bytes.{Identifier, lookup}
@@ -12,7 +13,7 @@ use Rattle.syntax.specs.Tree as tree
 use Rattle.syntax.specs.Tree.{Expr}
 use Rattle.jni.specs.JniFunction.{JniFunction, prototype}
 use Rattle.jni.specs.Prototype.{ParameterKind, LocalVariable, StaticVariable, FieldID, ArrayVariable, BufferVariable, Mode, IsCopy, IntNumber, ResultKind, GivesInt, GivesFlag, WeakVariable}
-use Rattle.type_rules.specs.Sorts.{Sort, Jint, Ref, Global, Weak, FieldId, Buffer, Array}
+use Rattle.type_rules.specs.Sorts.{Sort, Jint, Ref, Global, Weak, FieldId, MethodId, Buffer, Array}
 use Rattle.type_rules.specs.Sorts as sort
 use Rattle.type_rules.specs.SortGroups.{IsNumberSort}
 use Rattle.code.specs.declared.instr.Operand.{Operand as Where}
@@ -26,16 +27,16 @@ use Rattle.semantics.specs.Effect.{goes_on, is_given, is_ready, call_effect_of, 
 use Rattle.semantics.specs.Arguments.{Actual, ReferenceActual, FieldActual, NumberActual, TextActual, VariableActual, ModeActual, NothingActual, mode_of, reference_argument, look_up_expression, look_up, actuals}
 use Rattle.semantics.specs.Sight.{Sight}
 use Rattle.semantics.specs.Variable.{Empty}
-use Rattle.semantics.specs.Task.{Task, Invoke, Target, Declared, Assigned, Dropped, VariableKind, ScalarKind, ReferenceKind, FieldKind, BufferKind, Operand, NumberOperand, Given, Tested}
+use Rattle.semantics.specs.Task.{Task, Invoke, Target, Declared, Assigned, Dropped, VariableKind, ScalarKind, ReferenceKind, FieldKind, MethodKind, BufferKind, Operand, NumberOperand, Given, Tested}
 use Rattle.semantics.specs.Term.{Term, Done, reduce}
 use Rattle.semantics.specs.Value.{Word, Int, Flag, Truth, Gives, Outcome, Traps, Stuck, outcome_map}
 use Rattle.code_meaning.specs.Layout.{Slot, Known}
 use Rattle.code_meaning.specs.Coding.{term_code}
-use Rattle.code_meaning.specs.Slots.{word_of, Visible, Slots, Shows, SeesBuffers, ShowsStatic, ShowsSlot}
+use Rattle.code_meaning.specs.Slots.{word_of, Visible, Slots, Shows, SeesBuffers, ShowsStatic, ShowsSlot, OfField, OfMethod}
 use Rattle.code_meaning.specs.Fits.{IsReferenceKind, TakesNull, TakesLocal, TakesGlobal, TermHasSort, IsStaticIn, IsStaticSort}
 use Rattle.code_meaning.specs.Stands.{held, IsBegun, HasAt, operand_text, operands_texts, ResultStands, ResultGoes, StaticStands, TestStands, number_sort, OperandStands, TargetStands, InvokeStands, TasksStand, task_returns, operands_rest, operand_held, operands_held, AreUntouched, AreBegun}
-use Rattle.code_meaning.specs.Does.{IsOperand, TakesNumber, TakesReference, TakesField, TakesStatic, TakesBuffer, TakesTest, GoesInto, TakesResult, DoesEffect, word_given, words_given, text_given, texts_given, OperandFits, IsVariableKind, ActualFits}
-use Rattle.code_meaning.proofs.SlotLaws.{fewer_shown, number_below, shows_set, shows_referred, shows_field_set, shows_buffer_set, static_changes}
+use Rattle.code_meaning.specs.Does.{IsOperand, TakesNumber, TakesReference, TakesField, TakesMethod, TakesStatic, TakesBuffer, TakesTest, GoesInto, TakesResult, DoesEffect, word_given, words_given, text_given, texts_given, OperandFits, IsVariableKind, ActualFits}
+use Rattle.code_meaning.proofs.SlotLaws.{fewer_shown, number_below, shows_set, shows_referred, shows_field_set, shows_method_set, shows_buffer_set, static_changes}
 use Rattle.lower.proofs.TermSteps.{IsOpen, untouched_held, untouched_begun, shows_number}
 
 -- ---- the number that is worked out
@@ -240,7 +241,16 @@ module _ (code : Listing) (known : Known) (place : ℕ) (stack : List ℕ) (slot
   takes_field i x rest returns h = record {
     within = omega (arith, h.own.within, shows.fields);
     names = h.further.0;
-    shows = λ f new set. fewer_shown code h.further.0 ((x, record { sort = FieldId; index = i }) ∷ known) new (record slots { fields = slice_set slots.fields i f }) h.further.1 (shows_field_set code known visible new slots x i f shows h.own set);
+    shows = λ f new set. fewer_shown code h.further.0 ((x, record { sort = FieldId; index = i }) ∷ known) new (record slots { fields = slice_set slots.fields i (option_map OfField f) }) h.further.1 (shows_field_set code known visible new slots x i f shows h.own set);
+    stands = record { stand = h.further.2; returns = returns };
+  }
+
+  -- a method ID
+  takes_method : (i : ℕ) (x : Identifier) (rest : List Task) → IsTrue (list_any task_returns rest) → ResultStands code known (λ p names. TasksStand code names p [] rest) (place + 1) (record { sort = MethodId; index = i }) x → TakesMethod code known place stack slots visible i x rest
+  takes_method i x rest returns h = record {
+    within = omega (arith, h.own.within, shows.fields);
+    names = h.further.0;
+    shows = λ m new set. fewer_shown code h.further.0 ((x, record { sort = MethodId; index = i }) ∷ known) new (record slots { fields = slice_set slots.fields i (option_map OfMethod m) }) h.further.1 (shows_method_set code known visible new slots x i m shows h.own set);
     stands = record { stand = h.further.2; returns = returns };
   }
 
@@ -312,6 +322,9 @@ module _ (code : Listing) (known : Known) (place : ℕ) (stack : List ℕ) (slot
   takes_result line f operands (destination.FieldId i) gives target rest h returns =
       let slot : Slot = record { sort = FieldId; index = i } in
       (h.0, goes_into line f operands FieldKind slot target rest (λ x. TakesField code known place stack slots visible i x rest) returns (λ x r stands. takes_field i x rest r stands) (λ x found. (shows.each x slot found).kind) h.1)
+  takes_result line f operands (destination.MethodId i) gives target rest h returns =
+      let slot : Slot = record { sort = MethodId; index = i } in
+      (h.0, goes_into line f operands MethodKind slot target rest (λ x. TakesMethod code known place stack slots visible i x rest) returns (λ x r stands. takes_method i x rest r stands) (λ x found. (shows.each x slot found).kind) h.1)
   takes_result line f operands (destination.Static i) gives target rest h returns = (h.0, takes_static line f operands i target rest returns h.1)
   takes_result line f operands (destination.Buffer element i) gives target rest h returns =
       let t = h.1.0 in

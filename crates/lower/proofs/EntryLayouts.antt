@@ -3,7 +3,7 @@ use Rattle.type_rules.specs.SortRules.{static_sort}
 use Rattle.std.proofs.Common.{◌≡◌, ◌≢◌, ℕ, ◌<◌, ◌≤◌, ◌⊎◌, inl, inr, List, [], ◌∷◌, length, Some, None, refl, sym, ap, ◌∙◌, subst, arith}
 use Rattle.base.specs.Bytes.{Identifier, lookup}
 use Rattle.syntax.specs.Tree.{ParameterType, IntParameter, ReferenceParameter, Parameter, Function, Static, StaticType, ReferenceStatic, WeakStatic}
-use Rattle.type_rules.specs.Sorts.{Sort, Jint, Ref, Global, Weak, FieldId}
+use Rattle.type_rules.specs.Sorts.{Sort, Jint, Ref, Global, Weak}
 use Rattle.code.specs.declared.slots.SlotCounts.{SlotCounts}
 use Rattle.code_meaning.specs.Layout.{Slot, Known, with_static, parameter_slot, parameter_slots, numbers_after, references_after, numbers_of, references_of, entry_names, entry_layout}
 use Rattle.code_meaning.specs.Fits.{IndexWithin, AreApart, IsOwn, IsLaidOut, AreStatics, IsStaticSort}
@@ -69,21 +69,21 @@ ref_at : (s : Slot) → s.sort ≡ Ref → s ≡ record { sort = Ref; index = s.
 ref_at s e = ap (λ (k : Sort). record { sort = k; index = s.index }) e
 
 apart_numbers : (i j : ℕ) → i ≢ j → AreApart (record { sort = Jint; index = i }) (record { sort = Jint; index = j })
-apart_numbers i j other = record { numbers = λ k p q. other (omega (arith, p.0, p.1, q.0, q.1)); references = λ e e' same. absurd (let c : Jint ≡ Ref = e in cc); fields = λ e e' same. absurd (let c : Jint ≡ FieldId = e in cc); buffers = λ b b' same. absurd b }
+apart_numbers i j other = record { numbers = λ k p q. other (omega (arith, p.0, p.1, q.0, q.1)); references = λ e e' same. absurd (let c : Jint ≡ Ref = e in cc); fields = λ b b' same. absurd b; buffers = λ b b' same. absurd b }
 
 apart_references : (i j : ℕ) → i ≢ j → AreApart (record { sort = Ref; index = i }) (record { sort = Ref; index = j })
-apart_references i j other = record { numbers = λ k p q. absurd (omega (arith, p.0, p.1)); references = λ e e' same. other same; fields = λ e e' same. absurd (let c : Ref ≡ FieldId = e in cc); buffers = λ b b' same. absurd b }
+apart_references i j other = record { numbers = λ k p q. absurd (omega (arith, p.0, p.1)); references = λ e e' same. other same; fields = λ b b' same. absurd b; buffers = λ b b' same. absurd b }
 
 apart_number_reference : (i j : ℕ) → AreApart (record { sort = Jint; index = i }) (record { sort = Ref; index = j })
-apart_number_reference i j = record { numbers = λ k p q. absurd (omega (arith, q.0, q.1)); references = λ e e' same. absurd (let c : Jint ≡ Ref = e in cc); fields = λ e e' same. absurd (let c : Jint ≡ FieldId = e in cc); buffers = λ b b' same. absurd b }
+apart_number_reference i j = record { numbers = λ k p q. absurd (omega (arith, q.0, q.1)); references = λ e e' same. absurd (let c : Jint ≡ Ref = e in cc); fields = λ b b' same. absurd b; buffers = λ b b' same. absurd b }
 
 apart_static : (s : Slot) (k : Sort) (i : ℕ) → IsStaticSort k → AreApart s (record { sort = k; index = i })
-apart_static s Global i h = record { numbers = λ k p q. absurd (omega (arith, q.0, q.1)); references = λ e e' same. absurd (let c : Global ≡ Ref = e' in cc); fields = λ e e' same. absurd (let c : Global ≡ FieldId = e' in cc); buffers = λ b b' same. absurd b' }
-apart_static s Weak i h = record { numbers = λ k p q. absurd (omega (arith, q.0, q.1)); references = λ e e' same. absurd (let c : Weak ≡ Ref = e' in cc); fields = λ e e' same. absurd (let c : Weak ≡ FieldId = e' in cc); buffers = λ b b' same. absurd b' }
+apart_static s Global i h = record { numbers = λ k p q. absurd (omega (arith, q.0, q.1)); references = λ e e' same. absurd (let c : Global ≡ Ref = e' in cc); fields = λ b b' same. absurd b'; buffers = λ b b' same. absurd b' }
+apart_static s Weak i h = record { numbers = λ k p q. absurd (omega (arith, q.0, q.1)); references = λ e e' same. absurd (let c : Weak ≡ Ref = e' in cc); fields = λ b b' same. absurd b'; buffers = λ b b' same. absurd b' }
 apart_static s k i h = absurd h
 
 pub apart_back : (s t : Slot) → AreApart s t → AreApart t s
-apart_back s t h = record { numbers = λ k p q. h.numbers k q p; references = λ e e' same. h.references e' e (sym same); fields = λ e e' same. h.fields e' e (sym same); buffers = λ b b' same. h.buffers b' b (sym same) }
+apart_back s t h = record { numbers = λ k p q. h.numbers k q p; references = λ e e' same. h.references e' e (sym same); fields = λ b b' same. h.fields b' b (sym same); buffers = λ b b' same. h.buffers b' b (sym same) }
 
 -- of two slots one is at the place of its kind, and the other after
 first_apart : (type : ParameterType) (n r n' r' : ℕ) (t : Slot) → Between (numbers_after type n) (references_after type r) n' r' t → AreApart (parameter_slot type n r) t

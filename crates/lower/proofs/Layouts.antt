@@ -4,12 +4,12 @@ use Rattle.base.specs.Bytes.{Identifier, lookup}
 use Rattle.base.specs.Element.{JChar}
 use Rattle.syntax.specs.Tree as tree
 use Rattle.syntax.specs.Tree.{Stmt, Block, End, Next}
-use Rattle.type_rules.specs.Sorts.{Sort, Word, Jint, Flag, Truth, Ref, Global, Weak, FieldId, Buffer, Array}
+use Rattle.type_rules.specs.Sorts.{Sort, Word, Jint, Flag, Truth, Ref, Global, Weak, FieldId, MethodId, Buffer, Array}
 use Rattle.type_rules.specs.SortRules.{variable_sort}
 use Rattle.code.specs.declared.slots.SlotCounts.{SlotCounts}
 use Rattle.code.specs.Depth.{Listing}
 use Rattle.code_meaning.specs.Layout.{Slot, Known, Layout, next_index, slots_after, new_slot, with_name, closed, layout_after, block_layout}
-use Rattle.code_meaning.specs.Fits.{IndexWithin, IsPlaceOf, IsBufferSort, AreApart, IsOwn, IsLaidOut, HasRoomFor, StmtFits}
+use Rattle.code_meaning.specs.Fits.{IndexWithin, IsPlaceOf, IsBufferSort, IsHandleSort, AreApart, IsOwn, IsLaidOut, HasRoomFor, StmtFits}
 use Rattle.code_meaning.specs.Stands.{AreAmong, IsSlotOf}
 use Rattle.code_meaning.proofs.SlotLaws.{first_or_after, new_among, all_among}
 
@@ -44,6 +44,7 @@ slots_grow Ref c = record { numbers = omega arith; references = omega arith; sta
 slots_grow Global c = record { numbers = omega arith; references = omega arith; statics = omega arith; field_ids = omega arith; buffers = omega arith }
 slots_grow Weak c = record { numbers = omega arith; references = omega arith; statics = omega arith; field_ids = omega arith; buffers = omega arith }
 slots_grow FieldId c = record { numbers = omega arith; references = omega arith; statics = omega arith; field_ids = omega arith; buffers = omega arith }
+slots_grow MethodId c = record { numbers = omega arith; references = omega arith; statics = omega arith; field_ids = omega arith; buffers = omega arith }
 slots_grow (Buffer t w) c = record { numbers = omega arith; references = omega arith; statics = omega arith; field_ids = omega arith; buffers = omega arith }
 slots_grow (Array t n) c = record { numbers = omega arith; references = omega arith; statics = omega arith; field_ids = omega arith; buffers = omega arith }
 
@@ -91,6 +92,7 @@ index_more a b Ref i h k = omega (arith, h.references, k)
 index_more a b Global i h k = omega (arith, h.statics, k)
 index_more a b Weak i h k = omega (arith, h.statics, k)
 index_more a b FieldId i h k = omega (arith, h.field_ids, k)
+index_more a b MethodId i h k = omega (arith, h.field_ids, k)
 index_more a b (Buffer t w) i h k = omega (arith, h.buffers, k)
 index_more a b (Array t n) i h k = (k.0, k.1, omega (arith, h.numbers, k.2))
 
@@ -114,6 +116,7 @@ new_within Ref c h = omega arith
 new_within Global c h = omega arith
 new_within Weak c h = omega arith
 new_within FieldId c h = omega arith
+new_within MethodId c h = omega arith
 new_within (Buffer t w) c h = omega arith
 new_within (Array t n) c h = (h.0, h.1, omega arith)
 
@@ -126,6 +129,7 @@ new_above Ref c k h = absurd (omega (arith, h.0, h.1))
 new_above Global c k h = absurd (omega (arith, h.0, h.1))
 new_above Weak c k h = absurd (omega (arith, h.0, h.1))
 new_above FieldId c k h = absurd (omega (arith, h.0, h.1))
+new_above MethodId c k h = absurd (omega (arith, h.0, h.1))
 new_above (Buffer t w) c k h = absurd (omega (arith, h.0, h.1))
 new_above (Array t n) c k h = h.0
 
@@ -138,6 +142,7 @@ place_below Ref i c k w h = absurd (omega (arith, h.0, h.1))
 place_below Global i c k w h = absurd (omega (arith, h.0, h.1))
 place_below Weak i c k w h = absurd (omega (arith, h.0, h.1))
 place_below FieldId i c k w h = absurd (omega (arith, h.0, h.1))
+place_below MethodId i c k w h = absurd (omega (arith, h.0, h.1))
 place_below (Buffer t wr) i c k w h = absurd (omega (arith, h.0, h.1))
 place_below (Array t n) i c k w h = omega (arith, w.2, h.0, h.1)
 
@@ -149,6 +154,16 @@ buffer_next : (c : SlotCounts) (s : Sort) → IsBufferSort s → next_index s c 
 buffer_next c (Buffer t w) b = refl
 buffer_next c s b = absurd b
 
+handle_within : (c : SlotCounts) (s : Sort) (i : ℕ) → IsHandleSort s → IndexWithin c s i → i < c.field_ids
+handle_within c FieldId i b h = h
+handle_within c MethodId i b h = h
+handle_within c s i b h = absurd b
+
+handle_next : (c : SlotCounts) (s : Sort) → IsHandleSort s → next_index s c ≡ c.field_ids
+handle_next c FieldId b = refl
+handle_next c MethodId b = refl
+handle_next c s b = absurd b
+
 new_apart : (s : Sort) (l : Layout) (x : Identifier) (t : Slot) → IsLaidOut l.known l.slots → lookup x l.known ≡ Some t → AreApart t (new_slot s l)
 new_apart s l x t laid at = record {
   numbers = λ k p q.
@@ -159,9 +174,9 @@ new_apart s l x t laid at = record {
       let below : t.index < l.slots.references = subst (λ (r : Sort). IndexWithin l.slots r t.index) e (laid.within x t at) in
       let next : next_index s l.slots ≡ l.slots.references = ap (λ (r : Sort). next_index r l.slots) e' in
       absurd (omega (arith, below, next, same));
-  fields = λ e e' same.
-      let below : t.index < l.slots.field_ids = subst (λ (r : Sort). IndexWithin l.slots r t.index) e (laid.within x t at) in
-      let next : next_index s l.slots ≡ l.slots.field_ids = ap (λ (r : Sort). next_index r l.slots) e' in
+  fields = λ b b' same.
+      let below = handle_within l.slots t.sort t.index b (laid.within x t at) in
+      let next = handle_next l.slots s b' in
       absurd (omega (arith, below, next, same));
   buffers = λ b b' same.
       let below = buffer_within l.slots t.sort t.index b (laid.within x t at) in
@@ -170,7 +185,7 @@ new_apart s l x t laid at = record {
 }
 
 apart_back : (s t : Slot) → AreApart s t → AreApart t s
-apart_back s t h = record { numbers = λ k p q. h.numbers k q p; references = λ e e' same. h.references e' e (sym same); fields = λ e e' same. h.fields e' e (sym same); buffers = λ b b' same. h.buffers b' b (sym same) }
+apart_back s t h = record { numbers = λ k p q. h.numbers k q p; references = λ e e' same. h.references e' e (sym same); fields = λ b b' same. h.fields b' b (sym same); buffers = λ b b' same. h.buffers b' b (sym same) }
 
 pub new_own : (s : Sort) (l : Layout) (x : Identifier) → IsLaidOut l.known l.slots → IsOwn l.known x (new_slot s l)
 new_own s l x laid y t at other = new_apart s l y t laid at
@@ -208,6 +223,7 @@ scalar_size tree.JIntVariable = tt
 scalar_size tree.JSize = tt
 scalar_size tree.JBoolean = tt
 scalar_size tree.JFieldId = tt
+scalar_size tree.JMethodId = tt
 scalar_size (tree.ReferenceVariable r) = tt
 
 pub variable_size : (t : tree.VariableType) → SizeFits (variable_sort t)

@@ -10,7 +10,7 @@ use Rattle.syntax.specs.Tree.{ResultType, Void, IntResult, ReferenceResult, Logi
 use Rattle.base.specs.Element.{JChar}
 use Rattle.jni.specs.JniFunction.{function_named, prototype}
 use Rattle.jni.specs.Prototype.{ParameterKind, IntNumber}
-use Rattle.type_rules.specs.Sorts.{Sort, Jint, Ref, Global, Weak, FieldId, Buffer, Array, constant_sort, sort_in, sort_of, is_ref, is_null, name_sort}
+use Rattle.type_rules.specs.Sorts.{Sort, Jint, Ref, Global, Weak, FieldId, MethodId, Buffer, Array, constant_sort, sort_in, sort_of, is_ref, is_null, name_sort}
 use Rattle.type_rules.specs.Sorts as sort
 use Rattle.type_rules.specs.SortRules.{variable_sort, return_fits, places_within, places_of}
 use Rattle.code.specs.declared.instr.Target.{Target}
@@ -71,6 +71,7 @@ null_length : (equal : Bool) (s : Sort) (i : ℕ) → IsNullable s → length (t
 null_length equal Ref i h = refl
 null_length equal Global i h = refl
 null_length equal FieldId i h = refl
+null_length equal MethodId i h = refl
 null_length equal (Buffer t w) i h = refl
 null_length equal s i h = absurd h
 
@@ -156,6 +157,7 @@ value_length known line Ref i e h = null_set known line (record { sort = Ref; in
 value_length known line Global i e h = null_set known line (record { sort = Global; index = i }) e refl h
 value_length known line Weak i e h = null_set known line (record { sort = Weak; index = i }) e refl h
 value_length known line FieldId i e h = null_set known line (record { sort = FieldId; index = i }) e refl h
+value_length known line MethodId i e h = null_set known line (record { sort = MethodId; index = i }) e refl h
 value_length known line (Buffer t w) i e h = null_set known line (record { sort = Buffer t w; index = i }) e refl h
 value_length known line s i e h = absurd h
 

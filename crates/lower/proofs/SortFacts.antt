@@ -7,8 +7,8 @@ use Rattle.base.specs.Bytes.{Identifier, lookup}
 use Rattle.syntax.specs.Limits.{height, number_limit, numbers_in_range}
 use Rattle.syntax.specs.Parts.{null_tested}
 use Rattle.syntax.specs.Tree.{Constant, True, False, Null, PrefixOp, LogicalNot, Complement, ToWord, ToInt, BinaryOp, LogicalOr, LogicalAnd, Equal, NotEqual, Expr, Number, Named, Variable, Element, Prefix, Binary, Paren}
-use Rattle.type_rules.specs.Sorts.{Sort, Word, Jint, Flag, Truth, Ref, Global, FieldId, Buffer, Array, Scope, OperatorGroup, Logic, Equality, Order, OnWords, group, binary_sort, prefix_sort, is_castable, is_index, has_elements, is_nullable, constant_sort, null_test_sort, sort_in, sort_of}
-use Rattle.type_rules.specs.SortGroups.{IsIndexSort, IsNumberSort, OperatorFits}
+use Rattle.type_rules.specs.Sorts.{Sort, Word, Jint, Flag, Truth, Ref, Global, FieldId, MethodId, Buffer, Array, Scope, OperatorGroup, Logic, Equality, group, binary_sort, prefix_sort, is_castable, is_index, has_elements, is_nullable, constant_sort, null_test_sort, sort_in, sort_of}
+use Rattle.type_rules.specs.SortGroups.{OperatorFits}
 use Rattle.type_rules.proofs.SortCases.{IsValueSort, given, and_true, castable, indexed, operands, number_is_value, index_is_value, null_cases, none_right, or_none}
 use Rattle.semantics.specs.Term as term
 use Rattle.semantics.specs.Term.{Term, binary_term, term_of}
@@ -40,6 +40,7 @@ nullable : (o : Option Sort) → is_nullable o ≡ true → (r : Sort) × (o ≡
 nullable (Some Ref) h = (Ref, refl, tt)
 nullable (Some Global) h = (Global, refl, tt)
 nullable (Some FieldId) h = (FieldId, refl, tt)
+nullable (Some MethodId) h = (MethodId, refl, tt)
 nullable (Some (Buffer t w)) h = (Buffer t w, refl, tt)
 nullable o h = absurd (cc)
 

@@ -11,8 +11,8 @@ use Rattle.syntax.specs.Tree as tree
 use Rattle.syntax.specs.Tree.{ResultType, Void, IntResult, ReferenceResult, Expr, Argument, Call, RightSide, FromExpr, FromCall, Test, TestExpr, TestCall}
 use Rattle.jni.specs.Access.{Access, ElementsCopy, ArrayView, CharsCopy, CharsView}
 use Rattle.jni.specs.JniFunction.{JniFunction, PushLocalFrame, function_named, prototype}
-use Rattle.jni.specs.Prototype.{ParameterKind, Nullable, NonNull, ClassObject, AnyArray, ObjectArray, StringObject, NumberArray, LocalVariable, StaticVariable, FieldID, IntNumber, TextBytes, ArrayVariable, BufferVariable, Mode, IsCopy, ResultKind, NewLocal, NewGlobal, GivesFlag, GivesInt, GivesField, GivesBuffer, GivesNothing, AnyReference, WeakVariable, NewWeak}
-use Rattle.type_rules.specs.Sorts.{Sort, Word, Jint, Flag, Truth, Ref, Global, Weak, FieldId, Buffer, Array, sort_in, sort_of, is_word, is_jint, is_flag, is_truth, is_index, has_elements, is_null, is_ref, is_global, is_field, is_reference, is_array_of, is_buffer_for, name_sort, text_fits, address_fits, argument_fits, arguments_fit, call_arguments_fit, is_weak, is_any_reference}
+use Rattle.jni.specs.Prototype.{ParameterKind, Nullable, NonNull, ClassObject, AnyArray, ObjectArray, StringObject, NumberArray, LocalVariable, StaticVariable, FieldID, IntNumber, TextBytes, ArrayVariable, BufferVariable, Mode, IsCopy, ResultKind, NewLocal, NewGlobal, GivesFlag, GivesInt, GivesField, GivesMethod, GivesBuffer, GivesNothing, AnyReference, WeakVariable, NewWeak}
+use Rattle.type_rules.specs.Sorts.{Sort, Word, Jint, Flag, Truth, Ref, Global, Weak, FieldId, MethodId, Buffer, Array, sort_in, sort_of, is_word, is_jint, is_flag, is_truth, is_index, has_elements, is_null, is_ref, is_global, is_field, is_method, is_reference, is_array_of, is_buffer_for, name_sort, text_fits, address_fits, argument_fits, arguments_fit, call_arguments_fit, is_weak, is_any_reference}
 use Rattle.type_rules.specs.SortRules.{result_fits, is_push, call_fits, may_be_tested, value_sets, right_side_sets, buffer_begins, test_fits, return_fits, has_wrong_count, has_wrong_mode, is_mode, is_mode_parameter, modes_fit, copies_reference}
 use Rattle.type_rules.specs.SortGroups.{IsIndexSort}
 use Rattle.semantics.specs.Term as term
@@ -56,6 +56,10 @@ weak_is o h = absurd (cc)
 field_is : (o : Option Sort) → is_field o ≡ true → o ≡ Some FieldId
 field_is (Some FieldId) h = refl
 field_is o h = absurd (cc)
+
+method_is : (o : Option Sort) → is_method o ≡ true → o ≡ Some MethodId
+method_is (Some MethodId) h = refl
+method_is o h = absurd (cc)
 
 reference_is : (o : Option Sort) → is_reference o ≡ true → (s : Sort) × (o ≡ Some s) × ((s ≡ Ref) ⊎ (s ≡ Global))
 reference_is (Some Ref) h = (Ref, refl, inl refl)
@@ -281,6 +285,7 @@ module _ (known : Known) where
     result_sort (Some Weak) NewWeak h = (Weak, refl, refl)
     result_sort o NewWeak h = absurd (cc)
     result_sort o GivesField h = (FieldId, field_is o h, refl)
+    result_sort o GivesMethod h = (MethodId, method_is o h, refl)
     result_sort o (GivesBuffer access) h = let s = some_buffer access o h in (s.0, s.1, subst (λ (p : Option Sort). is_buffer_for access p ≡ true) s.1 h)
     result_sort o GivesNothing h = absurd (cc)
 
@@ -310,6 +315,7 @@ module _ (known : Known) where
     value_fits Global e fine h k = null_is e h
     value_fits Weak e fine h k = null_is e h
     value_fits FieldId e fine h k = null_is e h
+    value_fits MethodId e fine h k = null_is e h
     value_fits s e fine h k = absurd (cc)
 
     pub right_fits : (s : Sort) (r : RightSide) → AreFine (right_side_expressions r) → CallHolds known (call_of_right_side (Some r)) → right_side_sets (scope_of known) (Some s) r ≡ true → copies_reference (scope_of known) (Some s) (Some r) ≡ false

@@ -7,7 +7,7 @@ use Rattle.std.proofs.Math.Facts.{to_z-of_z}
 use Rattle.std.proofs.lemmas.List.{append-nil}
 use Rattle.std.proofs.lemmas.Bool.{lt-ltb, le-leb}
 use Rattle.base.specs.Bytes.{Identifier}
-use Rattle.type_rules.specs.Sorts.{Sort, Jint, Ref, Global, Weak, FieldId, Buffer, Array}
+use Rattle.type_rules.specs.Sorts.{Sort, Jint, Ref, Global, Weak, FieldId, MethodId, Buffer, Array}
 use Rattle.type_rules.specs.Sorts as sort
 use Rattle.code.specs.declared.instr.NullableVariable.{NullableVariable}
 use Rattle.code.specs.declared.instr.NullableVariable.TheVariants as nullable
@@ -20,7 +20,7 @@ use Rattle.code.specs.Effect.{plain_of, cleared}
 use Rattle.code.proofs.Effects.{KeepsSlots, plain_keeps}
 use Rattle.semantics.specs.Effect.{Effect, goes_on, with_value, effect_of}
 use Rattle.semantics.specs.Sight.{Sight}
-use Rattle.semantics.specs.Task.{Task, SetScalar, SetNull, MakeArray, Print, Target, Declared, Assigned, VariableKind, ScalarKind, ReferenceKind, FieldKind, BufferKind}
+use Rattle.semantics.specs.Task.{Task, SetScalar, SetNull, MakeArray, Print, Target, Declared, Assigned, VariableKind, ScalarKind, ReferenceKind, FieldKind, MethodKind, BufferKind}
 use Rattle.semantics.specs.Term.{Term, Done, reduce}
 use Rattle.semantics.specs.Value.{Value, Word, Int, Flag, Truth, Gives}
 use Rattle.code_meaning.specs.Layout.{Slot, Known}
@@ -158,6 +158,7 @@ module _ (code : Listing) (known : Known) (place : ℕ) (stack : List ℕ) (slot
   shown_null x s Global variable e h = (is_empty h.static.held, h.is_null)
   shown_null x s Weak variable e h = (is_empty h.static.held, h.is_null)
   shown_null x s FieldId variable e h = (is_none h.field, h.is_null)
+  shown_null x s MethodId variable e h = (is_none h.method, h.is_null)
   shown_null x s (Buffer t writable) variable e h = (is_no_buffer h.buffer, h.is_null)
   shown_null x s kind variable e h = absurd (cc)
 
@@ -170,6 +171,7 @@ module _ (code : Listing) (known : Known) (place : ℕ) (stack : List ℕ) (slot
   can_be_null (Declared ScalarKind x) s variable e h = no_scalar s.sort s.index variable e h
   can_be_null (Declared ReferenceKind x) s variable e h = tt
   can_be_null (Declared FieldKind x) s variable e h = tt
+  can_be_null (Declared MethodKind x) s variable e h = tt
   can_be_null (Declared (BufferKind t) x) s variable e h = tt
   can_be_null (Assigned x) s variable e h = shown_null x s s.sort variable e (shows.each x s h)
   can_be_null target s variable e h = absurd h
@@ -180,6 +182,7 @@ module _ (code : Listing) (known : Known) (place : ℕ) (stack : List ℕ) (slot
   declared_kind x i Global kind h = absurd (cc)
   declared_kind x i Weak kind h = absurd (cc)
   declared_kind x i FieldId kind h = sym h
+  declared_kind x i MethodId kind h = sym h
   declared_kind x i (Buffer t writable) kind h = sym h
   declared_kind x i s kind h = tt
 
@@ -188,6 +191,7 @@ module _ (code : Listing) (known : Known) (place : ℕ) (stack : List ℕ) (slot
   shown_kind x s Global h = (h.no_variable.kind, h)
   shown_kind x s Weak h = (h.no_variable.kind, h)
   shown_kind x s FieldId h = h.kind
+  shown_kind x s MethodId h = h.kind
   shown_kind x s (Buffer t writable) h = h.kind
   shown_kind x s t h = tt
 
@@ -201,7 +205,8 @@ module _ (code : Listing) (known : Known) (place : ℕ) (stack : List ℕ) (slot
   stored_in Ref i name kind variable e h = subst (λ (v : NullableVariable). IsStoredIn code known place stack slots visible v kind name) (let is : nullable.Local i ≡ variable = cc in is) h
   stored_in Global i name kind variable e h = subst (λ (v : NullableVariable). IsStoredIn code known place stack slots visible v kind name) (let is : nullable.Static i ≡ variable = cc in is) h
   stored_in Weak i name kind variable e h = subst (λ (v : NullableVariable). IsStoredIn code known place stack slots visible v kind name) (let is : nullable.Static i ≡ variable = cc in is) h
-  stored_in FieldId i name kind variable e h = subst (λ (v : NullableVariable). IsStoredIn code known place stack slots visible v kind name) (let is : nullable.FieldId i ≡ variable = cc in is) h
+  stored_in FieldId i name kind variable e h = subst (λ (v : NullableVariable). IsStoredIn code known place stack slots visible v kind name) (let is : nullable.FieldId i ≡ variable = cc in is) (inl h)
+  stored_in MethodId i name kind variable e h = subst (λ (v : NullableVariable). IsStoredIn code known place stack slots visible v kind name) (let is : nullable.FieldId i ≡ variable = cc in is) (inr h)
   stored_in (Buffer t writable) i name kind variable e h = subst (λ (v : NullableVariable). IsStoredIn code known place stack slots visible v kind name) (let is : nullable.Buffer i ≡ variable = cc in is) (t, h)
   stored_in s i name kind variable e h = absurd (cc)
 

@@ -18,7 +18,7 @@ use Rattle.semantics.specs.Variable as variable
 use Rattle.semantics.specs.Variable.{StaticReference}
 use Rattle.code_meaning.proofs.StaticPlaces.{there_at}
 use Rattle.base.specs.Element.{ElementType, JInt}
-use Rattle.type_rules.specs.Sorts.{Sort, Jint, Ref, Global, FieldId, Buffer, Array, OperatorGroup, Logic, Equality, Order, OnWords, group, is_jint}
+use Rattle.type_rules.specs.Sorts.{Sort, Jint, Ref, Global, FieldId, MethodId, Buffer, Array, OperatorGroup, Logic, Equality, Order, OnWords, group, is_jint}
 use Rattle.type_rules.specs.Sorts as sort
 use Rattle.type_rules.specs.SortGroups.{IsIndexSort, IsNumberSort, OperatorFits}
 use Rattle.code.specs.declared.instr.Operator.TheVariants as operator
@@ -37,7 +37,7 @@ use Rattle.semantics.specs.Term as term
 use Rattle.semantics.specs.Term.{Term, Done, Read, IsNull, Prefix, And, Or, Binary, Reduction, done, with_part, reduce}
 use Rattle.code_meaning.specs.Layout.{Slot, Known}
 use Rattle.code_meaning.specs.Coding.{nullable_of, test_of, null_code, element_code, of_slot, load_code, prefix_code, operator_code, is_signed, skip_code, term_code}
-use Rattle.code_meaning.specs.Slots.{word_of, ValueHasSort, Visible, Slots, is_empty, is_no_buffer, ShowsNumber, ShowsArray, ShowsBuffer, ShowsSlot, elements_in, seen_element, SeesBuffers, slot_elements, holds_null}
+use Rattle.code_meaning.specs.Slots.{word_of, ValueHasSort, Visible, Slots, OfField, OfMethod, is_empty, is_no_buffer, ShowsNumber, ShowsArray, ShowsBuffer, ShowsSlot, elements_in, seen_element, SeesBuffers, slot_elements, holds_null}
 use Rattle.code_meaning.specs.Fits.{IsNullable, HasElements, TermHasSort, IsUntouched}
 use Rattle.code_meaning.specs.Stands.{held, IsBegun}
 use Rattle.code_meaning.specs.Does.{trap_of, Loads, Works}
@@ -516,6 +516,11 @@ module _ (known : Known) (line : ℕ) (slots : Slots) (visible : Visible) where
 
   -- ---- names
 
+  -- what is put into a slot is NULL where it was
+  none_kept : {A B : Type 0} (f : A → B) (o : Option A) → is_none (option_map f o) ≡ is_none o
+  none_kept f None = refl
+  none_kept f (Some a) = refl
+
   -- what is shown of a name that can be NULL
   record ShowsNull (x : Identifier) (kind : Sort) (i : ℕ) : Type 0 where
     null : Bool
@@ -533,7 +538,8 @@ module _ (known : Known) (line : ℕ) (slots : Slots) (visible : Visible) where
     same = refl;
     holds = ap (option_map (λ (named : Identifier × StaticReference). is_empty named.1)) (there_at x s.index h.static.held visible.statics h.static.place h.static.there);
   }
-  shows_null x s FieldId n h = record { null = is_none h.field; is = h.is_null; variable = nullable.FieldId s.index; same = refl; holds = ap (option_map is_none) h.there }
+  shows_null x s FieldId n h = record { null = is_none h.field; is = h.is_null; variable = nullable.FieldId s.index; same = refl; holds = ap (option_map is_none) h.there ∙ ap (λ (b : Bool). Some b) (none_kept OfField h.field) }
+  shows_null x s MethodId n h = record { null = is_none h.method; is = h.is_null; variable = nullable.FieldId s.index; same = refl; holds = ap (option_map is_none) h.there ∙ ap (λ (b : Bool). Some b) (none_kept OfMethod h.method) }
   shows_null x s (Buffer t writable) n h = record { null = is_no_buffer h.buffer; is = h.is_null; variable = nullable.Buffer s.index; same = refl; holds = ap (option_map is_no_buffer) h.there }
   shows_null x s kind n h = absurd n
 

@@ -10,7 +10,7 @@ use Rattle.std.proofs.lemmas.Bool.{lt-ltb, le-leb}
 use Rattle.base.specs.Bytes.{Identifier, lookup}
 use Rattle.syntax.specs.Tree as tree
 use Rattle.syntax.specs.Tree.{PrefixOp, LogicalNot, Complement, ToWord, ToInt, BinaryOp, LogicalOr, LogicalAnd, BitOr, BitXor, BitAnd, Equal, NotEqual, Less, LessEqual, Greater, GreaterEqual, ShiftLeft, ShiftRight, Add, Subtract, Multiply, Divide, Remainder, Expr, Argument, RightSide, FromExpr, FromCall, Test, TestExpr, TestCall, Stmt, Block, End, Next, Call}
-use Rattle.type_rules.specs.Sorts.{Sort, Jint, Ref, Global, Weak, FieldId, Buffer, Array}
+use Rattle.type_rules.specs.Sorts.{Sort, Jint, Ref, Global, Weak, FieldId, MethodId, Buffer, Array}
 use Rattle.type_rules.specs.Sorts as sort
 use Rattle.type_rules.specs.SortRules.{variable_sort}
 use Rattle.base.specs.Element.{JChar}
@@ -42,6 +42,7 @@ null_piece : (equal : Bool) (s : Sort) (i d : ℕ) → IsNullable s → d < 64 �
 null_piece equal Ref i d n h = piece_one (instr.TestNull _ equal) d (suc d) (rw (lt-ltb d 64 h) refl) tt
 null_piece equal Global i d n h = piece_one (instr.TestNull _ equal) d (suc d) (rw (lt-ltb d 64 h) refl) tt
 null_piece equal FieldId i d n h = piece_one (instr.TestNull _ equal) d (suc d) (rw (lt-ltb d 64 h) refl) tt
+null_piece equal MethodId i d n h = piece_one (instr.TestNull _ equal) d (suc d) (rw (lt-ltb d 64 h) refl) tt
 null_piece equal (Buffer t w) i d n h = piece_one (instr.TestNull _ equal) d (suc d) (rw (lt-ltb d 64 h) refl) tt
 null_piece equal s i d n h = absurd n
 
@@ -220,6 +221,7 @@ value_piece known line Ref i e fits = subst (λ (d : Expr). IsPiece (value_code 
 value_piece known line Global i e fits = subst (λ (d : Expr). IsPiece (value_code known line (record { sort = Global; index = i }) d) 0 0) (sym fits) (piece_one (instr.StoreNull _) 0 0 refl tt)
 value_piece known line Weak i e fits = subst (λ (d : Expr). IsPiece (value_code known line (record { sort = Weak; index = i }) d) 0 0) (sym fits) (piece_one (instr.StoreNull _) 0 0 refl tt)
 value_piece known line FieldId i e fits = subst (λ (d : Expr). IsPiece (value_code known line (record { sort = FieldId; index = i }) d) 0 0) (sym fits) (piece_one (instr.StoreNull _) 0 0 refl tt)
+value_piece known line MethodId i e fits = subst (λ (d : Expr). IsPiece (value_code known line (record { sort = MethodId; index = i }) d) 0 0) (sym fits) (piece_one (instr.StoreNull _) 0 0 refl tt)
 value_piece known line (Buffer t w) i e fits = subst (λ (d : Expr). IsPiece (value_code known line (record { sort = Buffer t w; index = i }) d) 0 0) (sym fits) (piece_one (instr.StoreNull _) 0 0 refl tt)
 value_piece known line (Array t n) i e fits = absurd fits
 
@@ -232,6 +234,7 @@ right_piece known line s (FromCall c) fits = call_piece known line (result_targe
     into_variable Global i = refl
     into_variable Weak i = refl
     into_variable FieldId i = refl
+    into_variable MethodId i = refl
     into_variable s i = refl
 
 return_piece : (known : Known) (line : ℕ) (t : Term) → ReturnFits known t → IsPiece (return_code known line t) 0 0

@@ -7,7 +7,7 @@ use Rattle.std.proofs.lemmas.Bool.{lt-ltb, le-leb}
 use Rattle.base.specs.Bytes.{Identifier, lookup}
 use Rattle.syntax.specs.Tree as tree
 use Rattle.syntax.specs.Tree.{BinaryOp, LogicalOr, LogicalAnd, BitOr, BitXor, BitAnd, Equal, NotEqual, Less, LessEqual, Greater, GreaterEqual, ShiftLeft, ShiftRight, Add, Subtract, Multiply, Divide, Remainder, PrefixOp, LogicalNot, Complement, ToWord, ToInt, Expr, Argument, RightSide, FromExpr, FromCall, Test, TestExpr, TestCall, Stmt, Block, End, Next, Call}
-use Rattle.type_rules.specs.Sorts.{Sort, Jint, Ref, Global, Weak, FieldId, Buffer, Array}
+use Rattle.type_rules.specs.Sorts.{Sort, Jint, Ref, Global, Weak, FieldId, MethodId, Buffer, Array}
 use Rattle.type_rules.specs.Sorts as sort
 use Rattle.type_rules.specs.SortRules.{variable_sort}
 use Rattle.type_rules.specs.SortGroups.{IsNumberSort}
@@ -16,7 +16,7 @@ use Rattle.code.specs.declared.instr.Target.{Target}
 use Rattle.code.specs.declared.instr.Target.TheVariants as destination
 use Rattle.jni.specs.Access.{Access}
 use Rattle.jni.specs.JniFunction.{function_named, prototype}
-use Rattle.jni.specs.Prototype.{ParameterKind, LocalVariable, StaticVariable, FieldID, IntNumber, TextBytes, ArrayVariable, BufferVariable, Mode, IsCopy, ResultKind, NewLocal, NewGlobal, GivesFlag, GivesInt, GivesField, GivesBuffer, GivesNothing, AnyReference, WeakVariable, NewWeak}
+use Rattle.jni.specs.Prototype.{ParameterKind, LocalVariable, StaticVariable, FieldID, IntNumber, TextBytes, ArrayVariable, BufferVariable, Mode, IsCopy, ResultKind, NewLocal, NewGlobal, GivesFlag, GivesInt, GivesField, GivesMethod, GivesBuffer, GivesNothing, AnyReference, WeakVariable, NewWeak}
 use Rattle.code.specs.declared.instr.Instr.{Instr}
 use Rattle.code.specs.declared.instr.Instr.TheVariants as instr
 use Rattle.code.specs.declared.slots.SlotCounts.{SlotCounts}
@@ -59,6 +59,7 @@ module _ (slots : SlotCounts) where
   null_within equal Global i n h = rw (lt-ltb i slots.statics h) refl
   null_within equal Weak i n h = rw (lt-ltb i slots.statics h) refl
   null_within equal FieldId i n h = rw (lt-ltb i slots.field_ids h) refl
+  null_within equal MethodId i n h = rw (lt-ltb i slots.field_ids h) refl
   null_within equal (Buffer t w) i n h = rw (lt-ltb i slots.buffers h) refl
   null_within equal s i n h = absurd n
 
@@ -139,6 +140,7 @@ module _ (slots : SlotCounts) where
   slot_within Global i h = lt-ltb i slots.statics h
   slot_within Weak i h = lt-ltb i slots.statics h
   slot_within FieldId i h = lt-ltb i slots.field_ids h
+  slot_within MethodId i h = refl
   slot_within (Buffer t w) i h = lt-ltb i slots.buffers h
   slot_within (Array t n) i h = rw (lt-ltb 0 n h.0, le-leb n 1024 h.1, le-leb (i + n) slots.numbers h.2) refl
 
@@ -227,6 +229,7 @@ module _ (slots : SlotCounts) where
   value_within known line Global i e all there fits = subst (λ (d : Expr). AllWithin (value_code known line (record { sort = Global; index = i }) d)) (sym fits) (rw (lt-ltb i slots.statics there) refl)
   value_within known line Weak i e all there fits = subst (λ (d : Expr). AllWithin (value_code known line (record { sort = Weak; index = i }) d)) (sym fits) (rw (lt-ltb i slots.statics there) refl)
   value_within known line FieldId i e all there fits = subst (λ (d : Expr). AllWithin (value_code known line (record { sort = FieldId; index = i }) d)) (sym fits) (rw (lt-ltb i slots.field_ids there) refl)
+  value_within known line MethodId i e all there fits = subst (λ (d : Expr). AllWithin (value_code known line (record { sort = MethodId; index = i }) d)) (sym fits) (rw (lt-ltb i slots.field_ids there) refl)
   value_within known line (Buffer t w) i e all there fits = subst (λ (d : Expr). AllWithin (value_code known line (record { sort = Buffer t w; index = i }) d)) (sym fits) (rw (lt-ltb i slots.buffers there) refl)
   value_within known line (Array t n) i e all there fits = absurd fits
 
@@ -238,6 +241,7 @@ module _ (slots : SlotCounts) where
   target_there NewGlobal s i e there = subst (λ (k : Sort). IndexWithin slots k i → target_within slots (result_target k i) ≡ true) (sym e) (λ h. lt-ltb i slots.statics h) there
   target_there NewWeak s i e there = subst (λ (k : Sort). IndexWithin slots k i → target_within slots (result_target k i) ≡ true) (sym e) (λ h. lt-ltb i slots.statics h) there
   target_there GivesField s i e there = subst (λ (k : Sort). IndexWithin slots k i → target_within slots (result_target k i) ≡ true) (sym e) (λ h. lt-ltb i slots.field_ids h) there
+  target_there GivesMethod s i e there = subst (λ (k : Sort). IndexWithin slots k i → target_within slots (result_target k i) ≡ true) (sym e) (λ h. lt-ltb i slots.field_ids h) there
   target_there (GivesBuffer access) s i e there =
       let is = buffer_sort access s e in
       subst (λ (k : Sort). IndexWithin slots k i → target_within slots (result_target k i) ≡ true) (sym is.2) (λ h. lt-ltb i slots.buffers h) there

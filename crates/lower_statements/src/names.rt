@@ -123,7 +123,7 @@ impl<'a> Names<'a> {
         let index = match sort {
             Sort::Ref => self.slots.references,
             Sort::Global | Sort::Weak => self.slots.statics,
-            Sort::FieldId => self.slots.field_ids,
+            Sort::FieldId | Sort::MethodId => self.slots.field_ids,
             Sort::Buffer(..) => self.slots.buffers,
             Sort::Word | Sort::Jint | Sort::Flag | Sort::Truth | Sort::Array(..) => {
                 self.slots.numbers
@@ -183,7 +183,7 @@ fn slots_after(slots: SlotCounts, sort: Sort) -> Result<SlotCounts, AllocError>
     match sort {
         Sort::Ref => after.references = more(slots.references, 1)?,
         Sort::Global | Sort::Weak => after.statics = more(slots.statics, 1)?,
-        Sort::FieldId => after.field_ids = more(slots.field_ids, 1)?,
+        Sort::FieldId | Sort::MethodId => after.field_ids = more(slots.field_ids, 1)?,
         Sort::Buffer(..) => after.buffers = more(slots.buffers, 1)?,
         Sort::Word | Sort::Jint | Sort::Flag => after.numbers = more(slots.numbers, 1)?,
         Sort::Array(_, len) => after.numbers = more(slots.numbers, len)?,

@@ -301,6 +301,7 @@ fn result_target(slot: Slot) -> Target
         Sort::Ref => Target::Local(slot.index),
         Sort::Global | Sort::Weak => Target::Static(slot.index),
         Sort::FieldId => Target::FieldId(slot.index),
+        Sort::MethodId => Target::MethodId(slot.index),
         Sort::Buffer(element, _) => Target::Buffer(element, slot.index),
         _ => Target::Number(slot.index),
     }

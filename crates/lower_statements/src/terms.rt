@@ -233,7 +233,7 @@ pub fn nullable(slot: Slot) -> Option<NullableVariable>
     match slot.sort {
         Sort::Ref => Some(NullableVariable::Local(slot.index)),
         Sort::Global | Sort::Weak => Some(NullableVariable::Static(slot.index)),
-        Sort::FieldId => Some(NullableVariable::FieldId(slot.index)),
+        Sort::FieldId | Sort::MethodId => Some(NullableVariable::FieldId(slot.index)),
         Sort::Buffer(..) => Some(NullableVariable::Buffer(slot.index)),
         Sort::Word | Sort::Jint | Sort::Flag | Sort::Truth | Sort::Array(..) => None,
     }
