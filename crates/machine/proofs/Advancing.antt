@@ -23,6 +23,7 @@ use Rattle.machine_scenes.specs.StoreAgrees.{StoreAgrees}
 use Rattle.machine_steps.specs.declared.fault.StepFault.{StepFault}
 use Rattle.machine_steps.specs.declared.fault.StepFault.TheVariants.{Memory, NoRoom}
 use Rattle.semantics.specs.declared.event.Ending.TheVariants.{Unfinished}
+use Rattle.machine_threads.specs.Callers.{beside_callers}
 use Rattle.machine_threads.specs.declared.thread.Thread.{Thread}
 use Rattle.machine_steps.specs.Executes.{IsHindered, IsSteady, cells_made, in_use_with}
 use Rattle.heap.specs.Heap.{left_of}
@@ -83,7 +84,7 @@ module _ (p : Lowered) (w : World) (store : Store) (ts : List Thread) (index : �
   abbrev pub shared : Shared
   shared = s.stands.state.shared
 
-  pub found : Found p w.classes store.heap store.elements (length (loaded_objects w)) shared (suc index) own.current (slice_index_or ts index d) s.stands.state.threads index
+  pub found : Found p w.classes store.heap store.elements (length (loaded_objects w)) shared (suc index) own (slice_index_or ts index d) s.stands.state.threads index
   found = the_thread p w store ts s.printed s.stop s.journal s.stands (suc index) index (slice_index_or ts index d) refl there
 
   pub is_steady : IsSteady w.classes own.current shared found.source
@@ -99,7 +100,7 @@ module _ (p : Lowered) (w : World) (store : Store) (ts : List Thread) (index : �
   abbrev pub rest : Acquired
   rest = others s.stands.state.threads index
 
-  pub shared_there : StoreAgrees p w store shared (beside rest (acquired_by found.source))
+  pub shared_there : StoreAgrees p w store shared (beside (beside_callers rest found.source) (acquired_by found.source))
   unfolding found
   shared_there = shared_agrees p w store ts s.printed s.stop s.journal s.stands (suc index) index (slice_index_or ts index d) refl there
 
@@ -158,9 +159,9 @@ module _ (p : Lowered) (w : World) (store : Store) (ts : List Thread) (index : �
 
 -- a step that makes objects and may be refused isn't hindered by want of host memory
 pub unhindered : (p : Lowered) (w : World) (store : Store) (ts : List Thread) (index : ℕ) (s : CanAdvance p w store ts index) (d : Thread) (k : ℕ) → suc index ≡ k → (left : ℕ) (fault : StepFault) → 0 < sizes (made (unit_tree p.unit) w s.stands.state (suc index))
-    → IsHindered left (cells_made (shared p w store ts index s d) (thread_step (unit_tree p.unit) w.classes (in_use_with (rest p w store ts index s d) (found p w store ts index s d).source) k (shared p w store ts index s d) (found p w store ts index s d).source false)) true fault → ⊥
+    → IsHindered left (cells_made (shared p w store ts index s d) (thread_step (unit_tree p.unit) w.classes (in_use_with (beside_callers (rest p w store ts index s d) (found p w store ts index s d).source) (found p w store ts index s d).source) k (shared p w store ts index s d) (found p w store ts index s d).source false)) true fault → ⊥
 unfolding found
 unhindered p w store ts index s d k number left fault some h =
     let cells = made_is p w store ts s.printed s.stop s.journal s.stands (suc index) index (slice_index_or ts index d) refl (there p w store ts index s d) s.goes (lives_there p w store ts index s d) s.ready in
-    let here = ap (λ (n : ℕ). cells_made (shared p w store ts index s d) (thread_step (unit_tree p.unit) w.classes (in_use_with (rest p w store ts index s d) (found p w store ts index s d).source) n (shared p w store ts index s d) (found p w store ts index s d).source false)) number in
+    let here = ap (λ (n : ℕ). cells_made (shared p w store ts index s d) (thread_step (unit_tree p.unit) w.classes (in_use_with (beside_callers (rest p w store ts index s d) (found p w store ts index s d).source) (found p w store ts index s d).source) n (shared p w store ts index s d) (found p w store ts index s d).source false)) number in
     no_fault _ _ fault (omega (arith, some, cells, here)) h

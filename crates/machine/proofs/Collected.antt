@@ -39,6 +39,7 @@ use Rattle.semantics_safety.specs.Owners.{AllOwners, owners_after}
 use Rattle.syntax.specs.Views.{unit_tree}
 use Rattle.semantics.proofs.ReachableLemmas.{In, contains_in, in_append_cases, in_append_left, in_append_right, in_cases, in_head, to_contains}
 use Rattle.semantics.proofs.ShownRows.{from_one-contains}
+use Rattle.machine_scenes.specs.declared.activation.Activation.{Activation}
 use Rattle.machine_scenes.specs.declared.store.Store.{Store}
 use Rattle.machine_scenes.specs.HeapAgrees.{times}
 use Rattle.machine_scenes.proofs.BlocksOfNames.{is_address, name_within, named}
@@ -61,11 +62,11 @@ use Rattle.machine_collections.proofs.ClearedThreads.{threads_cleared}
 use Rattle.machine_collections.proofs.CollectedStores.{cleared_is, store_collected}
 use Rattle.machine_collections.proofs.CollectedThreads.{threads_moved}
 use Rattle.machine_collections.proofs.Collections.{name_moved}
-use Rattle.machine_collections.proofs.GatheredRoots.{gathered, in_place, places_are, thread_addresses}
+use Rattle.machine_collections.proofs.GatheredRoots.{call_addresses, gathered, in_place, own_addresses, places_are, thread_addresses}
 use Rattle.machine_collections.proofs.OwnedMonitors.{monitor_addresses}
 use Rattle.machine_collections.proofs.KeptCells.{live_taken}
 use Rattle.machine_collections.proofs.KeptNames.{kept_reachable, reachable_kept, referred_name}
-use Rattle.machine_collections.proofs.KeptReferences.{AreKept, CallIsKept, IsClosedUnder, ThreadsAreKept, ValueIsKept, ValuesAreKept}
+use Rattle.machine_collections.proofs.KeptReferences.{AreKept, CallIsKept, CallersAreKept, IsClosedUnder, ThreadsAreKept, ValueIsKept, ValuesAreKept}
 use Rattle.machine_collections.proofs.LiveBlocks.{births}
 use Rattle.machine_collections.proofs.PackedLayouts.{block_of, packed_layout, rising_layout}
 use Rattle.machine_collections.proofs.ReachableNames.{in_times, times_in}
@@ -168,6 +169,14 @@ call_kept Kept t h = by_call t.call h
     by_call None h = tt
     by_call (Some call) h = each_kept Kept (references_in call.locals.slots) h
 
+callers_kept : (Kept : ℕ → Type 0) (calls : List Activation) → ((a : ℕ) → In (flat_map call_addresses calls) a → Kept a) → CallersAreKept Kept calls
+callers_kept Kept [] h = tt
+callers_kept Kept (call ∷ calls) h =
+    let all : (a : ℕ) → In (call_addresses call ++ flat_map call_addresses calls) a → Kept a = λ a k. h a (subst (λ (l : List ℕ). In l a) (sym (flat_map-cons call_addresses call calls)) k) in (
+      each_kept Kept (references_in call.locals.slots) (λ a k. all a (in_append_left (call_addresses call) (flat_map call_addresses calls) a k)),
+      callers_kept Kept calls (λ a k. all a (in_append_right (call_addresses call) (flat_map call_addresses calls) a k)),
+    )
+
 in_option : (o : Option ℕ) (a : ℕ) → o ≡ Some a → In (option_to_list o) a
 in_option o a e = subst (λ (x : Option ℕ). In (option_to_list x) a) (sym e) (in_head a [])
 
@@ -175,7 +184,10 @@ threads_kept : (Kept : ℕ → Type 0) (ts : List Thread) → ((a : ℕ) → In 
 threads_kept Kept [] h = tt
 threads_kept Kept (t ∷ ts) h =
     let all : (a : ℕ) → In (thread_addresses t ++ flat_map thread_addresses ts) a → Kept a = λ a k. h a (subst (λ (l : List ℕ). In l a) (sym (flat_map-cons thread_addresses t ts)) k) in
-    let own : (a : ℕ) → In (thread_addresses t) a → Kept a = λ a k. all a (in_append_left (thread_addresses t) (flat_map thread_addresses ts) a k) in (
+    let whole : (a : ℕ) → In (thread_addresses t) a → Kept a = λ a k. all a (in_append_left (thread_addresses t) (flat_map thread_addresses ts) a k) in
+    let below = flat_map call_addresses t.callers.items in
+    let own : (a : ℕ) → In (own_addresses t) a → Kept a = λ a k. whole a (in_append_right below (own_addresses t) a k) in (
+      callers_kept Kept t.callers.items (λ a k. whole a (in_append_left below (own_addresses t) a k)),
       call_kept Kept t (λ a k. own a (in_append_left (references_in (slots_of t.call)) (option_to_list t.pending) a k)),
       (λ a e. own a (in_append_right (references_in (slots_of t.call)) (option_to_list t.pending) a (in_option t.pending a e))),
       threads_kept Kept ts (λ a k. all a (in_append_right (thread_addresses t) (flat_map thread_addresses ts) a k)),
@@ -323,6 +335,7 @@ module _ (p : Lowered) (world : World) (store : Store) (ts : List Thread) (print
         lowered = c.lowered;
         safe = c.safe;
         typed = c.typed;
+        methods = c.methods;
         state = with_cleared (lost world c.state) c.state;
         replays = replays_cleared (unit_tree p.unit) world journal c.state c.replays;
         store_agrees = subst (λ (l : List ℕ). StoreAgrees p world after (with_cleared l c.state).shared (acquired c.state)) names_are shared_stands;

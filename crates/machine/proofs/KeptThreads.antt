@@ -1,125 +1,80 @@
 -- What a step of one thread leaves as it was for the others.
-use Rattle.std.proofs.Common.{◌≡◌, ◌≢◌, ℕ, zero, suc, ◌+◌, ◌<◌, ◌≤◌, List, [], ◌∷◌, Option, Some, None, sym, subst, arith}
+use Rattle.std.proofs.Common.{◌≡◌, ◌≢◌, ℕ, zero, suc, ◌+◌, ◌<◌, ◌≤◌, List, [], ◌∷◌, length, reverse, Option, sym, subst, arith}
 use Rattle.std.specs.Prelude.{slice_set}
-use Rattle.std.specs.List.{AllZip}
 use Rattle.class_rules.specs.Class.{Classes}
 use Rattle.heap.specs.Heap.{Space}
-use Rattle.semantics.specs.Task.{Task, Invoke}
 use Rattle.semantics.specs.Thread as source
-use Rattle.semantics.specs.Thread.{Shared, objects_viewed}
-use Rattle.semantics.specs.Variable as variable
-use Rattle.semantics.specs.Variable.{NoBuffer, Copy, View}
+use Rattle.semantics.specs.Thread.{Shared}
 use Rattle.code_meaning.specs.Lowered.{Lowered}
 use Rattle.code_meaning.specs.Slots.{visible_to}
-use Rattle.tables.specs.Elements.{OwnedNumbers, owned}
-use Rattle.machine_scenes.specs.declared.activation.Activation.{Activation}
-use Rattle.machine_scenes.specs.declared.buffer.Buffer.{Buffer}
-use Rattle.machine_scenes.specs.declared.buffer.Buffer.TheVariants as held
-use Rattle.semantics_safety.specs.Owners.{Owners, ThreadOwners, AllOwners}
+use Rattle.tables.specs.Elements.{OwnedNumbers}
+use Rattle.semantics_safety.specs.Owners.{ThreadOwners, AllOwners}
 use Rattle.machine_threads.specs.declared.thread.Thread.{Thread}
-use Rattle.machine_scenes.specs.Buffers.{BufferAgrees, KeepsCopies}
-use Rattle.machine_scenes.specs.HeapAgrees.{times}
+use Rattle.machine_scenes.specs.Buffers.{KeepsCopies}
 use Rattle.machine_scenes.specs.StoreAgrees.{Keeps}
-use Rattle.machine_threads.specs.Callers.{CallerAgrees, thread_of}
-use Rattle.machine_threads.specs.InProgress.{CallStands, WorkAgrees}
-use Rattle.machine_threads.specs.SlotsHold.{slots_of}
+use Rattle.machine_threads.specs.Callers.{owner_at}
 use Rattle.machine_threads.specs.ThreadAgrees.{ThreadAgrees, ThreadsAgree, buffers_of}
-use Rattle.machine_scenes.proofs.Keeping.{reference_stays, keys_stay, frames_stay}
-use Rattle.machine_steps.proofs.StillShown.{shows_stay}
-use Rattle.machine_collections.proofs.HeldViews.{slots_agree, viewed_same}
+use Rattle.machine_scenes.proofs.Keeping.{reference_stays}
+use Rattle.machine_steps.proofs.KeptCallers.{callers_stay, others_elsewhere, views_stay, work_stays}
+use Rattle.machine_collections.proofs.HeldViews.{slots_agree}
 
-module _ (p : Lowered) (classes : Classes) (made k : ℕ) (space space' : Space) (copies copies' : List (Option OwnedNumbers)) (shared shared' : Shared) (keeps : Keeps space shared space' shared') (keeps_copies : KeepsCopies k copies copies') where
-  -- ---- buffers of another thread
+-- a thread has a number from 1 to 8
+abbrev pub IsNumbered : ℕ → Type 0
+IsNumbered k = (0 < k) × (k ≤ 8)
 
-  buffer_stays : (j : ℕ) (h : Buffer) (b : variable.Buffer) → j ≢ k → BufferAgrees space copies j h b → BufferAgrees space' copies' j h b
-  buffer_stays j held.Null NoBuffer other e = e
-  buffer_stays j held.Null (Copy n zs) other e = absurd e
-  buffer_stays j held.Null (View n) other e = absurd e
-  buffer_stays j (held.Copy key) NoBuffer other e = absurd e
-  buffer_stays j (held.Copy key) (Copy n zs) other e = keeps_copies key (owned j zs) e other
-  buffer_stays j (held.Copy key) (View n) other e = absurd e
-  buffer_stays j (held.View a) NoBuffer other e = absurd e
-  buffer_stays j (held.View a) (Copy n zs) other e = absurd e
-  buffer_stays j (held.View a) (View n) other e = keeps.names a n e
+-- and so have as many threads as these, from the one of a number on
+abbrev AreNumbered : ℕ → List Thread → Type 0
+AreNumbered n ts = (0 < n) × (n + length ts ≤ 9)
 
-  slots_stay : (j : ℕ) (slots : List Buffer) (buffers : List variable.Buffer) → j ≢ k → AllZip (BufferAgrees space copies j) slots buffers → AllZip (BufferAgrees space' copies' j) slots buffers
-  slots_stay j [] [] other e = e
-  slots_stay j [] (b ∷ buffers) other e = absurd e
-  slots_stay j (h ∷ slots) [] other e = absurd e
-  slots_stay j (h ∷ slots) (b ∷ buffers) other e = (buffer_stays j h b other e.0, slots_stay j slots buffers other e.1)
+-- the call in progress of thread k, which took the step, has this number of calls below it
+module _ (p : Lowered) (classes : Classes) (made k depth : ℕ) (space space' : Space) (copies copies' : List (Option OwnedNumbers)) (shared shared' : Shared) (keeps : Keeps space shared space' shared') (keeps_copies : KeepsCopies (owner_at k depth) copies copies') (numbered : IsNumbered k) where
+  -- no call of another thread has its owner
+  apart : (j below : ℕ) → IsNumbered j → j ≢ k → owner_at j below ≢ owner_at k depth
+  apart j below number other = others_elsewhere j k below depth number.0 number.1 numbered.0 numbered.1 other
 
-  -- ---- another thread
-
-  call_stays : (j : ℕ) (own : Owners) (call : Activation) (s : source.Thread) (frames : List source.Frame) (tasks : List Task) → j ≢ k → CallStands p classes space copies j call (visible_to own shared s) frames tasks → CallStands p classes space' copies' j call (visible_to own shared' s) frames tasks
-  call_stays j own call s frames tasks other h = record {
-    code = h.code;
-    of_function = h.of_function;
-    known = h.known;
-    stands = h.stands;
-    meant = h.meant;
-    holds = record {
-      keys = keys_stay space space' keeps.names call.locals call.slots.references.items h.meant.references h.meant.owners h.holds.keys;
-      fields = h.holds.fields;
-      buffers = record { agree = slots_stay j call.slots.buffers.items h.meant.buffers other h.holds.buffers.agree; apart = h.holds.buffers.apart };
-      small = h.holds.small;
-    };
-    shows = shows_stay own shared shared' keeps.statics s h.code h.known (slots_of call h.meant) h.shows;
-    depth = h.depth;
-    frames_agree = frames_stay space space' keeps.names call.locals frames h.frames_agree;
-  }
-
-  -- a call from which another was made
-  pub caller_stays : (j : ℕ) (own : Owners) (call : Activation) (c : source.Caller) → j ≢ k → CallerAgrees p classes space copies j call own shared c → CallerAgrees p classes space' copies' j call own shared' c
-  caller_stays j own call c other h = record {
-    line = h.line;
-    function = h.function;
-    operands = h.operands;
-    ready = h.ready;
-    result = h.result;
-    stands = call_stays j own call (thread_of c) c.frames (Invoke h.line c.target h.function h.operands ∷ c.tasks) other h.stands;
-  }
-
-  work_stays : (j : ℕ) (own : Owners) (s : source.Thread) (o : Option Activation) (frames : List source.Frame) (tasks : Option (List Task)) → j ≢ k → WorkAgrees p classes space copies j (visible_to own shared s) o frames tasks → WorkAgrees p classes space' copies' j (visible_to own shared' s) o frames tasks
-  work_stays j own s None frames None other h = h
-  work_stays j own s None frames (Some tasks) other h = absurd h
-  work_stays j own s (Some call) frames None other h = absurd h
-  work_stays j own s (Some call) frames (Some tasks) other h = call_stays j own call s frames tasks other h
-
-  thread_stays : (j : ℕ) (own : Owners) (t : Thread) (s : source.Thread) → j ≢ k → ThreadAgrees p classes space copies made j own shared t s → ThreadAgrees p classes space' copies' made j own shared' t s
-  thread_stays j own t s other h =
-      let slots = slots_agree p classes space copies j (visible_to own shared s) t.call s.frames s.tasks h.work in
+  thread_stays : (j : ℕ) (own : ThreadOwners) (t : Thread) (s : source.Thread) → IsNumbered j → j ≢ k → ThreadAgrees p classes space copies made j own shared t s → ThreadAgrees p classes space' copies' made j own shared' t s
+  thread_stays j own t s number other h =
+      let owner = owner_at j (length s.callers) in
+      let differs = apart j (length s.callers) number other in
+      let slots = slots_agree p classes space copies owner (visible_to own.current shared s) t.call s.frames s.tasks h.work in
       record {
         calls = h.calls;
-        work = work_stays j own s t.call s.frames s.tasks other h.work;
-        callers = h.callers;
+        work = work_stays p classes (owner_at k depth) space space' copies copies' shared shared' keeps keeps_copies owner own.current s t.call s.frames s.tasks differs h.work;
+        callers = callers_stay p classes (owner_at k depth) space space' copies copies' shared shared' keeps keeps_copies j (reverse t.callers.items) own.callers s.callers (λ below less. apart j below number other) h.callers;
+        few = h.few;
         pending = reference_stays space space' keeps.names t.pending s.pending h.pending;
         ending = h.ending;
         busy = h.busy;
         caught = h.caught;
         idle = h.idle;
-        views = subst (λ (l : List ℕ). (n : ℕ) → times n l ≤ times n (objects_viewed s.variables))
-            (sym (viewed_same space space' copies copies' j (buffers_of t.call) slots.buffers slots.agree (slots_stay j (buffers_of t.call) slots.buffers other slots.agree))) h.views;
+        views = views_stay p classes (owner_at k depth) space space' copies copies' shared shared' keeps keeps_copies owner (buffers_of t.call) slots.buffers s differs slots.agree h.views;
       }
 
   -- ---- all threads
 
   module _ (owners owners' : AllOwners) (elsewhere : (j : ℕ) → j ≢ k → owners' j ≡ owners j) where
-    one_stays : (n : ℕ) (t : Thread) (s : source.Thread) → n ≢ k → ThreadAgrees p classes space copies made n (owners n).current shared t s → ThreadAgrees p classes space' copies' made n (owners' n).current shared' t s
-    one_stays n t s other h = subst (λ (o : ThreadOwners). ThreadAgrees p classes space' copies' made n o.current shared' t s) (sym (elsewhere n other)) (thread_stays n (owners n).current t s other h)
+    one_stays : (n : ℕ) (t : Thread) (s : source.Thread) → IsNumbered n → n ≢ k → ThreadAgrees p classes space copies made n (owners n) shared t s → ThreadAgrees p classes space' copies' made n (owners' n) shared' t s
+    one_stays n t s number other h = subst (λ (o : ThreadOwners). ThreadAgrees p classes space' copies' made n o shared' t s) (sym (elsewhere n other)) (thread_stays n (owners n) t s number other h)
 
-    later_stay : (n : ℕ) (ts : List Thread) (ss : List source.Thread) → k < n → ThreadsAgree p classes space copies made owners n shared ts ss → ThreadsAgree p classes space' copies' made owners' n shared' ts ss
-    later_stay n [] [] later h = h
-    later_stay n [] (s ∷ ss) later h = absurd h
-    later_stay n (t ∷ ts) [] later h = absurd h
-    later_stay n (t ∷ ts) (s ∷ ss) later h = (one_stays n t s (λ e. omega (arith, e, later)) h.0, later_stay (suc n) ts ss (omega (arith, later)) h.1)
+    later_stay : (n : ℕ) (ts : List Thread) (ss : List source.Thread) → AreNumbered n ts → k < n → ThreadsAgree p classes space copies made owners n shared ts ss → ThreadsAgree p classes space' copies' made owners' n shared' ts ss
+    later_stay n [] [] numbers later h = h
+    later_stay n [] (s ∷ ss) numbers later h = absurd h
+    later_stay n (t ∷ ts) [] numbers later h = absurd h
+    later_stay n (t ∷ ts) (s ∷ ss) numbers later h = (
+      one_stays n t s (numbers.0, omega (arith, numbers.1)) (λ e. omega (arith, e, later)) h.0,
+      later_stay (suc n) ts ss (omega arith, omega (arith, numbers.1)) (omega (arith, later)) h.1,
+    )
 
     -- with the one that took the step
-    pub changed : (n : ℕ) (ts : List Thread) (ss : List source.Thread) (i : ℕ) (t : Thread) (s : source.Thread) → k ≡ n + i → ThreadsAgree p classes space copies made owners n shared ts ss → ThreadAgrees p classes space' copies' made k (owners' k).current shared' t s
+    pub changed : (n : ℕ) (ts : List Thread) (ss : List source.Thread) (i : ℕ) (t : Thread) (s : source.Thread) → AreNumbered n ts → k ≡ n + i → ThreadsAgree p classes space copies made owners n shared ts ss → ThreadAgrees p classes space' copies' made k (owners' k) shared' t s
         → ThreadsAgree p classes space' copies' made owners' n shared' (slice_set ts i t) (slice_set ss i s)
-    changed n [] [] i t s place h a = tt
-    changed n [] (y ∷ ss) i t s place h a = absurd h
-    changed n (x ∷ ts) [] i t s place h a = absurd h
-    changed n (x ∷ ts) (y ∷ ss) zero t s place h a =
+    changed n [] [] i t s numbers place h a = tt
+    changed n [] (y ∷ ss) i t s numbers place h a = absurd h
+    changed n (x ∷ ts) [] i t s numbers place h a = absurd h
+    changed n (x ∷ ts) (y ∷ ss) zero t s numbers place h a =
         let here : k ≡ n = omega (arith, place) in
-        (subst (λ (m : ℕ). ThreadAgrees p classes space' copies' made m (owners' m).current shared' t s) here a, later_stay (suc n) ts ss (omega (arith, place)) h.1)
-    changed n (x ∷ ts) (y ∷ ss) (suc i) t s place h a = (one_stays n x y (λ e. omega (arith, e, place)) h.0, changed (suc n) ts ss i t s (omega (arith, place)) h.1 a)
+        (subst (λ (m : ℕ). ThreadAgrees p classes space' copies' made m (owners' m) shared' t s) here a, later_stay (suc n) ts ss (omega arith, omega (arith, numbers.1)) (omega (arith, place)) h.1)
+    changed n (x ∷ ts) (y ∷ ss) (suc i) t s numbers place h a = (
+      one_stays n x y (numbers.0, omega (arith, numbers.1)) (λ e. omega (arith, e, place)) h.0,
+      changed (suc n) ts ss i t s (omega arith, omega (arith, numbers.1)) (omega (arith, place)) h.1 a,
+    )

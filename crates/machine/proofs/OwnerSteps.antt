@@ -7,7 +7,7 @@ use Rattle.syntax.specs.Tree.{SourceUnit}
 use Rattle.class_rules.specs.Class.{Classes}
 use Rattle.heap.specs.Heap.{Space}
 use Rattle.code_meaning.specs.Lowered.{Lowered}
-use Rattle.semantics_safety.specs.Owners.{AllOwners, Owners, ThreadOwners, after_advance, after_entry, after_turn, no_owners, owners_after, owners_from, with_owners}
+use Rattle.semantics_safety.specs.Owners.{AllOwners, ThreadOwners, after_advance, after_entry, after_turn, no_owners, owners_after, owners_from, with_owners}
 use Rattle.semantics.specs.Journal.{Entry, Step, Journal}
 use Rattle.semantics.specs.Run.{replay, replay_from}
 use Rattle.semantics.specs.Start.{start}
@@ -60,19 +60,19 @@ owner_elsewhere owners k own j other = by_test (j == k) refl
 
 module _ (p : Lowered) (classes : Classes) (space : Space) (copies : List (Option OwnedNumbers)) (made : ℕ) (shared : Shared) where
   -- one thread of several
-  pub record Found (k : ℕ) (own : Owners) (t : Thread) (ss : List source.Thread) (i : ℕ) : Type 0 where
+  pub record Found (k : ℕ) (own : ThreadOwners) (t : Thread) (ss : List source.Thread) (i : ℕ) : Type 0 where
     pub source : source.Thread
     pub is : slice_get ss i ≡ Some source
     pub agrees : ThreadAgrees p classes space copies made k own shared t source
 
-  pub found : (owners : AllOwners) (n k : ℕ) (ts : List Thread) (ss : List source.Thread) (i : ℕ) (t : Thread) → k ≡ n + i → ThreadsAgree p classes space copies made owners n shared ts ss → slice_get ts i ≡ Some t → Found k (owners k).current t ss i
+  pub found : (owners : AllOwners) (n k : ℕ) (ts : List Thread) (ss : List source.Thread) (i : ℕ) (t : Thread) → k ≡ n + i → ThreadsAgree p classes space copies made owners n shared ts ss → slice_get ts i ≡ Some t → Found k (owners k) t ss i
   found owners n k [] [] i t place h e = absurd (cc)
   found owners n k [] (s ∷ ss) i t place h e = absurd h
   found owners n k (x ∷ ts) [] i t place h e = absurd h
   found owners n k (x ∷ ts) (s ∷ ss) zero t place h e =
       let same : x ≡ t = cc in
       let here : n ≡ k = omega (arith, place) in
-      record { source = s; is = refl; agrees = subst (λ (m : ℕ). ThreadAgrees p classes space copies made m (owners m).current shared t s) here (subst (λ y. ThreadAgrees p classes space copies made n (owners n).current shared y s) same h.0) }
+      record { source = s; is = refl; agrees = subst (λ (m : ℕ). ThreadAgrees p classes space copies made m (owners m) shared t s) here (subst (λ y. ThreadAgrees p classes space copies made n (owners n) shared y s) same h.0) }
   found owners n k (x ∷ ts) (s ∷ ss) (suc i) t place h e =
       let f = found owners (suc n) k ts ss i t (omega (arith, place)) h.1 e in
       record { source = f.source; is = f.is; agrees = f.agrees }

@@ -1,7 +1,7 @@
 -- The report of the state that a machine's journal leads to.
-use Rattle.std.proofs.Common.{append_assoc, ⊎_elim, ◌≡◌, ℕ, suc, Bool, List, [], ◌∷◌, ◌++◌, length, map, slice_get, Option, Some, None, Result, refl, sym, ap, ◌∙◌, subst, arith, unwrap_or}
+use Rattle.std.proofs.Common.{append_assoc, ⊎_elim, ◌≡◌, ℕ, suc, Bool, List, [], ◌∷◌, ◌++◌, length, map, reverse, Option, Some, None, Result, refl, sym, ap, ◌∙◌, subst, arith, unwrap_or}
 use Rattle.std.specs.Prelude.{flat_map, is_some, ◌||◌}
-use Rattle.std.specs.List.{AllByRecursion, AllZip}
+use Rattle.std.specs.List.{AllZip}
 use Rattle.std.specs.Option.{option_map, option_map_or}
 use Rattle.syntax.specs.Views.{unit_tree}
 use Rattle.class_rules.specs.Class.{Classes}
@@ -34,6 +34,7 @@ use Rattle.report_objects.specs.Rows.{AreReported}
 use Rattle.machine_scenes.specs.declared.activation.Activation.{Activation}
 use Rattle.machine_threads.specs.declared.thread.Thread.{Thread}
 use Rattle.semantics.specs.declared.event.Stop.{Stop}
+use Rattle.machine_threads.specs.Callers.{CallersAgree, owner_at}
 use Rattle.machine_threads.specs.ThreadAgrees.{ThreadsAgree}
 use Rattle.machine_threads.specs.InProgress.{WorkAgrees}
 use Rattle.tables.specs.Elements.{OwnedNumbers}
@@ -44,7 +45,7 @@ use Rattle.compact.proofs.Tight.{get_map}
 use Rattle.heap.proofs.Lookups.{block_at-place}
 use Rattle.machine_collections.proofs.ReachableNames.{in_times, reachable_named, times_in}
 use Rattle.semantics.proofs.ReachableLemmas.{In, contains_in, in_append_cases, in_append_left, in_append_right, to_contains}
-use Rattle.semantics_safety.specs.Owners.{AllOwners, owners_after}
+use Rattle.semantics_safety.specs.Owners.{AllOwners, Owners, owners_after}
 use Rattle.semantics.specs.EventViews.{stop_view}
 use Rattle.machine.specs.Run as run
 use Rattle.semantics.specs.Run.{MarkedAreFair, UnmarkedFit}
@@ -58,7 +59,7 @@ use Rattle.machine_scenes.proofs.BlocksOfNames.{is_address}
 use Rattle.tables.specs.References.{references_in}
 use Rattle.machine_collections.proofs.GatheredRoots.{gathered_roots, in_map, in_place, map_in, names_gathered, place_in, places_are, roots_gathered}
 use Rattle.machine_collections.proofs.OwnedMonitors.{monitor_names}
-use Rattle.machine_collections.proofs.RootNames.{CallFrames, HasRootsOf}
+use Rattle.machine_collections.proofs.RootNames.{CallFrames, CallersFrames, HasRootsOf}
 
 -- ---- the report
 
@@ -94,23 +95,28 @@ frames_in p classes space copies k visible None frames (Some tasks) h = absurd h
 frames_in p classes space copies k visible (Some call) frames None h = absurd h
 frames_in p classes space copies k visible (Some call) frames (Some tasks) h = h.frames_agree
 
--- no thread of these has callers
-all_alone : (ss : List source.Thread) → ((i : ℕ) (s : source.Thread) → slice_get ss i ≡ Some s → s.callers ≡ []) → AllByRecursion (λ (s : source.Thread). s.callers ≡ []) ss
-all_alone [] each = tt
-all_alone (s ∷ ss) each = (each 0 s refl, all_alone ss (λ i t there. each (suc i) t there))
+-- those of its callers do
+callers_in : (p : Lowered) (classes : Classes) (space : Space) (copies : List (Option OwnedNumbers)) (k : ℕ) (shared : Shared) (calls : List Activation) (owners : List Owners) (callers : List source.Caller) → CallersAgree p classes space copies k shared calls owners callers → CallersFrames space calls callers
+callers_in p classes space copies k shared [] [] [] h = tt
+callers_in p classes space copies k shared (call ∷ calls) (own ∷ owners) (c ∷ callers) h = ((h.0).stands.frames_agree, callers_in p classes space copies k shared calls owners callers h.1)
+callers_in p classes space copies k shared calls owners callers h = absurd h
 
-roots_of : (p : Lowered) (classes : Classes) (space : Space) (copies : List (Option OwnedNumbers)) (made : ℕ) (owners : AllOwners) (k : ℕ) (shared : Shared) (ts : List Thread) (ss : List source.Thread) → AllByRecursion (λ (s : source.Thread). s.callers ≡ []) ss → ThreadsAgree p classes space copies made owners k shared ts ss → AllZip (HasRootsOf space) ts ss
-roots_of p classes space copies made owners k shared [] [] alone h = tt
-roots_of p classes space copies made owners k shared [] (s ∷ ss) alone h = absurd h
-roots_of p classes space copies made owners k shared (t ∷ ts) [] alone h = absurd h
-roots_of p classes space copies made owners k shared (t ∷ ts) (s ∷ ss) alone h = (
-  record { frames = frames_in p classes space copies k (visible_to (owners k).current shared s) t.call s.frames s.tasks (h.0).work; pending = (h.0).pending; alone = alone.0 },
-  roots_of p classes space copies made owners (suc k) shared ts ss alone.1 h.1,
+roots_of : (p : Lowered) (classes : Classes) (space : Space) (copies : List (Option OwnedNumbers)) (made : ℕ) (owners : AllOwners) (k : ℕ) (shared : Shared) (ts : List Thread) (ss : List source.Thread) → ThreadsAgree p classes space copies made owners k shared ts ss → AllZip (HasRootsOf space) ts ss
+roots_of p classes space copies made owners k shared [] [] h = tt
+roots_of p classes space copies made owners k shared [] (s ∷ ss) h = absurd h
+roots_of p classes space copies made owners k shared (t ∷ ts) [] h = absurd h
+roots_of p classes space copies made owners k shared (t ∷ ts) (s ∷ ss) h = (
+  record {
+    callers = callers_in p classes space copies k shared (reverse t.callers.items) (owners k).callers s.callers (h.0).callers;
+    frames = frames_in p classes space copies (owner_at k (length s.callers)) (visible_to (owners k).current shared s) t.call s.frames s.tasks (h.0).work;
+    pending = (h.0).pending;
+  },
+  roots_of p classes space copies made owners (suc k) shared ts ss h.1,
 )
 
 module _ (p : Lowered) (world : World) (store : Store) (ts : List Thread) (printed : List Printed) (stop : Option Stop) (journal : List Entry) (c : Corresponds p world store ts printed stop journal) where
   roots_in : AllZip (HasRootsOf store.heap) ts c.state.threads
-  roots_in = roots_of p world.classes store.heap store.elements (length (loaded_objects world)) (owners_after (unit_tree p.unit) world journal) 1 c.state.shared ts c.state.threads (all_alone c.state.threads (λ i s there. (c.safe journal c.state (suc i) s c.replays there).alone)) c.threads_agree
+  roots_in = roots_of p world.classes store.heap store.elements (length (loaded_objects world)) (owners_after (unit_tree p.unit) world journal) 1 c.state.shared ts c.state.threads c.threads_agree
 
   -- the objects made at load, the global references, what the threads refer to, and the objects that have owners
   abbrev pub source_roots : List ℕ

@@ -115,7 +115,7 @@ module _ (p : Lowered) (world : World) (store : Store) (ts : List Thread) (print
       told (λ r s. true ≡ all_rest r.world.classes s) (sym before ∙ ap (list_all (is_resting world.classes c.state)) (take_all i (enumerate_from 1 c.state.threads) (all_numbered i past)))
 
   module _ (k i : ℕ) (t : Thread) (counted : k ≡ suc i) (at : slice_get ts i ≡ Some t) (waits : Bool) (known_waits : Waits now k waits) where
-    the_thread : Found p world.classes store.heap store.elements (length (loaded_objects world)) c.state.shared k (owners_after (unit_tree p.unit) world journal k).current t c.state.threads i
+    the_thread : Found p world.classes store.heap store.elements (length (loaded_objects world)) c.state.shared k (owners_after (unit_tree p.unit) world journal k) t c.state.threads i
     the_thread = found p world.classes store.heap store.elements (length (loaded_objects world)) c.state.shared (owners_after (unit_tree p.unit) world journal) 1 k ts c.state.threads i t (omega (arith, counted)) c.threads_agree at
 
     blocked : waits ≡ is_blocked world.classes c.state k

@@ -3,7 +3,7 @@ use Rattle.std.proofs.Common.{◌≡◌, ℕ, suc, ◌<◌, ◌≤◌, ◌-◌, 
 use Rattle.std.specs.Prelude.{slice_get, slice_set, is_none, is_some, not, ◌&&◌}
 use Rattle.std.specs.Option.{option_map}
 use Rattle.std.proofs.Math.ListN.{length-set}
-use Rattle.std.proofs.lemmas.Option.{slice_get_read}
+use Rattle.std.proofs.lemmas.Option.{slice_get_read, slice_get_within}
 use Rattle.syntax.specs.Views.{unit_tree}
 use Rattle.class_rules.specs.Class.{Classes}
 use Rattle.semantics.specs.Journal.{Entry, Step}
@@ -44,6 +44,7 @@ use Rattle.machine_scenes.specs.declared.store.Store.{Store}
 use Rattle.machine_steps.specs.Executes.{IsSteady, cells_made, in_use_with}
 use Rattle.machine_scenes.specs.Buffers.{Acquired, SameAcquired, acquired_by, beside}
 use Rattle.machine_scenes.specs.StoreAgrees.{StoreAgrees}
+use Rattle.machine_threads.specs.Callers.{beside_callers}
 use Rattle.machine_threads.specs.ThreadAgrees.{ThreadAgrees, ThreadsAgree}
 use Rattle.machine_steps.specs.Advances.{Advances, AdvancesAlways, HoldsAlways, Stands}
 use Rattle.machine_steps.specs.Moved.{IsSilent}
@@ -51,7 +52,7 @@ use Rattle.machine_steps.specs.declared.advance.Advanced.{Advanced}
 use Rattle.machine_steps.specs.declared.advance.Advanced.TheVariants as advanced
 use Rattle.machine.specs.Run.{Run, acquired, Corresponds, LacksRoom, event_of, is_refused, turn_at_rest, HasEnded}
 use Rattle.machine.proofs.KeptThreads.{changed}
-use Rattle.machine.proofs.TakenBuffers.{in_use_same, joined, others, own_viewed, parted, set_there, taken}
+use Rattle.machine.proofs.TakenBuffers.{in_use_same, joined, others, own_viewed, parted, taken}
 use Rattle.machine_steps.proofs.Acquisitions.{store_taken}
 use Rattle.semantics_typing.specs.Objects.{IsTypedThread}
 use Rattle.semantics_typing.proofs.Lists.{all_get}
@@ -178,7 +179,7 @@ module _ (p : Lowered) (world : World) (store : Store) (ts : List Thread) (print
   placed : k ≡ 1 + i
   placed = omega (arith, counted)
 
-  pub the_thread : Found p classes store.heap store.elements count_made c.state.shared k (owners k).current t c.state.threads i
+  pub the_thread : Found p classes store.heap store.elements count_made c.state.shared k (owners k) t c.state.threads i
   the_thread = found p classes store.heap store.elements count_made c.state.shared owners 1 k ts c.state.threads i t placed c.threads_agree at
 
   there : thread_at c.state k ≡ Some the_thread.source
@@ -190,8 +191,8 @@ module _ (p : Lowered) (world : World) (store : Store) (ts : List Thread) (print
       let safe = c.safe journal c.state k the_thread.source c.replays there in
       let typed = c.typed.typed journal c.state c.replays in
       record {
-        alone = safe.alone;
-        view = λ task rest e held. safe.view task rest e (λ none. held (sym (own_viewed the_thread.source safe.alone) ∙ none));
+        callers = λ c below is. absurd (let none : ◌≡◌ {A = List source.Caller} [] (c ∷ below) = sym safe.alone ∙ is in cc);
+        view = λ task rest e held. safe.view task rest e (λ none. held (own_viewed the_thread.source none));
         return = safe.return;
         release = safe.release;
         free = safe.free;
@@ -200,28 +201,25 @@ module _ (p : Lowered) (world : World) (store : Store) (ts : List Thread) (print
         variables = (all_get (IsTypedThread classes c.state.shared.heap) c.state.threads i the_thread.source typed.variables the_thread.is).0;
         declared = safe.declared;
         owned = safe.owned;
+        methods = λ line target args is. c.methods (c.typed.methods journal c.state k the_thread.source line target args c.replays there is);
       }
-
-  -- it has no callers
-  pub alone : the_thread.source.callers ≡ []
-  alone = (c.safe journal c.state k the_thread.source c.replays there).alone
 
   -- what the buffers of the other threads take
   abbrev pub rest : Acquired
   rest = others c.state.threads i
 
   -- what those of all do, by theirs and its own
-  all_taken : SameAcquired (acquired c.state) (beside rest (acquired_by the_thread.source))
-  all_taken = parted c.state.threads i the_thread.source alone the_thread.is
+  all_taken : SameAcquired (acquired c.state) (beside (beside_callers rest the_thread.source) (acquired_by the_thread.source))
+  all_taken = parted c.state.threads i the_thread.source the_thread.is
 
-  pub shared_agrees : StoreAgrees p world store c.state.shared (beside rest (acquired_by the_thread.source))
-  shared_agrees = store_taken p world store c.state.shared (acquired c.state) (beside rest (acquired_by the_thread.source)) all_taken c.store_agrees
+  pub shared_agrees : StoreAgrees p world store c.state.shared (beside (beside_callers rest the_thread.source) (acquired_by the_thread.source))
+  shared_agrees = store_taken p world store c.state.shared (acquired c.state) (beside (beside_callers rest the_thread.source) (acquired_by the_thread.source)) all_taken c.store_agrees
 
   pub stands : Stands p world store rest k (owners k) c.state.shared the_thread.source t
   stands = (shared_agrees, the_thread.agrees, steady)
 
-  used : in_use c.state ≡ in_use_with rest the_thread.source
-  used = in_use_same (acquired c.state) (beside rest (acquired_by the_thread.source)) all_taken
+  used : in_use c.state ≡ in_use_with (beside_callers rest the_thread.source) the_thread.source
+  used = in_use_same (acquired c.state) (beside (beside_callers rest the_thread.source) (acquired_by the_thread.source)) all_taken
 
   -- the machine hasn't stopped
   running : stop ≡ None → c.state.stop ≡ None
@@ -267,7 +265,7 @@ module _ (p : Lowered) (world : World) (store : Store) (ts : List Thread) (print
   fits_entry false next room step = has_room p world store c.state next k c.store_agrees (reachable_there p world store ts printed stop journal c) room step
 
   -- the cells of what its next step makes, if nothing is refused
-  pub made_is : stop ≡ None → t.ending ≡ Unfinished → Free → sizes (made (unit_tree p.unit) world c.state k) ≡ cells_made c.state.shared (thread_step (unit_tree p.unit) classes (in_use_with rest the_thread.source) k c.state.shared the_thread.source false)
+  pub made_is : stop ≡ None → t.ending ≡ Unfinished → Free → sizes (made (unit_tree p.unit) world c.state k) ≡ cells_made c.state.shared (thread_step (unit_tree p.unit) classes (in_use_with (beside_callers rest the_thread.source) the_thread.source) k c.state.shared the_thread.source false)
   made_is goes live free =
       let f = the_thread in
       ap sizes (ap (made_between c.state) (step-thread (unit_tree p.unit) classes c.state k f.source false (steps_here goes live free)))
@@ -329,31 +327,33 @@ module _ (p : Lowered) (world : World) (store : Store) (ts : List Thread) (print
       let shared_is : next.shared ≡ a.next_shared = shared_next c.state k a.next_shared a.next e in
       let threads_is : next.threads ≡ slice_set c.state.threads i a.next = threads_next c.state k a.next_shared a.next e ∙ ap (λ n. set_thread c.state.threads n a.next) counted in
       let replayed = replay_more (unit_tree p.unit) world journal entry c.state next c.replays step in
-      let next_there : thread_at next k ≡ Some a.next =
-      ap (thread_at next) counted ∙ ap (λ (l : List source.Thread). slice_get l i) threads_is ∙ set_there c.state.threads i f.source a.next f.is in
-      let next_alone : a.next.callers ≡ [] = (c.safe (journal ++ entry ∷ []) next k a.next replayed next_there).alone in
       let shares : StoreAgrees p world store' next.shared (acquired next) =
       subst (λ (l : List source.Thread). StoreAgrees p world store' next.shared (taken l)) (sym threads_is)
       (subst (λ (x : Shared). StoreAgrees p world store' x (taken (slice_set c.state.threads i a.next))) (sym shared_is)
-      (store_taken p world store' a.next_shared (beside rest (acquired_by a.next)) (taken (slice_set c.state.threads i a.next)) (joined c.state.threads i f.source a.next next_alone f.is) a.store_agrees)) in
+      (store_taken p world store' a.next_shared (beside (beside_callers rest a.next) (acquired_by a.next)) (taken (slice_set c.state.threads i a.next)) (joined c.state.threads i f.source a.next f.is) a.store_agrees)) in
       let room : sizes (drop (length c.state.shared.heap) next.shared.heap) ≤ left_of store.heap = subst (λ (x : Shared). sizes (drop (length c.state.shared.heap) x.heap) ≤ left_of store.heap) (sym shared_is) a.keeps.room in
       record {
         lowered = c.lowered;
         safe = c.safe;
         typed = c.typed;
+        methods = c.methods;
         state = next;
         replays = replayed;
         store_agrees = shares;
         threads_agree =
             let own = after_advance c.state.shared f.source (owners k) (source.Advances a.next_shared a.next (event_view e)) in
             let now : AllOwners = with_owners owners k own in
+            let less = slice_get_within ts i t at in
+            let few = c.few in
+            let numbered : (0 < k) × (k ≤ 8) = (omega (arith, counted), omega (arith, counted, less, few)) in
+            let numbers : (0 < 1) × (1 + length ts ≤ 9) = (omega arith, omega (arith, few)) in
             subst (λ (o : AllOwners). ThreadsAgree p classes store'.heap store'.elements count_made o 1 next.shared (slice_set ts i after) next.threads)
             (sym (owners_stepped (unit_tree p.unit) world journal c.state k refused f.source (source.Advances a.next_shared a.next (event_view e)) c.replays there
             (ap (λ (u : BuffersInUse). thread_step (unit_tree p.unit) classes u k c.state.shared f.source refused) used ∙ a.steps)))
             (subst (λ (x : Shared). ThreadsAgree p classes store'.heap store'.elements count_made now 1 x (slice_set ts i after) next.threads) (sym shared_is)
             (subst (ThreadsAgree p classes store'.heap store'.elements count_made now 1 a.next_shared (slice_set ts i after)) (sym threads_is)
-            (changed p classes count_made k store.heap store'.heap store.elements store'.elements c.state.shared a.next_shared a.keeps a.keeps_copies owners now (owner_elsewhere owners k own) 1 ts c.state.threads i after a.next placed c.threads_agree
-            (subst (λ (o : ThreadOwners). ThreadAgrees p classes store'.heap store'.elements count_made k o.current a.next_shared after a.next) (sym (owner_here owners k own)) a.agrees))));
+            (changed p classes count_made k (length f.source.callers) store.heap store'.heap store.elements store'.elements c.state.shared a.next_shared a.keeps a.keeps_copies numbered owners now (owner_elsewhere owners k own) 1 ts c.state.threads i after a.next numbers placed c.threads_agree
+            (subst (λ (o : ThreadOwners). ThreadAgrees p classes store'.heap store'.elements count_made k o a.next_shared after a.next) (sym (owner_here owners k own)) a.agrees))));
         same_printed = printed_next c.state k a.next_shared a.next e ∙ ap (λ l. printed_after l k e) c.same_printed;
         same_stop = stop_next c.state k a.next_shared a.next e stop c.same_stop;
         fits = each-more (unit_tree p.unit) world (FitsUnmarked (unit_tree p.unit) world) (Some (start (unit_tree p.unit) world)) journal entry c.fits

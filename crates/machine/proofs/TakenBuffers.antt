@@ -1,5 +1,5 @@
 -- What the buffers of all threads take, by those of one thread and of the others.
-use Rattle.std.proofs.Common.{◌≡◌, ℕ, zero, suc, ◌+◌, List, [], ◌∷◌, ◌++◌, length, length-append, Some, refl, sym, ap, ◌∙◌, subst, arith}
+use Rattle.std.proofs.Common.{◌≡◌, ℕ, zero, suc, ◌+◌, List, [], ◌∷◌, ◌++◌, length, append_assoc, length-append, Some, refl, sym, ap, ◌∙◌, subst, arith}
 use Rattle.std.specs.Prelude.{flat_map, slice_get, slice_set, sum_by}
 use Rattle.std.proofs.lemmas.List.Concat.{flat_map-cons}
 use Rattle.std.proofs.lemmas.List.Sums.{sum_by-cons}
@@ -8,6 +8,7 @@ use Rattle.semantics.specs.Thread.{BuffersInUse, Caller, Thread, copied_by, leng
 use Rattle.semantics.specs.World.{Invocation}
 use Rattle.machine_scenes.specs.Buffers.{Acquired, SameAcquired, acquired_by, beside, in_use_of}
 use Rattle.machine_scenes.specs.HeapAgrees.{times}
+use Rattle.machine_threads.specs.Callers.{beside_callers}
 use Rattle.machine_collections.proofs.RootNames.{times_append}
 use Rattle.std.proofs.Common.{map}
 
@@ -49,12 +50,13 @@ viewed_parts count none both (x ∷ ss) (suc i) s at =
     let fewer = ap count (flat_map-cons viewed_by x (without ss i)) ∙ both (viewed_by x) (flat_map viewed_by (without ss i)) in
     omega (arith, parts, fewer, viewed_parts count none both ss i s at)
 
--- the buffers of a thread that has no callers are those of its call in progress
-own_copied : (s : Thread) → s.callers ≡ [] → copied_by s ≡ (acquired_by s).copied
-own_copied s alone = omega (arith, ap (λ (l : List Caller). sum_by (λ (c : Caller). lengths_copied c.variables) l + lengths_copied s.variables) alone)
-
-pub own_viewed : (s : Thread) → s.callers ≡ [] → viewed_by s ≡ (acquired_by s).viewed
-own_viewed s alone = ap (λ (l : List Caller). flat_map (λ (c : Caller). objects_viewed c.variables) l ++ objects_viewed s.variables) alone
+-- what the call in progress views, the thread does
+pub own_viewed : (s : Thread) → viewed_by s ≡ [] → objects_viewed s.variables ≡ []
+own_viewed s none = by_list (flat_map (λ (c : Caller). objects_viewed c.variables) s.callers) none
+  where
+    by_list : (xs : List ℕ) → xs ++ objects_viewed s.variables ≡ [] → objects_viewed s.variables ≡ []
+    by_list [] none = none
+    by_list (x ∷ xs) none = absurd (cc)
 
 own_parts : (ss : List Thread) (i : ℕ) (s : Thread) → slice_get ss i ≡ Some s → SameAcquired (taken ss) (beside (others ss i) (record { copied = copied_by s; viewed = viewed_by s }))
 own_parts ss i s at = record {
@@ -63,10 +65,18 @@ own_parts ss i s at = record {
   viewed = λ n. viewed_parts (times n) refl (times_append n) ss i s at ∙ sym (times_append n (flat_map viewed_by (without ss i)) (viewed_by s));
 }
 
-pub parted : (ss : List Thread) (i : ℕ) (s : Thread) → s.callers ≡ [] → slice_get ss i ≡ Some s → SameAcquired (taken ss) (beside (others ss i) (acquired_by s))
-parted ss i s alone at =
-    subst (λ (n : ℕ). SameAcquired (taken ss) (beside (others ss i) (record { copied = n; viewed = (acquired_by s).viewed }))) (own_copied s alone)
-    (subst (λ (l : List ℕ). SameAcquired (taken ss) (beside (others ss i) (record { copied = copied_by s; viewed = l }))) (own_viewed s alone) (own_parts ss i s at))
+-- a thread's buffers are those of its callers and of its call in progress
+pub parted : (ss : List Thread) (i : ℕ) (s : Thread) → slice_get ss i ≡ Some s → SameAcquired (taken ss) (beside (beside_callers (others ss i) s) (acquired_by s))
+parted ss i s at =
+    let h = own_parts ss i s at in
+    let below = flat_map (λ (c : Caller). objects_viewed c.variables) s.callers in
+    let copied : sum_by copied_by ss ≡ sum_by copied_by (without ss i) + (sum_by (λ (c : Caller). lengths_copied c.variables) s.callers + lengths_copied s.variables) = h.copied in
+    let parts = sym (append_assoc (flat_map viewed_by (without ss i)) below (objects_viewed s.variables)) in
+    record {
+      copied = omega (arith, copied);
+      many = h.many ∙ ap length parts;
+      viewed = λ n. h.viewed n ∙ ap (times n) parts;
+    }
 
 -- once that one is another
 pub set_there : (ss : List Thread) (i : ℕ) (s t : Thread) → slice_get ss i ≡ Some s → slice_get (slice_set ss i t) i ≡ Some t
@@ -82,10 +92,10 @@ without_set (x ∷ ss) (suc i) t = ap (λ (l : List Thread). x ∷ l) (without_s
 pub same_back : (a b : Acquired) → SameAcquired a b → SameAcquired b a
 same_back a b h = record { copied = sym h.copied; many = sym h.many; viewed = λ n. sym (h.viewed n) }
 
-pub joined : (ss : List Thread) (i : ℕ) (s t : Thread) → t.callers ≡ [] → slice_get ss i ≡ Some s → SameAcquired (beside (others ss i) (acquired_by t)) (taken (slice_set ss i t))
-joined ss i s t alone at =
-    same_back (taken (slice_set ss i t)) (beside (others ss i) (acquired_by t))
-    (subst (λ (l : List Thread). SameAcquired (taken (slice_set ss i t)) (beside (taken l) (acquired_by t))) (without_set ss i t) (parted (slice_set ss i t) i t alone (set_there ss i s t at)))
+pub joined : (ss : List Thread) (i : ℕ) (s t : Thread) → slice_get ss i ≡ Some s → SameAcquired (beside (beside_callers (others ss i) t) (acquired_by t)) (taken (slice_set ss i t))
+joined ss i s t at =
+    same_back (taken (slice_set ss i t)) (beside (beside_callers (others ss i) t) (acquired_by t))
+    (subst (λ (l : List Thread). SameAcquired (taken (slice_set ss i t)) (beside (beside_callers (taken l) t) (acquired_by t))) (without_set ss i t) (parted (slice_set ss i t) i t (set_there ss i s t at)))
 
 pub in_use_same : (a b : Acquired) → SameAcquired a b → in_use_of a ≡ in_use_of b
 in_use_same a b h =

@@ -5,6 +5,7 @@ use Rattle.std.specs.List.{Contains, list_all, enumerate_from, sum_by}
 use Rattle.base.specs.Limits.{most_cells, most_entries}
 use Rattle.syntax.specs.declared.unit.Item.{Item}
 use Rattle.class_rules.specs.Class.{Classes}
+use Rattle.class_rules.specs.Grown.{HasMethodError}
 use Rattle.syntax.specs.Views.{unit_tree}
 use Rattle.semantics.specs.Journal.{Entry, Step, steps_in}
 use Rattle.semantics.specs.WeakReferences.{lost, with_cleared}
@@ -52,6 +53,7 @@ use Rattle.machine_scenes.specs.Buffers.{Acquired}
 use Rattle.machine_scenes.specs.StoreAgrees.{StoreAgrees}
 use Rattle.machine_steps.specs.Advances.{AdvancesAlways, HoldsAlways}
 use Rattle.machine_steps.specs.Executes.{cells_made, in_use_with}
+use Rattle.machine_threads.specs.Callers.{beside_callers}
 use Rattle.machine_threads.specs.ThreadAgrees.{ThreadsAgree}
 use Rattle.machine_collections.specs.Clearing.{AreCleared, clearing_of}
 use Rattle.machine_collections.specs.Moving.{AreCollected}
@@ -97,6 +99,8 @@ pub record Corresponds (p : Lowered) (world : World) (store : Store) (threads : 
   pub safe : IsSafe (unit_tree p.unit) world
   -- and its objects are typed
   pub typed : RunsTyped (unit_tree p.unit) world
+  -- where methods are allowed, their exception is there
+  pub methods : world.methods ≡ true → HasMethodError world.classes
   pub state : State
   pub replays : replay (unit_tree p.unit) world journal ≡ Some state
   pub store_agrees : StoreAgrees p world store state.shared (acquired state)
@@ -120,7 +124,7 @@ event_of advanced.Refused = event.Quiet
 -- its step makes objects for which too few cells are left
 abbrev pub LacksRoom : Lowered → World → (k : ℕ) → Store → Thread → Type 0
 LacksRoom p w k store t = HoldsAlways p w k store t (λ others own shared s. left_of store.heap < cells_made shared
-    (thread_step (unit_tree p.unit) w.classes (in_use_with others s) k shared s false))
+    (thread_step (unit_tree p.unit) w.classes (in_use_with (beside_callers others s) s) k shared s false))
 
 -- The thread at a place hasn't ended and doesn't wait, in a store and threads that stand for the state that a journal leads to, and no trap
 -- has stopped the machine.

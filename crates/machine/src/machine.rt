@@ -103,9 +103,9 @@ impl<'a> Model for Machine<'a> {
 impl<'a> Machine<'a> {
     /// A machine before its first step, which keeps the allocator for what it does later.
     ///
-    /// Fault 82 exactly where a call of the world doesn't fit the program: its function or the function's class is
-    /// unknown, or the arguments don't fit the parameters in number and kind. The objects that the world begins with
-    /// lie in its heap.
+    /// Fault 82 exactly where the program asks for methods that the world doesn't allow, or a call of the world doesn't
+    /// fit the program: its function or the function's class is unknown, or the arguments don't fit the parameters in
+    /// number and kind. The objects that the world begins with lie in its heap.
     pub fn load(alloc: Global, program: Program<'a>, world: World) -> Result<Machine<'a>, LoadFault>
         ensures ok { IfOk result (IsUnstarted program.entry.unit world) }
         ensures fits { OnOk result (first_load_fault (unit_tree program.entry.unit) world ≡ None) }

@@ -8,7 +8,6 @@ use Rattle.std.proofs.lemmas.Bool.Decides.{nat_tests}
 use Rattle.base.specs.Bytes.{Identifier, lookup}
 use Rattle.base.specs.Element.{ElementType, JInt, JShort, JByte, JChar}
 use Rattle.class_rules.specs.Class.{Classes}
-use Rattle.classes.specs.declared.class.FieldHandle.{FieldHandle}
 use Rattle.code.specs.declared.instr.Operand.{Operand}
 use Rattle.code.specs.declared.instr.Operand.TheVariants as operand
 use Rattle.jni.specs.declared.mode.ReleaseMode.{ReleaseMode as ModeOfCode}
@@ -22,6 +21,7 @@ use Rattle.semantics.specs.Variable.{Variables}
 use Rattle.semantics_typing.specs.Objects.{AreInRange}
 use Rattle.world_values.specs.WorldRules.{is_in_range}
 use Rattle.machine_answers.specs.Answers.{AreWordsOf}
+use Rattle.machine_scenes.specs.declared.handle.Handle.{Handle}
 use Rattle.machine_scenes.specs.Buffers.{HeldBuffers, HoldsBuffer}
 use Rattle.machine_scenes.specs.Given.{HasBuffer, IsGiven, operand_of}
 use Rattle.machine_scenes.specs.Statics.{References}
@@ -73,7 +73,7 @@ mode_operand (operand.Static i) fits = absurd fits
 mode_operand (operand.Array array) fits = absurd (let e = fits.1 in cc)
 mode_operand (operand.IsCopy i) fits = absurd (cc)
 
-module _ (classes : Classes) (space : Space) (references : References) (fields : List (Option FieldHandle)) (t : ElementType) (p q : ParameterKind) where
+module _ (classes : Classes) (space : Space) (references : References) (fields : List (Option Handle)) (t : ElementType) (p q : ParameterKind) where
   pub given_mode : (operands : List Operand) (args : List Actual) → AllZip OperandFits (p ∷ q ∷ Mode ∷ []) operands → AllZip (IsGiven classes space references fields) operands args → mode_of (ElementsCopy t) (operand_of operands 2) ≡ mode_code (mode_given args 2)
   given_mode [] args kinds given = absurd kinds
   given_mode (o ∷ []) args kinds given = absurd kinds.1

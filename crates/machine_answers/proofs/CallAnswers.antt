@@ -1,7 +1,7 @@
 -- What the machine works out of calls is what the source's calls do.
 use Rattle.std.proofs.Common.{◌≡◌, ℕ, List, Option, None}
 use Rattle.code.specs.Call.{Call}
-use Rattle.jni.specs.JniFunction.{GetBuffer, ReleaseBuffer, JniFunction, FindClass, AllocObject, NewLocalRef, NewGlobalRef, NewWeakGlobalRef, DeleteLocalRef, DeleteGlobalRef, DeleteWeakGlobalRef, IsSameObject, EnsureLocalCapacity, PushLocalFrame, PopLocalFrame, GetFieldID, GetStaticFieldID, GetArrayLength, NewArray, NewObjectArray, GetObjectArrayElement, SetObjectArrayElement, NewStringUTF, GetStringLength, Throw, ThrowNew, ExceptionOccurred, ExceptionCheck, ExceptionClear, FatalError, GetSuperclass, GetObjectClass, IsInstanceOf, IsAssignableFrom, GetField, SetField, GetObjectField, SetObjectField, GetStaticField, SetStaticField, GetStaticObjectField, SetStaticObjectField, MonitorEnter, MonitorExit, GetArrayRegion, SetArrayRegion, GetStringRegion}
+use Rattle.jni.specs.JniFunction.{GetBuffer, ReleaseBuffer, JniFunction, FindClass, AllocObject, NewLocalRef, NewGlobalRef, NewWeakGlobalRef, DeleteLocalRef, DeleteGlobalRef, DeleteWeakGlobalRef, IsSameObject, EnsureLocalCapacity, PushLocalFrame, PopLocalFrame, GetFieldID, GetStaticFieldID, GetArrayLength, NewArray, NewObjectArray, GetObjectArrayElement, SetObjectArrayElement, NewStringUTF, GetStringLength, Throw, ThrowNew, ExceptionOccurred, ExceptionCheck, ExceptionClear, FatalError, GetSuperclass, GetObjectClass, IsInstanceOf, IsAssignableFrom, GetField, SetField, GetObjectField, SetObjectField, GetStaticField, SetStaticField, GetStaticObjectField, SetStaticObjectField, MonitorEnter, MonitorExit, GetArrayRegion, SetArrayRegion, GetStringRegion, GetStaticMethodID}
 use Rattle.semantics.specs.Arguments.{Actual}
 use Rattle.semantics.specs.CallStep.{trap_of_call}
 use Rattle.semantics.specs.Task.{Target}
@@ -15,7 +15,7 @@ use Rattle.machine_scenes.specs.declared.store.Store.{Store}
 use Rattle.machine_scenes.specs.declared.activation.Activation.{Activation}
 use Rattle.machine_answers.proofs.TwoCalls.{TwoCalls, Asked, Works, Does}
 use Rattle.machine_answers.proofs.ReferenceAnswers.{answers_find, answers_superclass, answers_class, answers_instance, answers_assignable, answers_alloc, answers_new_local, answers_new_global, HasKey, answers_delete, IsHeld, answers_delete_global, answers_new_weak, answers_delete_weak, answers_same, answers_ensure, answers_push, answers_pop}
-use Rattle.machine_answers.proofs.FieldAnswers.{answers_field, answers_static, answers_get, answers_set, answers_get_object, answers_set_object, answers_get_static, answers_set_static, answers_get_static_object, answers_set_static_object}
+use Rattle.machine_answers.proofs.FieldAnswers.{answers_field, answers_static, answers_method, answers_get, answers_set, answers_get_object, answers_set_object, answers_get_static, answers_set_static, answers_get_static_object, answers_set_static_object}
 use Rattle.machine_answers.proofs.ArrayAnswers.{answers_length, answers_string_length, answers_new_array, answers_new_object_array, answers_element, answers_store, answers_string}
 use Rattle.machine_answers.proofs.RegionAnswers.{answers_get_region, answers_string_region, answers_set_region}
 use Rattle.machine_answers.proofs.BufferAnswers.{answers_get_buffer, answers_release}
@@ -46,6 +46,7 @@ module _ (p : Lowered) (w : World) (store : Store) (pending : Option ℕ) (activ
   answers AllocObject h free answer is keyed held = answers_alloc both h free answer is
   answers GetFieldID h free answer is keyed held = answers_field both h answer is
   answers GetStaticFieldID h free answer is keyed held = answers_static both h answer is
+  answers GetStaticMethodID h free answer is keyed held = answers_method both h answer is
   answers (GetField T) h free answer is keyed held = answers_get both T h free answer is
   answers (SetField T) h free answer is keyed held = answers_set both T h free answer is
   answers GetObjectField h free answer is keyed held = answers_get_object both h free answer is

@@ -5,6 +5,7 @@ use Rattle.std.specs.List.{AllZip, list_any}
 use Rattle.base.specs.Bytes.{Identifier}
 use Rattle.base.specs.Element.{ElementType}
 use Rattle.class_rules.specs.BuiltIns.{has_own_making, number_array, throwable_class}
+use Rattle.syntax.specs.Tree.{SourceUnit}
 use Rattle.class_rules.specs.Class.{Classes, FieldType, NumberField, ReferenceField, assignable, class_kind, is_plain}
 use Rattle.class_rules.specs.Fields.{FieldId}
 use Rattle.classes.specs.declared.class.FieldHandle.{FieldHandle}
@@ -25,6 +26,7 @@ use Rattle.semantics.specs.Thread.{Frame, Shared, Thread}
 use Rattle.semantics.specs.Value.{NullReference, ExceptionPending, WrongObject, DeletedReference, NoCapacity}
 use Rattle.semantics.specs.Variable.{StaticReference, Empty, Live, Weakly, Cleared, Deleted, as_static}
 use Rattle.code_meaning.specs.Does.{ActualFits}
+use Rattle.machine_scenes.specs.declared.handle.Handle.{Handle}
 use Rattle.machine_scenes.specs.declared.buffer.Buffer.{Buffer}
 use Rattle.monitors.specs.declared.monitors.Monitor.{Monitor}
 use Rattle.machine_scenes.specs.FieldIds.{FieldAgrees}
@@ -93,7 +95,7 @@ missing_is p (FieldActual None) fits = refl
 missing_is p NothingActual fits = absurd (cc)
 missing_is p a fits = refl
 
-module _ (classes : Classes) (space : Space) (references : References) (fields : List (Option FieldHandle)) where
+module _ (classes : Classes) (space : Space) (references : References) (fields : List (Option Handle)) where
   null_reference : (x : Identifier) (o : Option ℕ) (q : Reference) → ReferenceAgrees space o q → is_null_actual (ReferenceActual x (as_static q)) ≡ is_none o
   null_reference x None None h = refl
   null_reference x None (Some n) h = absurd h
@@ -401,11 +403,11 @@ module _ (classes : Classes) (space : Space) (references : References) (fields :
     room_is kind has_room frame h = refl
 
     -- the trap that is found is the source's
-    pub found_is : (loaded stack : List ℕ) (buffers : List Buffer) (pending : Option ℕ) (monitors : List Monitor) (thread : ℕ) (has_room : Bool) (wanted : ElementType) (f : JniFunction) (operands : List Operand) (args : List Actual) (s : Shared) (t : Thread) (target : Target) → wanted ≡ target_element t.variables target → s.heap ≡ heap → is_some pending ≡ is_some t.pending
+    pub found_is : (unit : SourceUnit) (loaded stack : List ℕ) (buffers : List Buffer) (pending : Option ℕ) (monitors : List Monitor) (thread : ℕ) (has_room : Bool) (wanted : ElementType) (f : JniFunction) (operands : List Operand) (args : List Actual) (s : Shared) (t : Thread) (target : Target) → wanted ≡ target_element t.variables target → s.heap ≡ heap → is_some pending ≡ is_some t.pending
         → is_full (slice_get (frames_after f t.frames) 0) ≡ not has_room → AllZip ActualFits (prototype f).parameters args → AllZip (IsGiven classes space references fields) operands args
-        → trap_found (record { classes = classes; space = space; loaded = loaded; references = references; fields = fields; buffers = buffers; stack = stack; pending = pending; monitors = monitors; thread = thread }) has_room wanted f operands ≡ trap_of_call classes s t target f args
+        → trap_found (record { unit = unit; classes = classes; space = space; loaded = loaded; references = references; fields = fields; buffers = buffers; stack = stack; pending = pending; monitors = monitors; thread = thread }) has_room wanted f operands ≡ trap_of_call classes s t target f args
     unfolding call_trap
-    found_is loaded stack buffers exception monitors thread has_room wanted f operands args s t target wants same pending room fit h =
+    found_is unit loaded stack buffers exception monitors thread has_room wanted f operands args s t target wants same pending room fit h =
         let buffer = target_element t.variables target in
         let deleted = all_deleted operands args h in
         let missing = all_missing (prototype f).parameters operands args fit h in

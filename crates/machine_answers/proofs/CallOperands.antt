@@ -22,6 +22,7 @@ use Rattle.code_meaning.specs.Does as does
 use Rattle.code_meaning.specs.Fits.{IsReferenceKind}
 use Rattle.semantics.specs.Value.{Int}
 use Rattle.code_meaning.specs.Slots.{word_of}
+use Rattle.machine_scenes.specs.declared.handle.Handle.{Handle}
 use Rattle.machine_scenes.specs.Statics.{References, held_address, holds_deleted, holds_null, static_at}
 use Rattle.machine_scenes.specs.declared.references.Held.{Held}
 use Rattle.machine_scenes.specs.declared.references.Held.TheVariants as held
@@ -36,7 +37,7 @@ use Rattle.machine_scenes.proofs.ObjectsAtAddresses.{is_object}
 
 -- ---- what is there
 
-module _ (classes : Classes) (space : Space) (references : References) (fields : List (Option FieldHandle)) (heap : Heap) (blocks : BlocksAgree space heap space.blocks) where
+module _ (classes : Classes) (space : Space) (references : References) (fields : List (Option Handle)) (heap : Heap) (blocks : BlocksAgree space heap space.blocks) where
   pub count_is : (o : Option ℕ) (q : Reference) → ReferenceAgrees space o q → count_there space o ≡ length (values_of heap (name_or_zero q))
   count_is None None h = refl
   count_is None (Some n) h = absurd h
@@ -83,7 +84,7 @@ same_number n m same =
     (λ (t : (eqb n m ≡ false) × (n ≡ m → ⊥)). absurd (let clash : not false ≡ false = ap not (sym t.0) ∙ same in cc))
     (eqb_tells n m)
 
-module _ (classes : Classes) (space : Space) (references : References) (fields : List (Option FieldHandle)) where
+module _ (classes : Classes) (space : Space) (references : References) (fields : List (Option Handle)) where
   no_text : (o : Operand) (a : Actual) → OperandFits ClassObject o → IsGiven classes space references fields o a → does.text_given a ≡ []
   no_text operand.Number a fits h = absurd (cc)
   no_text (operand.FieldId i) a fits h = absurd (cc)

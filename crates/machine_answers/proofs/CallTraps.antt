@@ -3,6 +3,7 @@ use Rattle.std.proofs.Common.{◌≡◌, ℕ, Bool, true, false, not, List, [], 
 use Rattle.std.specs.Prelude.{◌&&◌, ◌||◌, IsSome}
 use Rattle.std.specs.Option.{option_map}
 use Rattle.std.specs.List.{AllZip, list_any}
+use Rattle.syntax.specs.Views.{unit_tree}
 use Rattle.class_rules.specs.Class.{Classes}
 use Rattle.class_rules.specs.Fields.{FieldId}
 use Rattle.classes.specs.FieldViews.{field_of}
@@ -22,6 +23,7 @@ use Rattle.semantics.specs.Value.{NullReference, ExceptionPending, WrongObject, 
 use Rattle.semantics.specs.Variable.{StaticReference}
 use Rattle.semantics.specs.World.{World}
 use Rattle.code_meaning.specs.Lowered.{Lowered}
+use Rattle.machine_scenes.specs.declared.handle.Handle.{Handle}
 use Rattle.machine_scenes.specs.declared.store.Store.{Store}
 use Rattle.machine_scenes.specs.declared.activation.Activation.{Activation}
 use Rattle.machine_scenes.specs.FieldIds.{FieldAgrees}
@@ -65,7 +67,7 @@ is_handle classes (Some g) (Some f) h agrees e =
     some_field None h = absurd (cc)
     some_field (Some x) h = refl
 
-module _ (classes : Classes) (space : Space) (references : References) (fields : List (Option FieldHandle)) where
+module _ (classes : Classes) (space : Space) (references : References) (fields : List (Option Handle)) where
   one_address : (o : Operand) (a : Actual) → IsGiven classes space references fields o a → (b : ℕ) → operand_at references o ≡ Some b → IsAddress space b
   one_address operand.Number a h b e = absurd (cc)
   one_address operand.Text a h b e = absurd (cc)
@@ -145,9 +147,9 @@ module _ (p : Lowered) (w : World) (store : Store) (pending : Option ℕ) (activ
   pub handles_there : AreHandles w.classes activation.slots.fields.items call.operands
   handles_there = all_handles w.classes store.heap (references_of store activation) activation.slots.fields.items call.operands args h.given
 
-  pub found_is : trap_found (scene_of w.classes store activation k pending) (has_room (locals_after f activation.locals)) (element_wanted call.target) f call.operands ≡ trap_of_call w.classes shared s target f args
+  pub found_is : trap_found (scene_of (unit_tree p.unit) w.classes store activation k pending) (has_room (locals_after f activation.locals)) (element_wanted call.target) f call.operands ≡ trap_of_call w.classes shared s target f args
   found_is =
-      checks.found_is w.classes store.heap (references_of store activation) activation.slots.fields.items shared.heap h.store_agrees.heap.blocks store.loaded.items activation.stack activation.slots.buffers.items pending store.monitors k (has_room (locals_after f activation.locals)) (element_wanted call.target) f call.operands args shared s target h.wanted refl
+      checks.found_is w.classes store.heap (references_of store activation) activation.slots.fields.items shared.heap h.store_agrees.heap.blocks (unit_tree p.unit) store.loaded.items activation.stack activation.slots.buffers.items pending store.monitors k (has_room (locals_after f activation.locals)) (element_wanted call.target) f call.operands args shared s target h.wanted refl
       (same_pending store.heap pending s.pending h.pending_agrees) (full_where store.heap (locals_after f activation.locals) (frames_after f s.frames) (frames_left store.heap f activation.locals s.frames h.frames_agree)) h.fit h.given
 
   module _ (free : trap_of_call w.classes shared s target f args ≡ None) where

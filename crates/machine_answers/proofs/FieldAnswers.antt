@@ -3,18 +3,19 @@ use Rattle.std.proofs.Common.{◌≡◌, ℕ, false, List, [], ◌∷◌, Option
 use Rattle.std.specs.Prelude.{unwrap_or}
 use Rattle.std.specs.Int.{w32, cast_unsigned}
 use Rattle.std.specs.List.{AllZip}
-use Rattle.class_rules.specs.BuiltIns.{no_such_field_error}
+use Rattle.class_rules.specs.BuiltIns.{no_such_field_error, no_such_method_error}
 use Rattle.class_rules.specs.Fields.{FieldId, find_field, find_static, layout, own_statics}
 use Rattle.classes.specs.declared.class.FieldHandle.{FieldHandle}
 use Rattle.code.specs.Effect.{element_word}
 use Rattle.heap.specs.Heap.{name_at}
-use Rattle.jni.specs.JniFunction.{JniFunction, GetFieldID, GetStaticFieldID, GetField, SetField, GetObjectField, SetObjectField, GetStaticField, SetStaticField, GetStaticObjectField, SetStaticObjectField, prototype}
-use Rattle.jni.specs.Prototype.{ParameterKind, ClassObject, FieldID, IntNumber, NonNull, GivesField, Nullable}
+use Rattle.jni.specs.JniFunction.{JniFunction, GetFieldID, GetStaticFieldID, GetStaticMethodID, GetField, SetField, GetObjectField, SetObjectField, GetStaticField, SetStaticField, GetStaticObjectField, SetStaticObjectField, prototype}
+use Rattle.jni.specs.Prototype.{ParameterKind, ClassObject, FieldID, IntNumber, NonNull, GivesField, GivesMethod, Nullable}
 use Rattle.semantics.specs.Arguments.{reference_given, object_given, name_or_zero, text_given, field_given, number_given}
-use Rattle.semantics.specs.CallEffects.{found_field_effect}
+use Rattle.semantics.specs.CallEffects.{found_field_effect, found_method_effect}
 use Rattle.semantics.specs.CallStep.{trap_of_call}
 use Rattle.semantics.specs.CallTable.{call_effect}
 use Rattle.semantics.specs.Heap.{field_place, place_in, static_place}
+use Rattle.semantics.specs.Method.{MethodId, find_method}
 use Rattle.semantics.specs.Object.{Number, Refers}
 use Rattle.code_meaning.specs.Does.{OperandFits}
 use Rattle.code_meaning.specs.Fits.{IsReferenceKind}
@@ -26,15 +27,16 @@ use Rattle.code_meaning.proofs.ElementWords.{convert_fits, element_words}
 use Rattle.machine_scenes.proofs.Handles.{class_of_field, class_within}
 use Rattle.machine_answers.specs.declared.answer.Answer.{Answer}
 use Rattle.machine_answers.specs.Answers.{IsAnswer}
+use Rattle.machine_scenes.specs.NewObjects.{IsMakeable}
 use Rattle.machine_answers.specs.Checked.{some_missing, may_be_null}
 use Rattle.machine_scenes.specs.Given.{operand_of, class_of_given, name_there, field_at, field_there}
 use Rattle.machine_scenes.specs.HeapAgrees.{ReferenceAgrees}
-use Rattle.machine_answers.specs.WorkedOut.{class_object, IsFoundField, place_there, held_reference, top_word}
+use Rattle.machine_answers.specs.WorkedOut.{class_object, IsFoundField, IsFoundMethod, place_there, held_reference, top_word}
 use Rattle.machine_answers.proofs.CallChecks.{class_given_is, field_at_place}
 use Rattle.machine_scenes.proofs.OperandsThere.{handle_of}
 use Rattle.machine_answers.proofs.CallTraps.{none_lacking, handles_there}
 use Rattle.machine_answers.proofs.CallOperands.{two_texts, second_field}
-use Rattle.machine_answers.proofs.TwoCalls.{TwoCalls, references, fields, brought, Asked, Works, Does, at, agrees, name_of, table_of, built_in_class, object_given_at, top_of, number_read, reference_read, value_written, held_agrees}
+use Rattle.machine_answers.proofs.TwoCalls.{TwoCalls, references, fields, brought, Asked, Works, Does, at, agrees, name_of, table_of, built_in_class, method_error, object_given_at, unit, top_of, number_read, reference_read, value_written, held_agrees}
 
 module _ (both : TwoCalls) where
   open both use {p, w, store, pending, activation, call, others, k, owner, shared, s, target, sound, args}
@@ -52,6 +54,20 @@ module _ (both : TwoCalls) where
       let same : find_field w.classes (name_there store.heap (at both 0)) (unwrap_or (slice_get call.texts 0) []) (unwrap_or (slice_get call.texts 1) []) ≡ find_field w.classes (object_given args 0) (text_given args 1) (text_given args 2) =
       λ i. find_field w.classes (name_of both GetFieldID h 0 i) (one i) (two i) in
       found_field (find_field w.classes (object_given args 0) (text_given args 1) (text_given args 2)) answer (subst (λ (o : Option FieldId). IsFoundField w.classes o answer) same is)
+
+  found_method : (o : Option MethodId) (answer : Answer) → IsMakeable w.classes no_such_method_error → IsFoundMethod (unit both) o answer → IsAnswer w.classes (brought both) store.heap activation.locals GivesMethod shared s answer (found_method_effect shared s no_such_method_error o)
+  found_method None answer makeable is = subst (λ (x : Answer). IsAnswer w.classes (brought both) store.heap activation.locals GivesMethod shared s x (found_method_effect shared s no_such_method_error None)) (sym is) (refl, makeable)
+  found_method (Some m) answer makeable is = subst (λ (x : Answer). IsAnswer w.classes (brought both) store.heap activation.locals GivesMethod shared s x (found_method_effect shared s no_such_method_error (Some m))) (sym is.1) (refl, refl, is.2)
+
+  pub answers_method : Asked both GetStaticMethodID → (answer : Answer) → Works both GetStaticMethodID answer → Does both GetStaticMethodID answer
+  unfolding call_effect
+  answers_method h answer is =
+      let texts = two_texts w.classes store.heap (references both) (fields both) call.operands args h.kinds h.given in
+      let one : unwrap_or (slice_get call.texts 0) [] ≡ text_given args 1 = ap (λ (l : List (List ℕ)). unwrap_or (slice_get l 0) []) h.texts ∙ texts.0 in
+      let two : unwrap_or (slice_get call.texts 1) [] ≡ text_given args 2 = ap (λ (l : List (List ℕ)). unwrap_or (slice_get l 1) []) h.texts ∙ texts.1 in
+      let same : find_method (unit both) w.classes (name_there store.heap (at both 0)) (unwrap_or (slice_get call.texts 0) []) (unwrap_or (slice_get call.texts 1) []) ≡ find_method (unit both) w.classes (object_given args 0) (text_given args 1) (text_given args 2) =
+      λ i. find_method (unit both) w.classes (name_of both GetStaticMethodID h 0 i) (one i) (two i) in
+      found_method (find_method (unit both) w.classes (object_given args 0) (text_given args 1) (text_given args 2)) answer (method_error both (h.methods refl)) (subst (λ (o : Option MethodId). IsFoundMethod (unit both) o answer) same is)
 
   pub answers_static : Asked both GetStaticFieldID → (answer : Answer) → Works both GetStaticFieldID answer → Does both GetStaticFieldID answer
   unfolding call_effect

@@ -2,10 +2,10 @@
 use Rattle.std.proofs.Common.{◌≡◌, Bool, true, false, not, ◌&&◌, List, Option, refl, sym, true≢false}
 use Rattle.base.specs.Element.{ElementType}
 use Rattle.class_rules.specs.Class.{Classes}
-use Rattle.classes.specs.declared.class.FieldHandle.{FieldHandle}
 use Rattle.code.specs.declared.instr.Operand.{Operand}
 use Rattle.heap.specs.Heap.{Space}
 use Rattle.jni.specs.JniFunction.{JniFunction, GetField, SetField, GetObjectField, SetObjectField, GetStaticField, SetStaticField, GetStaticObjectField, SetStaticObjectField}
+use Rattle.machine_scenes.specs.declared.handle.Handle.{Handle}
 use Rattle.machine_scenes.specs.Given.{field_at, field_there, operand_of}
 use Rattle.machine_scenes.specs.Statics.{References}
 use Rattle.machine_answers.specs.Checked.{fit_together}
@@ -20,7 +20,7 @@ first_holds : (static there fits : Bool) → ((static && there) && fits) ≡ tru
 first_holds true there fits h = refl
 first_holds false there fits h = absurd (true≢false (sym h))
 
-module _ (classes : Classes) (space : Space) (references : References) (fields : List (Option FieldHandle)) (operands : List Operand) (wanted : ElementType) where
+module _ (classes : Classes) (space : Space) (references : References) (fields : List (Option Handle)) (operands : List Operand) (wanted : ElementType) where
   abbrev pub names_static : Bool
   names_static = (field_there classes (field_at fields (operand_of operands 1))).is_static
 

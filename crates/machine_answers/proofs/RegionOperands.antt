@@ -10,7 +10,6 @@ use Rattle.base.specs.Element.{ElementType}
 use Rattle.class_rules.specs.BuiltIns.{number_array}
 use Rattle.class_rules.specs.Class.{Classes, NumberField}
 use Rattle.class_rules.specs.Grown.{IsGrown}
-use Rattle.classes.specs.declared.class.FieldHandle.{FieldHandle}
 use Rattle.code.specs.declared.instr.LocalArray.{LocalArray as ArraySlots}
 use Rattle.code.specs.declared.instr.Operand.{Operand}
 use Rattle.code.specs.declared.instr.Operand.TheVariants as operand
@@ -31,6 +30,7 @@ use Rattle.semantics_typing.proofs.TableKinds.{kind_numbers}
 use Rattle.semantics_typing.proofs.Heaps.{values_there}
 use Rattle.machine_answers.specs.Answers.{AreWordsOf, array_given}
 use Rattle.machine_answers.specs.Copies.{word_of as word_in_cell}
+use Rattle.machine_scenes.specs.declared.handle.Handle.{Handle}
 use Rattle.machine_scenes.specs.Given.{HasArray, HasElements, IsGiven, operand_of}
 use Rattle.machine_scenes.specs.HeapAgrees.{ValueAgrees, ValuesAgree}
 use Rattle.machine_scenes.specs.Statics.{References}
@@ -49,7 +49,7 @@ pub record TwoNumbers (args : List Actual) : Type 0 where
   pub count_fits : FitsSigned w32 count
   pub words : words_given args ≡ word_of (Int count) ∷ word_of (Int start) ∷ []
 
-module _ (classes : Classes) (space : Space) (references : References) (fields : List (Option FieldHandle)) (p q : ParameterKind) (first : IsWordless classes space references fields p) (last : IsWordless classes space references fields q) where
+module _ (classes : Classes) (space : Space) (references : References) (fields : List (Option Handle)) (p q : ParameterKind) (first : IsWordless classes space references fields p) (last : IsWordless classes space references fields q) where
   pub two_numbers : (operands : List Operand) (args : List Actual) → AllZip OperandFits (p ∷ IntNumber ∷ IntNumber ∷ q ∷ []) operands → AllZip ActualFits (p ∷ IntNumber ∷ IntNumber ∷ q ∷ []) args
       → AllZip (IsGiven classes space references fields) operands args → TwoNumbers args
   two_numbers [] args kinds fit given = absurd kinds

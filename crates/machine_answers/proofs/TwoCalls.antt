@@ -5,8 +5,10 @@ use Rattle.std.specs.Int.{w32}
 use Rattle.std.specs.List.{AllByRecursion, AllZip}
 use Rattle.std.specs.Option.{option_map_or}
 use Rattle.std.proofs.Math.Facts.{to_z-of_z}
-use Rattle.class_rules.specs.BuiltIns.{class_class}
-use Rattle.classes.specs.declared.class.FieldHandle.{FieldHandle}
+use Rattle.syntax.specs.Tree.{SourceUnit}
+use Rattle.syntax.specs.Views.{unit_tree}
+use Rattle.class_rules.specs.BuiltIns.{class_class, no_such_method_error}
+use Rattle.class_rules.specs.Grown.{HasMethodError}
 use Rattle.code.specs.Call.{Call}
 use Rattle.heap.specs.Heap.{name_at}
 use Rattle.jni.specs.JniFunction.{JniFunction, prototype}
@@ -28,6 +30,7 @@ use Rattle.semantics.specs.Value.{Int}
 use Rattle.code_meaning.specs.Slots.{word_of}
 use Rattle.machine_answers.proofs.FieldValues.{word_there, reference_there, writes}
 use Rattle.heap.specs.declared.value.Value.{Value}
+use Rattle.machine_scenes.specs.declared.handle.Handle.{Handle}
 use Rattle.machine_scenes.specs.Buffers.{Acquired, acquired_by, beside, in_use_of}
 use Rattle.machine_scenes.specs.StoreAgrees.{StoreAgrees}
 use Rattle.machine_answers.specs.declared.answer.Answer.{Answer}
@@ -42,6 +45,7 @@ use Rattle.machine_scenes.specs.Given.{operand_at, operand_of, class_there, name
 use Rattle.machine_scenes.specs.HeapAgrees.{ReferenceAgrees, ValueAgrees}
 use Rattle.machine_answers.specs.WorkedOut.{class_object, IsWorkedOut, value_there, word_in, address_in, held_reference, writes_there, count_there, stack_number}
 use Rattle.machine_answers.proofs.CallChecks.{class_is, name_is, reference_at_place}
+use Rattle.machine_scenes.proofs.Handles.{class_known}
 use Rattle.machine_scenes.proofs.BlocksOfNames.{Named, named}
 use Rattle.machine_answers.proofs.CallTraps.{none_deleted, none_lacking, none_unfit}
 use Rattle.machine_answers.proofs.LongTables.{classes_loaded, grown_long}
@@ -67,10 +71,13 @@ pub record TwoCalls : Type 0 where
 module _ (both : TwoCalls) where
   open both use {p, w, store, pending, activation, call, others, k, owner, shared, s, target, sound, args}
 
+  abbrev pub unit : SourceUnit
+  unit = unit_tree p.unit
+
   abbrev pub references : References
   references = references_of store activation
 
-  abbrev pub fields : List (Option FieldHandle)
+  abbrev pub fields : List (Option Handle)
   fields = activation.slots.fields.items
 
   -- what the buffers of all threads take
@@ -81,7 +88,7 @@ module _ (both : TwoCalls) where
   in_use = in_use_of all
 
   abbrev pub brought : Brought
-  brought = brought_by store activation k owner in_use call args
+  brought = brought_by unit store activation k owner in_use call args
 
   -- what is asked of function f
   abbrev pub Asked : JniFunction → Type 0
@@ -89,11 +96,11 @@ module _ (both : TwoCalls) where
 
   -- what is worked out for it
   abbrev pub Works : JniFunction → Answer → Type 0
-  Works f answer = IsWorkedOut (scene_of w.classes store activation k pending) call f answer
+  Works f answer = IsWorkedOut (scene_of unit w.classes store activation k pending) call f answer
 
   -- the answer is what it does
   abbrev pub Does : JniFunction → Answer → Type 0
-  Does f answer = IsAnswer w.classes brought store.heap activation.locals (prototype f).result shared s answer (call_effect w.classes in_use k shared s args f)
+  Does f answer = IsAnswer w.classes brought store.heap activation.locals (prototype f).result shared s answer (call_effect unit w.classes in_use k shared s args f)
 
   abbrev pub at : (i : ℕ) → Option ℕ
   at i = operand_at references (operand_of call.operands i)
@@ -120,6 +127,10 @@ module _ (both : TwoCalls) where
   -- a built-in class after Class
   pub built_in_class : (c : ℕ) → 2 < c → c ≤ 42 → IsMakeable w.classes c
   built_in_class c low high = record { low = omega (arith, low); high = omega (arith, high, grown_long w.classes sound.grown); no_class = λ e. let is : c ≡ 2 = e in omega (arith, low, is) }
+
+  -- the exception of a method that isn't found
+  pub method_error : HasMethodError w.classes → IsMakeable w.classes no_such_method_error
+  method_error has = record { low = omega arith; high = (class_known w.classes no_such_method_error has.class has.there).1; no_class = λ e. let is : 43 ≡ 2 = e in omega (arith, is) }
 
   -- the object of argument i
   pub object_given_at : (f : JniFunction) (before : List ParameterKind) (q : ParameterKind) (after : List ParameterKind) → IsReferenceKind q → may_be_null q ≡ false → (prototype f).parameters ≡ before ++ q ∷ after → Asked f

@@ -3,7 +3,6 @@ use Rattle.std.proofs.Common.{◌≡◌, ℕ, Bool, true, false, not, ◌&&◌, 
 use Rattle.std.specs.List.{list_all, list_any}
 use Rattle.base.specs.Element.{ElementType}
 use Rattle.class_rules.specs.Class.{Classes}
-use Rattle.classes.specs.declared.class.FieldHandle.{FieldHandle}
 use Rattle.code.specs.Call.{asks, is_static, takes_any}
 use Rattle.code.specs.declared.instr.Operand.{Operand}
 use Rattle.code.specs.declared.instr.Operand.TheVariants as operand
@@ -14,6 +13,7 @@ use Rattle.jni.specs.Prototype.{ParameterKind, Nullable, LocalVariable}
 use Rattle.semantics.specs.Checks.{first_trap}
 use Rattle.semantics.specs.Value.{Trap}
 use Rattle.machine_answers.specs.Checked.{arguments_asked, fit_together, gives_deleted, gives_null, may_be_null, misfits, some_misfit, some_missing}
+use Rattle.machine_scenes.specs.declared.handle.Handle.{Handle}
 use Rattle.machine_scenes.specs.Given.{operand_at}
 use Rattle.machine_scenes.specs.Statics.{References}
 
@@ -50,7 +50,7 @@ module _ (references : References) where
   may_be LocalVariable h = refl
   may_be p h = absurd (cc)
 
-  none_missing : (fields : List (Option FieldHandle)) (parameters : List ParameterKind) (operands : List Operand) → list_all takes_any parameters ≡ true → some_missing references fields parameters operands ≡ false
+  none_missing : (fields : List (Option Handle)) (parameters : List ParameterKind) (operands : List Operand) → list_all takes_any parameters ≡ true → some_missing references fields parameters operands ≡ false
   none_missing fields [] operands h = refl
   none_missing fields (p ∷ parameters) [] h = refl
   none_missing fields (p ∷ parameters) (o ∷ operands) h =
@@ -71,7 +71,7 @@ module _ (references : References) where
       ap (λ b. b || some_misfit classes space references parameters operands) (fits classes space p (operand_at references o) h'.0) ∙ none_unfit classes space parameters operands h'.1
 
 -- a function that asks something of its arguments together asks something of each
-together : (classes : Classes) (space : Space) (references : References) (fields : List (Option FieldHandle)) (operands : List Operand) (wanted : ElementType) (f : JniFunction) → list_all takes_any (prototype f).parameters ≡ true → fit_together classes space references fields operands wanted f ≡ true
+together : (classes : Classes) (space : Space) (references : References) (fields : List (Option Handle)) (operands : List Operand) (wanted : ElementType) (f : JniFunction) → list_all takes_any (prototype f).parameters ≡ true → fit_together classes space references fields operands wanted f ≡ true
 together classes space references fields operands wanted AllocObject h = absurd (cc)
 together classes space references fields operands wanted (GetField t) h = absurd (cc)
 together classes space references fields operands wanted (SetField t) h = absurd (cc)
@@ -100,7 +100,7 @@ pub is_first : (b : Bool) (x : Trap) (rest : List (Bool × Trap)) → b ≡ true
 is_first true x rest h = refl
 is_first false x rest h = absurd (cc)
 
-pub nothing_asked : (classes : Classes) (space : Space) (references : References) (fields : List (Option FieldHandle)) (wanted : ElementType) (f : JniFunction) (operands : List Operand) → asks (prototype f).parameters operands ≡ false
+pub nothing_asked : (classes : Classes) (space : Space) (references : References) (fields : List (Option Handle)) (wanted : ElementType) (f : JniFunction) (operands : List Operand) → asks (prototype f).parameters operands ≡ false
     → (rest : List (Bool × Trap)) → first_trap (arguments_asked classes space references fields wanted f operands ++ rest) ≡ first_trap rest
 nothing_asked classes space references fields wanted f operands h rest =
     let parts = neither (not (list_all takes_any (prototype f).parameters)) (list_any is_static operands) h in

@@ -5,12 +5,13 @@ use Rattle.std.specs.List.{AllByRecursion}
 use Rattle.std.specs.Option.{option_to_list}
 use Rattle.base.specs.Limits.{most_monitor_entries}
 use Rattle.base.specs.Bytes.{Identifier, lookup}
+use Rattle.syntax.specs.Tree.{SourceUnit}
 use Rattle.class_rules.specs.BuiltIns.{string_class}
 use Rattle.class_rules.specs.Class.{Classes}
 use Rattle.heap.specs.Heap.{Space, name_at, values_at}
 use Rattle.heap.specs.declared.value.Value.{Value}
-use Rattle.jni.specs.Prototype.{ResultKind, NewLocal, NewGlobal, GivesFlag, GivesInt, GivesField, GivesNothing, NewWeak}
-use Rattle.semantics.specs.CallEffects.{CallResult, NoResult, NullResult, ScalarResult, ReferenceResult, WeakResult, FieldResult, CallEffect, copy_effect, view_effect, release_effect, enter_effect, exit_effect, Halts, Leaves, Throws, throw_new_effect, delete_global_effect, delete_weak_effect, frames_effect, refuses_frames, with_capacity, without_local, begun_with, heap_effect, overwritten}
+use Rattle.jni.specs.Prototype.{ResultKind, NewLocal, NewGlobal, GivesFlag, GivesInt, GivesField, GivesMethod, GivesNothing, NewWeak}
+use Rattle.semantics.specs.CallEffects.{CallResult, NoResult, NullResult, ScalarResult, ReferenceResult, WeakResult, FieldResult, MethodResult, CallEffect, copy_effect, view_effect, release_effect, enter_effect, exit_effect, Halts, Leaves, Throws, throw_new_effect, delete_global_effect, delete_weak_effect, frames_effect, refuses_frames, with_capacity, without_local, begun_with, heap_effect, overwritten}
 use Rattle.semantics.specs.Heap.{next_name, numbers_of, values_of, with_numbers, with_value_at}
 use Rattle.semantics.specs.Object.{ObjectValue, Number, Reference}
 use Rattle.semantics.specs.Thread.{BuffersInUse, Monitor, Shared, Thread, monitor_of}
@@ -33,22 +34,24 @@ use Rattle.machine_scenes.specs.declared.array_region.ArrayRegion.{ArrayRegion}
 use Rattle.machine_scenes.specs.declared.buffer.Release.{Release}
 use Rattle.machine_scenes.specs.Buffers.{HeldBuffers, HoldsBuffer, IsCopyOf, copies_back}
 use Rattle.machine_answers.specs.Copies.{words_at, words_from, words_of}
-use Rattle.machine_scenes.specs.FieldIds.{FieldAgrees}
+use Rattle.machine_scenes.specs.FieldIds.{FieldAgrees, MethodAgrees}
 use Rattle.machine_scenes.specs.HeapAgrees.{ReferenceAgrees, ValueAgrees}
 use Rattle.machine_scenes.specs.Locals.{IsKeyOf}
 use Rattle.machine_scenes.specs.NewObjects.{Describes, IsMakeable, text_in}
 use Rattle.semantics.specs.EventViews.{trap_view}
 
 -- what a function of this kind of result gives; NULL where it failed
-abbrev pub GivenAgrees : Classes → Space → ResultKind → Given → CallResult → Type 0
-GivenAgrees classes space GivesNothing given.Nothing NoResult = Unit {0}
-GivenAgrees classes space GivesInt (given.Number word) (ScalarResult (Int z)) = (word ≡ word_of (Int z)) × FitsSigned w32 z
-GivenAgrees classes space GivesFlag (given.Number word) (ScalarResult (Flag b)) = word ≡ word_of (Flag b)
-GivenAgrees classes space NewLocal (given.Reference a) (ReferenceResult r) = ReferenceAgrees space a r
-GivenAgrees classes space NewLocal (given.Reference a) NullResult = a ≡ None
-GivenAgrees classes space GivesField (given.FieldId h) (FieldResult f) = FieldAgrees classes h f
-GivenAgrees classes space GivesField (given.FieldId h) NullResult = h ≡ None
-GivenAgrees classes space kind g c = ⊥
+abbrev pub GivenAgrees : SourceUnit → Classes → Space → ResultKind → Given → CallResult → Type 0
+GivenAgrees unit classes space GivesNothing given.Nothing NoResult = Unit {0}
+GivenAgrees unit classes space GivesInt (given.Number word) (ScalarResult (Int z)) = (word ≡ word_of (Int z)) × FitsSigned w32 z
+GivenAgrees unit classes space GivesFlag (given.Number word) (ScalarResult (Flag b)) = word ≡ word_of (Flag b)
+GivenAgrees unit classes space NewLocal (given.Reference a) (ReferenceResult r) = ReferenceAgrees space a r
+GivenAgrees unit classes space NewLocal (given.Reference a) NullResult = a ≡ None
+GivenAgrees unit classes space GivesField (given.FieldId h) (FieldResult f) = FieldAgrees classes h f
+GivenAgrees unit classes space GivesField (given.FieldId h) NullResult = h ≡ None
+GivenAgrees unit classes space GivesMethod (given.MethodId h) (MethodResult m) = MethodAgrees unit h m
+GivenAgrees unit classes space GivesMethod (given.MethodId h) NullResult = h ≡ None
+GivenAgrees unit classes space kind g c = ⊥
 
 -- another heap of the source, where a value of the object at an address is changed
 pub record WritesAt (space : Space) (s : Shared) (s' : Shared) (a place : ℕ) (v : Value) : Type 0 where
@@ -83,9 +86,10 @@ pub record HoldsWeakly (s : Shared) (x : Identifier) (i : ℕ) (r : StaticRefere
 
 -- ---- what a call brings
 
--- the texts of a call, the local array that it names, what the slots of numbers and of buffers hold, the thread that makes it, and what
--- all buffers take
+-- the unit of a call, its texts, the local array that it names, what the slots of numbers and of buffers hold, the thread that makes it,
+-- and what all buffers take
 pub record Brought : Type 0 where
+  pub unit : SourceUnit
   pub texts : List (List ℕ)
   pub array : Option (Identifier × LocalArray)
   pub numbers : List ℕ
@@ -93,11 +97,11 @@ pub record Brought : Type 0 where
   pub thread : ℕ
   pub in_use : BuffersInUse
 
--- what a call of a thread with these texts and slots brings, which names this local array, or none
-abbrev pub bringing : (texts : List (List ℕ)) → (numbers : List ℕ) → HeldBuffers → (thread : ℕ) → BuffersInUse
+-- what a call of a thread of this unit with these texts and slots brings, which names this local array, or none
+abbrev pub bringing : SourceUnit → (texts : List (List ℕ)) → (numbers : List ℕ) → HeldBuffers → (thread : ℕ) → BuffersInUse
     → Option (Identifier × LocalArray) → Brought
-bringing texts numbers buffers thread in_use array =
-    record { texts = texts; array = array; numbers = numbers; buffers = buffers; thread = thread; in_use = in_use }
+bringing unit texts numbers buffers thread in_use array =
+    record { unit = unit; texts = texts; array = array; numbers = numbers; buffers = buffers; thread = thread; in_use = in_use }
 
 -- an operand is a local array, and the argument at its place its name
 abbrev pub named_array : Option Operand → Option Actual → Option (Identifier × LocalArray)
@@ -185,7 +189,7 @@ pub record IsExited (k : ℕ) (s : Shared) (t : Thread) (n : ℕ) (effect : Call
 -- The answer is what the call, which brings these, does to this state, all checks being passed.
 abbrev pub IsAnswer : Classes → Brought → Space → LocalTable → ResultKind → Shared → Thread → Answer → CallEffect → Type 0
 IsAnswer classes brought space locals kind s t (answer.Throws c) (Throws class) = (c.number ≡ class) × IsMakeable classes c.number
-IsAnswer classes brought space locals kind s t (answer.Gives given) (Leaves [] s' t' c) = (s' ≡ s) × (t' ≡ t) × GivenAgrees classes space kind given c
+IsAnswer classes brought space locals kind s t (answer.Gives given) (Leaves [] s' t' c) = (s' ≡ s) × (t' ≡ t) × GivenAgrees brought.unit classes space kind given c
 IsAnswer classes brought space locals kind s t (answer.Writes a place v) (Leaves [] s' t' NoResult) = (t' ≡ t)
     × (kind ≡ GivesNothing) × WritesAt space s s' a place v
 IsAnswer classes brought space locals kind s t (answer.CopiesOut region) effect = (kind ≡ GivesNothing) × IsCopiedOut brought space s t region effect
@@ -196,7 +200,7 @@ IsAnswer classes brought space locals kind s t (answer.Raises class place) effec
     (kind ≡ GivesInt) × IsMakeable classes string_class × IsMakeable classes class.number
     × (effect ≡ throw_new_effect classes s t class.number (text_in brought.texts place))
 IsAnswer classes brought space locals kind s t (answer.Pends a given) effect =
-    (r : Reference) × ReferenceAgrees space a r × ((c : CallResult) × GivenAgrees classes space kind given c
+    (r : Reference) × ReferenceAgrees space a r × ((c : CallResult) × GivenAgrees brought.unit classes space kind given c
     × (effect ≡ Leaves [] s (record t { pending = r }) c))
 IsAnswer classes brought space locals kind s t (answer.Halts trap) effect = effect ≡ Halts (trap_view trap)
 IsAnswer classes brought space locals kind s t (answer.Ensures more) effect = (kind ≡ GivesInt)

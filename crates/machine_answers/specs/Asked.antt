@@ -2,10 +2,12 @@
 use Rattle.std.specs.Prelude.{◌≡◌, ◌≢◌, ℕ, false, true, List, [], length, Option, Some}
 use Rattle.std.specs.List.{AllZip}
 use Rattle.base.specs.Bytes.{lookup}
+use Rattle.syntax.specs.Tree.{SourceUnit}
 use Rattle.class_rules.specs.Class.{Classes}
+use Rattle.class_rules.specs.Grown.{HasMethodError}
 use Rattle.code.specs.Call.{Call}
 use Rattle.jni.specs.Access.{Access}
-use Rattle.jni.specs.JniFunction.{JniFunction, ReleaseBuffer, prototype}
+use Rattle.jni.specs.JniFunction.{JniFunction, GetStaticMethodID, ReleaseBuffer, prototype}
 use Rattle.region_rules.specs.RegionRules.{is_critical_call}
 use Rattle.semantics.specs.Arguments.{Actual, object_given, variable_given}
 use Rattle.semantics.specs.CallStep.{target_element, waits_with}
@@ -38,10 +40,11 @@ references_of store activation =
       statics = all_held store.globals store.weaks store.statics.items;
     }
 
--- what a call of thread k sees
-abbrev pub scene_of : Classes → Store → Activation → (k : ℕ) → (pending : Option ℕ) → Scene
-scene_of classes store activation k pending =
+-- what a call of thread k of a unit sees
+abbrev pub scene_of : SourceUnit → Classes → Store → Activation → (k : ℕ) → (pending : Option ℕ) → Scene
+scene_of unit classes store activation k pending =
     record {
+      unit = unit;
       classes = classes;
       space = store.heap;
       loaded = store.loaded.items;
@@ -58,14 +61,14 @@ scene_of classes store activation k pending =
 abbrev pub buffers_of : Store → Activation → (owner : ℕ) → HeldBuffers
 buffers_of store activation owner = holding activation.slots.buffers.items store.elements owner
 
--- what a call of a function with these arguments brings, in a call of thread k of this number, where all buffers take this
-abbrev pub brought_by : Store → Activation → (k owner : ℕ) → BuffersInUse → Call → List Actual → Brought
-brought_by store activation k owner in_use call args = bringing call.texts activation.slots.numbers.items
+-- what a call of a function with these arguments brings, of this unit and in a call of thread k of this number, where all buffers take this
+abbrev pub brought_by : SourceUnit → Store → Activation → (k owner : ℕ) → BuffersInUse → Call → List Actual → Brought
+brought_by unit store activation k owner in_use call args = bringing unit call.texts activation.slots.numbers.items
     (buffers_of store activation owner) k in_use (array_given call.operands args)
 
 -- Store, frames and pending exception of thread k agree with the source's, and each operand gives what the argument at its place is, and
 -- the target wants what the source's does. Objects and variables are typed. While the thread has a view, the function is critical, and a
--- release names the object that its buffer came from. The thread doesn't wait for a monitor.
+-- release names the object that its buffer came from. A method is asked for only where its exception is there. The thread doesn't wait for a monitor.
 pub record IsAsked (p : Lowered) (w : World) (store : Store) (pending : Option ℕ) (activation : Activation) (call : Call)
     (others : Acquired) (k owner : ℕ) (shared : Shared) (s : Thread) (target : Target) (f : JniFunction)
     (args : List Actual) : Type 0 where
@@ -84,6 +87,7 @@ pub record IsAsked (p : Lowered) (w : World) (store : Store) (pending : Option �
   pub typed_variables : AreTypedVariables w.classes shared.heap s.variables
   pub critical : objects_viewed s.variables ≢ [] → is_critical_call f ≡ true
   pub release : (access : Access) → f ≡ ReleaseBuffer access → came_from (lookup (variable_given args 1) s.variables) ≡ Some (object_given args 0)
+  pub methods : f ≡ GetStaticMethodID → HasMethodError w.classes
   pub ready : waits_with w.classes k shared s (Calls call.line target f args) ≡ false
   pub words : activation.stack ≡ words_given args
   pub texts : call.texts ≡ texts_given args

@@ -6,7 +6,6 @@ use Rattle.class_queries.specs.Kinds.{class_misfits}
 use Rattle.class_rules.specs.BuiltIns.{has_own_making, throwable_class, number_array}
 use Rattle.class_rules.specs.Class.{Classes, FieldType, NumberField, ReferenceField, class_kind, is_plain, assignable}
 use Rattle.class_rules.specs.Fields.{FieldId}
-use Rattle.classes.specs.declared.class.FieldHandle.{FieldHandle}
 use Rattle.code.specs.Call.{Call}
 use Rattle.code.specs.declared.instr.Operand.{Operand}
 use Rattle.code.specs.declared.instr.Operand.TheVariants as operand
@@ -19,12 +18,13 @@ use Rattle.jni.specs.Prototype.{ParameterKind, Nullable, AnyReference, LocalVari
 use Rattle.semantics.specs.Checks.{first_trap}
 use Rattle.semantics.specs.Heap.{holds_number, holds_reference}
 use Rattle.semantics.specs.Value.{Trap, NullReference, ExceptionPending, WrongObject, DeletedReference, NoCapacity}
+use Rattle.machine_scenes.specs.declared.handle.Handle.{Handle}
 use Rattle.machine_scenes.specs.Given.{operand_at, field_at, operand_of, class_there, class_of_given, name_there, fits_there, field_there}
 use Rattle.machine_scenes.specs.Scenes.{Scene}
 use Rattle.machine_scenes.specs.Statics.{References, holds_deleted, holds_null, static_at}
 
 -- an operand gives NULL
-abbrev pub gives_null : References → List (Option FieldHandle) → Operand → Bool
+abbrev pub gives_null : References → List (Option Handle) → Operand → Bool
 gives_null references fields operand.Null = true
 gives_null references fields (operand.Static i) = holds_null (static_at references i)
 gives_null references fields (operand.Local i) = is_none (operand_at references (operand.Local i))
@@ -52,7 +52,7 @@ may_be_null IsCopy = true
 may_be_null p = false
 
 -- some operand gives NULL where that isn't allowed
-abbrev pub some_missing : References → List (Option FieldHandle) → List ParameterKind → List Operand → Bool
+abbrev pub some_missing : References → List (Option Handle) → List ParameterKind → List Operand → Bool
 some_missing references fields (p ∷ parameters) (o ∷ operands) = (not (may_be_null p) && gives_null references fields o)
     || some_missing references fields parameters operands
 some_missing references fields parameters operands = false
@@ -79,7 +79,7 @@ element_wanted (Buffer element i) = element_value element
 element_wanted target = JInt
 
 -- a call with these operands
-module _ (classes : Classes) (space : Space) (references : References) (fields : List (Option FieldHandle)) (operands : List Operand) where
+module _ (classes : Classes) (space : Space) (references : References) (fields : List (Option Handle)) (operands : List Operand) where
   -- the reference of an operand
   abbrev pub reference : ℕ → Option ℕ
   reference i = operand_at references (operand_of operands i)
@@ -124,7 +124,7 @@ puts_local NewLocal = true
 puts_local kind = false
 
 -- what is asked of a call's arguments, in this order, each with the trap where it isn't so
-abbrev pub arguments_asked : Classes → Space → References → List (Option FieldHandle) → (wanted : ElementType) → JniFunction → List Operand → List (Bool × Trap)
+abbrev pub arguments_asked : Classes → Space → References → List (Option Handle) → (wanted : ElementType) → JniFunction → List Operand → List (Bool × Trap)
 arguments_asked classes space references fields wanted f operands =
     (list_any (gives_deleted references) operands, DeletedReference)
     ∷ (some_missing references fields (prototype f).parameters operands, NullReference)

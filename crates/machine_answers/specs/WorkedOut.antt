@@ -2,8 +2,9 @@
 use Rattle.std.specs.Prelude.{◌==◌, ◌≡◌, ℕ, ◌+◌, ◌-◌, ◌^◌, ℤ, pos, negsuc, nat_lt, nat_le, Bool, true, false, List, [], ◌∷◌, length, slice_get, unwrap_or, is_some, if◌then◌else◌, Option, Some, None}
 use Rattle.std.specs.Int.{w32, cast_signed}
 use Rattle.base.specs.Element.{ElementType}
+use Rattle.syntax.specs.Tree.{SourceUnit}
 use Rattle.class_rules.specs.ClassIds.{class_id}
-use Rattle.class_rules.specs.BuiltIns.{array_index_out_of_bounds, array_store_exception, illegal_monitor_state, negative_array_size, string_index_out_of_bounds, no_class_def_found_error, no_such_field_error, number_array}
+use Rattle.class_rules.specs.BuiltIns.{array_index_out_of_bounds, array_store_exception, illegal_monitor_state, negative_array_size, string_index_out_of_bounds, no_class_def_found_error, no_such_field_error, no_such_method_error, number_array}
 use Rattle.class_rules.specs.Class.{Classes, array_class_of, assignable, class_kind, class_named, element_class, superclass}
 use Rattle.class_rules.specs.Fields.{FieldId, find_field, find_static, layout, own_statics}
 use Rattle.classes.specs.FieldViews.{field_of, place_among}
@@ -20,7 +21,8 @@ use Rattle.heap.specs.Heap.{Space, values_at}
 use Rattle.heap.specs.declared.value.Value.{Value}
 use Rattle.heap.specs.declared.value.Value.TheVariants as value
 use Rattle.jni.specs.Access.{Access, ElementsCopy, is_critical}
-use Rattle.jni.specs.JniFunction.{GetBuffer, ReleaseBuffer, JniFunction, FindClass, GetSuperclass, GetObjectClass, IsInstanceOf, IsAssignableFrom, AllocObject, NewLocalRef, NewGlobalRef, NewWeakGlobalRef, DeleteLocalRef, DeleteGlobalRef, DeleteWeakGlobalRef, IsSameObject, EnsureLocalCapacity, PushLocalFrame, PopLocalFrame, GetFieldID, GetStaticFieldID, GetField, SetField, GetStaticField, SetStaticField, GetObjectField, SetObjectField, GetStaticObjectField, SetStaticObjectField, GetArrayLength, GetStringLength, NewArray, NewObjectArray, GetObjectArrayElement, SetObjectArrayElement, NewStringUTF, Throw, ThrowNew, ExceptionOccurred, ExceptionCheck, ExceptionClear, FatalError, MonitorEnter, MonitorExit, GetArrayRegion, SetArrayRegion, GetStringRegion}
+use Rattle.jni.specs.JniFunction.{GetBuffer, ReleaseBuffer, JniFunction, FindClass, GetSuperclass, GetObjectClass, IsInstanceOf, IsAssignableFrom, AllocObject, NewLocalRef, NewGlobalRef, NewWeakGlobalRef, DeleteLocalRef, DeleteGlobalRef, DeleteWeakGlobalRef, IsSameObject, EnsureLocalCapacity, PushLocalFrame, PopLocalFrame, GetFieldID, GetStaticFieldID, GetField, SetField, GetStaticField, SetStaticField, GetObjectField, SetObjectField, GetStaticObjectField, SetStaticObjectField, GetArrayLength, GetStringLength, NewArray, NewObjectArray, GetObjectArrayElement, SetObjectArrayElement, NewStringUTF, Throw, ThrowNew, ExceptionOccurred, ExceptionCheck, ExceptionClear, FatalError, MonitorEnter, MonitorExit, GetArrayRegion, SetArrayRegion, GetStringRegion, GetStaticMethodID}
+use Rattle.semantics.specs.Method.{MethodId, find_method}
 use Rattle.monitors.specs.declared.monitors.Enter.{Enter}
 use Rattle.monitors.specs.declared.monitors.Enter.TheVariants as enter
 use Rattle.monitors.specs.declared.monitors.Exit.{Exit}
@@ -36,6 +38,8 @@ use Rattle.machine_scenes.specs.declared.array_region.ArrayRegion.{ArrayRegion}
 use Rattle.machine_scenes.specs.declared.buffer.Buffer.{Buffer}
 use Rattle.machine_scenes.specs.declared.buffer.Buffer.TheVariants as buffer
 use Rattle.machine_scenes.specs.declared.new_object.New.TheVariants.{Fresh, Array, Text}
+use Rattle.machine_scenes.specs.FieldIds.{IsMethod}
+use Rattle.machine_scenes.specs.declared.handle.MethodHandle.{MethodHandle}
 use Rattle.machine_scenes.specs.Scenes.{Scene}
 use Rattle.machine_scenes.specs.Statics.{References, static_at}
 use Rattle.machine_scenes.specs.declared.references.Held.{Held}
@@ -62,6 +66,11 @@ found_class loaded (Some c) = Gives (Reference (class_object loaded (Some c)))
 abbrev pub IsFoundField : Classes → Option FieldId → Answer → Type 0
 IsFoundField classes None answer = answer ≡ Throws (class_id no_such_field_error)
 IsFoundField classes (Some f) answer = (h : FieldHandle) × (answer ≡ Gives (given.FieldId (Some h))) × (field_of classes h ≡ Some f)
+
+-- a handle of the method that was found, or else an exception
+abbrev pub IsFoundMethod : SourceUnit → Option MethodId → Answer → Type 0
+IsFoundMethod unit None answer = answer ≡ Throws (class_id no_such_method_error)
+IsFoundMethod unit (Some m) answer = (h : MethodHandle) × (answer ≡ Gives (given.MethodId (Some h))) × IsMethod unit h m
 
 -- room for this number of references more, which is refused for a negative number
 abbrev pub room_for : ℤ → Answer
@@ -293,7 +302,7 @@ module _ (scene : Scene) (call : Call) where
   abbrev pub region : Option ArrayRegion
   region = region_in scene.space (reference 0) (next_number scene.stack) (stack_number scene.stack) local_array
 
-  -- the answer of a function that finds no field
+  -- the answer of a function that finds no field and no method
   abbrev pub worked_out : JniFunction → Answer
   worked_out FindClass = found_class scene.loaded (class_named scene.classes (text 0))
   worked_out GetSuperclass = Gives (Reference (class_object scene.loaded (superclass scene.classes (name_there scene.space (reference 0)))))
@@ -348,4 +357,6 @@ module _ (scene : Scene) (call : Call) where
   abbrev pub IsWorkedOut : JniFunction → Answer → Type 0
   IsWorkedOut GetFieldID answer = IsFoundField scene.classes (find_field scene.classes (name_there scene.space (reference 0)) (text 0) (text 1)) answer
   IsWorkedOut GetStaticFieldID answer = IsFoundField scene.classes (find_static scene.classes (name_there scene.space (reference 0)) (text 0) (text 1)) answer
+  IsWorkedOut GetStaticMethodID answer =
+      IsFoundMethod scene.unit (find_method scene.unit scene.classes (name_there scene.space (reference 0)) (text 0) (text 1)) answer
   IsWorkedOut f answer = answer ≡ worked_out f

@@ -14,7 +14,9 @@ ghost use Rattle.machine_answers.specs.Checked.{arguments_fit, element_wanted};
 ghost use Rattle.machine_scenes.specs.Given.{field_there, name_there, AreAddresses, AreHandles, FieldIsThere, ReferenceIsThere};
 ghost use Rattle.machine_scenes.specs.Scenes.{scene_view};
 ghost use Rattle.jni.specs.Subjects.{subject_of};
-ghost use Rattle.machine_answers.specs.WorkedOut.{address_in, class_object, count_there, declaring, deletes, deletes_global, deletes_weak, field, found_class, frame_for, handle, held_reference, place, place_of_static, place_there, reference, room_for, top_word, value_there, word_in, writes_there, IsFoundField, IsWorkedOut};
+ghost use Rattle.machine_answers.specs.WorkedOut.{address_in, class_object, count_there, declaring, deletes, deletes_global, deletes_weak, field, found_class, frame_for, handle, held_reference, place, place_of_static, place_there, reference, room_for, top_word, value_there, word_in, writes_there, IsFoundField, IsFoundMethod, IsWorkedOut};
+ghost use Rattle.semantics.specs.Method.{find_method};
+ghost use Rattle.syntax.specs.Views.{unit_tree};
 ghost use Rattle.jni.specs.declared.subject.Subject.TheVariants as subject;
 ghost use Rattle.base.specs.Element.{element_value};
 
@@ -23,8 +25,9 @@ use crate::buffers::work_out_buffer;
 use crate::exceptions::work_out_exception;
 use crate::monitor::work_out_monitor;
 use crate::regions::work_out_region;
+use class_queries::find_method;
 use class_rules::ClassId;
-use classes::built_ins::{NO_CLASS_DEF_FOUND_ERROR, NO_SUCH_FIELD_ERROR};
+use classes::built_ins::{NO_CLASS_DEF_FOUND_ERROR, NO_SUCH_FIELD_ERROR, NO_SUCH_METHOD_ERROR};
 use classes::class::FieldHandle;
 use classes::table::ClassTable;
 use code::instr::{Call, ElementType, Operand};
@@ -34,6 +37,7 @@ use heap::{Addr, Heap, Value};
 use jni::{JniFunction, Subject};
 use machine_scenes::array_region::ArrayRegion;
 use machine_scenes::buffer::{Buffer, Release};
+use machine_scenes::handle::MethodHandle;
 use machine_scenes::new_object::{New, text_at};
 use machine_scenes::operands::{
     class_of_given, declaring, fits_there, handle_at, key_in, name_there, operand_of, reference_at,
@@ -43,6 +47,7 @@ use machine_scenes::scene::Scene;
 use machine_scenes::statics::StaticReference;
 use monitors::Object;
 use semantics::{ObjectId, Trap};
+use syntax::Item;
 use tables::Local;
 
 /// What a call gives.
@@ -53,6 +58,7 @@ pub enum Given {
     Number(u32),
     Reference(Option<Addr>),
     FieldId(Option<FieldHandle>),
+    MethodId(Option<MethodHandle>),
     /// What a static comes to hold.
     Global(StaticReference),
     /// What the slot of a buffer comes to hold.
@@ -184,6 +190,10 @@ fn work_out_class(scene: &Scene<'_>, call: &Call) -> Answer
         JniFunction::GetStaticFieldID => {
             let class = class_given(scene, call, 0);
             find_field(scene.classes, class, &call.texts, true)
+        }
+        JniFunction::GetStaticMethodID => {
+            let class = class_given(scene, call, 0);
+            method_found(scene.items, scene.classes, class, &call.texts)
         }
         _ => unreachable!(),
     }
@@ -422,6 +432,21 @@ fn find_field(classes: &ClassTable, class: ClassId, texts: &[Vec<u8>], is_static
     match classes.find_handle(class, text_at(texts, 0), text_at(texts, 1), is_static) {
         Some(handle) => Answer::Gives(Given::FieldId(Some(handle))),
         None => Answer::Throws(NO_SUCH_FIELD_ERROR),
+    }
+}
+
+/// A handle of the method with the name and the signature of a call's texts, or else an exception.
+fn method_found(items: &[Item], classes: &ClassTable, class: ClassId, texts: &[Vec<u8>]) -> Answer
+    ensures { IsFoundMethod (unit_tree items.now) (find_method (unit_tree items.now) classes.now class.number (unwrap_or
+        (slice_get (map (λ text. text.items) texts.now) 0) []) (unwrap_or
+        (slice_get (map (λ text. text.items) texts.now) 1) [])) result }
+{
+    match find_method(items, classes, class, text_at(texts, 0), text_at(texts, 1)) {
+        Some(found) => Answer::Gives(Given::MethodId(Some(MethodHandle {
+            class,
+            function: found.number,
+        }))),
+        None => Answer::Throws(NO_SUCH_METHOD_ERROR),
     }
 }
 

@@ -6,7 +6,7 @@ use Rattle.class_rules.specs.declared.class_id.ClassId.{ClassId}
 use Rattle.heap.specs.Heap.{Space}
 use Rattle.heap.specs.declared.value.Value.{Value}
 use Rattle.jni.specs.Prototype.{ResultKind, NewLocal, GivesNothing}
-use Rattle.semantics.specs.CallEffects.{CallResult, NoResult, NullResult, ScalarResult, ReferenceResult, WeakResult, FieldResult, BufferResult, CallEffect, Throws, Halts, Leaves, delete_weak_effect}
+use Rattle.semantics.specs.CallEffects.{CallResult, NoResult, NullResult, ScalarResult, ReferenceResult, WeakResult, FieldResult, MethodResult, BufferResult, CallEffect, Throws, Halts, Leaves, delete_weak_effect}
 use Rattle.semantics.specs.Heap.{next_name}
 use Rattle.semantics.specs.Thread.{Shared, Thread}
 use Rattle.semantics.specs.Object.{Object}
@@ -23,7 +23,7 @@ module _ (classes : Classes) (brought : Brought) (space : Space) (locals : Local
   pub record GivesIt (g : Given) (effect : CallEffect) : Type 0 where
     pub gave : CallResult
     pub is : effect ≡ Leaves [] shared s gave
-    pub agrees : GivenAgrees classes space kind g gave
+    pub agrees : GivenAgrees brought.unit classes space kind g gave
 
   pub gives_it : (g : Given) (effect : CallEffect) → IsAnswer classes brought space locals kind shared s (answer.Gives g) effect → GivesIt g effect
   gives_it g (Throws c) h = absurd h
@@ -48,6 +48,7 @@ module _ (classes : Classes) (brought : Brought) (space : Space) (locals : Local
   writes_it a place v (Leaves [] s' t' (ReferenceResult r)) h = absurd h
   writes_it a place v (Leaves [] s' t' (WeakResult r)) h = absurd h
   writes_it a place v (Leaves [] s' t' (FieldResult f)) h = absurd h
+  writes_it a place v (Leaves [] s' t' (MethodResult f)) h = absurd h
   writes_it a place v (Leaves [] s' t' (BufferResult b)) h = absurd h
 
   -- an object is made
@@ -67,6 +68,7 @@ module _ (classes : Classes) (brought : Brought) (space : Space) (locals : Local
   makes_it new (Leaves (o ∷ []) s' t' (ScalarResult z)) h = absurd h
   makes_it new (Leaves (o ∷ []) s' t' (WeakResult r)) h = absurd h
   makes_it new (Leaves (o ∷ []) s' t' (FieldResult f)) h = absurd h
+  makes_it new (Leaves (o ∷ []) s' t' (MethodResult f)) h = absurd h
   makes_it new (Leaves (o ∷ []) s' t' (BufferResult b)) h = absurd h
   makes_it new (Leaves (o ∷ []) s' t' (ReferenceResult r)) h = record { object = o; is = (λ i. Leaves (o ∷ []) (h.0 i) (h.1 i) (ReferenceResult (h.3 i))); kind_is = h.2; describes = h.4 }
 

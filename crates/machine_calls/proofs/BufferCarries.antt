@@ -17,6 +17,7 @@ use Rattle.heap.proofs.Extents.{layout_pins}
 use Rattle.heap.specs.declared.value.Value.{Value}
 use Rattle.heap.specs.declared.value.Value.TheVariants as value
 use Rattle.jni.specs.Prototype.{ResultKind}
+use Rattle.syntax.specs.Views.{unit_tree}
 use Rattle.semantics.specs.Arguments.{ReleaseMode, CopyBackAndFree, CopyBack, FreeUncopied}
 use Rattle.semantics.specs.CallEffects.{CallEffect, CallResult, Leaves, NoResult, BufferResult, copied_elements, release_effect, with_freed}
 use Rattle.semantics.specs.Heap.{Heap, numbers_of, object_at, values_of, with_numbers}
@@ -86,7 +87,7 @@ module _ (p : Lowered) (w : World) (store : Store) (pending : Option ℕ) (local
 
   -- a thread that has the frames and the exception that it had, and objects that stay where they are
   pub effected : (a : Answer) (after : Store) (g : Given) (s' : Shared) (t : Thread) (c : CallResult) → t.frames ≡ s.frames → t.pending ≡ s.pending → s'.statics ≡ shared.statics → Keeps store.heap shared after.heap s'
-      → StoreAgrees p w after s' (beside others (beside (acquired_by t) (acquired_with c))) → ResultAgrees w.classes after owner g kind c → Carries a (Leaves [] s' t c) after g
+      → StoreAgrees p w after s' (beside others (beside (acquired_by t) (acquired_with c))) → ResultAgrees (unit_tree p.unit) w.classes after owner g kind c → Carries a (Leaves [] s' t c) after g
   effected a after g s' t c frames pends statics keeps agrees given = record {
     store_agrees = subst (λ (x : Shared). StoreAgrees p w after x (beside others (beside (acquired_by t) (acquired_with c)))) (sym same) agrees;
     keeps = subst (λ (x : Shared). Keeps store.heap shared after.heap x) (sym same) keeps;
@@ -348,8 +349,8 @@ module _ (p : Lowered) (w : World) (store : Store) (pending : Option ℕ) (local
       after = record store { heap = space; elements = elements; views = views }
 
       -- nothing is given
-      no_result : (z : Store) → ResultAgrees w.classes z owner given.Nothing kind NoResult
-      no_result z = subst (λ (g : ResultKind). GivenAgrees w.classes z.heap g given.Nothing NoResult) (sym does.0) tt
+      no_result : (z : Store) → ResultAgrees (unit_tree p.unit) w.classes z owner given.Nothing kind NoResult
+      no_result z = subst (λ (g : ResultKind). GivenAgrees (unit_tree p.unit) w.classes z.heap g given.Nothing NoResult) (sym does.0) tt
 
       freed_as : (t : Bool) → copies_back r.mode ≡ t → (shared_back t).statics ≡ shared.statics → GivesUp r.held store_back.heap store.elements store.views space elements views → Carries (answer.Releases r) (Leaves [] (shared_back t) (with_freed s x) NoResult) after given.Nothing
       freed_as t e statics gives =

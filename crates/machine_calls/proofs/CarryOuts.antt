@@ -21,11 +21,13 @@ use Rattle.machine_calls.proofs.StaticStores.{fresh_global, fresh_weak, keeps_bu
 use Rattle.std.specs.Prelude.{slice_get, slice_set, nat_le, if◌then◌else◌}
 use Rattle.std.proofs.lemmas.Bool.{le-leb, leb-true}
 use Rattle.std.proofs.lemmas.Option.{slice_get_within}
+use Rattle.syntax.specs.Tree.{SourceUnit}
+use Rattle.syntax.specs.Views.{unit_tree}
 use Rattle.class_rules.specs.Class.{Classes}
 use Rattle.class_rules.specs.declared.class_id.ClassId.{ClassId}
 use Rattle.heap.specs.Heap.{Space, left_of, with_value}
 use Rattle.heap.specs.declared.value.Value.{Value}
-use Rattle.jni.specs.Prototype.{ResultKind, NewLocal, NewGlobal, NewWeak, GivesFlag, GivesInt, GivesField, GivesNothing, GivesBuffer}
+use Rattle.jni.specs.Prototype.{ResultKind, NewLocal, NewGlobal, NewWeak, GivesFlag, GivesInt, GivesField, GivesMethod, GivesNothing, GivesBuffer}
 use Rattle.semantics.specs.CallEffects.{BufferResult, overwritten, string_object, with_message, frames_effect, without_local, CallResult, Leaves, NoResult, ReferenceResult, WeakResult, ScalarResult, CallEffect, out_of_memory, refuses_frames, with_capacity}
 use Rattle.semantics.specs.CallStep.{failure, makes_objects}
 use Rattle.semantics.specs.Heap.{Heap, next_name, numbers_of, with_numbers}
@@ -76,15 +78,16 @@ module _ (p : Lowered) (w : World) (space : Space) (before : LocalTable) (kind :
       subst (λ (x : Answer). CarriesOut p w space before x kind others owner shared s effect refused store pending locals g) (sym same) (f (subst (λ (x : Answer). IsAnswer w.classes brought space before kind shared s x effect) same does))
 
 -- a call that fails gives what it gives in the source
-failed_agrees : (classes : Classes) (store : Store) (owner : ℕ) (kind : ResultKind) → ResultAgrees classes store owner (failed kind) kind (failure kind)
-failed_agrees classes store owner NewLocal = refl
-failed_agrees classes store owner NewGlobal = (tt, tt, record { live = λ key e. absurd (cc); weak = λ key e. absurd (cc) })
-failed_agrees classes store owner NewWeak = (tt, tt, record { live = λ key e. absurd (cc); weak = λ key e. absurd (cc) })
-failed_agrees classes store owner GivesField = refl
-failed_agrees classes store owner GivesFlag = refl
-failed_agrees classes store owner GivesInt = (refl, record { sfits = omega arith })
-failed_agrees classes store owner GivesNothing = tt
-failed_agrees classes store owner (GivesBuffer access) = ((access, refl), refl)
+failed_agrees : (unit : SourceUnit) (classes : Classes) (store : Store) (owner : ℕ) (kind : ResultKind) → ResultAgrees unit classes store owner (failed kind) kind (failure kind)
+failed_agrees unit classes store owner NewLocal = refl
+failed_agrees unit classes store owner NewGlobal = (tt, tt, record { live = λ key e. absurd (cc); weak = λ key e. absurd (cc) })
+failed_agrees unit classes store owner NewWeak = (tt, tt, record { live = λ key e. absurd (cc); weak = λ key e. absurd (cc) })
+failed_agrees unit classes store owner GivesField = refl
+failed_agrees unit classes store owner GivesMethod = refl
+failed_agrees unit classes store owner GivesFlag = refl
+failed_agrees unit classes store owner GivesInt = (refl, record { sfits = omega arith })
+failed_agrees unit classes store owner GivesNothing = tt
+failed_agrees unit classes store owner (GivesBuffer access) = ((access, refl), refl)
 
 -- which takes nothing
 failure_none : (kind : ResultKind) → acquired_with (failure kind) ≡ nothing_acquired
@@ -92,46 +95,51 @@ failure_none NewLocal = refl
 failure_none NewGlobal = refl
 failure_none NewWeak = refl
 failure_none GivesField = refl
+failure_none GivesMethod = refl
 failure_none GivesFlag = refl
 failure_none GivesInt = refl
 failure_none GivesNothing = refl
 failure_none (GivesBuffer access) = refl
 
 -- what is neither a buffer nor for a static
-result_agrees : (classes : Classes) (store : Store) (owner : ℕ) (kind : ResultKind) (g : Given) (c : CallResult) → GivenAgrees classes store.heap kind g c → ResultAgrees classes store owner g kind c
-result_agrees classes store owner kind given.Nothing c h = h
-result_agrees classes store owner kind (given.Number word) c h = h
-result_agrees classes store owner kind (given.Reference a) c h = h
-result_agrees classes store owner kind (given.FieldId f) c h = h
-result_agrees classes store owner NewLocal (given.Global s) c h = absurd h
-result_agrees classes store owner NewGlobal (given.Global s) c h = absurd h
-result_agrees classes store owner NewWeak (given.Global s) c h = absurd h
-result_agrees classes store owner GivesFlag (given.Global s) c h = absurd h
-result_agrees classes store owner GivesInt (given.Global s) c h = absurd h
-result_agrees classes store owner GivesField (given.Global s) c h = absurd h
-result_agrees classes store owner GivesNothing (given.Global s) c h = absurd h
-result_agrees classes store owner (GivesBuffer a) (given.Global s) c h = absurd h
-result_agrees classes store owner NewLocal (given.Buffer b) c h = absurd h
-result_agrees classes store owner NewGlobal (given.Buffer b) c h = absurd h
-result_agrees classes store owner NewWeak (given.Buffer b) c h = absurd h
-result_agrees classes store owner GivesFlag (given.Buffer b) c h = absurd h
-result_agrees classes store owner GivesInt (given.Buffer b) c h = absurd h
-result_agrees classes store owner GivesField (given.Buffer b) c h = absurd h
-result_agrees classes store owner GivesNothing (given.Buffer b) c h = absurd h
-result_agrees classes store owner (GivesBuffer a) (given.Buffer b) c h = absurd h
+result_agrees : (unit : SourceUnit) (classes : Classes) (store : Store) (owner : ℕ) (kind : ResultKind) (g : Given) (c : CallResult) → GivenAgrees unit classes store.heap kind g c → ResultAgrees unit classes store owner g kind c
+result_agrees unit classes store owner kind given.Nothing c h = h
+result_agrees unit classes store owner kind (given.Number word) c h = h
+result_agrees unit classes store owner kind (given.Reference a) c h = h
+result_agrees unit classes store owner kind (given.FieldId f) c h = h
+result_agrees unit classes store owner kind (given.MethodId f) c h = h
+result_agrees unit classes store owner NewLocal (given.Global s) c h = absurd h
+result_agrees unit classes store owner NewGlobal (given.Global s) c h = absurd h
+result_agrees unit classes store owner NewWeak (given.Global s) c h = absurd h
+result_agrees unit classes store owner GivesFlag (given.Global s) c h = absurd h
+result_agrees unit classes store owner GivesInt (given.Global s) c h = absurd h
+result_agrees unit classes store owner GivesField (given.Global s) c h = absurd h
+result_agrees unit classes store owner GivesMethod (given.Global s) c h = absurd h
+result_agrees unit classes store owner GivesNothing (given.Global s) c h = absurd h
+result_agrees unit classes store owner (GivesBuffer a) (given.Global s) c h = absurd h
+result_agrees unit classes store owner NewLocal (given.Buffer b) c h = absurd h
+result_agrees unit classes store owner NewGlobal (given.Buffer b) c h = absurd h
+result_agrees unit classes store owner NewWeak (given.Buffer b) c h = absurd h
+result_agrees unit classes store owner GivesFlag (given.Buffer b) c h = absurd h
+result_agrees unit classes store owner GivesInt (given.Buffer b) c h = absurd h
+result_agrees unit classes store owner GivesField (given.Buffer b) c h = absurd h
+result_agrees unit classes store owner GivesMethod (given.Buffer b) c h = absurd h
+result_agrees unit classes store owner GivesNothing (given.Buffer b) c h = absurd h
+result_agrees unit classes store owner (GivesBuffer a) (given.Buffer b) c h = absurd h
 
 -- what is no buffer takes nothing
-no_buffer : (classes : Classes) (space : Space) (kind : ResultKind) (g : Given) (b : variable.Buffer) → GivenAgrees classes space kind g (BufferResult b) → ⊥
-no_buffer classes space GivesNothing given.Nothing b h = h
-no_buffer classes space GivesInt (given.Number word) b h = h
-no_buffer classes space GivesFlag (given.Number word) b h = h
-no_buffer classes space NewLocal (given.Reference a) b h = h
-no_buffer classes space GivesField (given.FieldId f) b h = h
-no_buffer classes space kind g b h = h
+no_buffer : (unit : SourceUnit) (classes : Classes) (space : Space) (kind : ResultKind) (g : Given) (b : variable.Buffer) → GivenAgrees unit classes space kind g (BufferResult b) → ⊥
+no_buffer unit classes space GivesNothing given.Nothing b h = h
+no_buffer unit classes space GivesInt (given.Number word) b h = h
+no_buffer unit classes space GivesFlag (given.Number word) b h = h
+no_buffer unit classes space NewLocal (given.Reference a) b h = h
+no_buffer unit classes space GivesField (given.FieldId f) b h = h
+no_buffer unit classes space GivesMethod (given.MethodId f) b h = h
+no_buffer unit classes space kind g b h = h
 
-nothing_given : (classes : Classes) (space : Space) (kind : ResultKind) (g : Given) (c : CallResult) → GivenAgrees classes space kind g c → acquired_with c ≡ nothing_acquired
-nothing_given classes space kind g (BufferResult b) h = absurd (no_buffer classes space kind g b h)
-nothing_given classes space kind g c h = refl
+nothing_given : (unit : SourceUnit) (classes : Classes) (space : Space) (kind : ResultKind) (g : Given) (c : CallResult) → GivenAgrees unit classes space kind g c → acquired_with c ≡ nothing_acquired
+nothing_given unit classes space kind g (BufferResult b) h = absurd (no_buffer unit classes space kind g b h)
+nothing_given unit classes space kind g c h = refl
 
 get_below : (xs : List ℕ) (i : ℕ) → i < length xs → (a : ℕ) × (slice_get xs i ≡ Some a)
 get_below [] i h = absurd (omega (arith, h))
@@ -175,7 +183,7 @@ module _ (p : Lowered) (w : World) (store : Store) (pending : Option ℕ) (local
     pending_agrees = error_there;
     frames_agree = h.frames_agree;
     left = λ key n level is left. is;
-    given_agrees = failed_agrees w.classes store owner kind;
+    given_agrees = failed_agrees (unit_tree p.unit) w.classes store owner kind;
     still = λ same. refl;
     could_refuse = λ e. makes;
     room = (short, refl);
@@ -202,16 +210,21 @@ module _ (p : Lowered) (w : World) (store : Store) (pending : Option ℕ) (local
   agrees_yet : (after : Store) (s' : Shared) (c : CallResult) → acquired_with c ≡ nothing_acquired → StoreAgrees p w after s' all → StoreAgrees p w after (record s' { heap = s'.heap ++ [] }) (all_with c)
   agrees_yet after s' c none agrees = subst (λ (x : Shared). StoreAgrees p w after x (all_with c)) (sym (same_heap s')) (takes_none after s' c none agrees)
 
-  pub gives : (g : Given) (effect : CallEffect) → Does (answer.Gives g) effect → Carries (answer.Gives g) effect false store pending g
-  gives g effect does =
+  -- what is given is of the unit
+  of_unit : brought.unit ≡ unit_tree p.unit → (g : Given) (c : CallResult) → GivenAgrees brought.unit w.classes store.heap kind g c → GivenAgrees (unit_tree p.unit) w.classes store.heap kind g c
+  of_unit same g c agrees = subst (λ (unit : SourceUnit). GivenAgrees unit w.classes store.heap kind g c) same agrees
+
+  pub gives : brought.unit ≡ unit_tree p.unit → (g : Given) (effect : CallEffect) → Does (answer.Gives g) effect → Carries (answer.Gives g) effect false store pending g
+  gives same_unit g effect does =
       let it = gives_it w.classes brought store.heap locals kind shared s g effect does in
+      let agrees = of_unit same_unit g it.gave it.agrees in
       subst (λ (e : CallEffect). Carries (answer.Gives g) e false store pending g) (sym it.is) (record {
-        store_agrees = agrees_yet store shared it.gave (nothing_given w.classes store.heap kind g it.gave it.agrees) h.store_agrees;
+        store_agrees = agrees_yet store shared it.gave (nothing_given (unit_tree p.unit) w.classes store.heap kind g it.gave agrees) h.store_agrees;
         keeps = subst (Keeps store.heap shared store.heap) (sym (same_heap shared)) (keeps_same store.heap shared);
         pending_agrees = h.pending_agrees;
         frames_agree = h.frames_agree;
         left = λ key n level is left. is;
-        given_agrees = result_agrees w.classes store owner kind _ _ (it.agrees);
+        given_agrees = result_agrees (unit_tree p.unit) w.classes store owner kind g it.gave agrees;
         still = λ same. refl;
         could_refuse = λ e. absurd (cc);
         room = nothing_asked store.heap;
@@ -229,7 +242,7 @@ module _ (p : Lowered) (w : World) (store : Store) (pending : Option ℕ) (local
         pending_agrees = reference_stays store.heap after.heap keeps.names pending s.pending h.pending_agrees;
         frames_agree = frames_stay store.heap after.heap keeps.names locals s.frames h.frames_agree;
         left = λ key n level is left. key_stays store.heap after.heap keeps.names locals key n level is;
-        given_agrees = result_agrees w.classes after owner kind _ _ (subst (λ (of : ResultKind). GivenAgrees w.classes after.heap of given.Nothing NoResult) (sym it.kind_is) tt);
+        given_agrees = result_agrees (unit_tree p.unit) w.classes after owner kind _ _ (subst (λ (of : ResultKind). GivenAgrees (unit_tree p.unit) w.classes after.heap of given.Nothing NoResult) (sym it.kind_is) tt);
         still = λ same. ap (λ (x : Shared). x.statics) it.writes.is;
         could_refuse = λ e. absurd (cc);
         room = nothing_asked store.heap;
@@ -244,7 +257,7 @@ module _ (p : Lowered) (w : World) (store : Store) (pending : Option ℕ) (local
         pending_agrees = h.pending_agrees;
         frames_agree = h.frames_agree;
         left = λ key n level is left. is;
-        given_agrees = result_agrees w.classes store owner kind _ _ (subst (λ (of : ResultKind). GivenAgrees w.classes store.heap of given.Nothing NoResult) (sym does.0) tt);
+        given_agrees = result_agrees (unit_tree p.unit) w.classes store owner kind _ _ (subst (λ (of : ResultKind). GivenAgrees (unit_tree p.unit) w.classes store.heap of given.Nothing NoResult) (sym does.0) tt);
         still = λ same. refl;
         could_refuse = λ e. absurd (cc);
         room = nothing_asked store.heap;
@@ -264,7 +277,7 @@ module _ (p : Lowered) (w : World) (store : Store) (pending : Option ℕ) (local
         pending_agrees = reference_stays store.heap after.heap keeps.names pending s.pending h.pending_agrees;
         frames_agree = frames_stay store.heap after.heap keeps.names locals s.frames h.frames_agree;
         left = λ key n level is left. key_stays store.heap after.heap keeps.names locals key n level is;
-        given_agrees = result_agrees w.classes after owner kind _ _ (subst (λ (of : ResultKind). GivenAgrees w.classes after.heap of given.Nothing NoResult) (sym does.0) tt);
+        given_agrees = result_agrees (unit_tree p.unit) w.classes after owner kind _ _ (subst (λ (of : ResultKind). GivenAgrees (unit_tree p.unit) w.classes after.heap of given.Nothing NoResult) (sym does.0) tt);
         still = λ same. refl;
         could_refuse = λ e. absurd (cc);
         room = nothing_asked store.heap;
@@ -279,7 +292,7 @@ module _ (p : Lowered) (w : World) (store : Store) (pending : Option ℕ) (local
         pending_agrees = error_there;
         frames_agree = h.frames_agree;
         left = λ key n level is left. is;
-        given_agrees = result_agrees w.classes store owner kind _ _ (subst (λ (of : ResultKind). GivenAgrees w.classes store.heap of (given.Number (2 ^ 32 - 4)) (ScalarResult (Int (negsuc 3)))) (sym int) (refl, record { sfits = omega arith }));
+        given_agrees = result_agrees (unit_tree p.unit) w.classes store owner kind _ _ (subst (λ (of : ResultKind). GivenAgrees (unit_tree p.unit) w.classes store.heap of (given.Number (2 ^ 32 - 4)) (ScalarResult (Int (negsuc 3)))) (sym int) (refl, record { sfits = omega arith }));
         still = λ same. refl;
         could_refuse = λ e. absurd (cc);
         room = nothing_asked store.heap;
@@ -293,16 +306,16 @@ module _ (p : Lowered) (w : World) (store : Store) (pending : Option ℕ) (local
   Left a after = (key n level : ℕ) → IsKeyOf store.heap locals key n level → IsLeft a (length locals.frames) key level → IsKeyOf store.heap after key n level
 
   -- the frames become these, and nothing else changes
-  framed : (a : Answer) (after : LocalTable) (gs : List source.Frame) (g : Given) (c : CallResult) (effect : CallEffect) → effect ≡ Leaves [] shared (record s { frames = gs }) c → FramesAgree store.heap after gs → Left a after → GivenAgrees w.classes store.heap kind g c
+  framed : (a : Answer) (after : LocalTable) (gs : List source.Frame) (g : Given) (c : CallResult) (effect : CallEffect) → effect ≡ Leaves [] shared (record s { frames = gs }) c → FramesAgree store.heap after gs → Left a after → GivenAgrees (unit_tree p.unit) w.classes store.heap kind g c
       → CarriesOut p w store.heap locals a kind others owner shared s effect false store pending after g
   framed a after gs g c effect is agree left given_agrees =
       subst (λ (e : CallEffect). CarriesOut p w store.heap locals a kind others owner shared s e false store pending after g) (sym is) (record {
-        store_agrees = agrees_yet store shared c (nothing_given w.classes store.heap kind g c given_agrees) h.store_agrees;
+        store_agrees = agrees_yet store shared c (nothing_given (unit_tree p.unit) w.classes store.heap kind g c given_agrees) h.store_agrees;
         keeps = subst (Keeps store.heap shared store.heap) (sym (same_heap shared)) (keeps_same store.heap shared);
         pending_agrees = h.pending_agrees;
         frames_agree = agree;
         left = left;
-        given_agrees = result_agrees w.classes store owner kind g c given_agrees;
+        given_agrees = result_agrees (unit_tree p.unit) w.classes store owner kind g c given_agrees;
         still = λ same. refl;
         could_refuse = λ e. absurd (cc);
         room = nothing_asked store.heap;
@@ -317,7 +330,7 @@ module _ (p : Lowered) (w : World) (store : Store) (pending : Option ℕ) (local
     had : Left a after → capacities after ≤ 1024 → CarriesOut p w store.heap locals a kind others owner shared s effect false store pending after (given.Number 0)
     had left fits =
         framed a after gs (given.Number 0) (ScalarResult (Int (pos 0))) effect (decided true (le-leb (capacities after) 1024 fits)) agree left
-        (subst (λ (of : ResultKind). GivenAgrees w.classes store.heap of (given.Number 0) (ScalarResult (Int (pos 0)))) (sym int) (refl, record { sfits = omega arith }))
+        (subst (λ (of : ResultKind). GivenAgrees (unit_tree p.unit) w.classes store.heap of (given.Number 0) (ScalarResult (Int (pos 0)))) (sym int) (refl, record { sfits = omega arith }))
 
     not_had : 1024 < capacities after → Carries a effect false store (slice_get store.loaded.items (length w.classes)) (given.Number (2 ^ 32 - 4))
     not_had over = no_room a int effect (decided false (by_test (nat_le (capacities after) 1024) refl))
@@ -361,7 +374,7 @@ module _ (p : Lowered) (w : World) (store : Store) (pending : Option ℕ) (local
     ended : (after : LocalTable) → FramesAgree store.heap after (drop 1 s.frames) → Left (answer.Pops a) after → CarriesOut p w store.heap locals (answer.Pops a) kind others owner shared s effect false store pending after (given.Reference a)
     ended after agree left =
         framed (answer.Pops a) after (drop 1 s.frames) (given.Reference a) (ReferenceResult does.1.0) effect does.1.2 agree left
-        (subst (λ (of : ResultKind). GivenAgrees w.classes store.heap of (given.Reference a) (ReferenceResult does.1.0)) (sym does.0) does.1.1)
+        (subst (λ (of : ResultKind). GivenAgrees (unit_tree p.unit) w.classes store.heap of (given.Reference a) (ReferenceResult does.1.0)) (sym does.0) does.1.1)
 
     pub pops : CarriesOut p w store.heap locals (answer.Pops a) kind others owner shared s effect false store pending (popped locals) (given.Reference a)
     pops = ended (popped locals) (frame_ended store.heap locals s.frames h.frames_agree) (λ key n level is apart. key_popped store.heap locals key n level is apart)
@@ -377,7 +390,7 @@ module _ (p : Lowered) (w : World) (store : Store) (pending : Option ℕ) (local
       framed (answer.Deletes key) (tables.without locals key) (without_local level n s.frames) given.Nothing NoResult effect is
       (reference_deleted store.heap locals s.frames key n level there h.frames_agree)
       (λ other m at its apart. key_deleted store.heap locals other m at its key apart)
-      (subst (λ (of : ResultKind). GivenAgrees w.classes store.heap of given.Nothing NoResult) (sym nothing) tt)
+      (subst (λ (of : ResultKind). GivenAgrees (unit_tree p.unit) w.classes store.heap of given.Nothing NoResult) (sym nothing) tt)
 
   -- a global reference was made, or none for NULL
   pub makes_global : (globals : List (Option ℕ)) (held : StaticReference) (effect : CallEffect) (a : Option ℕ) (r : Reference) → kind ≡ NewGlobal → ReferenceAgrees store.heap a r → effect ≡ Leaves [] (record shared { globals = option_to_list r ++ shared.globals }) s (ReferenceResult r)
@@ -427,7 +440,7 @@ module _ (p : Lowered) (w : World) (store : Store) (pending : Option ℕ) (local
         pending_agrees = h.pending_agrees;
         frames_agree = h.frames_agree;
         left = λ key n level is left. is;
-        given_agrees = subst (λ (of : ResultKind). GivenAgrees w.classes store.heap of given.Nothing NoResult) (sym nothing) tt;
+        given_agrees = subst (λ (of : ResultKind). GivenAgrees (unit_tree p.unit) w.classes store.heap of given.Nothing NoResult) (sym nothing) tt;
         still = λ same. absurd (subst IsStaticResult nothing same);
         could_refuse = λ e. absurd (cc);
         room = nothing_asked store.heap;
@@ -487,7 +500,7 @@ module _ (p : Lowered) (w : World) (store : Store) (pending : Option ℕ) (local
         pending_agrees = h.pending_agrees;
         frames_agree = h.frames_agree;
         left = λ key n level is left. is;
-        given_agrees = subst (λ (of : ResultKind). GivenAgrees w.classes store.heap of given.Nothing NoResult) (sym nothing) tt;
+        given_agrees = subst (λ (of : ResultKind). GivenAgrees (unit_tree p.unit) w.classes store.heap of given.Nothing NoResult) (sym nothing) tt;
         still = λ same. absurd (subst IsStaticResult nothing same);
         could_refuse = λ e. absurd (cc);
         room = nothing_asked store.heap;
@@ -508,7 +521,7 @@ module _ (p : Lowered) (w : World) (store : Store) (pending : Option ℕ) (local
           pending_agrees = reference_stays store.heap after.heap names pending s.pending h.pending_agrees;
           frames_agree = frames_stay store.heap after.heap names locals s.frames h.frames_agree;
           left = λ key n level is left. key_stays store.heap after.heap names locals key n level is;
-          given_agrees = result_agrees w.classes after owner kind _ _ (subst (λ (of : ResultKind). GivenAgrees w.classes after.heap of (given.Reference (Some a)) (ReferenceResult (Some (next_name shared.heap)))) (sym it.kind_is)
+          given_agrees = result_agrees (unit_tree p.unit) w.classes after owner kind _ _ (subst (λ (of : ResultKind). GivenAgrees (unit_tree p.unit) w.classes after.heap of (given.Reference (Some a)) (ReferenceResult (Some (next_name shared.heap)))) (sym it.kind_is)
               (making.made_named p w texts store after shared new it.object a all h.store_agrees made it.describes));
           still = λ same. refl;
           could_refuse = λ e. absurd (cc);
@@ -529,7 +542,7 @@ module _ (p : Lowered) (w : World) (store : Store) (pending : Option ℕ) (local
           pending_agrees = making.made_named p w texts store after shared (Fresh class) o a all h.store_agrees made described;
           frames_agree = frames_stay store.heap after.heap names locals s.frames h.frames_agree;
           left = λ key n level is left. key_stays store.heap after.heap names locals key n level is;
-          given_agrees = failed_agrees w.classes after owner kind;
+          given_agrees = failed_agrees (unit_tree p.unit) w.classes after owner kind;
           still = λ same. refl;
           could_refuse = λ e. absurd (cc);
           room = object_fits after (Fresh class) a made o described;
@@ -602,22 +615,23 @@ module _ (p : Lowered) (w : World) (store : Store) (pending : Option ℕ) (local
                 ∙ ap (λ (n : ℕ). Some (n + 1)) (length-append shared.heap (string ∷ []));
             frames_agree = frames_stay store.heap after.heap names locals s.frames h.frames_agree;
             left = λ key n level is left. key_stays store.heap after.heap names locals key n level is;
-            given_agrees = result_agrees w.classes after owner kind _ _ (subst (λ (of : ResultKind). GivenAgrees w.classes after.heap of (given.Number 0) (ScalarResult (Int (pos 0)))) (sym does.0) (refl, record { sfits = omega arith }));
+            given_agrees = result_agrees (unit_tree p.unit) w.classes after owner kind _ _ (subst (λ (of : ResultKind). GivenAgrees (unit_tree p.unit) w.classes after.heap of (given.Number 0) (ScalarResult (Int (pos 0)))) (sym does.0) (refl, record { sfits = omega arith }));
             still = λ same. refl;
             could_refuse = λ e. absurd (cc);
             room = both_fit;
           })
 
   -- another exception is pending, or none
-  pub pends : (a : Option ℕ) (g : Given) (effect : CallEffect) → Does (answer.Pends a g) effect → Carries (answer.Pends a g) effect false store a g
-  pends a g effect (r, agrees, (c, given_agrees, is)) =
+  pub pends : brought.unit ≡ unit_tree p.unit → (a : Option ℕ) (g : Given) (effect : CallEffect) → Does (answer.Pends a g) effect → Carries (answer.Pends a g) effect false store a g
+  pends same_unit a g effect (r, agrees, (c, of_call, is)) =
+      let given_agrees = of_unit same_unit g c of_call in
       subst (λ (e : CallEffect). Carries (answer.Pends a g) e false store a g) (sym is) (record {
-        store_agrees = agrees_yet store shared c (nothing_given w.classes store.heap kind g c given_agrees) h.store_agrees;
+        store_agrees = agrees_yet store shared c (nothing_given (unit_tree p.unit) w.classes store.heap kind g c given_agrees) h.store_agrees;
         keeps = subst (Keeps store.heap shared store.heap) (sym (same_heap shared)) (keeps_same store.heap shared);
         pending_agrees = agrees;
         frames_agree = h.frames_agree;
         left = λ key n level is left. is;
-        given_agrees = result_agrees w.classes store owner kind g c given_agrees;
+        given_agrees = result_agrees (unit_tree p.unit) w.classes store owner kind g c given_agrees;
         still = λ same. refl;
         could_refuse = λ e. absurd (cc);
         room = nothing_asked store.heap;

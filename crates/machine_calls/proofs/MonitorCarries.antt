@@ -6,6 +6,7 @@ use Rattle.heap.specs.Heap.{Space}
 use Rattle.heap.specs.Layout.{layout_of}
 use Rattle.machine_scenes.proofs.ObjectExtents.{none_laid}
 use Rattle.jni.specs.Prototype.{ResultKind, GivesInt}
+use Rattle.syntax.specs.Views.{unit_tree}
 use Rattle.semantics.specs.CallEffects.{CallEffect, ScalarResult}
 use Rattle.semantics.specs.Thread as source
 use Rattle.semantics.specs.Thread.{Shared, Thread}
@@ -83,7 +84,7 @@ module _ (p : Lowered) (w : World) (store : Store) (pending : Option ℕ) (local
       subst (λ (e : CallEffect). Carries a e ms) (sym does.is)
       (effected p w store pending locals kind others owner shared s h brought a after (given.Number 0) left_shared s (ScalarResult (Int (pos 0))) refl refl refl (keeps_monitors store.heap shared does.monitors)
       (agrees_same p w after left_shared all (agrees_monitors p w store shared all h.store_agrees ms does.monitors does.agree there) (beside others (beside (acquired_by s) nothing_acquired)) (beside_nothing others (acquired_by s)))
-      (subst (λ (r : ResultKind). GivenAgrees w.classes store.heap r (given.Number 0) (ScalarResult (Int (pos 0)))) (sym int) (refl, record { sfits = omega arith })))
+      (subst (λ (r : ResultKind). GivenAgrees (unit_tree p.unit) w.classes store.heap r (given.Number 0) (ScalarResult (Int (pos 0)))) (sym int) (refl, record { sfits = omega arith })))
 
   -- what `enter` ensures of the object that is entered
   module _ (o : Object) (effect : CallEffect) (does : Does (answer.Enters o) effect) where

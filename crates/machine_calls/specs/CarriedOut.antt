@@ -1,11 +1,13 @@
 -- What carrying out an answer leaves, by the effect of the source's call.
 use Rattle.std.specs.Prelude.{◌≡◌, ◌≢◌, ℕ, ◌-◌, ◌^◌, ◌<◌, ◌≤◌, Bool, true, false, if◌then◌else◌, List, [], ◌∷◌, ◌++◌, length, slice_get, slice_set, IsSome, Option, Some, None}
 use Rattle.base.specs.Bytes.{Identifier}
+use Rattle.syntax.specs.Tree.{SourceUnit}
+use Rattle.syntax.specs.Views.{unit_tree}
 use Rattle.class_rules.specs.Class.{Classes}
 use Rattle.code.specs.declared.instr.Call.{Call}
 use Rattle.code.specs.declared.instr.LocalArray.{LocalArray}
 use Rattle.heap.specs.Heap.{Space, left_of}
-use Rattle.jni.specs.Prototype.{ResultKind, NewLocal, NewGlobal, NewWeak, GivesFlag, GivesInt, GivesField, GivesBuffer}
+use Rattle.jni.specs.Prototype.{ResultKind, NewLocal, NewGlobal, NewWeak, GivesFlag, GivesInt, GivesField, GivesMethod, GivesBuffer}
 use Rattle.jni.specs.Table.{result_value}
 use Rattle.semantics.specs.CallEffects.{CallResult, NoResult, NullResult, ReferenceResult, WeakResult, BufferResult, CallEffect, Leaves, Throws, Halts, out_of_memory}
 use Rattle.semantics.specs.CallStep.{failure, makes_objects, static_result}
@@ -124,11 +126,11 @@ IsForStatic NewWeak NullResult = Unit {0}
 IsForStatic kind c = ⊥
 
 -- what a function of this kind of result gives to a call of this number, where that may be a buffer or for a static
-abbrev pub ResultAgrees : Classes → Store → (owner : ℕ) → Given → ResultKind → CallResult → Type 0
-ResultAgrees classes store owner (given.Buffer h) kind c = IsBufferResult kind × BufferIsGiven store owner h c
-ResultAgrees classes store owner (given.Global s) kind c = IsForStatic kind c
+abbrev pub ResultAgrees : SourceUnit → Classes → Store → (owner : ℕ) → Given → ResultKind → CallResult → Type 0
+ResultAgrees unit classes store owner (given.Buffer h) kind c = IsBufferResult kind × BufferIsGiven store owner h c
+ResultAgrees unit classes store owner (given.Global s) kind c = IsForStatic kind c
     × HeldAgrees store.heap (held store.globals store.weaks s) (static_result c) × IsFresh store s
-ResultAgrees classes store owner g kind c = GivenAgrees classes store.heap kind g c
+ResultAgrees unit classes store owner g kind c = GivenAgrees unit classes store.heap kind g c
 
 -- the number slots once an answer is carried out
 abbrev pub slots_after : Space → Answer → List ℕ → List ℕ
@@ -207,7 +209,7 @@ pub record CarriesOut (p : Lowered) (w : World) (old : Space) (before : LocalTab
   pub pending_agrees : ReferenceAgrees store.heap pending (pending_after w.classes refused shared s effect)
   pub frames_agree : FramesAgree store.heap locals (frames_left refused s effect)
   pub left : (key n level : ℕ) → IsKeyOf old before key n level → IsLeft answer (length before.frames) key level → IsKeyOf store.heap locals key n level
-  pub given_agrees : ResultAgrees w.classes store owner given kind (result_after kind refused effect)
+  pub given_agrees : ResultAgrees (unit_tree p.unit) w.classes store owner given kind (result_after kind refused effect)
   pub still : IsStaticResult kind → (shared_after w.classes refused shared effect).statics ≡ shared.statics
   pub could_refuse : refused ≡ true → makes_objects effect ≡ true
   pub room : GoesByRoom refused (sizes (made_by w.classes effect)) old store.heap
@@ -218,6 +220,7 @@ failed NewLocal = given.Reference None
 failed NewGlobal = given.Global static.Empty
 failed NewWeak = given.Global static.Empty
 failed GivesField = given.FieldId None
+failed GivesMethod = given.MethodId None
 failed GivesInt = given.Number (2 ^ 32 - 1)
 failed GivesFlag = given.Number 0
 failed (GivesBuffer access) = given.Buffer buffer.Null
@@ -237,7 +240,7 @@ abbrev pub HasAnswer : World → Store → (pending : Option ℕ) → Activation
 HasAnswer w store pending activation call k owner a =
     (p : Lowered) × (array : Option (Identifier × LocalArray)) × (others : Acquired) × (shared : Shared) × (s : Thread)
     × (effect : CallEffect) × IsPossible p w store pending activation.locals others shared s
-    × IsAnswer w.classes (bringing (texts_in call.texts.items) activation.slots.numbers.items
+    × IsAnswer w.classes (bringing (unit_tree p.unit) (texts_in call.texts.items) activation.slots.numbers.items
     (holding activation.slots.buffers.items store.elements owner) k (in_use_of (beside others (acquired_by s))) array)
     store.heap activation.locals (result_value call.result) shared s a effect
 
@@ -247,7 +250,7 @@ abbrev pub CarriesOutAnswer : World → (old store : Store) → (pending left : 
 CarriesOutAnswer w old store pending left before after call k owner a carried =
     (p : Lowered) (array : Option (Identifier × LocalArray)) (others : Acquired) (shared : Shared) (s : Thread)
     (effect : CallEffect) → IsPossible p w old pending before.locals others shared s
-    → IsAnswer w.classes (bringing (texts_in call.texts.items) before.slots.numbers.items
+    → IsAnswer w.classes (bringing (unit_tree p.unit) (texts_in call.texts.items) before.slots.numbers.items
     (holding before.slots.buffers.items old.elements owner) k (in_use_of (beside others (acquired_by s))) array)
     old.heap before.locals (result_value call.result) shared s a effect
     → CarriesOut p w old.heap before.locals a (result_value call.result) others owner shared s effect

@@ -445,6 +445,7 @@ fn failed(kind: ResultKind) -> Given
         ResultKind::NewLocal => Given::Reference(None),
         ResultKind::NewGlobal | ResultKind::NewWeak => Given::Global(StaticReference::Empty),
         ResultKind::GivesField => Given::FieldId(None),
+        ResultKind::GivesMethod => Given::MethodId(None),
         ResultKind::GivesInt => Given::Number(u32::MAX),
         ResultKind::GivesFlag => Given::Number(0),
         ResultKind::GivesBuffer(_) => Given::Buffer(Buffer::Null),

@@ -13,7 +13,7 @@ use Rattle.semantics.specs.Sight.{held_reference, holds_null, static_is_null}
 use Rattle.semantics.specs.Task.{VariableKind, ReferenceKind}
 use Rattle.semantics.specs.Thread as source
 use Rattle.semantics.specs.Thread.{Shared}
-use Rattle.semantics.specs.Variable.{Variable, Scalar, LocalRef, FieldHandle, Elements, LocalArray, StaticReference, Empty, Live, Weakly, Cleared, Deleted, Statics}
+use Rattle.semantics.specs.Variable.{Variable, Scalar, LocalRef, FieldHandle, MethodHandle, Elements, LocalArray, StaticReference, Empty, Live, Weakly, Cleared, Deleted, Statics}
 use Rattle.semantics.specs.Value.{Gives}
 use Rattle.semantics.specs.WeakReferences.{cleared, cleared_statics}
 use Rattle.semantics_safety.specs.Owners.{Owners}
@@ -70,6 +70,7 @@ hidden None k a b kind = absurd (cc)
 hidden (Some (LocalRef level r)) k a b kind = refl
 hidden (Some (Scalar v)) k a b kind = refl
 hidden (Some (FieldHandle f)) k a b kind = refl
+hidden (Some (MethodHandle f)) k a b kind = refl
 hidden (Some (Elements t held)) k a b kind = refl
 hidden (Some (LocalArray t zs)) k a b kind = refl
 
@@ -79,6 +80,7 @@ none_there (Some (LocalArray t zs)) array kind = absurd (let e : Some t ≡ None
 none_there (Some (Scalar v)) array kind = absurd (cc)
 none_there (Some (LocalRef level r)) array kind = absurd (cc)
 none_there (Some (FieldHandle f)) array kind = absurd (cc)
+none_there (Some (MethodHandle f)) array kind = absurd (cc)
 none_there (Some (Elements t held)) array kind = absurd (cc)
 
 -- ---- what the slots show
@@ -120,6 +122,7 @@ module _ (own : Owners) (names : List ℕ) (shared : Shared) (s : source.Thread)
   slot_shown x slots slot sort.Global h = static_shown x slot.index h
   slot_shown x slots slot sort.Weak h = static_shown x slot.index h
   slot_shown x slots slot sort.FieldId h = record { field = h.field; is = h.is; is_null = nulls x ∙ h.is_null; no_number = h.no_number; kind = h.kind; there = h.there }
+  slot_shown x slots slot sort.MethodId h = record { method = h.method; is = h.is; is_null = nulls x ∙ h.is_null; no_number = h.no_number; kind = h.kind; there = h.there }
   slot_shown x slots slot (sort.Buffer t writable) h = record { buffer = h.buffer; is = h.is; is_null = nulls x ∙ h.is_null; kind = h.kind; there = h.there }
   slot_shown x slots slot (sort.Array t size) h = record {
     few = h.few;

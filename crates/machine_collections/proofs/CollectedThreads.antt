@@ -1,13 +1,16 @@
 -- Threads stand for those of the source still, once a collection has moved what they refer to and has cleared what is lost there.
-use Rattle.std.proofs.Common.{◌≡◌, ℕ, zero, suc, ◌+◌, ◌<◌, ◌≤◌, List, [], ◌∷◌, map, take, drop, Option, Some, None, sym, ap, ◌∙◌, subst, arith, refl}
+use Rattle.std.proofs.Common.{◌≡◌, ℕ, zero, suc, ◌+◌, ◌<◌, ◌≤◌, List, [], ◌∷◌, length, map, take, drop, Option, Some, None, sym, ap, ◌∙◌, subst, arith, refl}
 use Rattle.std.specs.Prelude.{flat_map, slice_get, reverse}
 use Rattle.std.specs.Option.{option_map}
+use Rattle.std.specs.List.{AllZip}
+use Rattle.std.proofs.lemmas.List.{length-map, with_items_is}
 use Rattle.class_rules.specs.Class.{Classes}
 use Rattle.std.proofs.lemmas.List.Concat.{flat_map-cons}
 use Rattle.heap.specs.Heap.{Space, name_at, pins_at}
 use Rattle.semantics.specs.Task.{Task, Invoke}
 use Rattle.semantics.specs.Thread as source
 use Rattle.semantics.specs.Thread.{Shared, objects_viewed, viewed_by}
+use Rattle.semantics.specs.Variable as variable
 use Rattle.code_meaning.specs.Lowered.{Lowered}
 use Rattle.code_meaning.specs.Slots.{Visible, visible_to}
 use Rattle.semantics_safety.specs.Owners.{Owners, AllOwners}
@@ -17,17 +20,19 @@ use Rattle.machine_scenes.specs.declared.activation.Activation.{Activation}
 use Rattle.machine_scenes.specs.declared.buffer.Buffer.{Buffer}
 use Rattle.machine_scenes.specs.declared.buffer.Buffer.TheVariants as buffer
 use Rattle.machine_scenes.specs.declared.store.Store.{Store}
-use Rattle.machine_scenes.specs.Buffers.{AreViewed, viewed_in}
+use Rattle.machine_scenes.specs.Buffers.{AreViewed, BufferAgrees, viewed_in}
 use Rattle.machine_scenes.specs.HeapAgrees.{times}
 use Rattle.machine_threads.specs.declared.thread.Thread.{Thread}
-use Rattle.machine_threads.specs.Callers.{CallerAgrees, seen_by}
+use Rattle.machine_threads.specs.Callers.{CallerAgrees, CallersAgree, owner_at, seen_by, thread_of}
 use Rattle.machine_threads.specs.InProgress.{CallStands, WorkAgrees}
 use Rattle.machine_threads.specs.ThreadAgrees.{ThreadsAgree, buffers_of}
+use Rattle.machine_threads.proofs.Reversed.{all_reversed, map_reversed}
+use Rattle.machine_threads.proofs.SameViews.{viewed_same}
 use Rattle.compact.specs.Same.{MovesBy}
 use Rattle.machine_collections.specs.Moving.{moved_call, moved_thread}
 use Rattle.machine_collections.proofs.Collections.{FramesKept, buffers_moved, keys_moved, locals_moved, reference_moved}
-use Rattle.machine_collections.proofs.HeldViews.{AgreeInSlots, slots_agree, view_at, viewed_same}
-use Rattle.machine_collections.proofs.KeptReferences.{AreKept, CallIsKept, ThreadsAreKept}
+use Rattle.machine_collections.proofs.HeldViews.{AgreeInSlots, slots_agree, view_at}
+use Rattle.machine_collections.proofs.KeptReferences.{AreKept, CallIsKept, CallersAreKept, ThreadsAreKept}
 use Rattle.machine_collections.proofs.ReachableNames.{in_times}
 use Rattle.machine_collections.proofs.RootNames.{times_append}
 
@@ -76,6 +81,12 @@ module _ (Kept : ℕ → Type 0) (to : ℕ → ℕ) (p : Lowered) (store : Store
     frames_agree = locals_moved Kept to store.heap t m call.locals frames (frames_kept (reverse call.locals.frames) call.locals.slots kept) h.frames_agree;
   }
 
+  -- what buffers in slots view is what they viewed
+  views_moved : (k : ℕ) (slots : List Buffer) (buffers : List variable.Buffer) (s : source.Thread) → ArePinned slots → AllZip (BufferAgrees store.heap store.elements k) slots buffers → AreViewed store.heap slots s → AreViewed t slots s
+  views_moved k slots buffers s pinned agree views =
+      subst (λ (l : List ℕ). (n : ℕ) → times n l ≤ times n (objects_viewed s.variables))
+      (sym (viewed_same store.heap t store.elements store.elements k slots buffers agree (buffers_moved Kept to store.heap t m store.elements k slots buffers pinned agree))) views
+
   -- the same of a call from which another was made
   pub caller_moved : (classes : Classes) (k : ℕ) (own : Owners) (shared : Shared) (call : Activation) (c : source.Caller) → AreKept Kept (references_in call.locals.slots) → ArePinned call.slots.buffers.items → CallerAgrees p classes store.heap store.elements k call own shared c
       → CallerAgrees p classes t store.elements k (moved_call to call) own shared c
@@ -86,6 +97,7 @@ module _ (Kept : ℕ → Type 0) (to : ℕ → ℕ) (p : Lowered) (store : Store
     ready = h.ready;
     result = h.result;
     stands = call_moved classes k call (seen_by own shared c) c.frames (Invoke h.line c.target h.function h.operands ∷ c.tasks) kept pinned h.stands;
+    views = views_moved k call.slots.buffers.items h.stands.meant.buffers (thread_of c) pinned h.stands.holds.buffers.agree h.views;
   }
 
   work_moved : (classes : Classes) (k : ℕ) (visible : Visible) (o : Option Activation) (frames : List source.Frame) (tasks : Option (List Task)) → CallIsKept Kept o → ArePinned (buffers_of o) → WorkAgrees p classes store.heap store.elements k visible o frames tasks
@@ -94,6 +106,10 @@ module _ (Kept : ℕ → Type 0) (to : ℕ → ℕ) (p : Lowered) (store : Store
   work_moved classes k visible None frames (Some tasks) kept pinned h = h
   work_moved classes k visible (Some call) frames None kept pinned h = h
   work_moved classes k visible (Some call) frames (Some tasks) kept pinned h = call_moved classes k call visible frames tasks kept pinned h
+
+  -- as many callers, each moved
+  items_moved : (x : Thread) → (moved_thread to x).callers.items ≡ map (moved_call to) x.callers.items
+  items_moved x = with_items_is x.callers (map (moved_call to) x.callers.items) (length-map x.callers.items (moved_call to) ∙ sym x.callers.ok.0)
 
   -- the slots are those that they were
   still_slots : (o : Option Activation) → buffers_of (option_map (moved_call to) o) ≡ buffers_of o
@@ -108,6 +124,26 @@ module _ (Kept : ℕ → Type 0) (to : ℕ → ℕ) (p : Lowered) (store : Store
       let often = in_times (viewed_in store.heap (buffers_of o)) r.0 r.2 in
       pinned a r.0 r.1 (omega (arith, often, views r.0))
 
+  callers_moved : (classes : Classes) (k : ℕ) (shared : Shared) (calls : List Activation) (owners : List Owners) (callers : List source.Caller) → CallersAreKept Kept calls
+      → ((a n : ℕ) → name_at store.heap a ≡ Some n → 0 < times n (flat_map (λ (c : source.Caller). objects_viewed c.variables) callers) → Kept a × (0 < pins_at store.heap a))
+      → CallersAgree p classes store.heap store.elements k shared calls owners callers → CallersAgree p classes t store.elements k shared (map (moved_call to) calls) owners callers
+  callers_moved classes k shared [] [] [] kept pinned h = h
+  callers_moved classes k shared (call ∷ calls) (own ∷ owners) (c ∷ callers) kept pinned h =
+      let owner = owner_at k (length callers) in
+      let slots : AgreeInSlots store.heap store.elements owner (Some call) = record { buffers = (h.0).stands.meant.buffers; agree = (h.0).stands.holds.buffers.agree } in
+      let later = flat_map (λ (c : source.Caller). objects_viewed c.variables) callers in
+      let parts : (n : ℕ) → times n (flat_map (λ (c : source.Caller). objects_viewed c.variables) (c ∷ callers)) ≡ times n (objects_viewed c.variables) + times n later =
+      λ n. ap (times n) (flat_map-cons (λ (c : source.Caller). objects_viewed c.variables) c callers) ∙ times_append n (objects_viewed c.variables) later in
+      let own_pinned = thread_pinned owner (Some call) (thread_of c) slots (h.0).views (λ a n named some. pinned a n named (omega (arith, some, parts n))) in (
+        caller_moved classes owner own shared call c kept.0 own_pinned h.0,
+        callers_moved classes k shared calls owners callers kept.1 (λ a n named some. pinned a n named (omega (arith, some, parts n))) h.1,
+      )
+  callers_moved classes k shared calls owners callers kept pinned h = absurd h
+
+  -- memory has them the other way round
+  callers_in : (x : Thread) → reverse (moved_thread to x).callers.items ≡ map (moved_call to) (reverse x.callers.items)
+  callers_in x = ap reverse (items_moved x) ∙ map_reversed (moved_call to) x.callers.items
+
   pub threads_moved : (classes : Classes) (made : ℕ) (owners : AllOwners) (k : ℕ) (shared : Shared) (ts : List Thread) (ss : List source.Thread) → ThreadsAreKept Kept ts
       → ((a n : ℕ) → name_at store.heap a ≡ Some n → 0 < times n (flat_map viewed_by ss) → Kept a × (0 < pins_at store.heap a))
       → ThreadsAgree p classes store.heap store.elements made owners k shared ts ss → ThreadsAgree p classes t store.elements made owners k shared (map (moved_thread to) ts) ss
@@ -115,21 +151,24 @@ module _ (Kept : ℕ → Type 0) (to : ℕ → ℕ) (p : Lowered) (store : Store
   threads_moved classes made owners k shared [] (s ∷ ss) kept pinned h = h
   threads_moved classes made owners k shared (x ∷ ts) [] kept pinned h = h
   threads_moved classes made owners k shared (x ∷ ts) (s ∷ ss) kept pinned h =
-      let slots = slots_agree p classes store.heap store.elements k (visible_to (owners k).current shared s) x.call s.frames s.tasks (h.0).work in
+      let owner = owner_at k (length s.callers) in
+      let slots = slots_agree p classes store.heap store.elements owner (visible_to (owners k).current shared s) x.call s.frames s.tasks (h.0).work in
+      let below = flat_map (λ (c : source.Caller). objects_viewed c.variables) s.callers in
       let parts : (n : ℕ) → times n (flat_map viewed_by (s ∷ ss)) ≡ times n (viewed_by s) + times n (flat_map viewed_by ss) = λ n. ap (times n) (flat_map-cons viewed_by s ss) ∙ times_append n (viewed_by s) (flat_map viewed_by ss) in
-      let own = thread_pinned k x.call s slots (h.0).views (λ a n named some. pinned a n named (omega (arith, some, parts n, times_append n (flat_map (λ (c : source.Caller). objects_viewed c.variables) s.callers) (objects_viewed s.variables)))) in (
+      let own = thread_pinned owner x.call s slots (h.0).views (λ a n named some. pinned a n named (omega (arith, some, parts n, times_append n below (objects_viewed s.variables)))) in (
         record {
           calls = (h.0).calls;
-          work = work_moved classes k (visible_to (owners k).current shared s) x.call s.frames s.tasks kept.0 own (h.0).work;
-          callers = (h.0).callers;
-          pending = reference_moved Kept to store.heap t m x.pending s.pending kept.1 (h.0).pending;
+          work = work_moved classes owner (visible_to (owners k).current shared s) x.call s.frames s.tasks kept.1 own (h.0).work;
+          callers = subst (λ (calls : List Activation). CallersAgree p classes t store.elements k shared calls (owners k).callers s.callers) (sym (callers_in x))
+              (callers_moved classes k shared (reverse x.callers.items) (owners k).callers s.callers (all_reversed (λ (call : Activation). AreKept Kept (references_in call.locals.slots)) x.callers.items kept.0)
+              (λ a n named some. pinned a n named (omega (arith, some, parts n, times_append n below (objects_viewed s.variables)))) (h.0).callers);
+          few = let count = ap length (items_moved x) ∙ length-map x.callers.items (moved_call to) in let before = (h.0).few in omega (arith, count, before);
+          pending = reference_moved Kept to store.heap t m x.pending s.pending kept.2 (h.0).pending;
           ending = (h.0).ending;
           busy = (h.0).busy;
           caught = (h.0).caught;
           idle = (h.0).idle;
-          views = subst (λ (slots : List Buffer). AreViewed t slots s) (sym (still_slots x.call))
-              (subst (λ (l : List ℕ). (n : ℕ) → times n l ≤ times n (objects_viewed s.variables))
-              (sym (viewed_same store.heap t store.elements store.elements k (buffers_of x.call) slots.buffers slots.agree (buffers_moved Kept to store.heap t m store.elements k (buffers_of x.call) slots.buffers own slots.agree))) (h.0).views);
+          views = subst (λ (slots : List Buffer). AreViewed t slots s) (sym (still_slots x.call)) (views_moved owner (buffers_of x.call) slots.buffers s own slots.agree (h.0).views);
         },
-        threads_moved classes made owners (suc k) shared ts ss kept.2 (λ a n named some. pinned a n named (omega (arith, some, parts n))) h.1,
+        threads_moved classes made owners (suc k) shared ts ss kept.3 (λ a n named some. pinned a n named (omega (arith, some, parts n))) h.1,
       )

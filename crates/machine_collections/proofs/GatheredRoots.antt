@@ -2,14 +2,14 @@
 use Rattle.std.proofs.Common.{◌≡◌, ℕ, zero, suc, ◌+◌, ◌-◌, ◌<◌, List, [], ◌∷◌, ◌++◌, length, map, take, drop, Option, Some, None, refl, sym, ap, ◌∙◌, subst, arith, Contains, ⊎_elim}
 use Rattle.std.specs.Prelude.{flat_map, slice_get, reverse}
 use Rattle.std.specs.Option.{option_to_list}
-use Rattle.std.specs.List.{AllZip}
+use Rattle.std.specs.List.{AllZip, AllByRecursion}
 use Rattle.std.proofs.lemmas.Bool.{false≢true}
 use Rattle.heap.specs.Heap.{Space, name_at}
 use Rattle.semantics.specs.Object.{Reference}
 use Rattle.semantics.specs.Reachable.{frame_roots, from_one, thread_roots}
 use Rattle.semantics.specs.Thread as source
 use Rattle.semantics.proofs.ReachableLemmas.{In, in_append_cases, in_append_left, in_append_right, in_cases, in_head, in_tail, contains_in, to_contains}
-use Rattle.tables.specs.Locals.{Frame, slots_by_frame}
+use Rattle.tables.specs.Locals.{AreStacked, Frame, slots_by_frame}
 use Rattle.tables.specs.References.{references_in}
 use Rattle.machine_scenes.specs.declared.activation.Activation.{Activation}
 use Rattle.machine_scenes.specs.declared.store.Store.{Store}
@@ -18,21 +18,32 @@ use Rattle.machine_scenes.specs.HeapAgrees.{IsTable, NamesAgree, ReferenceAgrees
 use Rattle.machine_scenes.specs.Locals.{FrameAgrees}
 use Rattle.semantics.proofs.ShownRows.{from_one-contains}
 use Rattle.machine_scenes.proofs.HeapLaws.{from_one-bounds}
-use Rattle.machine_collections.specs.Roots.{CallIsStacked, ThreadsAreStacked, loaded_places, root_places, slots_of, thread_places}
+use Rattle.machine_collections.specs.Roots.{CallIsStacked, CallersAreStacked, ThreadIsStacked, ThreadsAreStacked, call_places, loaded_places, root_places, slots_of, thread_places}
 use Rattle.machine_threads.proofs.EntryTables.{references_after}
+use Rattle.machine_threads.proofs.Reversed.{all_reversed, reversed_next}
 use Rattle.compact.proofs.Blocks.{Contains-from_get, get-from_contains}
+use Rattle.std.proofs.lemmas.List.{append-nil}
 use Rattle.std.proofs.lemmas.List.Concat.{flat_map-cons}
+use Rattle.std.proofs.lemmas.Grind.{flat_map-append}
 use Rattle.machine_monitors.specs.Fit.{AreThere, MonitorsAgree}
 use Rattle.monitors.specs.Monitors.{addresses}
 use Rattle.machine_collections.proofs.OwnedMonitors.{monitor_addresses, monitor_names, monitors_are, monitors_name, monitors_place}
 use Rattle.machine_collections.proofs.ReachableNames.{in_times, times_in}
-use Rattle.machine_collections.proofs.RootNames.{CallFrames, HasRootsOf, have_all, names_of}
+use Rattle.machine_collections.proofs.RootNames.{CallFrames, CallersFrames, HasRootsOf, have_all, names_of}
 
 -- ---- the addresses of the roots
 
+-- the addresses that a call refers to
+abbrev pub call_addresses : Activation → List ℕ
+call_addresses call = references_in (call_places call)
+
+-- those that a thread's call in progress and its pending exception refer to
+abbrev pub own_addresses : Thread → List ℕ
+own_addresses t = references_in (slots_of t.call) ++ option_to_list t.pending
+
 -- the addresses that a thread refers to
 abbrev pub thread_addresses : Thread → List ℕ
-thread_addresses t = references_in (slots_of t.call) ++ option_to_list t.pending
+thread_addresses t = flat_map call_addresses t.callers.items ++ own_addresses t
 
 -- the addresses of the objects made at load, of the global references, of what threads refer to, and of the objects of monitors
 abbrev pub gathered : Store → List Thread → List ℕ
@@ -42,8 +53,20 @@ gathered store ts = store.loaded.items ++ (references_in store.globals ++ (flat_
 abbrev pub names_gathered : (made : ℕ) → (globals : List ℕ) → List source.Thread → List source.Monitor → List ℕ
 names_gathered made globals ss owned = from_one made ++ (globals ++ (flat_map thread_roots ss ++ monitor_names owned))
 
+calls_are : (calls : List Activation) → references_in (flat_map call_places calls) ≡ flat_map call_addresses calls
+calls_are [] = refl
+calls_are (call ∷ calls) =
+    ap references_in (flat_map-cons call_places call calls)
+    ∙ references_after (call_places call) (flat_map call_places calls)
+    ∙ ap (λ (l : List ℕ). call_addresses call ++ l) (calls_are calls)
+    ∙ sym (flat_map-cons call_addresses call calls)
+
 thread_is : (t : Thread) → references_in (thread_places t) ≡ thread_addresses t
-thread_is t = references_after (slots_of t.call) (t.pending ∷ []) ∙ ap (λ (l : List ℕ). references_in (slots_of t.call) ++ l) (one t.pending)
+thread_is t =
+    references_after (flat_map call_places t.callers.items) (slots_of t.call ++ t.pending ∷ [])
+    ∙ ap (λ (l : List ℕ). l ++ references_in (slots_of t.call ++ t.pending ∷ [])) (calls_are t.callers.items)
+    ∙ ap (λ (l : List ℕ). flat_map call_addresses t.callers.items ++ l)
+    (references_after (slots_of t.call) (t.pending ∷ []) ∙ ap (λ (l : List ℕ). references_in (slots_of t.call) ++ l) (one t.pending))
   where
     one : (o : Option ℕ) → references_in (o ∷ []) ≡ option_to_list o
     one None = refl
@@ -133,9 +156,56 @@ in_take (suc n) (None ∷ slots) a h = in_take n slots a h
 in_take (suc n) (Some b ∷ slots) a h =
     ⊎_elim (λ (e : b ≡ a). subst (λ z. In (b ∷ references_in slots) z) e (in_head b (references_in slots))) (λ (l : In (references_in (take n slots)) a). in_tail b (references_in slots) a (in_take n slots a l)) (in_cases b (references_in (take n slots)) a h)
 
--- what a thread that has no callers refers to
-own_roots : (s : source.Thread) → s.callers ≡ [] → thread_roots s ≡ flat_map (λ (g : source.Frame). g.references) s.frames ++ option_to_list s.pending
-own_roots s alone = ap (λ (l : List source.Caller). flat_map (λ (c : source.Caller). frame_roots c.frames) l ++ frame_roots s.frames ++ option_to_list s.pending) alone
+-- what a thread refers to is what its callers do, its frames and its pending exception
+in_roots : (s : source.Thread) (n : ℕ) {A : Type 0} → (In (flat_map (λ (c : source.Caller). frame_roots c.frames) s.callers) n → A) → (In (frame_roots s.frames) n → A) → (In (option_to_list s.pending) n → A) → In (thread_roots s) n → A
+in_roots s n callers frames pending k =
+    let below = flat_map (λ (c : source.Caller). frame_roots c.frames) s.callers in
+    ⊎_elim (λ (l : In (below ++ frame_roots s.frames) n). ⊎_elim callers frames (in_append_cases below (frame_roots s.frames) n l)) pending
+    (in_append_cases (below ++ frame_roots s.frames) (option_to_list s.pending) n k)
+
+caller_root : (s : source.Thread) (n : ℕ) → In (flat_map (λ (c : source.Caller). frame_roots c.frames) s.callers) n → In (thread_roots s) n
+caller_root s n k =
+    let below = flat_map (λ (c : source.Caller). frame_roots c.frames) s.callers in
+    in_append_left (below ++ frame_roots s.frames) (option_to_list s.pending) n (in_append_left below (frame_roots s.frames) n k)
+
+frame_root : (s : source.Thread) (n : ℕ) → In (frame_roots s.frames) n → In (thread_roots s) n
+frame_root s n k =
+    let below = flat_map (λ (c : source.Caller). frame_roots c.frames) s.callers in
+    in_append_left (below ++ frame_roots s.frames) (option_to_list s.pending) n (in_append_right below (frame_roots s.frames) n k)
+
+pending_root : (s : source.Thread) (n : ℕ) → In (option_to_list s.pending) n → In (thread_roots s) n
+pending_root s n k = in_append_right (flat_map (λ (c : source.Caller). frame_roots c.frames) s.callers ++ frame_roots s.frames) (option_to_list s.pending) n k
+
+-- ---- the order of callers
+
+next_reversed : {A : Type 0} (f : A → List ℕ) (x : A) (xs : List A) → flat_map f (reverse (x ∷ xs)) ≡ flat_map f (reverse xs) ++ f x
+next_reversed {A} f x xs =
+    ap (flat_map f) (reversed_next x xs)
+    ∙ flat_map-append f (reverse xs) (x ∷ [])
+    ∙ ap (λ (l : List ℕ). flat_map f (reverse xs) ++ l) (flat_map-cons f x [] ∙ append-nil (f x))
+
+pub from_reversed : {A : Type 0} (f : A → List ℕ) (xs : List A) (n : ℕ) → In (flat_map f (reverse xs)) n → In (flat_map f xs) n
+from_reversed f [] n k = k
+from_reversed f (x ∷ xs) n k =
+    subst (λ (l : List ℕ). In l n) (sym (flat_map-cons f x xs))
+    (⊎_elim
+    (λ (l : In (flat_map f (reverse xs)) n). in_append_right (f x) (flat_map f xs) n (from_reversed f xs n l))
+    (λ (r : In (f x) n). in_append_left (f x) (flat_map f xs) n r)
+    (in_append_cases (flat_map f (reverse xs)) (f x) n (subst (λ (l : List ℕ). In l n) (next_reversed f x xs) k)))
+
+pub to_reversed : {A : Type 0} (f : A → List ℕ) (xs : List A) (n : ℕ) → In (flat_map f xs) n → In (flat_map f (reverse xs)) n
+to_reversed f [] n k = k
+to_reversed f (x ∷ xs) n k =
+    subst (λ (l : List ℕ). In l n) (sym (next_reversed f x xs))
+    (⊎_elim
+    (λ (l : In (f x) n). in_append_right (flat_map f (reverse xs)) (f x) n l)
+    (λ (r : In (flat_map f xs) n). in_append_left (flat_map f (reverse xs)) (f x) n (to_reversed f xs n r))
+    (in_append_cases (f x) (flat_map f xs) n (subst (λ (l : List ℕ). In l n) (flat_map-cons f x xs) k)))
+
+-- what holds of each place holds of each call
+each_stacked : (calls : List Activation) → CallersAreStacked calls → AllByRecursion (λ (call : Activation). AreStacked call.locals) calls
+each_stacked [] h = tt
+each_stacked (call ∷ calls) h = (h 0 call refl, each_stacked calls (λ i x e. h (suc i) x e))
 
 module _ (space : Space) where
   names_place : (places ns : List ℕ) (n : ℕ) → NamesAgree space places ns → In ns n → IsAmong space places n
@@ -171,16 +241,39 @@ module _ (space : Space) where
   reference_place (Some a) (Some m) n h k =
       ⊎_elim (λ (same : m ≡ n). (a, h ∙ ap (λ (x : ℕ). Some x) same, in_head a [])) (λ (l : In [] n). absurd (false≢true l)) (in_cases m [] n k)
 
+  callers_place : (calls : List Activation) (callers : List source.Caller) (n : ℕ) → CallersFrames space calls callers → In (flat_map (λ (c : source.Caller). frame_roots c.frames) callers) n → IsAmong space (flat_map call_addresses calls) n
+  callers_place [] [] n h k = absurd (false≢true k)
+  callers_place [] (c ∷ callers) n h k = absurd h
+  callers_place (call ∷ calls) [] n h k = absurd h
+  callers_place (call ∷ calls) (c ∷ callers) n h k =
+      let more = flat_map-cons call_addresses call calls in
+      ⊎_elim
+      (λ (l : In (frame_roots c.frames) n).
+      let r = frames_place (reverse call.locals.frames) call.locals.slots c.frames n h.0 l in
+      (r.0, r.1, subst (λ (ns : List ℕ). In ns r.0) (sym more) (in_append_left (call_addresses call) (flat_map call_addresses calls) r.0 r.2)))
+      (λ (l : In (flat_map (λ (c : source.Caller). frame_roots c.frames) callers) n).
+      let r = callers_place calls callers n h.1 l in
+      (r.0, r.1, subst (λ (ns : List ℕ). In ns r.0) (sym more) (in_append_right (call_addresses call) (flat_map call_addresses calls) r.0 r.2)))
+      (in_append_cases (frame_roots c.frames) (flat_map (λ (c : source.Caller). frame_roots c.frames) callers) n
+      (subst (λ (ns : List ℕ). In ns n) (flat_map-cons (λ (c : source.Caller). frame_roots c.frames) c callers) k))
+
+  thread_place : (t : Thread) (s : source.Thread) (n : ℕ) → HasRootsOf space t s → In (thread_roots s) n → IsAmong space (thread_addresses t) n
+  thread_place t s n h k =
+      let below = flat_map call_addresses t.callers.items in
+      let refs = references_in (slots_of t.call) in
+      in_roots s n {A = IsAmong space (thread_addresses t) n}
+      (λ l. let r = callers_place (reverse t.callers.items) s.callers n h.callers l in (r.0, r.1, in_append_left below (own_addresses t) r.0 (from_reversed call_addresses t.callers.items r.0 r.2)))
+      (λ f. let r = call_place t.call s.frames n h.frames f in (r.0, r.1, in_append_right below (own_addresses t) r.0 (in_append_left refs (option_to_list t.pending) r.0 r.2)))
+      (λ q. let r = reference_place t.pending s.pending n h.pending q in (r.0, r.1, in_append_right below (own_addresses t) r.0 (in_append_right refs (option_to_list t.pending) r.0 r.2)))
+      k
+
   threads_place : (ts : List Thread) (ss : List source.Thread) (n : ℕ) → AllZip (HasRootsOf space) ts ss → In (flat_map thread_roots ss) n → IsAmong space (flat_map thread_addresses ts) n
   threads_place [] [] n h k = absurd (false≢true k)
   threads_place [] (s ∷ ss) n h k = absurd h
   threads_place (t ∷ ts) [] n h k = absurd h
   threads_place (t ∷ ts) (s ∷ ss) n h k =
       ⊎_elim
-      (λ (l : In (thread_roots s) n). ⊎_elim
-      (λ (f : In (flat_map (λ (g : source.Frame). g.references) s.frames) n). let r = call_place t.call s.frames n (h.0).frames f in (r.0, r.1, in_append_left (thread_addresses t) (flat_map thread_addresses ts) r.0 (in_append_left (references_in (slots_of t.call)) (option_to_list t.pending) r.0 r.2)))
-      (λ (q : In (option_to_list s.pending) n). let r = reference_place t.pending s.pending n (h.0).pending q in (r.0, r.1, in_append_left (thread_addresses t) (flat_map thread_addresses ts) r.0 (in_append_right (references_in (slots_of t.call)) (option_to_list t.pending) r.0 r.2)))
-      (in_append_cases (flat_map (λ (g : source.Frame). g.references) s.frames) (option_to_list s.pending) n (subst (λ (ns : List ℕ). In ns n) (own_roots s (h.0).alone) l)))
+      (λ (l : In (thread_roots s) n). let r = thread_place t s n h.0 l in (r.0, r.1, in_append_left (thread_addresses t) (flat_map thread_addresses ts) r.0 r.2))
       (λ (l : In (flat_map thread_roots ss) n). let r = threads_place ts ss n h.1 l in (r.0, r.1, in_append_right (thread_addresses t) (flat_map thread_addresses ts) r.0 r.2))
       (in_append_cases (thread_roots s) (flat_map thread_roots ss) n k)
 
@@ -255,17 +348,43 @@ module _ (space : Space) where
   reference_name (Some b) (Some m) a h k =
       ⊎_elim (λ (e : b ≡ a). (m, ap (name_at space) (sym e) ∙ h, in_head m [])) (λ (l : In [] a). absurd (false≢true l)) (in_cases b [] a k)
 
+  callers_name : (calls : List Activation) (callers : List source.Caller) (a : ℕ) → CallersFrames space calls callers → AllByRecursion (λ (call : Activation). AreStacked call.locals) calls → In (flat_map call_addresses calls) a
+      → IsNameAmong (flat_map (λ (c : source.Caller). frame_roots c.frames) callers) a
+  callers_name [] callers a h stacked k = absurd (false≢true k)
+  callers_name (call ∷ calls) [] a h stacked k = absurd h
+  callers_name (call ∷ calls) (c ∷ callers) a h stacked k =
+      let later = flat_map (λ (c : source.Caller). frame_roots c.frames) callers in
+      let more = flat_map-cons (λ (c : source.Caller). frame_roots c.frames) c callers in
+      ⊎_elim
+      (λ (l : In (call_addresses call) a).
+      let named = names_of space (reverse call.locals.frames) call.locals.slots c.frames (have_all call.locals stacked.0) h.0 in
+      let r = as_often named.names (frame_roots c.frames) a named.same (address_name (references_in call.locals.slots) named.names a named.agree l) in
+      (r.0, r.1, subst (λ (ns : List ℕ). In ns r.0) (sym more) (in_append_left (frame_roots c.frames) later r.0 r.2)))
+      (λ (l : In (flat_map call_addresses calls) a).
+      let r = callers_name calls callers a h.1 stacked.1 l in
+      (r.0, r.1, subst (λ (ns : List ℕ). In ns r.0) (sym more) (in_append_right (frame_roots c.frames) later r.0 r.2)))
+      (in_append_cases (call_addresses call) (flat_map call_addresses calls) a (subst (λ (ns : List ℕ). In ns a) (flat_map-cons call_addresses call calls) k))
+
+  thread_name : (t : Thread) (s : source.Thread) (a : ℕ) → HasRootsOf space t s → ThreadIsStacked t → In (thread_addresses t) a → IsNameAmong (thread_roots s) a
+  thread_name t s a h stacked k =
+      let below = flat_map call_addresses t.callers.items in
+      ⊎_elim
+      (λ (l : In below a).
+      let each = all_reversed (λ (call : Activation). AreStacked call.locals) t.callers.items (each_stacked t.callers.items stacked.0) in
+      let r = callers_name (reverse t.callers.items) s.callers a h.callers each (to_reversed call_addresses t.callers.items a l) in
+      (r.0, r.1, caller_root s r.0 r.2))
+      (λ (l : In (own_addresses t) a). ⊎_elim
+      (λ (f : In (references_in (slots_of t.call)) a). let r = call_name t.call s.frames a h.frames stacked.1 f in (r.0, r.1, frame_root s r.0 r.2))
+      (λ (q : In (option_to_list t.pending) a). let r = reference_name t.pending s.pending a h.pending q in (r.0, r.1, pending_root s r.0 r.2))
+      (in_append_cases (references_in (slots_of t.call)) (option_to_list t.pending) a l))
+      (in_append_cases below (own_addresses t) a k)
+
   threads_name : (ts : List Thread) (ss : List source.Thread) (a : ℕ) → AllZip (HasRootsOf space) ts ss → ThreadsAreStacked ts → In (flat_map thread_addresses ts) a → IsNameAmong (flat_map thread_roots ss) a
   threads_name [] ss a h stacked k = absurd (false≢true k)
   threads_name (t ∷ ts) [] a h stacked k = absurd h
   threads_name (t ∷ ts) (s ∷ ss) a h stacked k =
-      let refs = flat_map (λ (g : source.Frame). g.references) s.frames in
-      let owned : (n : ℕ) → In (refs ++ option_to_list s.pending) n → In (thread_roots s) n = λ n k. subst (λ (ns : List ℕ). In ns n) (sym (own_roots s (h.0).alone)) k in
       ⊎_elim
-      (λ (l : In (thread_addresses t) a). ⊎_elim
-      (λ (f : In (references_in (slots_of t.call)) a). let r = call_name t.call s.frames a (h.0).frames (stacked 0 t refl) f in (r.0, r.1, in_append_left (thread_roots s) (flat_map thread_roots ss) r.0 (owned r.0 (in_append_left refs (option_to_list s.pending) r.0 r.2))))
-      (λ (q : In (option_to_list t.pending) a). let r = reference_name t.pending s.pending a (h.0).pending q in (r.0, r.1, in_append_left (thread_roots s) (flat_map thread_roots ss) r.0 (owned r.0 (in_append_right refs (option_to_list s.pending) r.0 r.2))))
-      (in_append_cases (references_in (slots_of t.call)) (option_to_list t.pending) a l))
+      (λ (l : In (thread_addresses t) a). let r = thread_name t s a h.0 (stacked 0 t refl) l in (r.0, r.1, in_append_left (thread_roots s) (flat_map thread_roots ss) r.0 r.2))
       (λ (l : In (flat_map thread_addresses ts) a). let r = threads_name ts ss a h.1 (λ i u e. stacked (suc i) u e) l in (r.0, r.1, in_append_right (thread_roots s) (flat_map thread_roots ss) r.0 r.2))
       (in_append_cases (thread_addresses t) (flat_map thread_addresses ts) a k)
 

@@ -25,19 +25,6 @@ use Rattle.std.proofs.lemmas.Bool.{ltb-false, ltb-true}
 
 -- ---- slots
 
--- what agrees in two heaps is of the same objects
-pub viewed_same : (space space' : Space) (copies copies' : List (Option OwnedNumbers)) (k : ℕ) (slots : List Buffer) (buffers : List variable.Buffer)
-    → AllZip (BufferAgrees space copies k) slots buffers → AllZip (BufferAgrees space' copies' k) slots buffers → viewed_in space' slots ≡ viewed_in space slots
-viewed_same space space' copies copies' k [] buffers h now = refl
-viewed_same space space' copies copies' k (x ∷ slots) [] h now = absurd h
-viewed_same space space' copies copies' k (held.Null ∷ slots) (b ∷ buffers) h now = viewed_same space space' copies copies' k slots buffers h.1 now.1
-viewed_same space space' copies copies' k (held.Copy key ∷ slots) (b ∷ buffers) h now = viewed_same space space' copies copies' k slots buffers h.1 now.1
-viewed_same space space' copies copies' k (held.View a ∷ slots) (NoBuffer ∷ buffers) h now = absurd h.0
-viewed_same space space' copies copies' k (held.View a ∷ slots) (Copy n zs ∷ buffers) h now = absurd h.0
-viewed_same space space' copies copies' k (held.View a ∷ slots) (View n ∷ buffers) h now =
-    ap (λ (o : Option ℕ). option_to_list o ++ viewed_in space' slots) (now.0 ∙ sym h.0)
-    ∙ ap (λ (l : List ℕ). option_to_list (name_at space a) ++ l) (viewed_same space space' copies copies' k slots buffers h.1 now.1)
-
 -- the name of the object that a view is of is among those that slots view
 pub view_at : (space : Space) (copies : List (Option OwnedNumbers)) (k : ℕ) (slots : List Buffer) (buffers : List variable.Buffer) (i a : ℕ)
     → AllZip (BufferAgrees space copies k) slots buffers → slice_get slots i ≡ Some (held.View a) → (n : ℕ) × (name_at space a ≡ Some n) × In (viewed_in space slots) n

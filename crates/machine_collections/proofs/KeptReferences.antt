@@ -1,5 +1,6 @@
 -- References whose objects a collection keeps.
 use Rattle.std.specs.Prelude.{◌≡◌, ℕ, List, [], ◌∷◌, Option, Some, None}
+use Rattle.std.specs.List.{AllByRecursion}
 use Rattle.heap.specs.declared.value.Value.{Value}
 use Rattle.heap.specs.declared.value.Value.TheVariants.{Number, Null, Block as Address}
 use Rattle.heap.specs.Heap.{Block, Space, IsAddress, block_at}
@@ -49,6 +50,10 @@ abbrev pub CallIsKept : (ℕ → Type 0) → Option Activation → Type 0
 CallIsKept Kept None = Unit {0}
 CallIsKept Kept (Some call) = AreKept Kept (references_in call.locals.slots)
 
+-- of calls from which others were made
+abbrev pub CallersAreKept : (ℕ → Type 0) → List Activation → Type 0
+CallersAreKept Kept calls = AllByRecursion (λ (call : Activation). AreKept Kept (references_in call.locals.slots)) calls
+
 abbrev pub ThreadsAreKept : (ℕ → Type 0) → List Thread → Type 0
 ThreadsAreKept Kept [] = Unit {0}
-ThreadsAreKept Kept (t ∷ rest) = CallIsKept Kept t.call × ((a : ℕ) → t.pending ≡ Some a → Kept a) × ThreadsAreKept Kept rest
+ThreadsAreKept Kept (t ∷ rest) = CallersAreKept Kept t.callers.items × CallIsKept Kept t.call × ((a : ℕ) → t.pending ≡ Some a → Kept a) × ThreadsAreKept Kept rest

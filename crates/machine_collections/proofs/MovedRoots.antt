@@ -11,7 +11,7 @@ use Rattle.machine_threads.proofs.Lists.{drop_next}
 use Rattle.machine_scenes.specs.declared.store.Store.{Store}
 use Rattle.compact.proofs.Fronts.{front, front_get, front_same, front_step}
 use Rattle.compact.proofs.Tight.{get_map}
-use Rattle.machine_collections.specs.Moving.{AreMovedAt, moved_slots, moved_thread}
+use Rattle.machine_collections.specs.Moving.{AreMovedAt, moved_slots}
 use Rattle.machine_collections.specs.Roots.{loaded_places, root_places, thread_places}
 use Rattle.monitors.specs.Monitors.{addresses}
 
@@ -160,43 +160,43 @@ loaded_put to xs places i a h less at =
 pub loaded_some : (to : ℕ → ℕ) (xs : List ℕ) (places : List (Option ℕ)) (i : ℕ) (q : Option ℕ) → AreMovedAt to (loaded_places xs) places 0 → i < length xs → slice_get places i ≡ Some q → ((a : ℕ) → q ≡ Some a → ⊥) → ⊥
 loaded_some to xs places i q h less at none = let x = loaded_at to xs places i q h less at in none (to x.0) x.2
 
--- ---- threads
+-- ---- element by element
 
--- the places of the threads up to one
-abbrev pub places_to : List Thread → ℕ → List (Option ℕ)
-places_to ts i = flat_map thread_places (take i ts)
+-- the places of the elements up to one
+abbrev pub places_to : {A : Type 0} → (A → List (Option ℕ)) → List A → ℕ → List (Option ℕ)
+places_to places_of xs i = flat_map places_of (take i xs)
 
 -- the places of all are those of the first ones, of the next, and of those after it
-pub threads_at : (to : ℕ → ℕ) (ts : List Thread) (places : List (Option ℕ)) (from i : ℕ) (t : Thread) → AreMovedAt to (flat_map thread_places ts) places from → slice_get ts i ≡ Some t → AreMovedAt to (thread_places t) places (from + length (places_to ts i))
-threads_at to [] places from i t h at = absurd (cc)
-threads_at to (x ∷ ts) places from zero t h at =
-    let same : x ≡ t = cc in
-    let here : AreMovedAt to (thread_places x) places from = moved_front to (thread_places x) (flat_map thread_places ts) places from (subst (λ (l : List (Option ℕ)). AreMovedAt to l places from) (flat_map-cons thread_places x ts) h) in
+pub moved_there : {A : Type 0} (places_of : A → List (Option ℕ)) (to : ℕ → ℕ) (xs : List A) (places : List (Option ℕ)) (from i : ℕ) (x : A) → AreMovedAt to (flat_map places_of xs) places from → slice_get xs i ≡ Some x → AreMovedAt to (places_of x) places (from + length (places_to places_of xs i))
+moved_there places_of to [] places from i x h at = absurd (cc)
+moved_there {A} places_of to (y ∷ xs) places from zero x h at =
+    let same : y ≡ x = cc in
+    let here : AreMovedAt to (places_of y) places from = moved_front to (places_of y) (flat_map places_of xs) places from (subst (λ (l : List (Option ℕ)). AreMovedAt to l places from) (flat_map-cons places_of y xs) h) in
     let e : from ≡ from + 0 = omega arith in
-    subst (λ (n : ℕ). AreMovedAt to (thread_places t) places n) e (subst (λ (y : Thread). AreMovedAt to (thread_places y) places from) same here)
-threads_at to (x ∷ ts) places from (suc i) t h at =
-    let later = moved_back to (thread_places x) (flat_map thread_places ts) places from (subst (λ (l : List (Option ℕ)). AreMovedAt to l places from) (flat_map-cons thread_places x ts) h) in
-    let r = threads_at to ts places (from + length (thread_places x)) i t later at in
-    let long : length (places_to (x ∷ ts) (suc i)) ≡ length (thread_places x) + length (places_to ts i) = ap length (flat_map-cons thread_places x (take i ts)) ∙ length-append (thread_places x) (places_to ts i) in
-    let e : from + length (thread_places x) + length (places_to ts i) ≡ from + length (places_to (x ∷ ts) (suc i)) = omega (arith, long) in
-    subst (λ (n : ℕ). AreMovedAt to (thread_places t) places n) e r
+    subst (λ (n : ℕ). AreMovedAt to (places_of x) places n) e (subst (λ (z : A). AreMovedAt to (places_of z) places from) same here)
+moved_there places_of to (y ∷ xs) places from (suc i) x h at =
+    let later = moved_back to (places_of y) (flat_map places_of xs) places from (subst (λ (l : List (Option ℕ)). AreMovedAt to l places from) (flat_map-cons places_of y xs) h) in
+    let r = moved_there places_of to xs places (from + length (places_of y)) i x later at in
+    let long : length (places_to places_of (y ∷ xs) (suc i)) ≡ length (places_of y) + length (places_to places_of xs i) = ap length (flat_map-cons places_of y (take i xs)) ∙ length-append (places_of y) (places_to places_of xs i) in
+    let e : from + length (places_of y) + length (places_to places_of xs i) ≡ from + length (places_to places_of (y ∷ xs) (suc i)) = omega (arith, long) in
+    subst (λ (n : ℕ). AreMovedAt to (places_of x) places n) e r
 
--- one thread more
-pub places_more : (ts : List Thread) (i : ℕ) (t : Thread) → slice_get ts i ≡ Some t → length (places_to ts (i + 1)) ≡ length (places_to ts i) + length (thread_places t)
-places_more [] i t at = absurd (cc)
-places_more (x ∷ ts) zero t at =
-    let same : x ≡ t = cc in
-    ap length (flat_map-cons thread_places x []) ∙ length-append (thread_places x) [] ∙ (let e : length (thread_places x) ≡ length (thread_places t) = ap (λ (y : Thread). length (thread_places y)) same in omega (arith, e))
-places_more (x ∷ ts) (suc i) t at =
-    let rest = places_more ts i t at in
+-- one more
+pub places_more : {A : Type 0} (places_of : A → List (Option ℕ)) (xs : List A) (i : ℕ) (x : A) → slice_get xs i ≡ Some x → length (places_to places_of xs (i + 1)) ≡ length (places_to places_of xs i) + length (places_of x)
+places_more places_of [] i x at = absurd (cc)
+places_more {A} places_of (y ∷ xs) zero x at =
+    let same : y ≡ x = cc in
+    ap length (flat_map-cons places_of y []) ∙ length-append (places_of y) [] ∙ (let e : length (places_of y) ≡ length (places_of x) = ap (λ (z : A). length (places_of z)) same in omega (arith, e))
+places_more places_of (y ∷ xs) (suc i) x at =
+    let rest = places_more places_of xs i x at in
     let next : suc i + 1 ≡ suc (i + 1) = omega arith in
-    let one : length (places_to (x ∷ ts) (suc (i + 1))) ≡ length (thread_places x) + length (places_to ts (i + 1)) = ap length (flat_map-cons thread_places x (take (i + 1) ts)) ∙ length-append (thread_places x) (places_to ts (i + 1)) in
-    let other : length (places_to (x ∷ ts) (suc i)) ≡ length (thread_places x) + length (places_to ts i) = ap length (flat_map-cons thread_places x (take i ts)) ∙ length-append (thread_places x) (places_to ts i) in
-    ap (λ n. length (places_to (x ∷ ts) n)) next ∙ omega (arith, one, other, rest)
+    let one : length (places_to places_of (y ∷ xs) (suc (i + 1))) ≡ length (places_of y) + length (places_to places_of xs (i + 1)) = ap length (flat_map-cons places_of y (take (i + 1) xs)) ∙ length-append (places_of y) (places_to places_of xs (i + 1)) in
+    let other : length (places_to places_of (y ∷ xs) (suc i)) ≡ length (places_of y) + length (places_to places_of xs i) = ap length (flat_map-cons places_of y (take i xs)) ∙ length-append (places_of y) (places_to places_of xs i) in
+    ap (λ n. length (places_to places_of (y ∷ xs) n)) next ∙ omega (arith, one, other, rest)
 
--- a thread after the first ones is as it was
-pub thread_still : (to : ℕ → ℕ) (ts : List Thread) (i : ℕ) (t : Thread) → slice_get (front (moved_thread to) i ts) i ≡ Some t → slice_get ts i ≡ Some t
-thread_still to ts i t at = sym (front_get (moved_thread to) i ts) ∙ at
+-- an element after the first ones is as it was
+pub still_there : {A : Type 0} (moved : A → A) (xs : List A) (i : ℕ) (x : A) → slice_get (front moved i xs) i ≡ Some x → slice_get xs i ≡ Some x
+still_there moved xs i x at = sym (front_get moved i xs) ∙ at
 
 -- ---- places that are gathered
 

@@ -1,5 +1,5 @@
 -- A layout is packed in one way.
-use Rattle.std.proofs.Common.{◌≡◌, ℕ, zero, suc, ◌+◌, ◌<◌, ◌≤◌, ◌⊎◌, inl, inr, List, [], ◌∷◌, length, Some, refl, sym, ap, ◌∙◌, subst, arith, Contains, ⊎_elim}
+use Rattle.std.proofs.Common.{◌≡◌, ℕ, zero, suc, ◌+◌, ◌<◌, ◌≤◌, ◌⊎◌, inl, inr, [], ◌∷◌, Some, refl, sym, ap, ◌∙◌, subst, arith, Contains, ⊎_elim}
 use Rattle.std.specs.Prelude.{slice_get}
 use Rattle.heap.specs.Layout.{Extent, Layout, extent_end}
 use Rattle.compact.proofs.Blocks.{Contains-from_get, get-from_contains}

@@ -4,11 +4,11 @@ use Rattle.std.specs.Prelude.{slice_get}
 use Rattle.std.specs.Option.{option_map, option_map_or}
 use Rattle.std.proofs.lemmas.List.{length-map}
 use Rattle.std.proofs.lemmas.Option.{slice_get-map}
-use Rattle.heap.specs.Heap.{Block, Space, IsAddress, IsLaidOut, LieFrom, addresses, block_at, block_end, block_size, name_at, pins_at, values_at}
+use Rattle.heap.specs.Heap.{Block, Space, IsAddress, IsLaidOut, LieFrom, block_at, block_end, block_size, name_at, pins_at}
 use Rattle.heap.specs.Layout.{Extent, Layout, extent_of, layout_of}
 use Rattle.heap.specs.Places.{end_at, size_at}
 use Rattle.heap.proofs.Lookups.{IsAddress-from_pins, block_at-place}
-use Rattle.heap.proofs.Places.{IsAddress-from_place, place_of}
+use Rattle.heap.proofs.Places.{place_of}
 use Rattle.compact.specs.Placing as compact
 use Rattle.compact.specs.Placing.{HasLowest, MeetPinned}
 use Rattle.compact.specs.Same.{MovesBy, moved, moved_value}

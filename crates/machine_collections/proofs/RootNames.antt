@@ -14,7 +14,7 @@ use Rattle.machine_threads.specs.declared.thread.Thread.{Thread}
 use Rattle.machine_scenes.specs.HeapAgrees.{NamesAgree, ReferenceAgrees, times}
 use Rattle.machine_scenes.specs.Locals.{FrameAgrees, FramesAgree}
 use Rattle.machine_scenes.specs.Given.{object_there, ReferenceIsThere}
-use Rattle.machine_collections.specs.Roots.{reference_names, AreAddresses, CallIsStacked}
+use Rattle.machine_collections.specs.Roots.{reference_names, AreAddresses}
 use Rattle.machine_threads.proofs.EntryTables.{references_after}
 
 -- ---- names
@@ -104,11 +104,15 @@ abbrev pub CallFrames : Space → Option Activation → List source.Frame → Ty
 CallFrames space None frames = frames ≡ []
 CallFrames space (Some call) frames = FramesAgree space call.locals frames
 
--- the frames and the pending exception of a thread stand for those of one of the source, which has no callers
+-- those of calls stand for those of callers of the source
+abbrev pub CallersFrames : Space → List Activation → List source.Caller → Type 0
+CallersFrames space calls callers = AllZip (λ (call : Activation) (c : source.Caller). FramesAgree space call.locals c.frames) calls callers
+
+-- the frames of all calls and the pending exception of a thread stand for those of one of the source
 pub record HasRootsOf (space : Space) (t : Thread) (s : source.Thread) : Type 0 where
+  pub callers : CallersFrames space (reverse t.callers.items) s.callers
   pub frames : CallFrames space t.call s.frames
   pub pending : ReferenceAgrees space t.pending s.pending
-  pub alone : s.callers ≡ []
 
 -- ---- reference by reference
 
@@ -128,18 +132,17 @@ root_next space (None ∷ slots) zero r at = let same : None ≡ r = cc in ap (�
 root_next space (Some b ∷ slots) zero r at = let same : Some b ≡ r = cc in ap (λ (o : Option ℕ). reference_names space o ++ map (object_there space) (references_in slots)) same
 root_next space (s ∷ slots) (suc place) r at = let next : suc place + 1 ≡ suc (place + 1) = omega arith in rw next (root_next space slots place r at)
 
--- ---- thread by thread
+-- ---- element by element
 
--- one thread more whose references lie frame above frame
-pub stacked_more : (ts : List Thread) (i : ℕ) (x : Thread) → slice_get ts i ≡ Some x → CallIsStacked x.call → ((j : ℕ) (t : Thread) → j < i → slice_get ts j ≡ Some t → CallIsStacked t.call)
-    → (j : ℕ) (t : Thread) → j < i + 1 → slice_get ts j ≡ Some t → CallIsStacked t.call
-stacked_more [] i x at here before j t less e = absurd (cc)
-stacked_more (y ∷ ts) zero x at here before zero t less e = let same : x ≡ t = let both : Some x ≡ Some t = sym at ∙ e in cc in subst (λ (u : Thread). CallIsStacked u.call) same here
-stacked_more (y ∷ ts) zero x at here before (suc j) t less e = absurd (omega (arith, less))
-stacked_more (y ∷ ts) (suc i) x at here before zero t less e = before 0 t (omega arith) e
-stacked_more (y ∷ ts) (suc i) x at here before (suc j) t less e = stacked_more ts i x at here (λ k u l f. before (suc k) u (omega (arith, l)) f) j t (omega (arith, less)) e
+-- what holds of the first ones, and of one more
+pub holds_more : {A : Type 0} (P : A → Type 0) (xs : List A) (i : ℕ) (x : A) → slice_get xs i ≡ Some x → P x → ((j : ℕ) (y : A) → j < i → slice_get xs j ≡ Some y → P y) → (j : ℕ) (y : A) → j < i + 1 → slice_get xs j ≡ Some y → P y
+holds_more P [] i x at here before j y less e = absurd (cc)
+holds_more P (z ∷ xs) zero x at here before zero y less e = let same : x ≡ y = let both : Some x ≡ Some y = sym at ∙ e in cc in subst P same here
+holds_more P (z ∷ xs) zero x at here before (suc j) y less e = absurd (omega (arith, less))
+holds_more P (z ∷ xs) (suc i) x at here before zero y less e = before 0 y (omega arith) e
+holds_more P (z ∷ xs) (suc i) x at here before (suc j) y less e = holds_more P xs i x at here (λ k u l f. before (suc k) u (omega (arith, l)) f) j y (omega (arith, less)) e
 
-pub there_within : (ts : List Thread) (i : ℕ) (t : Thread) → slice_get ts i ≡ Some t → i < length ts
-there_within [] i t e = absurd (cc)
-there_within (y ∷ ts) zero t e = omega arith
-there_within (y ∷ ts) (suc i) t e = let less = there_within ts i t e in omega (arith, less)
+pub there_within : {A : Type 0} (xs : List A) (i : ℕ) (x : A) → slice_get xs i ≡ Some x → i < length xs
+there_within [] i x e = absurd (cc)
+there_within (y ∷ xs) zero x e = omega arith
+there_within (y ∷ xs) (suc i) x e = let less = there_within xs i x e in omega (arith, less)

@@ -1,6 +1,7 @@
 -- What a collection does to the store and the threads.
 use Rattle.std.specs.Prelude.{◌≡◌, ℕ, ◌+◌, List, map, slice_get, Option, Some, None}
 use Rattle.std.specs.Option.{option_map}
+use Rattle.std.specs.Vec.{with_items}
 use Rattle.heap.specs.Heap.{Space}
 use Rattle.compact.specs.Reach as compact
 use Rattle.compact.specs.Reach.{IsKept, IsClosed}
@@ -27,7 +28,11 @@ abbrev pub moved_call : (ℕ → ℕ) → Activation → Activation
 moved_call f activation = record activation { locals = moved_locals f activation.locals }
 
 abbrev pub moved_thread : (ℕ → ℕ) → Thread → Thread
-moved_thread f t = record t { call = option_map (moved_call f) t.call; pending = option_map f t.pending }
+moved_thread f t = record t {
+  call = option_map (moved_call f) t.call;
+  callers = with_items t.callers (map (moved_call f) t.callers.items);
+  pending = option_map f t.pending;
+}
 
 abbrev pub moved_monitors : (ℕ → ℕ) → List Monitor → List Monitor
 moved_monitors f monitors = map (λ (m : Monitor). moved (f m.address) m) monitors

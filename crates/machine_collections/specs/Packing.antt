@@ -1,5 +1,5 @@
 -- Where a collection puts the blocks of the objects that it keeps.
-use Rattle.std.specs.Prelude.{◌≡◌, ℕ, ◌+◌, ◌<◌, ◌≤◌, List, [], ◌∷◌}
+use Rattle.std.specs.Prelude.{◌≡◌, ℕ, ◌+◌, ◌<◌, ◌≤◌, [], ◌∷◌}
 use Rattle.std.specs.List.{Contains}
 use Rattle.heap.specs.Layout.{Extent, Layout, extent_end}
 use Rattle.compact.specs.Placing.{HasLowest}

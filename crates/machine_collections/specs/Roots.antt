@@ -17,14 +17,18 @@ reference_names space reference = option_to_list (option_map (object_there space
 abbrev pub loaded_places : List ℕ → List (Option ℕ)
 loaded_places loaded = map (λ (a : ℕ). Some a) loaded
 
--- the slots of the local references of a call in progress, or of none
+-- the slots of the local references of a call
+abbrev pub call_places : Activation → List (Option ℕ)
+call_places call = call.locals.slots
+
+-- of a call in progress, or of none
 abbrev pub slots_of : Option Activation → List (Option ℕ)
 slots_of None = []
 slots_of (Some activation) = activation.locals.slots
 
--- what a thread refers to: its local references, and its pending exception
+-- what a thread refers to: the local references of the calls from which others were made and of the one in progress, and its pending exception
 abbrev pub thread_places : Thread → List (Option ℕ)
-thread_places t = slots_of t.call ++ t.pending ∷ []
+thread_places t = flat_map call_places t.callers.items ++ (slots_of t.call ++ t.pending ∷ [])
 
 -- the roots: the objects made at load, the global references, what threads refer to, and the objects whose monitors are owned
 abbrev pub root_places : Store → List Thread → List (Option ℕ)
@@ -44,9 +48,17 @@ abbrev pub CallIsStacked : Option Activation → Type 0
 CallIsStacked None = Unit {0}
 CallIsStacked (Some activation) = AreStacked activation.locals
 
+-- those of each of these calls do
+abbrev pub CallersAreStacked : List Activation → Type 0
+CallersAreStacked callers = (i : ℕ) (call : Activation) → slice_get callers i ≡ Some call → AreStacked call.locals
+
+-- those of a thread do
+abbrev pub ThreadIsStacked : Thread → Type 0
+ThreadIsStacked t = CallersAreStacked t.callers.items × CallIsStacked t.call
+
 -- those of threads do
 abbrev pub ThreadsAreStacked : List Thread → Type 0
-ThreadsAreStacked threads = (i : ℕ) (t : Thread) → slice_get threads i ≡ Some t → CallIsStacked t.call
+ThreadsAreStacked threads = (i : ℕ) (t : Thread) → slice_get threads i ≡ Some t → ThreadIsStacked t
 
 -- each of these is the address of a block
 abbrev pub AreAddresses : Space → List ℕ → Type 0

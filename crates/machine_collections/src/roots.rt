@@ -13,7 +13,7 @@ ghost use Rattle.monitors.specs.Monitors.{addresses};
 ghost use Rattle.semantics.specs.Views.{names_of};
 ghost use Rattle.machine_collections.specs.Moving.{AreMoved, AreMovedAt, moved_call, moved_locals, moved_monitors, moved_slots, moved_thread};
 ghost use Rattle.machine_scenes.specs.Given.{object_there, ReferenceIsThere};
-ghost use Rattle.machine_collections.specs.Roots.{AreAddresses, CallIsStacked, ThreadsAreStacked, loaded_places, pinned_names, reference_names, root_places, slots_of, thread_places};
+ghost use Rattle.machine_collections.specs.Roots.{AreAddresses, CallIsStacked, CallersAreStacked, ThreadsAreStacked, call_places, loaded_places, pinned_names, reference_names, root_places, slots_of, thread_places};
 
 use compact::Roots;
 use heap::{Addr, Heap};
@@ -50,8 +50,8 @@ impl Roots for RootPlaces {
 
 /// The roots, by the places in their tables.
 ///
-/// They are the objects made at load, the global references, of each thread its local references and its pending
-/// exception, and the objects whose monitors are owned.
+/// They are the objects made at load, the global references, of each thread the local references of all its calls and
+/// its pending exception, and the objects whose monitors are owned.
 pub fn gather(alloc: Global, store: &Store, threads: &[Thread]) -> Result<RootPlaces, AllocError>
     ensures places { IfOk result (λ roots. roots.places.items ≡ root_places store.now threads.now) }
     ensures stacked { IfOk result (λ _. ThreadsAreStacked threads.now) }
@@ -149,8 +149,20 @@ fn push_threads(places: &mut Vec<Option<Addr>>, threads: &[Thread]) -> Result<()
     ensures stacked { OnOk result (ThreadsAreStacked threads.now) }
 {
     for thread in threads {
+        push_callers(places, &thread.callers)?;
         push_call(places, &thread.call)?;
         places.push(thread.pending)?;
+    }
+    Ok(())
+}
+
+/// Adds the local references of the calls from which others were made.
+fn push_callers(places: &mut Vec<Option<Addr>>, callers: &[Activation]) -> Result<(), AllocError>
+    ensures places { OnOk result (places.new.items ≡ places.old.items ++ flat_map call_places callers.now) }
+    ensures stacked { OnOk result (CallersAreStacked callers.now) }
+{
+    for caller in callers {
+        push_locals(places, &caller.locals)?;
     }
     Ok(())
 }
@@ -239,9 +251,34 @@ fn put_thread(thread: &mut Thread, roots: &RootPlaces, from: usize) -> usize
         → thread.new ≡ moved_thread to thread.old }
     ensures next { result ≡ from + length (thread_places thread.old) }
 {
-    let next = put_call(&mut thread.call, roots, from);
+    let next = put_callers(&mut thread.callers, roots, from);
+    let next = put_call(&mut thread.call, roots, next);
     thread.pending = roots.root(next);
     next + 1
+}
+
+/// Puts back the local references of the calls from which others were made, from a place on, and tells the next one.
+fn put_callers(callers: &mut [Activation], roots: &RootPlaces, from: usize) -> usize
+    requires { (to : ℕ → ℕ) × AreMovedAt to (flat_map call_places callers.old) roots.now.places.items from }
+    ensures moved { (to : ℕ → ℕ) → AreMovedAt to (flat_map call_places callers.old) roots.now.places.items from
+        → callers.new ≡ map (moved_call to) callers.old }
+    ensures next { result ≡ from + length (flat_map call_places callers.old) }
+{
+    let mut next = from;
+    for index in 0..callers.len() {
+        next = put_caller(&mut callers[index], roots, next);
+    }
+    next
+}
+
+/// Puts back the local references of a call, from a place on, and tells the next one.
+fn put_caller(call: &mut Activation, roots: &RootPlaces, from: usize) -> usize
+    requires { (to : ℕ → ℕ) × AreMovedAt to (call_places call.old) roots.now.places.items from }
+    ensures moved { (to : ℕ → ℕ) → AreMovedAt to (call_places call.old) roots.now.places.items from
+        → call.new ≡ moved_call to call.old }
+    ensures next { result ≡ from + length (call_places call.old) }
+{
+    put_locals(&mut call.locals, roots, from)
 }
 
 /// Puts back the local references of a call in progress, from a place on, and tells the next one.

@@ -40,7 +40,7 @@ module _ (classes : Classes) (h : FieldHandle) (there : IsSome (field_of classes
   field_of_handle = found.is ∙ ap (λ (o : Option FieldId). Some (unwrap_or o no_field)) (sym found.is)
 
 -- the class of a handle is one of the table
-class_known : (T : Classes) (n : ℕ) (d : Class) → class_at T n ≡ Some d → (0 < n) × (n ≤ length T)
+pub class_known : (T : Classes) (n : ℕ) (d : Class) → class_at T n ≡ Some d → (0 < n) × (n ≤ length T)
 class_known T zero d e = absurd (cc)
 class_known [] (suc i) d e = absurd (cc)
 class_known (x ∷ T) (suc zero) d e = (omega arith, omega arith)

@@ -16,7 +16,8 @@ use Rattle.semantics.specs.Arguments.{Actual, ReferenceActual, FieldActual, Numb
 use Rattle.semantics.specs.Object.{Reference}
 use Rattle.semantics.specs.Variable.{Variable, LocalArray, Variables, StaticReference, as_static}
 use Rattle.machine_scenes.specs.Buffers.{HeldBuffers, HoldsBuffer}
-use Rattle.machine_scenes.specs.FieldIds.{FieldAgrees}
+use Rattle.machine_scenes.specs.FieldIds.{FieldAgrees, field_held}
+use Rattle.machine_scenes.specs.declared.handle.Handle.{Handle}
 use Rattle.machine_scenes.specs.StoreAgrees.{HeldAgrees}
 use Rattle.machine_scenes.specs.HeapAgrees.{ReferenceAgrees}
 use Rattle.machine_scenes.specs.Locals.{address_of}
@@ -39,8 +40,8 @@ key_at references (operand.Local i) = held_in (slice_get references.keys i)
 key_at references o = None
 
 -- the field ID that an operand gives
-abbrev pub field_at : List (Option FieldHandle) → Operand → Option FieldHandle
-field_at fields (operand.FieldId i) = held_in (slice_get fields i)
+abbrev pub field_at : List (Option Handle) → Operand → Option FieldHandle
+field_at fields (operand.FieldId i) = field_held (held_in (slice_get fields i))
 field_at fields o = None
 
 -- an operand gives the reference that the source's argument is
@@ -58,14 +59,14 @@ pub record StaticIsGiven (space : Space) (references : References) (i : ℕ) (ac
   pub agrees : HeldAgrees space (held_argument (static_at references i)) reference
 
 -- an operand gives the field ID that the source's argument is
-pub record FieldIsGiven (classes : Classes) (fields : List (Option FieldHandle)) (operand : Operand) (actual : Actual) : Type 0 where
+pub record FieldIsGiven (classes : Classes) (fields : List (Option Handle)) (operand : Operand) (actual : Actual) : Type 0 where
   pub field : Option FieldId
   pub is : actual ≡ FieldActual field
   pub agrees : FieldAgrees classes (field_at fields operand) field
 
 -- an operand gives what the source's argument is; a number is on the stack, a text among the call's, and a variable itself
 -- in its slots
-abbrev pub IsGiven : Classes → Space → (references : References) → (fields : List (Option FieldHandle)) → Operand → Actual → Type 0
+abbrev pub IsGiven : Classes → Space → (references : References) → (fields : List (Option Handle)) → Operand → Actual → Type 0
 IsGiven classes space references fields operand.Number actual = (z : ℤ) × (actual ≡ NumberActual z) × FitsSigned w32 z
 IsGiven classes space references fields operand.Text actual = (bytes : List ℕ) × (actual ≡ TextActual bytes)
 IsGiven classes space references fields (operand.FieldId i) actual = FieldIsGiven classes fields (operand.FieldId i) actual
@@ -154,6 +155,6 @@ abbrev pub FieldIsThere : Classes → Option FieldHandle → Type 0
 FieldIsThere classes field = (h : FieldHandle) → field ≡ Some h → IsSome (field_of classes h)
 
 -- each operand that is a field ID gives NULL or a handle of a field
-abbrev pub AreHandles : Classes → List (Option FieldHandle) → List Operand → Type 0
+abbrev pub AreHandles : Classes → List (Option Handle) → List Operand → Type 0
 AreHandles classes fields [] = Unit {0}
 AreHandles classes fields (o ∷ operands) = FieldIsThere classes (field_at fields o) × AreHandles classes fields operands

@@ -1,7 +1,7 @@
 //! A call in progress.
 
 use crate::buffer::Buffer;
-use classes::class::FieldHandle;
+use crate::handle::Handle;
 use code::stack::Stack;
 use tables::{Local, Locals};
 
@@ -11,8 +11,8 @@ pub struct Slots {
     pub numbers: Vec<u32>,
     /// The keys of local references, which may be dead; none for NULL.
     pub references: Vec<Option<Local>>,
-    /// Field IDs; none for NULL.
-    pub fields: Vec<Option<FieldHandle>>,
+    /// Field IDs and method IDs; none for NULL.
+    pub fields: Vec<Option<Handle>>,
     pub buffers: Vec<Buffer>,
 }
 

@@ -5,6 +5,7 @@
 pub mod activation;
 pub mod array_region;
 pub mod buffer;
+pub mod handle;
 pub mod new_object;
 pub mod operands;
 pub mod references;

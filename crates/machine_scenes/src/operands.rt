@@ -7,6 +7,7 @@ ghost use Rattle.classes.specs.Views.{field_type_view};
 ghost use Rattle.heap.specs.Heap.{Space, IsAddress, name_at};
 ghost use Rattle.machine_scenes.specs.Given.{operand_at, key_at, field_at, operand_of, class_of_given, class_there, name_there, fits_there, field_there, AreAddresses, AreHandles, FieldIsThere, ReferenceIsThere};
 
+use crate::handle::{Handle, field_held};
 use crate::references::{Held, References};
 use class_rules::{ClassId, NO_CLASS};
 use classes::class::{ElementType, FieldHandle, FieldType};
@@ -48,11 +49,11 @@ pub fn key_in(references: &References<'_>, operand: Operand) -> Option<Local>
 }
 
 /// The field ID that an operand gives.
-pub fn field_in(fields: &[Option<FieldHandle>], operand: Operand) -> Option<FieldHandle>
+pub fn field_in(fields: &[Option<Handle>], operand: Operand) -> Option<FieldHandle>
     ensures { result ≡ field_at fields.now operand }
 {
     match operand {
-        Operand::FieldId(slot) => fields.get(slot as usize).copied().unwrap_or(None),
+        Operand::FieldId(slot) => field_held(fields.get(slot as usize).copied().unwrap_or(None)),
         _ => None,
     }
 }
@@ -67,7 +68,7 @@ pub fn reference_at(references: &References<'_>, operands: &[Operand], place: us
 
 /// The field ID of the operand at a place, which is NULL or that of a field.
 pub fn handle_at(
-    fields: &[Option<FieldHandle>],
+    fields: &[Option<Handle>],
     operands: &[Operand],
     place: usize,
 ) -> Option<FieldHandle>

@@ -12,7 +12,7 @@ use Rattle.semantics.specs.Object.{ObjectValue, Number, Refers}
 use Rattle.semantics.specs.Thread.{Shared}
 use Rattle.semantics.specs.Value.{Int}
 use Rattle.semantics.specs.Variable as source
-use Rattle.semantics.specs.Variable.{Variable, Variables, Scalar, LocalRef, FieldHandle, Elements, LocalArray, NoBuffer, Copy, View, assign, copied_length, viewed}
+use Rattle.semantics.specs.Variable.{Variable, Variables, Scalar, LocalRef, FieldHandle, MethodHandle, Elements, LocalArray, NoBuffer, Copy, View, assign, copied_length, viewed}
 use Rattle.semantics.specs.World.{World}
 use Rattle.semantics_safety.specs.StepSafe.{HoldsNoBuffer, is_lent}
 use Rattle.code_meaning.specs.Lowered.{Lowered}
@@ -93,6 +93,7 @@ copies_none None h = refl
 copies_none (Some (Scalar v)) h = refl
 copies_none (Some (LocalRef level r)) h = refl
 copies_none (Some (FieldHandle f)) h = refl
+copies_none (Some (MethodHandle f)) h = refl
 copies_none (Some (LocalArray t zs)) h = refl
 copies_none (Some (Elements t b)) h = ap (λ (c : source.Buffer). copied_length (Elements t c)) (h t b refl)
 
@@ -101,6 +102,7 @@ views_none None h = refl
 views_none (Some (Scalar v)) h = refl
 views_none (Some (LocalRef level r)) h = refl
 views_none (Some (FieldHandle f)) h = refl
+views_none (Some (MethodHandle f)) h = refl
 views_none (Some (LocalArray t zs)) h = refl
 views_none (Some (Elements t b)) h = ap (λ (c : source.Buffer). viewed (Elements t c)) (h t b refl)
 
@@ -151,6 +153,7 @@ none_lent : (v : Variable) (rest : Bool) → (is_lent v || rest) ≡ false → (
 none_lent (Scalar v) rest h = (refl, refl, h)
 none_lent (LocalRef level r) rest h = (refl, refl, h)
 none_lent (FieldHandle f) rest h = (refl, refl, h)
+none_lent (MethodHandle f) rest h = (refl, refl, h)
 none_lent (LocalArray t zs) rest h = (refl, refl, h)
 none_lent (Elements t NoBuffer) rest h = (refl, refl, h)
 none_lent (Elements t (Copy n zs)) rest h = absurd (cc)

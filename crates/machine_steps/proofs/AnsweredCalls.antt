@@ -3,6 +3,7 @@ use Rattle.std.proofs.Common.{◌≡◌, ℕ, List, None, sym, ap, ◌∙◌, su
 use Rattle.jni.specs.JniFunction.{JniFunction, prototype}
 use Rattle.jni.specs.Prototype.{ResultKind}
 use Rattle.jni.specs.Table.{function_value}
+use Rattle.syntax.specs.Views.{unit_tree}
 use Rattle.semantics.specs.CallEffects.{CallEffect, Halts}
 use Rattle.semantics.specs.CallStep.{effect_of_call, trap_of_call}
 use Rattle.semantics.specs.CallTable.{call_effect}
@@ -35,7 +36,7 @@ use Rattle.machine_calls.proofs.CellsMade.{cells_made as cells_answered}
 use Rattle.machine_steps.proofs.AskedCalls.{CalledAs, called, effect_is, cells_wanted, r, held, possible, owned_key, trap_is}
 
 -- the machine is at a call that no check stops
-module _ (p : Lowered) (w : World) (store : Store) (pending : Option ℕ) (call : Activation) (function : Call) (others : Acquired) (k owner : ℕ) (own : Owners) (shared : Shared) (s : Thread) (task : Task) (rest : List Task) (h : AtCall p w store pending call function others k owner own shared s task rest) (answer : Answer) (given : IsAnswered w store pending call k function answer) where
+module _ (p : Lowered) (w : World) (store : Store) (pending : Option ℕ) (call : Activation) (function : Call) (others : Acquired) (k owner : ℕ) (own : Owners) (shared : Shared) (s : Thread) (task : Task) (rest : List Task) (h : AtCall p w store pending call function others k owner own shared s task rest) (answer : Answer) (given : IsAnswered p w store pending call k function answer) where
   abbrev pub it : CalledAs p w store pending call h.code (call_view function) others k owner own shared s task rest (r p w store pending call function others k owner own shared s task rest h) (effect_of (sight_of shared s) task)
   it = called p w store pending call function others k owner own shared s task rest h
 
@@ -44,18 +45,18 @@ module _ (p : Lowered) (w : World) (store : Store) (pending : Option ℕ) (call 
 
   -- what it brings
   abbrev pub brings : Brought
-  brings = brought_by store call k owner in_use (call_view function) it.args
+  brings = brought_by (unit_tree p.unit) store call k owner in_use (call_view function) it.args
 
   -- no check stops the source's
   pub free : trap_of_call w.classes shared s it.target it.f it.args ≡ None
   free = sym (trap_is p w store pending call function others k owner own shared s task rest h) ∙ given.free
 
-  pub worked : IsWorkedOut (scene_of w.classes store call k pending) (call_view function) it.f answer
-  worked = subst (λ (x : JniFunction). IsWorkedOut (scene_of w.classes store call k pending) (call_view function) x answer) it.asked.same_function given.works
+  pub worked : IsWorkedOut (scene_of (unit_tree p.unit) w.classes store call k pending) (call_view function) it.f answer
+  worked = subst (λ (x : JniFunction). IsWorkedOut (scene_of (unit_tree p.unit) w.classes store call k pending) (call_view function) x answer) it.asked.same_function given.works
 
   -- the effect of the source's call
   abbrev pub does : CallEffect
-  does = call_effect w.classes in_use k shared s it.args it.f
+  does = call_effect (unit_tree p.unit) w.classes in_use k shared s it.args it.f
 
   -- the kind of its result
   module _ (kind : ResultKind) (same : kind ≡ (prototype (function_value function.function)).result) where
@@ -72,16 +73,16 @@ module _ (p : Lowered) (w : World) (store : Store) (pending : Option ℕ) (call 
     can_carry = possible p w store pending call function others k owner own shared s task rest h
 
     -- its step makes what the answer makes
-    pub cells_asked : cells_made shared (after_effect w.classes in_use k shared s rest (effect_of (sight_of shared s) task)) ≡ cells_of w.classes (texts_in function.texts.items) answer
+    pub cells_asked : cells_made shared (after_effect (unit_tree p.unit) w.classes in_use k shared s rest (effect_of (sight_of shared s) task)) ≡ cells_of w.classes (texts_in function.texts.items) answer
     cells_asked =
-        ap (λ (e : Effect). cells_made shared (after_effect w.classes in_use k shared s rest e)) it.is
+        ap (λ (e : Effect). cells_made shared (after_effect (unit_tree p.unit) w.classes in_use k shared s rest e)) it.is
         ∙ cells_wanted p w store pending call function others k owner own shared s task rest h free
         ∙ cells_answered w.classes brings store.heap call.locals kind shared s answer does answered
 
 -- the machine is at a call that stops it, all checks being passed
-module _ (p : Lowered) (w : World) (store : Store) (pending : Option ℕ) (call : Activation) (function : Call) (others : Acquired) (k owner : ℕ) (own : Owners) (shared : Shared) (s : Thread) (task : Task) (rest : List Task) (h : AtCall p w store pending call function others k owner own shared s task rest) (trap : Trap) (halted : IsAnswered w store pending call k function (answer.Halts trap)) where
+module _ (p : Lowered) (w : World) (store : Store) (pending : Option ℕ) (call : Activation) (function : Call) (others : Acquired) (k owner : ℕ) (own : Owners) (shared : Shared) (s : Thread) (task : Task) (rest : List Task) (h : AtCall p w store pending call function others k owner own shared s task rest) (trap : Trap) (halted : IsAnswered p w store pending call k function (answer.Halts trap)) where
   -- so does the source's
-  pub halts : let it = called p w store pending call function others k owner own shared s task rest h in effect_of_call w.classes (in_use_with others s) k shared s it.line it.target it.f it.args rest ≡ Halts (trap_view trap)
+  pub halts : let it = called p w store pending call function others k owner own shared s task rest h in effect_of_call (unit_tree p.unit) w.classes (in_use_with others s) k shared s it.line it.target it.f it.args rest ≡ Halts (trap_view trap)
   halts =
       let it = called p w store pending call function others k owner own shared s task rest h in
       effect_is p w store pending call function others k owner own shared s task rest h (free p w store pending call function others k owner own shared s task rest h (answer.Halts trap) halted)

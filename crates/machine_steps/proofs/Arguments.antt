@@ -10,6 +10,8 @@ use Rattle.base.specs.Element.{ElementType}
 use Rattle.code.specs.declared.instr.LocalArray.{LocalArray as ArraySlots}
 use Rattle.code_meaning.specs.Fits.{IsArray, IsStaticIn, IsStaticSort}
 use Rattle.code_meaning.specs.Layout.{Known}
+use Rattle.syntax.specs.Tree.{SourceUnit}
+use Rattle.syntax.specs.Views.{unit_tree}
 use Rattle.semantics.specs.Sight.{elements_of, in_range}
 use Rattle.semantics.specs.Thread as source
 use Rattle.semantics.specs.Thread.{Shared}
@@ -19,7 +21,6 @@ use Rattle.semantics_safety.specs.Owners.{Owners}
 use Rattle.machine_steps.proofs.Changes.{array_of}
 use Rattle.class_rules.specs.Class.{Classes}
 use Rattle.class_rules.specs.Fields.{FieldId}
-use Rattle.classes.specs.declared.class.FieldHandle.{FieldHandle}
 use Rattle.type_rules.specs.Sorts.{Sort, Ref, Global, Weak}
 use Rattle.type_rules.specs.Sorts as sort
 use Rattle.tables.specs.Elements.{OwnedNumbers}
@@ -31,11 +32,15 @@ use Rattle.semantics.specs.Thread.{Frame}
 use Rattle.code.specs.declared.instr.Operand.{Operand}
 use Rattle.code.specs.declared.instr.Operand.TheVariants as operand
 use Rattle.code.specs.Depth.{Listing, words_taken, with_fewer}
-use Rattle.code_meaning.specs.Slots.{Shows, ShowsStatic, Slots, Visible, visible_to}
+use Rattle.code_meaning.specs.Slots.{Shows, ShowsStatic, Slots, Visible, visible_to, OfField}
 use Rattle.code_meaning.specs.Does.{IsOperand, word_given, words_given}
 use Rattle.code_meaning.specs.Lowered.{Lowered}
 use Rattle.machine_scenes.specs.declared.activation.Activation.{Activation}
-use Rattle.machine_scenes.specs.FieldIds.{FieldAgrees, FieldsAgree}
+use Rattle.machine_scenes.specs.FieldIds.{FieldAgrees, HandleAgrees, HandlesAgree, field_held}
+use Rattle.machine_scenes.specs.declared.handle.Handle.{Handle}
+use Rattle.machine_scenes.specs.declared.handle.Handle.TheVariants as handle
+use Rattle.code_meaning.specs.Slots as meant
+use Rattle.std.specs.Option.{option_map}
 use Rattle.machine_scenes.specs.StoreAgrees.{HeldAgrees, StaticsAgree}
 use Rattle.machine_scenes.specs.Statics.{References, held_argument, held_or_null}
 use Rattle.machine_scenes.specs.declared.references.Held.{Held}
@@ -49,12 +54,22 @@ use Rattle.machine_threads.specs.SlotsHold.{slots_of}
 -- ---- slots
 
 -- what the slot of a field ID holds
-field_there : (classes : Classes) (handles : List (Option FieldHandle)) (fields : List (Option FieldId)) (i : ℕ) (q : Option FieldId) → FieldsAgree classes handles fields → slice_get fields i ≡ Some q → FieldAgrees classes (held_in (slice_get handles i)) q
-field_there classes [] [] i q h e = absurd (cc)
-field_there classes [] (f ∷ fields) i q h e = absurd h
-field_there classes (a ∷ handles) [] i q h e = absurd h
-field_there classes (a ∷ handles) (f ∷ fields) zero q h e = let same : f ≡ q = cc in subst (λ (x : Option FieldId). FieldAgrees classes a x) same h.0
-field_there classes (a ∷ handles) (f ∷ fields) (suc i) q h e = field_there classes handles fields i q h.1 e
+field_agrees : (unit : SourceUnit) (classes : Classes) (h : Option Handle) (q : Option FieldId) → HandleAgrees unit classes h (option_map OfField q) → FieldAgrees classes (field_held h) q
+field_agrees unit classes None None a = a
+field_agrees unit classes None (Some f) a = absurd a
+field_agrees unit classes (Some (handle.Field h)) None a = absurd a
+field_agrees unit classes (Some (handle.Method h)) None a = absurd a
+field_agrees unit classes (Some (handle.Field h)) (Some f) a = a
+field_agrees unit classes (Some (handle.Method h)) (Some f) a = absurd a
+
+field_there : (unit : SourceUnit) (classes : Classes) (handles : List (Option Handle)) (fields : List (Option meant.Handle)) (i : ℕ) (q : Option FieldId) → HandlesAgree unit classes handles fields → slice_get fields i ≡ Some (option_map OfField q) → FieldAgrees classes (field_held (held_in (slice_get handles i))) q
+field_there unit classes [] [] i q h e = absurd (cc)
+field_there unit classes [] (f ∷ fields) i q h e = absurd h
+field_there unit classes (a ∷ handles) [] i q h e = absurd h
+field_there unit classes (a ∷ handles) (f ∷ fields) zero q h e =
+    let same : ◌≡◌ {A = Option meant.Handle} f (option_map OfField q) = cc in
+    field_agrees unit classes a q (subst (λ (x : Option meant.Handle). HandleAgrees unit classes a x) same h.0)
+field_there unit classes (a ∷ handles) (f ∷ fields) (suc i) q h e = field_there unit classes handles fields i q h.1 e
 
 -- ---- operands
 
@@ -127,7 +142,7 @@ module _ (p : Lowered) (classes : Classes) (space : Space) (copies : List (Optio
   one_given operand.Number a owned h = h
   one_given (operand.FieldId i) a owned h =
       let shown = r.shows.each h.0 (record { sort = sort.FieldId; index = i }) h.2 in
-      record { field = shown.field; is = h.1 ∙ ap FieldActual shown.is; agrees = field_there classes call.slots.fields.items r.meant.fields i shown.field r.holds.fields shown.there }
+      record { field = shown.field; is = h.1 ∙ ap FieldActual shown.is; agrees = field_there (unit_tree p.unit) classes call.slots.fields.items r.meant.fields i shown.field r.holds.fields shown.there }
   one_given operand.Text a owned h = h
   one_given (operand.Array array) a owned h = (h.0, h.1)
   one_given (operand.Buffer i) a owned h = (h.0, h.1)
@@ -193,7 +208,7 @@ module _ (code : Listing) (known : Known) (place : ℕ) (stack : List ℕ) (slot
 abbrev one_taken : Operand → ℕ
 one_taken o = words_taken (o ∷ [])
 
-module _ (classes : Classes) (space : Space) (references : References) (fields : List (Option FieldHandle)) where
+module _ (classes : Classes) (space : Space) (references : References) (fields : List (Option Handle)) where
   word_of_one : (o : Operand) (a : Actual) → IsGiven classes space references fields o a → length (word_given a) ≡ one_taken o
   word_of_one operand.Null a (inl h) = ap (λ (b : Actual). length (word_given b)) h.is
   word_of_one operand.Null a (inr (inl h)) = ap (λ (b : Actual). length (word_given b)) h.is
@@ -230,8 +245,47 @@ none_left : (n : ℕ) → with_fewer n n ≡ Some 0
 none_left n = rw (le-leb n n (omega arith)) (ap (λ (m : ℕ). Some m) (let e : n - n ≡ 0 = omega arith in e))
 
 -- a call takes all the words on the stack
-pub none_left_after : (classes : Classes) (space : Space) (references : References) (fields : List (Option FieldHandle)) (operands : List Operand) (args : List Actual) (stack : List ℕ) → AllZip (IsGiven classes space references fields) operands args → stack ≡ words_given args
+pub none_left_after : (classes : Classes) (space : Space) (references : References) (fields : List (Option Handle)) (operands : List Operand) (args : List Actual) (stack : List ℕ) → AllZip (IsGiven classes space references fields) operands args → stack ≡ words_given args
     → with_fewer (words_taken operands) (length stack) ≡ Some 0
 none_left_after classes space references fields operands args stack given words =
     let count : length stack ≡ words_taken operands = ap length words ∙ sym (taken_words classes space references fields operands args given) in
     subst (λ (n : ℕ). with_fewer (words_taken operands) n ≡ Some 0) (sym count) (none_left (words_taken operands))
+
+-- the same by what the operands are
+module _ (code : Listing) (known : Known) (place : ℕ) (stack : List ℕ) (slots : Slots) (visible : Visible) where
+  word_of_operand : (o : Operand) (a : Actual) → IsOperand code known place stack slots visible o a → length (word_given a) ≡ one_taken o
+  word_of_operand operand.Null a (inl h) = ap (λ (b : Actual). length (word_given b)) h.1
+  word_of_operand operand.Null a (inr (inl h)) = ap (λ (b : Actual). length (word_given b)) h
+  word_of_operand operand.Null a (inr (inr h)) = ap (λ (b : Actual). length (word_given b)) h
+  word_of_operand (operand.Local i) a h = ap (λ (b : Actual). length (word_given b)) h.1
+  word_of_operand (operand.Static i) a h = ap (λ (b : Actual). length (word_given b)) h.1
+  word_of_operand operand.Number a h = ap (λ (b : Actual). length (word_given b)) h.1
+  word_of_operand (operand.FieldId i) a h = ap (λ (b : Actual). length (word_given b)) h.1
+  word_of_operand operand.Text a h = ap (λ (b : Actual). length (word_given b)) h.1
+  word_of_operand (operand.Array array) a h = ap (λ (b : Actual). length (word_given b)) h.1
+  word_of_operand (operand.Buffer i) a h = ap (λ (b : Actual). length (word_given b)) h.1
+  word_of_operand (operand.Mode mode) a h = ap (λ (b : Actual). length (word_given b)) h.1
+  word_of_operand (operand.IsCopy i) a h = ap (λ (b : Actual). length (word_given b)) h.1
+
+  first_word : (o : Operand) (operands : List Operand) → words_taken (o ∷ operands) ≡ one_taken o + words_taken operands
+  first_word operand.Null operands = let taken : one_taken operand.Null ≡ 0 = refl in omega (arith, taken)
+  first_word (operand.Local i) operands = let taken : one_taken (operand.Local i) ≡ 0 = refl in omega (arith, taken)
+  first_word (operand.Static i) operands = let taken : one_taken (operand.Static i) ≡ 0 = refl in omega (arith, taken)
+  first_word operand.Number operands = let taken : one_taken operand.Number ≡ 1 = refl in omega (arith, taken)
+  first_word (operand.FieldId i) operands = let taken : one_taken (operand.FieldId i) ≡ 0 = refl in omega (arith, taken)
+  first_word operand.Text operands = let taken : one_taken operand.Text ≡ 0 = refl in omega (arith, taken)
+  first_word (operand.Array array) operands = let taken : one_taken (operand.Array array) ≡ 0 = refl in omega (arith, taken)
+  first_word (operand.Buffer i) operands = let taken : one_taken (operand.Buffer i) ≡ 0 = refl in omega (arith, taken)
+  first_word (operand.Mode mode) operands = let taken : one_taken (operand.Mode mode) ≡ 0 = refl in omega (arith, taken)
+  first_word (operand.IsCopy i) operands = let taken : one_taken (operand.IsCopy i) ≡ 0 = refl in omega (arith, taken)
+
+  operand_words : (operands : List Operand) (args : List Actual) → AllZip (IsOperand code known place stack slots visible) operands args → words_taken operands ≡ length (words_given args)
+  operand_words [] [] h = refl
+  operand_words [] (a ∷ args) h = absurd h
+  operand_words (o ∷ operands) [] h = absurd h
+  operand_words (o ∷ operands) (a ∷ args) h = omega (arith, first_word o operands, word_of_operand o a h.0, operand_words operands args h.1, length-append (words_given args) (word_given a))
+
+  pub none_left_by : (operands : List Operand) (args : List Actual) → AllZip (IsOperand code known place stack slots visible) operands args → stack ≡ words_given args → with_fewer (words_taken operands) (length stack) ≡ Some 0
+  none_left_by operands args given words =
+      let count : length stack ≡ words_taken operands = ap length words ∙ sym (operand_words operands args given) in
+      subst (λ (n : ℕ). with_fewer (words_taken operands) n ≡ Some 0) (sym count) (none_left (words_taken operands))

@@ -6,11 +6,12 @@ use Rattle.class_rules.specs.Class.{Classes}
 use Rattle.heap.specs.Heap.{Space}
 use Rattle.jni.specs.JniFunction.{JniFunction, DeleteLocalRef, prototype}
 use Rattle.jni.specs.Prototype.{ResultKind, NewLocal}
+use Rattle.syntax.specs.Views.{unit_tree}
 use Rattle.semantics.specs.Arguments.{Actual, reference_given, variable_given}
 use Rattle.semantics.specs.CallEffects.{level_of}
 use Rattle.semantics.specs.CallStep.{trap_of_call, waits_with}
 use Rattle.semantics.specs.Effect.{Calls, Effect, effect_of}
-use Rattle.semantics.specs.Task.{Assigned, Declared, Dropped, Target, Task, Tested}
+use Rattle.semantics.specs.Task.{Assigned, Declared, Dropped, Target, Task, Tested, MethodKind}
 use Rattle.semantics.specs.Thread as source
 use Rattle.semantics.specs.Thread.{BuffersInUse, Shared, sight_of}
 use Rattle.semantics.specs.Variable.{LocalRef, Variable}
@@ -56,7 +57,7 @@ use Rattle.semantics.specs.Checks.{is_full}
 use Rattle.semantics.specs.ThreadStep.{next_effect}
 use Rattle.machine_calls.proofs.HeldStatics.{place_below}
 use Rattle.std.specs.Prelude.{◌&&◌}
-use Rattle.jni.specs.Prototype.{NewGlobal, NewWeak, GivesFlag, GivesInt, GivesField, GivesNothing, GivesBuffer}
+use Rattle.jni.specs.Prototype.{NewGlobal, NewWeak, GivesFlag, GivesInt, GivesField, GivesMethod, GivesNothing, GivesBuffer}
 use Rattle.semantics.specs.Object.{sizes}
 use Rattle.semantics.specs.CallEffects.{Halts}
 use Rattle.semantics.specs.CallStep.{after_call, checked, effect_of_call}
@@ -93,13 +94,13 @@ use Rattle.semantics.specs.CallStep.{element_type, target_element}
 use Rattle.semantics.specs.Effect.{NoEffect}
 use Rattle.semantics.specs.Task.{VariableKind, ScalarKind, ReferenceKind, FieldKind, BufferKind}
 use Rattle.semantics.specs.Variable as source_variable
-use Rattle.semantics.specs.Variable.{Scalar, FieldHandle, Elements, LocalArray}
+use Rattle.semantics.specs.Variable.{Scalar, FieldHandle, MethodHandle, Elements, LocalArray}
 use Rattle.semantics_safety.specs.StepSafe.{MayMeetView}
 use Rattle.tables.specs.Elements.{OwnedNumbers}
 use Rattle.machine_scenes.specs.Buffers.{Acquired, holding}
 use Rattle.machine_answers.specs.Checked.{element_wanted}
 use Rattle.machine_scenes.specs.Given.{HasBuffer}
-use Rattle.machine_steps.proofs.Changes.{buffer_by_kind, field_by_kind, local_by_kind, scalar_by_kind}
+use Rattle.machine_steps.proofs.Changes.{buffer_by_kind, field_by_kind, method_by_kind, local_by_kind, scalar_by_kind}
 use Rattle.machine_steps.proofs.OwnedKeys.{called as invoked}
 use Rattle.machine_steps.proofs.SlotBuffers.{buffer_held, buffers_count}
 
@@ -107,7 +108,7 @@ use Rattle.machine_steps.proofs.SlotBuffers.{buffer_held, buffers_count}
 
 -- where the result goes is there
 module _ (p : Lowered) (classes : Classes) (space : Space) (copies : List (Option OwnedNumbers)) (k : ℕ) (call : Activation) (code : Listing) (visible : Visible) (frames : List source.Frame) (task : Task) (rest : List Task) (r : Ready p classes space copies k call code visible frames task rest) where
-  target_there : (line : ℕ) (d : Destination) (kind : ResultKind) (target : Target) → TakesResult code r.known call.place call.stack (slots_of call r.meant) visible line d kind target rest → HasTarget d call
+  pub target_there : (line : ℕ) (d : Destination) (kind : ResultKind) (target : Target) → TakesResult code r.known call.place call.stack (slots_of call r.meant) visible line d kind target rest → HasTarget d call
   target_there line destination.Dropped kind target h = (tt, tt, tt, tt)
   target_there line (destination.Number i) kind (Declared declared x) h = (h.2.1.within, tt, tt, tt)
   target_there line (destination.Number i) kind (Assigned x) h = (h.2.1.within, tt, tt, tt)
@@ -117,10 +118,14 @@ module _ (p : Lowered) (classes : Classes) (space : Space) (copies : List (Optio
   target_there line (destination.Local i) kind (Assigned x) h = (tt, omega (arith, h.1.1.within, keys_count space call.locals call.slots.references.items r.meant.references r.meant.owners r.holds.keys), tt, tt)
   target_there line (destination.Local i) kind (Tested a b) h = absurd h.1
   target_there line (destination.Local i) kind Dropped h = absurd h.1
-  target_there line (destination.FieldId i) kind (Declared declared x) h = (tt, tt, omega (arith, h.1.1.within, fields_count classes call.slots.fields.items r.meant.fields r.holds.fields), tt)
-  target_there line (destination.FieldId i) kind (Assigned x) h = (tt, tt, omega (arith, h.1.1.within, fields_count classes call.slots.fields.items r.meant.fields r.holds.fields), tt)
+  target_there line (destination.FieldId i) kind (Declared declared x) h = (tt, tt, omega (arith, h.1.1.within, fields_count (unit_tree p.unit) classes call.slots.fields.items r.meant.fields r.holds.fields), tt)
+  target_there line (destination.MethodId i) kind (Declared declared x) h = (tt, tt, omega (arith, h.1.1.within, fields_count (unit_tree p.unit) classes call.slots.fields.items r.meant.fields r.holds.fields), tt)
+  target_there line (destination.FieldId i) kind (Assigned x) h = (tt, tt, omega (arith, h.1.1.within, fields_count (unit_tree p.unit) classes call.slots.fields.items r.meant.fields r.holds.fields), tt)
+  target_there line (destination.MethodId i) kind (Assigned x) h = (tt, tt, omega (arith, h.1.1.within, fields_count (unit_tree p.unit) classes call.slots.fields.items r.meant.fields r.holds.fields), tt)
   target_there line (destination.FieldId i) kind (Tested a b) h = absurd h.1
+  target_there line (destination.MethodId i) kind (Tested a b) h = absurd h.1
   target_there line (destination.FieldId i) kind Dropped h = absurd h.1
+  target_there line (destination.MethodId i) kind Dropped h = absurd h.1
   target_there line (destination.Static i) kind target h = (tt, tt, tt, tt)
   target_there line (destination.Buffer element i) kind (Declared declared x) h = (tt, tt, tt, omega (arith, h.1.2.1.within, buffers_count space copies k call.slots.buffers.items r.meant.buffers r.holds.buffers))
   target_there line (destination.Buffer element i) kind (Assigned x) h = (tt, tt, tt, omega (arith, h.1.2.1.within, buffers_count space copies k call.slots.buffers.items r.meant.buffers r.holds.buffers))
@@ -142,6 +147,7 @@ no_elements None h = refl
 no_elements (Some (Scalar v)) h = absurd (cc)
 no_elements (Some (LocalRef level r)) h = absurd (cc)
 no_elements (Some (FieldHandle f)) h = absurd (cc)
+no_elements (Some (MethodHandle f)) h = absurd (cc)
 no_elements (Some (Elements t b)) h = absurd (cc)
 no_elements (Some (LocalArray t zs)) h = refl
 
@@ -161,9 +167,13 @@ module _ (p : Lowered) (classes : Classes) (space : Space) (copies : List (Optio
   element_there line (destination.Local i) kind (Tested a b) h = absurd h.1
   element_there line (destination.Local i) kind Dropped h = absurd h.1
   element_there line (destination.FieldId i) kind (Declared declared x) h = declared_as x declared FieldKind h.1.0
+  element_there line (destination.MethodId i) kind (Declared declared x) h = declared_as x declared MethodKind h.1.0
   element_there line (destination.FieldId i) kind (Assigned x) h = sym (ap element_type (field_by_kind (lookup x s.variables) h.1.0).1)
+  element_there line (destination.MethodId i) kind (Assigned x) h = sym (ap element_type (method_by_kind (lookup x s.variables) h.1.0).1)
   element_there line (destination.FieldId i) kind (Tested a b) h = absurd h.1
+  element_there line (destination.MethodId i) kind (Tested a b) h = absurd h.1
   element_there line (destination.FieldId i) kind Dropped h = absurd h.1
+  element_there line (destination.MethodId i) kind Dropped h = absurd h.1
   element_there line (destination.Static i) kind target h = sym (ap (target_element s.variables) h.1.1 ∙ no_elements (lookup h.1.0 s.variables) h.1.2.static.no_variable.kind)
   element_there line (destination.Buffer element i) kind (Declared declared x) h = ap (λ (e : ElementOfCode). element_wanted (destination.Buffer e i)) h.1.1 ∙ wanted_of h.1.0 i ∙ declared_as x declared (BufferKind h.1.0) h.1.2.0
   element_there line (destination.Buffer element i) kind (Assigned x) h = ap (λ (e : ElementOfCode). element_wanted (destination.Buffer e i)) h.1.1 ∙ wanted_of h.1.0 i ∙ sym (ap element_type (buffer_by_kind (lookup x s.variables) h.1.0 h.1.2.0).1)
@@ -290,6 +300,7 @@ module _ (p : Lowered) (w : World) (store : Store) (pending : Option ℕ) (call 
               ap (λ (n : ℕ). waits_with w.classes k shared s (Calls n target f args)) (ap (λ (x : Call). x.line) (sym same) ∙ c.same_line)
               ∙ ap (waits_with w.classes k shared s) (sym step) ∙ h.ready;
           release = λ access same_release. h.steady.release line target access args (ap (next_effect shared s) h.tasks ∙ step ∙ ap (λ (g : JniFunction). Calls line target g args) same_release);
+          methods = λ same_function. h.steady.methods line target args (ap (next_effect shared s) h.tasks ∙ step ∙ ap (λ (g : JniFunction). Calls line target g args) same_function);
           words = c.words;
           texts = ap (λ (x : Call). x.texts) (sym same) ∙ c.texts;
         };
@@ -308,9 +319,9 @@ module _ (p : Lowered) (w : World) (store : Store) (pending : Option ℕ) (call 
   next_is = ap (next_effect shared s) h.tasks ∙ called.is
 
   -- the trap that is found of it is the source's
-  pub trap_is : trap_at w store pending call k in_memory ≡ trap_of_call w.classes shared s called.target called.f called.args
+  pub trap_is : trap_at p w store pending call k in_memory ≡ trap_of_call w.classes shared s called.target called.f called.args
   trap_is =
-      (λ i. trap_found (scene_of w.classes store call k pending) (has_room (locals_after (called.asked.same_function i) call.locals)) (element_wanted function.target) (called.asked.same_function i) in_memory.operands.items)
+      (λ i. trap_found (scene_of (unit_tree p.unit) w.classes store call k pending) (has_room (locals_after (called.asked.same_function i) call.locals)) (element_wanted function.target) (called.asked.same_function i) in_memory.operands.items)
       ∙ found_is p w store pending call function others k owner shared s called.target called.f called.args called.asked
 
   -- the key that DeleteLocalRef is given
@@ -347,6 +358,7 @@ module _ (p : Lowered) (w : World) (store : Store) (pending : Option ℕ) (call 
       static_within statics count (destination.Number i) goes = tt
       static_within statics count (destination.Local i) goes = tt
       static_within statics count (destination.FieldId i) goes = tt
+      static_within statics count (destination.MethodId i) goes = tt
       static_within statics count (destination.Buffer element i) goes = tt
       static_within statics count destination.Test goes = tt
       static_within statics count destination.Dropped goes = tt
@@ -370,33 +382,34 @@ module _ (p : Lowered) (w : World) (store : Store) (pending : Option ℕ) (call 
         by_kind GivesFlag b local h = absurd (cc)
         by_kind GivesInt b local h = absurd (cc)
         by_kind GivesField b local h = absurd (cc)
+        by_kind GivesMethod b local h = absurd (cc)
         by_kind GivesNothing b local h = absurd (cc)
         by_kind (GivesBuffer a) b local h = absurd (cc)
 
     -- the effect of the source's call
-    pub effect_is : effect_of_call w.classes in_use k shared s called.line called.target called.f called.args rest ≡ call_effect w.classes in_use k shared s called.args called.f
-    effect_is = ap (λ (o : Option SourceTrap). checked o (call_effect w.classes in_use k shared s called.args called.f)) free
+    pub effect_is : effect_of_call (unit_tree p.unit) w.classes in_use k shared s called.line called.target called.f called.args rest ≡ call_effect (unit_tree p.unit) w.classes in_use k shared s called.args called.f
+    effect_is = ap (λ (o : Option SourceTrap). checked o (call_effect (unit_tree p.unit) w.classes in_use k shared s called.args called.f)) free
 
   -- a local reference has room in the frames that the call leaves
   pub room_after : (free : trap_of_call w.classes shared s called.target called.f called.args ≡ None) (refused : Bool) (store' : Store) (pending' : Option ℕ) (locals : LocalTable) (g : Given) (answer : Answer)
-      → CarriesOut p w store.heap call.locals answer (prototype called.f).result others owner shared s (call_effect w.classes in_use k shared s called.args called.f) refused store' pending' locals g → HasRoom (prototype called.f).result locals
-  room_after free refused store' pending' locals g answer carried = room_by (prototype called.f).result locals (frames_left refused s (call_effect w.classes in_use k shared s called.args called.f)) (source_frames_after called.f s.frames) store'.heap
-      (λ local. left_is w.classes in_use k shared s called.args called.f local refused carried.could_refuse) carried.frames_agree (source_room free)
+      → CarriesOut p w store.heap call.locals answer (prototype called.f).result others owner shared s (call_effect (unit_tree p.unit) w.classes in_use k shared s called.args called.f) refused store' pending' locals g → HasRoom (prototype called.f).result locals
+  room_after free refused store' pending' locals g answer carried = room_by (prototype called.f).result locals (frames_left refused s (call_effect (unit_tree p.unit) w.classes in_use k shared s called.args called.f)) (source_frames_after called.f s.frames) store'.heap
+      (λ local. left_is (unit_tree p.unit) w.classes in_use k shared s called.args called.f local refused carried.could_refuse) carried.frames_agree (source_room free)
 
   -- a trap stops the thread where it is
   -- a check found it
-  pub found_trap : (trap : Trap) → trap_of_call w.classes shared s called.target called.f called.args ≡ Some (trap_view trap) → effect_of_call w.classes in_use k shared s called.line called.target called.f called.args rest ≡ Halts (trap_view trap)
-  found_trap trap found = ap (λ (o : Option SourceTrap). checked o (call_effect w.classes in_use k shared s called.args called.f)) found
+  pub found_trap : (trap : Trap) → trap_of_call w.classes shared s called.target called.f called.args ≡ Some (trap_view trap) → effect_of_call (unit_tree p.unit) w.classes in_use k shared s called.line called.target called.f called.args rest ≡ Halts (trap_view trap)
+  found_trap trap found = ap (λ (o : Option SourceTrap). checked o (call_effect (unit_tree p.unit) w.classes in_use k shared s called.args called.f)) found
 
   -- the call stops the machine
-  pub traps : (trap : Trap) (line : ℕ) → line ≡ function.line → effect_of_call w.classes in_use k shared s called.line called.target called.f called.args rest ≡ Halts (trap_view trap)
+  pub traps : (trap : Trap) (line : ℕ) → line ≡ function.line → effect_of_call (unit_tree p.unit) w.classes in_use k shared s called.line called.target called.f called.args rest ≡ Halts (trap_view trap)
       → Executes p w store store others k owner own shared s rest call pending (effect_of (sight_of shared s) task) (Did (event.Trapped trap line))
   traps trap line same found =
       subst (λ (e : Effect). GoesOn p w store store others k owner own shared s rest call pending e false (event.Trapped trap line)) (sym called.is) (record {
         next_shared = shared;
         next = s;
         steps =
-            ap (after_call w.classes in_use k shared s called.line called.target called.f called.args rest) found
+            ap (after_call (unit_tree p.unit) w.classes in_use k shared s called.line called.target called.f called.args rest) found
             ∙ ap (λ (n : ℕ). source.Advances shared s (source.Trapped (trap_view trap) n)) (sym (same ∙ called.same_line));
         store_agrees = h.shares;
         keeps = keeps_same store.heap shared;
@@ -405,11 +418,12 @@ module _ (p : Lowered) (w : World) (store : Store) (pending : Option ℕ) (call 
         pending_agrees = h.pending_agrees;
         views = h.views;
         calls = refl;
+        callers = refl;
         ending = refl;
         short = λ e. absurd (cc);
       })
 
   -- what the step makes is what the effect makes
   pub cells_wanted : trap_of_call w.classes shared s called.target called.f called.args ≡ None
-      → cells_made shared (after_effect w.classes in_use k shared s rest (Calls called.line called.target called.f called.args)) ≡ sizes (made_by w.classes (call_effect w.classes in_use k shared s called.args called.f))
-  cells_wanted free = call_cells w.classes in_use k shared s called.line called.target called.f called.args rest _ (effect_is free) (effect_keeps w.classes in_use k shared s called.args called.f)
+      → cells_made shared (after_effect (unit_tree p.unit) w.classes in_use k shared s rest (Calls called.line called.target called.f called.args)) ≡ sizes (made_by w.classes (call_effect (unit_tree p.unit) w.classes in_use k shared s called.args called.f))
+  cells_wanted free = call_cells (unit_tree p.unit) w.classes in_use k shared s called.line called.target called.f called.args rest _ (effect_is free) (effect_keeps (unit_tree p.unit) w.classes in_use k shared s called.args called.f)

@@ -8,7 +8,8 @@ use Rattle.heap.specs.Heap.{name_at}
 use Rattle.base.specs.Bytes.{Identifier, lookup}
 use Rattle.base.specs.Element.{ElementType}
 use Rattle.jni.specs.JniFunction.{JniFunction, GetBuffer, prototype}
-use Rattle.jni.specs.Prototype.{ResultKind, NewLocal, GivesInt, GivesField, GivesNothing, GivesBuffer}
+use Rattle.jni.specs.Prototype.{ResultKind, NewLocal, GivesInt, GivesField, GivesMethod, GivesNothing, GivesBuffer}
+use Rattle.syntax.specs.Views.{unit_tree}
 use Rattle.semantics.specs.Arguments.{Actual, address_given}
 use Rattle.semantics.specs.CallEffects.{CallEffect, CallResult}
 use Rattle.semantics.specs.CallStep.{call_step, tell_copy, trap_of_call}
@@ -146,12 +147,13 @@ module _ (p : Lowered) (w : World) (store : Store) (pending : Option ℕ) (call 
   no_target (destination.Number i) kind target x nothing goes is = let clash : None ≡ Some goes.0 = sym (ap number_sort nothing) ∙ goes.1 in cc
   no_target (destination.Local i) kind target x nothing goes is = let clash : GivesNothing ≡ NewLocal = sym nothing ∙ goes.0 in cc
   no_target (destination.FieldId i) kind target x nothing goes is = let clash : GivesNothing ≡ GivesField = sym nothing ∙ goes.0 in cc
+  no_target (destination.MethodId i) kind target x nothing goes is = let clash : GivesNothing ≡ GivesMethod = sym nothing ∙ goes.0 in cc
   no_target (destination.Static i) kind target x nothing goes is = subst IsStaticResult nothing goes.0
   no_target (destination.Buffer element i) kind target x nothing goes is = let clash : GivesNothing ≡ GivesBuffer goes.0.0 = sym nothing ∙ goes.0.1 in cc
   no_target destination.Test kind target x nothing goes is = let clash : GivesNothing ≡ GivesInt = sym nothing ∙ goes.0 in cc
   no_target destination.Dropped kind target x nothing goes is = let clash : false ≡ true = sym (ap (λ (t : Target). is_target t x) goes.0) ∙ is in cc
 
-  module _ (answer : Answer) (works : IsWorkedOut (scene_of w.classes store call k pending) function called.f answer) where
+  module _ (answer : Answer) (works : IsWorkedOut (scene_of (unit_tree p.unit) w.classes store call k pending) function called.f answer) where
     abbrev left_own : Owners
     left_own = owners_left p w store pending call in_memory others k owner own shared s task rest h answer works
 
@@ -246,6 +248,7 @@ module _ (p : Lowered) (w : World) (store : Store) (pending : Option ℕ) (call 
       nowhere (destination.Number i) kind nothing goes = absurd (let clash : None ≡ Some goes.0 = sym (ap number_sort nothing) ∙ goes.1 in cc)
       nowhere (destination.Local i) kind nothing goes = absurd (let clash : GivesNothing ≡ NewLocal = sym nothing ∙ goes.0 in cc)
       nowhere (destination.FieldId i) kind nothing goes = absurd (let clash : GivesNothing ≡ GivesField = sym nothing ∙ goes.0 in cc)
+      nowhere (destination.MethodId i) kind nothing goes = absurd (let clash : GivesNothing ≡ GivesMethod = sym nothing ∙ goes.0 in cc)
       nowhere (destination.Static i) kind nothing goes = absurd (subst IsStaticResult nothing goes.0)
       nowhere (destination.Buffer element i) kind nothing goes = absurd (let clash : GivesNothing ≡ GivesBuffer goes.0.0 = sym nothing ∙ goes.0.1 in cc)
       nowhere destination.Test kind nothing goes = absurd (let clash : GivesNothing ≡ GivesInt = sym nothing ∙ goes.0 in cc)
@@ -265,6 +268,7 @@ module _ (p : Lowered) (w : World) (store : Store) (pending : Option ℕ) (call 
       buffer_goes kinds (destination.Number i) kind target b goes = absurd (let clash : None ≡ Some goes.0 = sym (ap number_sort b.1) ∙ goes.1 in cc)
       buffer_goes kinds (destination.Local i) kind target b goes = absurd (let clash : GivesBuffer b.0 ≡ NewLocal = sym b.1 ∙ goes.0 in cc)
       buffer_goes kinds (destination.FieldId i) kind target b goes = absurd (let clash : GivesBuffer b.0 ≡ GivesField = sym b.1 ∙ goes.0 in cc)
+      buffer_goes kinds (destination.MethodId i) kind target b goes = absurd (let clash : GivesBuffer b.0 ≡ GivesMethod = sym b.1 ∙ goes.0 in cc)
       buffer_goes kinds (destination.Static i) kind target b goes = absurd (subst IsStaticResult b.1 goes.0)
       buffer_goes kinds (destination.Buffer element i) kind (Declared declared x) b goes = (goes.0, (goes.1.0, goes.1.1, (goes.1.2.0, buffer_takes goes.1.0 i x goes.1.2.1)))
       buffer_goes kinds (destination.Buffer element i) kind (Assigned x) b goes = (goes.0, (goes.1.0, goes.1.1, (kinds x ∙ goes.1.2.0, buffer_takes goes.1.0 i x goes.1.2.1)))
@@ -311,25 +315,25 @@ module _ (p : Lowered) (w : World) (store : Store) (pending : Option ℕ) (call 
     in_use = in_use_with others s
 
     abbrev effect : CallEffect
-    effect = call_effect w.classes in_use k shared s called.args called.f
+    effect = call_effect (unit_tree p.unit) w.classes in_use k shared s called.args called.f
 
     abbrev Does : Type 0
-    Does = IsAnswer w.classes (brought_by store call k owner in_use function called.args) store.heap call.locals kind shared s answer effect
+    Does = IsAnswer w.classes (brought_by (unit_tree p.unit) store call k owner in_use function called.args) store.heap call.locals kind shared s answer effect
 
     -- a function that gives a buffer leaves the variables as they were
     untold_same : (refused : Bool) → is_halt answer ≡ false → Does → IsBufferResult kind → variables_left refused s effect ≡ s.variables
     untold_same true runs does b = refl
-    untold_same false runs does b = by_answer (kept_or_copied w.classes (brought_by store call k owner in_use function called.args) store.heap call.locals kind shared s answer effect runs does)
+    untold_same false runs does b = by_answer (kept_or_copied w.classes (brought_by (unit_tree p.unit) store call k owner in_use function called.args) store.heap call.locals kind shared s answer effect runs does)
       where
-        by_answer : AreKept w.classes (brought_by store call k owner in_use function called.args) store.heap call.locals kind shared s answer effect ⊎ (Copied w.classes (brought_by store call k owner in_use function called.args) store.heap call.locals kind shared s answer effect ⊎ Released w.classes (brought_by store call k owner in_use function called.args) store.heap call.locals kind shared s answer effect)
+        by_answer : AreKept w.classes (brought_by (unit_tree p.unit) store call k owner in_use function called.args) store.heap call.locals kind shared s answer effect ⊎ (Copied w.classes (brought_by (unit_tree p.unit) store call k owner in_use function called.args) store.heap call.locals kind shared s answer effect ⊎ Released w.classes (brought_by (unit_tree p.unit) store call k owner in_use function called.args) store.heap call.locals kind shared s answer effect)
             → variables_left false s effect ≡ s.variables
         by_answer (inl it) = it.0
         by_answer (inr (inl it)) = absurd (let clash : GivesNothing ≡ GivesBuffer b.0 = sym it.nothing ∙ b.1 in cc)
         by_answer (inr (inr it)) = absurd (let clash : GivesNothing ≡ GivesBuffer b.0 = sym it.nothing ∙ b.1 in cc)
 
     -- a step of the call is one of the first task
-    stepped : (refused : Bool) (t : source.Thread) (next : Shared) → call_step w.classes in_use k shared s called.line called.target called.f called.args rest refused ≡ source.Advances next t source.Quiet
-        → after_any w.classes in_use k shared s rest refused (Calls called.line called.target called.f called.args) ≡ source.Advances next t source.Quiet
+    stepped : (refused : Bool) (t : source.Thread) (next : Shared) → call_step (unit_tree p.unit) w.classes in_use k shared s called.line called.target called.f called.args rest refused ≡ source.Advances next t source.Quiet
+        → after_any (unit_tree p.unit) w.classes in_use k shared s rest refused (Calls called.line called.target called.f called.args) ≡ source.Advances next t source.Quiet
     stepped false t next h = h
     stepped true t next h = h
 
@@ -365,7 +369,7 @@ module _ (p : Lowered) (w : World) (store : Store) (pending : Option ℕ) (call 
       told_taken =
           told_nothing told_variable gave untold
           (λ b x is at.
-          let buffer = gives_buffer w.classes store' owner kind g gave b carried.given_agrees is in
+          let buffer = gives_buffer (unit_tree p.unit) w.classes store' owner kind g gave b carried.given_agrees is in
           subst (λ (us : Variables). HoldsNoBuffer (lookup x us)) (sym (untold_same refused runs does buffer)) (told_holds buffer x at))
 
       -- each view that is left in a slot is a variable's
@@ -382,13 +386,13 @@ module _ (p : Lowered) (w : World) (store : Store) (pending : Option ℕ) (call 
           let next = shared_after w.classes refused shared effect in
           let left = frames_left refused s effect in
           let q = pending_after w.classes refused shared s effect in
-          let left_frames : kind ≡ NewLocal → left ≡ source_frames_after called.f s.frames = λ local. left_is w.classes in_use k shared s called.args called.f local refused carried.could_refuse in
+          let left_frames : kind ≡ NewLocal → left ≡ source_frames_after called.f s.frames = λ local. left_is (unit_tree p.unit) w.classes in_use k shared s called.args called.f local refused carried.could_refuse in
           let ready_left = left_ready sound gave told_variables told_numbers slots left_shown count in
           let keyed = keys_left store.heap store'.heap call.locals locals call.slots.references.items ready_left.meant.references ready_left.meant.owners ready_left.holds.keys
           (λ i key n level at_key owned is. carried.left key n level is (owners.left i key level at_key (subst (λ (l : List (Option ℕ)). slice_get l i ≡ Some (Some level)) (left_owners sound gave told_variables told_numbers slots left_shown count) owned))) in
           let ends = finishes p w store.heap store.elements store' others owner left_own shared next carried.keeps (record s { variables = told_variables }) (record call { slots = record call.slots { numbers = told_numbers; buffers = slots } }) h.code task rest ready_left called.line called.f called.args locals stacked
           (room_after p w store pending call in_memory others k owner own shared s task rest h free refused store' pending' locals g answer carried) keyed (left_buffered sound gave told_variables told_numbers slots left_shown count store' carried.keeps.names copies) told_viewed left carried.frames_agree q g gave untold refl told_taken carried.store_agrees carried.given_agrees
-          (λ b is. small_given w.classes (brought_by store call k owner in_use function called.args) store.heap call.locals kind shared s answer effect refused b (gives_buffer w.classes store' owner kind g gave b carried.given_agrees is) does is)
+          (λ b is. small_given w.classes (brought_by (unit_tree p.unit) store call k owner in_use function called.args) store.heap call.locals kind shared s answer effect refused b (gives_buffer (unit_tree p.unit) w.classes store' owner kind g gave b carried.given_agrees is) does is)
           (λ b j key is copy at. new_apart store.heap store.elements owner slots.items ready_left.meant.buffers b ready_left.holds.buffers (subst (IsNewCopy store.elements) is new_copy) j key copy at)
           carried.still function h.at called.left after statics function.target called.target
           (λ local x level old is at.
@@ -396,19 +400,20 @@ module _ (p : Lowered) (w : World) (store : Store) (pending : Option ℕ) (call 
           ∙ ap (λ (fs : List source.Frame). length fs) (sym (left_frames local)))
           (left_free sound gave told_variables told_numbers slots left_shown count) refl (goes_left sound gave told_variables told_numbers slots left_shown count)
           (told_before function.target kind told g (record call { locals = locals; slots = record call.slots { numbers = numbers; buffers = slots } }) after received) put in
-          let steps = step_leaves w.classes in_use k shared s called.line called.target called.f called.args rest refused effect (effect_is p w store pending call in_memory others k owner own shared s task rest h free)
-          (stays_with w.classes (brought_by store call k owner in_use function called.args) store.heap call.locals kind shared s answer effect runs does) carried.could_refuse in
+          let steps = step_leaves (unit_tree p.unit) w.classes in_use k shared s called.line called.target called.f called.args rest refused effect (effect_is p w store pending call in_memory others k owner own shared s task rest h free)
+          (stays_with w.classes (brought_by (unit_tree p.unit) store call k owner in_use function called.args) store.heap call.locals kind shared s answer effect runs does) carried.could_refuse in
           subst (λ (e : Effect). GoesOn p w store (record store' { statics = statics }) others k owner own shared s rest after pending' e refused event.Quiet) (sym called.is) (record {
             next_shared = ends.now;
             next = going called.line called.f called.args ends.tasks s left q gave ends.variables;
             steps = stepped refused (going called.line called.f called.args ends.tasks s left q gave ends.variables) ends.now (◌∙◌ {c = source.Advances ends.now (going called.line called.f called.args ends.tasks s left q gave ends.variables) source.Quiet} steps ends.steps);
             store_agrees = ends.store_agrees;
             keeps = ends.keeps;
-            keeps_copies = keeps_others w.classes (brought_by store call k owner in_use function called.args) store.heap call.locals kind shared s answer effect store'.elements does copies;
+            keeps_copies = keeps_others w.classes (brought_by (unit_tree p.unit) store call k owner in_use function called.args) store.heap call.locals kind shared s answer effect store'.elements does copies;
             work = ends.stands;
             pending_agrees = carried.pending_agrees;
             views = ends.views;
             calls = refl {a = s.calls};
+            callers = refl {a = s.callers};
             ending = refl {a = s.ending};
             short = λ was.
                 subst (λ (n : ℕ). IsShortOf n store.heap store'.heap) (sym (cells_wanted p w store pending call in_memory others k owner own shared s task rest h free))

@@ -4,7 +4,7 @@ use Rattle.std.specs.Prelude.{slice_get, IsSome}
 use Rattle.std.specs.Option.{option_copied}
 use Rattle.base.specs.Bytes.{Identifier}
 use Rattle.base.specs.Element.{ElementType}
-use Rattle.syntax.specs.Tree.{Function, Item, StaticItem, FunctionItem}
+use Rattle.syntax.specs.Tree.{Function, Item, StaticItem, FunctionItem, SourceUnit}
 use Rattle.syntax.specs.Views.{unit_tree}
 use Rattle.jni.specs.JniFunction.{JniFunction}
 use Rattle.heap.specs.Heap.{Space}
@@ -28,8 +28,6 @@ use Rattle.code_meaning.specs.Does.{DoesEffect, GoesOn, Writes, WritesBuffer, St
 use Rattle.code_meaning.specs.Lowered.{Lowered, IsLowered, IsCodeOf, AreCodesOf}
 use Rattle.machine_scenes.specs.declared.activation.Activation.{Activation}
 use Rattle.class_rules.specs.Class.{Classes}
-use Rattle.class_rules.specs.Fields.{FieldId}
-use Rattle.classes.specs.declared.class.FieldHandle.{FieldHandle}
 use Rattle.semantics.specs.Thread.{Frame}
 use Rattle.tables.specs.Elements.{OwnedNumbers}
 use Rattle.tables.specs.Locals.{LocalTable}
@@ -39,7 +37,9 @@ use Rattle.machine_scenes.specs.Locals.{FramesAgree, KeysAgree}
 use Rattle.machine_threads.specs.InProgress.{CallStands}
 use Rattle.machine_threads.specs.SlotsHold.{Meant, SlotValues, SlotsHold, slots_of, values_in}
 use Rattle.machine_steps.specs.Moved.{HasMoved}
-use Rattle.machine_scenes.specs.FieldIds.{FieldsAgree}
+use Rattle.machine_scenes.specs.FieldIds.{HandlesAgree}
+use Rattle.machine_scenes.specs.declared.handle.Handle.{Handle}
+use Rattle.code_meaning.specs.Slots as meant
 
 -- ---- a function's code
 
@@ -133,7 +133,7 @@ pub record Ready (p : Lowered) (classes : Classes) (space : Space) (copies : Lis
   pub valid : IsValid code
   pub known : Known
   pub meant : Meant
-  pub holds : SlotsHold classes space copies k call.locals (values_in call) meant
+  pub holds : SlotsHold (unit_tree p.unit) classes space copies k call.locals (values_in call) meant
   pub frames_agree : FramesAgree space call.locals frames
   pub shows : Shows code known visible (slots_of call meant)
   pub stands : StandsFor code known call.place call.stack (task ∷ rest)
@@ -171,12 +171,12 @@ pub ready_known : (p : Lowered) (classes : Classes) (space : Space) (copies : Li
 unfolding ready
 ready_known p classes space copies k call code visible frames task rest lowered at h sees = refl
 
--- as many field IDs as handles
-pub fields_count : (classes : Classes) (handles : List (Option FieldHandle)) (fields : List (Option FieldId)) → FieldsAgree classes handles fields → length fields ≡ length handles
-fields_count classes [] [] h = refl
-fields_count classes [] (f ∷ fields) h = absurd h
-fields_count classes (a ∷ handles) [] h = absurd h
-fields_count classes (a ∷ handles) (f ∷ fields) h = ap suc (fields_count classes handles fields h.1)
+-- as many field IDs and method IDs as handles
+pub fields_count : (unit : SourceUnit) (classes : Classes) (handles : List (Option Handle)) (fields : List (Option meant.Handle)) → HandlesAgree unit classes handles fields → length fields ≡ length handles
+fields_count unit classes [] [] h = refl
+fields_count unit classes [] (f ∷ fields) h = absurd h
+fields_count unit classes (a ∷ handles) [] h = absurd h
+fields_count unit classes (a ∷ handles) (f ∷ fields) h = ap suc (fields_count unit classes handles fields h.1)
 
 some_is : {A : Type 0} (o : Option A) (x : A) → o ≡ Some x → IsSome o
 some_is None x h = absurd (cc)
@@ -197,7 +197,7 @@ module _ (p : Lowered) (classes : Classes) (space : Space) (copies : List (Optio
 
   -- the call stands for tasks at another place, where the heap and the copied lists may be others
   pub stands_in : (space' : Space) (copies' : List (Option OwnedNumbers)) (after : Activation) (to : ℕ) (stack : List ℕ) (slots : SlotValues) (meant : Meant) (names : Known) (visible' : Visible) (tasks : List Task)
-      → depth_at code.instrs to ≡ Some (length stack) → HasMoved call after to stack slots → FramesAgree space' call.locals frames → SlotsHold classes space' copies' k call.locals slots meant → StandsFor code names to stack tasks
+      → depth_at code.instrs to ≡ Some (length stack) → HasMoved call after to stack slots → FramesAgree space' call.locals frames → SlotsHold (unit_tree p.unit) classes space' copies' k call.locals slots meant → StandsFor code names to stack tasks
       → Shows code names visible' (record (slots_of call meant) { numbers = slots.numbers }) → CallStands p classes space' copies' k after visible' frames tasks
   stands_in space' copies' after to stack slots meant names visible' tasks d m framed holds stands shows = record {
     code = code;
@@ -209,7 +209,7 @@ module _ (p : Lowered) (classes : Classes) (space : Space) (copies : List (Optio
       keys =
           subst (λ (t : LocalTable). KeysAgree space' t after.slots.references.items meant.references meant.owners) (sym m.locals)
           (subst (λ (l : List (Option ℕ)). KeysAgree space' call.locals l meant.references meant.owners) (sym m.references) holds.keys);
-      fields = subst (λ (l : List (Option FieldHandle)). FieldsAgree classes l meant.fields) (sym m.fields) holds.fields;
+      fields = subst (λ (l : List (Option Handle)). HandlesAgree (unit_tree p.unit) classes l meant.fields) (sym m.fields) holds.fields;
       buffers = subst (λ (l : List HeldBuffer). BuffersAgree space' copies' k l meant.buffers) (sym m.buffers) holds.buffers;
       small = holds.small;
     };
@@ -220,12 +220,12 @@ module _ (p : Lowered) (classes : Classes) (space : Space) (copies : List (Optio
 
   -- the same with those of before
   pub stands_at : (after : Activation) (to : ℕ) (stack : List ℕ) (slots : SlotValues) (meant : Meant) (names : Known) (visible' : Visible) (tasks : List Task)
-      → depth_at code.instrs to ≡ Some (length stack) → HasMoved call after to stack slots → SlotsHold classes space copies k call.locals slots meant → StandsFor code names to stack tasks
+      → depth_at code.instrs to ≡ Some (length stack) → HasMoved call after to stack slots → SlotsHold (unit_tree p.unit) classes space copies k call.locals slots meant → StandsFor code names to stack tasks
       → Shows code names visible' (record (slots_of call meant) { numbers = slots.numbers }) → CallStands p classes space copies k after visible' frames tasks
   stands_at after to stack slots meant names visible' tasks d m holds stands shows = stands_in space copies after to stack slots meant names visible' tasks d m r.frames_agree holds stands shows
 
   -- other numbers in slots
-  pub holds_with : (numbers : List ℕ) → SlotsHold classes space copies k call.locals (record (values_in call) { numbers = numbers }) r.meant
+  pub holds_with : (numbers : List ℕ) → SlotsHold (unit_tree p.unit) classes space copies k call.locals (record (values_in call) { numbers = numbers }) r.meant
   holds_with numbers = record { keys = r.holds.keys; fields = r.holds.fields; buffers = r.holds.buffers; small = r.holds.small }
 
   module _ (i : Instr) (at : slice_get code.instrs call.place ≡ Some i) where

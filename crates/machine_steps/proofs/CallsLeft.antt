@@ -5,6 +5,7 @@ use Rattle.class_rules.specs.Class.{Classes}
 use Rattle.heap.specs.Heap.{Space}
 use Rattle.jni.specs.JniFunction.{JniFunction, prototype}
 use Rattle.jni.specs.Prototype.{ResultKind}
+use Rattle.syntax.specs.Tree.{SourceUnit}
 use Rattle.semantics.specs.Arguments.{Actual}
 use Rattle.semantics.specs.Object.{Object}
 use Rattle.semantics.specs.CallEffects.{CallEffect, CallResult, Halts, Leaves, ScalarResult, Throws, refuses_frames, with_capacity}
@@ -33,24 +34,24 @@ StaysBut s (Throws c) = Unit {0}
 StaysBut s (Halts trap) = ⊥
 StaysBut s (Leaves made s' t' c) = t' ≡ record s { frames = t'.frames; pending = t'.pending; variables = t'.variables }
 
-module _ (classes : Classes) (in_use : BuffersInUse) (k : ℕ) (shared : Shared) (s : source.Thread) (line : ℕ) (target : Target) (f : JniFunction) (args : List Actual) (rest : List Task) where
+module _ (unit : SourceUnit) (classes : Classes) (in_use : BuffersInUse) (k : ℕ) (shared : Shared) (s : source.Thread) (line : ℕ) (target : Target) (f : JniFunction) (args : List Actual) (rest : List Task) where
   -- what an effect leaves, or the same with its allocation refused
   abbrev pub left_by : (refused : Bool) → CallEffect → source.Advance
   left_by refused effect =
       put target (result_after (prototype f).result refused effect) (shared_after classes refused shared effect)
       (resumption line f args rest s (frames_left refused s effect) (pending_after classes refused shared s effect) (result_after (prototype f).result refused effect) (variables_left refused s effect) target)
 
-  pub step_leaves : (refused : Bool) (effect : CallEffect) → effect_of_call classes in_use k shared s line target f args rest ≡ effect → StaysBut s effect → (refused ≡ true → makes_objects effect ≡ true)
-      → call_step classes in_use k shared s line target f args rest refused ≡ left_by refused effect
+  pub step_leaves : (refused : Bool) (effect : CallEffect) → effect_of_call unit classes in_use k shared s line target f args rest ≡ effect → StaysBut s effect → (refused ≡ true → makes_objects effect ≡ true)
+      → call_step unit classes in_use k shared s line target f args rest refused ≡ left_by refused effect
   step_leaves true effect is stays could =
-      ap (λ (e : CallEffect). after_refusal classes in_use k shared s line target f args rest (makes_objects e)) is
-      ∙ ap (after_refusal classes in_use k shared s line target f args rest) (could refl)
+      ap (λ (e : CallEffect). after_refusal unit classes in_use k shared s line target f args rest (makes_objects e)) is
+      ∙ ap (after_refusal unit classes in_use k shared s line target f args rest) (could refl)
       ∙ ap (λ (h : Heap). let r : Shared = record shared { heap = h } in put target (result_after (prototype f).result true effect) r (resumption line f args rest s (frames_left true s effect) (pending_after classes true shared s effect) (result_after (prototype f).result true effect) (variables_left true s effect) target)) (append-nil shared.heap)
-  step_leaves false (Throws c) is stays could = ap (after_call classes in_use k shared s line target f args rest) is
+  step_leaves false (Throws c) is stays could = ap (after_call unit classes in_use k shared s line target f args rest) is
   step_leaves false (Halts trap) is stays could = absurd stays
   step_leaves false (Leaves made s' t' c) is stays could =
-      ap (after_call classes in_use k shared s line target f args rest) is
-      ∙ ap (λ (t : source.Thread). after_call classes in_use k shared s line target f args rest (Leaves made s' t c)) stays
+      ap (after_call unit classes in_use k shared s line target f args rest) is
+      ∙ ap (λ (t : source.Thread). after_call unit classes in_use k shared s line target f args rest (Leaves made s' t c)) stays
 
 -- the thread that an effect leaves
 same_thread : {made made' : List Object} {s s' : Shared} {t t' : source.Thread} {c c' : CallResult} → Leaves made s t c ≡ Leaves made' s' t' c' → t ≡ t'

@@ -1,4 +1,5 @@
 -- What the slots show once an answer is carried out, and `isCopy` is told.
+use Rattle.syntax.specs.Tree.{SourceUnit}
 use Rattle.std.proofs.Common.{◌≡◌, ◌≢◌, ◌⊎◌, inl, inr, take, drop, ℕ, ◌≤◌, Bool, true, false, List, [], ◌∷◌, length, Option, Some, None, refl, sym, ap, ◌∙◌, subst, arith, ⊎_elim}
 use Rattle.std.specs.Prelude.{slice_get, slice_set, nat_le, nat_lt, if◌then◌else◌}
 use Rattle.std.proofs.lemmas.Bool.{cond_both}
@@ -12,10 +13,11 @@ use Rattle.class_rules.specs.Class.{Classes}
 use Rattle.heap.specs.Heap.{Space, values_at}
 use Rattle.heap.specs.declared.value.Value.{Value}
 use Rattle.jni.specs.Access.{Access, ElementsCopy, ArrayView, CharsCopy, CharsView}
-use Rattle.jni.specs.JniFunction.{JniFunction, DeleteGlobalRef, DeleteWeakGlobalRef, DeleteLocalRef, EnsureLocalCapacity, FindClass, GetArrayRegion, GetBuffer, GetFieldID, GetObjectArrayElement, GetStaticFieldID, GetStringRegion, MonitorEnter, MonitorExit, NewArray, NewObjectArray, PushLocalFrame, ReleaseBuffer, SetArrayRegion, SetField, SetObjectArrayElement, SetObjectField, SetStaticField, SetStaticObjectField, prototype}
+use Rattle.jni.specs.JniFunction.{JniFunction, DeleteGlobalRef, DeleteWeakGlobalRef, DeleteLocalRef, EnsureLocalCapacity, FindClass, GetArrayRegion, GetBuffer, GetFieldID, GetObjectArrayElement, GetStaticFieldID, GetStringRegion, MonitorEnter, MonitorExit, NewArray, NewObjectArray, PushLocalFrame, ReleaseBuffer, SetArrayRegion, SetField, SetObjectArrayElement, SetObjectField, SetStaticField, SetStaticObjectField, prototype, GetStaticMethodID}
 use Rattle.jni.specs.Prototype.{ParameterKind, BufferVariable, IsCopy, Mode, ResultKind, GivesNothing, owner as owner_kind}
+use Rattle.syntax.specs.Views.{unit_tree}
 use Rattle.semantics.specs.Arguments.{Actual, ReleaseMode, CopyBackAndFree, CopyBack, FreeUncopied, mode_given, object_given, variable_given, variable_in_actual, address_given, address_in_actual}
-use Rattle.semantics.specs.CallEffects.{CallEffect, CallResult, NoResult, NullResult, ScalarResult, ReferenceResult, WeakResult, FieldResult, BufferResult, begun_with, freed, release_effect}
+use Rattle.semantics.specs.CallEffects.{CallEffect, CallResult, NoResult, NullResult, ScalarResult, ReferenceResult, WeakResult, FieldResult, MethodResult, BufferResult, begun_with, freed, release_effect}
 use Rattle.semantics.specs.CallStep.{makes_objects, tell_copy}
 use Rattle.semantics.specs.CallTable.{call_effect}
 use Rattle.semantics.specs.Effect.{effect_of}
@@ -180,18 +182,19 @@ no_buffer_told : (x : Option Identifier) (vs : Variables) → tell_copy x (Buffe
 no_buffer_told None vs = refl
 no_buffer_told (Some x) vs = refl
 
-module _ (classes : Classes) (store : Store) (k : ℕ) (kind : ResultKind) where
+module _ (unit : SourceUnit) (classes : Classes) (store : Store) (k : ℕ) (kind : ResultKind) where
   abbrev Told : Given → CallResult → Type 0
   Told g c = TellsNone g c ⊎ (IsBufferResult kind × ((b : Bool) × Tells b g c))
 
   plain_told : (g : Given) (c : CallResult) → IsUntold g → IsNoBuffer c → Told g c
   plain_told g c untold plain = inl (record { numbers = untold_numbers g untold; variables = λ x vs. nothing_told x c vs plain })
 
-  what_told : (g : Given) (c : CallResult) → ResultAgrees classes store k g kind c → Told g c
-  what_told given.Nothing c h = plain_told given.Nothing c tt (no_buffer classes store.heap kind given.Nothing c h)
-  what_told (given.Number word) c h = plain_told (given.Number word) c tt (no_buffer classes store.heap kind (given.Number word) c h)
-  what_told (given.Reference a) c h = plain_told (given.Reference a) c tt (no_buffer classes store.heap kind (given.Reference a) c h)
-  what_told (given.FieldId f) c h = plain_told (given.FieldId f) c tt (no_buffer classes store.heap kind (given.FieldId f) c h)
+  what_told : (g : Given) (c : CallResult) → ResultAgrees unit classes store k g kind c → Told g c
+  what_told given.Nothing c h = plain_told given.Nothing c tt (no_buffer unit classes store.heap kind given.Nothing c h)
+  what_told (given.Number word) c h = plain_told (given.Number word) c tt (no_buffer unit classes store.heap kind (given.Number word) c h)
+  what_told (given.Reference a) c h = plain_told (given.Reference a) c tt (no_buffer unit classes store.heap kind (given.Reference a) c h)
+  what_told (given.FieldId f) c h = plain_told (given.FieldId f) c tt (no_buffer unit classes store.heap kind (given.FieldId f) c h)
+  what_told (given.MethodId f) c h = plain_told (given.MethodId f) c tt (no_buffer unit classes store.heap kind (given.MethodId f) c h)
   what_told (given.Global s) c h = plain_told (given.Global s) c tt (plain_static kind c h.0)
   what_told (given.Buffer held.Null) NullResult h = plain_told (given.Buffer held.Null) NullResult tt tt
   what_told (given.Buffer held.Null) (BufferResult NoBuffer) h = inl (record { numbers = untold_numbers (given.Buffer held.Null) tt; variables = no_buffer_told })
@@ -209,6 +212,7 @@ module _ (classes : Classes) (store : Store) (k : ℕ) (kind : ResultKind) where
   what_told (given.Buffer b) (ScalarResult v) h = absurd h.1
   what_told (given.Buffer b) (ReferenceResult q) h = absurd h.1
   what_told (given.Buffer b) (FieldResult f) h = absurd h.1
+  what_told (given.Buffer b) (MethodResult f) h = absurd h.1
   what_told (given.Buffer b) (WeakResult r) h = absurd h.1
 
 -- a flag is told
@@ -340,6 +344,7 @@ module _ (scene : Scene) (function : Call) (release : Release) where
   releases_by MonitorExit nothing is = absurd (cc)
   releases_by GetFieldID nothing is = absurd (cc)
   releases_by GetStaticFieldID nothing is = absurd (cc)
+  releases_by GetStaticMethodID nothing is = absurd (cc)
   releases_by f nothing is = absurd (other _ is refl)
 
   release_is : (slots : List HeldBuffer) (object : Option ℕ) (o : Operand) (mode : ModeOfCode) → answers.Releases release ≡ releases slots object o mode → (release.slot ≡ slot_of o) × (release.held ≡ buffer_there slots (slot_of o)) × (release.mode ≡ mode)
@@ -363,12 +368,12 @@ module _ (p : Lowered) (w : World) (store : Store) (pending : Option ℕ) (call 
 
   -- what the source's call does
   abbrev effect : CallEffect
-  effect = call_effect w.classes (in_use_with others s) k shared s called.args called.f
+  effect = call_effect (unit_tree p.unit) w.classes (in_use_with others s) k shared s called.args called.f
 
   abbrev kind : ResultKind
   kind = (prototype called.f).result
 
-  module _ (answer : Answer) (works : IsWorkedOut (scene_of w.classes store call k pending) function called.f answer) where
+  module _ (answer : Answer) (works : IsWorkedOut (scene_of (unit_tree p.unit) w.classes store call k pending) function called.f answer) where
     abbrev own_left : Owners
     own_left = left_own p w store pending call in_memory others k owner own shared s task rest h answer works
 
@@ -403,13 +408,13 @@ module _ (p : Lowered) (w : World) (store : Store) (pending : Option ℕ) (call 
     Fits l = AllZip OperandFits l function.operands
 
     abbrev Effect : JniFunction → CallEffect
-    Effect f = call_effect w.classes (in_use_with others s) k shared s called.args f
+    Effect f = call_effect (unit_tree p.unit) w.classes (in_use_with others s) k shared s called.args f
 
-    frees_by : (release : Release) (access : Access) (more : List ParameterKind) → called.f ≡ ReleaseBuffer access → Fits (owner_kind access ∷ BufferVariable access ∷ more) → IsWorkedOut (scene_of w.classes store call k pending) function (ReleaseBuffer access) (answers.Releases release)
+    frees_by : (release : Release) (access : Access) (more : List ParameterKind) → called.f ≡ ReleaseBuffer access → Fits (owner_kind access ∷ BufferVariable access ∷ more) → IsWorkedOut (scene_of (unit_tree p.unit) w.classes store call k pending) function (ReleaseBuffer access) (answers.Releases release)
         → (mode : ReleaseMode) → mode_of access (operand_of function.operands 2) ≡ mode_code mode → Effect (ReleaseBuffer access) ≡ release_effect shared s (object_given called.args 0) (variable_given called.args 1) mode → Frees release
     frees_by release access more same kinds is mode coded does =
         let b = given_buffer store.heap (buffers_of store call owner) s.variables access (owner_kind access) more function.operands called.args kinds called.asked.buffers in
-        let it = release_is (scene_of w.classes store call k pending) function release call.slots.buffers.items _ (operand_of function.operands 1) (mode_of access (operand_of function.operands 2)) is in
+        let it = release_is (scene_of (unit_tree p.unit) w.classes store call k pending) function release call.slots.buffers.items _ (operand_of function.operands 1) (mode_of access (operand_of function.operands 2)) is in
         let slot : release.slot ≡ b.slot = it.0 ∙ ap slot_of b.at in
         let named = buffer_known h.code r.known call.place call.stack (slots_of call r.meant) (visible_to own shared s) function.operands called.args called.operands b.slot b.at in
         record {
@@ -422,7 +427,7 @@ module _ (p : Lowered) (w : World) (store : Store) (pending : Option ℕ) (call 
           does = ap Effect same ∙ does;
         }
 
-    frees_as : (release : Release) (access : Access) → called.f ≡ ReleaseBuffer access → Fits (prototype (ReleaseBuffer access)).parameters → IsWorkedOut (scene_of w.classes store call k pending) function (ReleaseBuffer access) (answers.Releases release) → Frees release
+    frees_as : (release : Release) (access : Access) → called.f ≡ ReleaseBuffer access → Fits (prototype (ReleaseBuffer access)).parameters → IsWorkedOut (scene_of (unit_tree p.unit) w.classes store call k pending) function (ReleaseBuffer access) (answers.Releases release) → Frees release
     unfolding call_effect
     frees_as release (ElementsCopy T) same kinds is =
         frees_by release (ElementsCopy T) (Mode ∷ []) same kinds is (mode_given called.args 2)
@@ -433,10 +438,10 @@ module _ (p : Lowered) (w : World) (store : Store) (pending : Option ℕ) (call 
 
     frees : (release : Release) → answer ≡ answers.Releases release → kind ≡ GivesNothing → Frees release
     frees release is nothing =
-        let released = subst (IsWorkedOut (scene_of w.classes store call k pending) function called.f) is works in
-        let by = releases_by (scene_of w.classes store call k pending) function release called.f nothing released in
+        let released = subst (IsWorkedOut (scene_of (unit_tree p.unit) w.classes store call k pending) function called.f) is works in
+        let by = releases_by (scene_of (unit_tree p.unit) w.classes store call k pending) function release called.f nothing released in
         frees_as release by.0 by.1 (subst (λ (f : JniFunction). Fits (prototype f).parameters) by.1 called.asked.kinds)
-        (subst (λ (f : JniFunction). IsWorkedOut (scene_of w.classes store call k pending) function f (answers.Releases release)) by.1 released)
+        (subst (λ (f : JniFunction). IsWorkedOut (scene_of (unit_tree p.unit) w.classes store call k pending) function f (answers.Releases release)) by.1 released)
 
     -- ---- what carrying out the answer leaves
 
@@ -470,16 +475,16 @@ module _ (p : Lowered) (w : World) (store : Store) (pending : Option ℕ) (call 
         by_mode FreeUncopied coded does = with_these _ true (ap (variables_left false s) does) (ap gives_up coded) freed_here
 
     abbrev Does : Type 0
-    Does = IsAnswer w.classes (brought_by store call k owner (in_use_with others s) function called.args) store.heap call.locals kind shared s answer effect
+    Does = IsAnswer w.classes (brought_by (unit_tree p.unit) store call k owner (in_use_with others s) function called.args) store.heap call.locals kind shared s answer effect
 
     abbrev WasCopied : Type 0
-    WasCopied = Copied w.classes (brought_by store call k owner (in_use_with others s) function called.args) store.heap call.locals kind shared s answer effect
+    WasCopied = Copied w.classes (brought_by (unit_tree p.unit) store call k owner (in_use_with others s) function called.args) store.heap call.locals kind shared s answer effect
 
     abbrev WasReleased : Type 0
-    WasReleased = Released w.classes (brought_by store call k owner (in_use_with others s) function called.args) store.heap call.locals kind shared s answer effect
+    WasReleased = Released w.classes (brought_by (unit_tree p.unit) store call k owner (in_use_with others s) function called.args) store.heap call.locals kind shared s answer effect
 
     abbrev WasKept : Type 0
-    WasKept = AreKept w.classes (brought_by store call k owner (in_use_with others s) function called.args) store.heap call.locals kind shared s answer effect
+    WasKept = AreKept w.classes (brought_by (unit_tree p.unit) store call k owner (in_use_with others s) function called.args) store.heap call.locals kind shared s answer effect
 
     copied_shown : WasCopied → Shown (variables_left false s effect) (slots_after store.heap answer call.slots.numbers.items) (meant_after answer r.meant.buffers)
     copied_shown it =
@@ -564,7 +569,7 @@ module _ (p : Lowered) (w : World) (store : Store) (pending : Option ℕ) (call 
 
     -- each view in slots is one of a variable's
     pub views_left : (refused : Bool) → is_halt answer ≡ false → Does → (refused ≡ true → makes_objects effect ≡ true) → AreViewed store.heap (buffers_after answer call.slots.buffers.items) (record s { variables = variables_left refused s effect })
-    views_left refused runs does could = (carried refused could (kept_or_copied w.classes (brought_by store call k owner (in_use_with others s) function called.args) store.heap call.locals kind shared s answer effect runs does)).views
+    views_left refused runs does could = (carried refused could (kept_or_copied w.classes (brought_by (unit_tree p.unit) store call k owner (in_use_with others s) function called.args) store.heap call.locals kind shared s answer effect runs does)).views
 
     -- ---- and once it is told
 
@@ -600,19 +605,19 @@ module _ (p : Lowered) (w : World) (store : Store) (pending : Option ℕ) (call 
 
     released_there : Does → (release : Release) → answer ≡ answers.Releases release → slice_get call.slots.buffers.items release.slot ≡ Some release.held
     released_there does release is =
-        let d = subst (λ (a : Answer). IsAnswer w.classes (brought_by store call k owner (in_use_with others s) function called.args) store.heap call.locals kind shared s a effect) is does in
+        let d = subst (λ (a : Answer). IsAnswer w.classes (brought_by (unit_tree p.unit) store call k owner (in_use_with others s) function called.args) store.heap call.locals kind shared s a effect) is does in
         d.1.holds.there ∙ ap (λ (b : HeldBuffer). Some b) (sym d.1.held)
 
     pub shows_left : (refused : Bool) (after : Store) (g : Given) → is_halt answer ≡ false
-        → IsAnswer w.classes (brought_by store call k owner (in_use_with others s) function called.args) store.heap call.locals kind shared s answer effect
-        → (refused ≡ true → makes_objects effect ≡ true) → ResultAgrees w.classes after owner g kind (result_after kind refused effect)
+        → IsAnswer w.classes (brought_by (unit_tree p.unit) store call k owner (in_use_with others s) function called.args) store.heap call.locals kind shared s answer effect
+        → (refused ≡ true → makes_objects effect ≡ true) → ResultAgrees (unit_tree p.unit) w.classes after owner g kind (result_after kind refused effect)
         → ShowsLeft (result_after kind refused effect) (tell_copy (address_given called.args 1) (result_after kind refused effect) (variables_left refused s effect))
         (told_with (told_slot (slice_get function.operands 1)) g (slots_after store.heap answer call.slots.numbers.items)) (buffers_after answer call.slots.buffers.items)
     shows_left refused after g runs does could agrees =
-        by_told (carried refused could (kept_or_copied w.classes (brought_by store call k owner (in_use_with others s) function called.args) store.heap call.locals kind shared s answer effect runs does))
-        (what_told w.classes after owner kind g (result_after kind refused effect) agrees)
+        by_told (carried refused could (kept_or_copied w.classes (brought_by (unit_tree p.unit) store call k owner (in_use_with others s) function called.args) store.heap call.locals kind shared s answer effect runs does))
+        (what_told (unit_tree p.unit) w.classes after owner kind g (result_after kind refused effect) agrees)
       where
-        by_told : Carried (variables_left refused s effect) → Told w.classes after owner kind g (result_after kind refused effect)
+        by_told : Carried (variables_left refused s effect) → Told (unit_tree p.unit) w.classes after owner kind g (result_after kind refused effect)
             → ShowsLeft (result_after kind refused effect) (tell_copy (address_given called.args 1) (result_after kind refused effect) (variables_left refused s effect))
             (told_with (told_slot (slice_get function.operands 1)) g (slots_after store.heap answer call.slots.numbers.items)) (buffers_after answer call.slots.buffers.items)
         by_told there told = record {

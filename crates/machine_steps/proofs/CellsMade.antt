@@ -41,15 +41,15 @@ put_cells shared (Assigned x) c next t = assigned_cells shared x c next t (looku
 put_cells shared (Tested a b) c next t = refl
 put_cells shared Dropped c next t = refl
 
-module _ (classes : Classes) (in_use : BuffersInUse) (k : ℕ) (shared : Shared) (s : Thread) (line : ℕ) (target : Target) (f : JniFunction) (args : List Actual) (rest : List Task) where
-  after_cells : (effect : CallEffect) → IsAsLong shared effect → cells_made shared (after_call classes in_use k shared s line target f args rest effect) ≡ sizes (made_by classes effect)
+module _ (unit : SourceUnit) (classes : Classes) (in_use : BuffersInUse) (k : ℕ) (shared : Shared) (s : Thread) (line : ℕ) (target : Target) (f : JniFunction) (args : List Actual) (rest : List Task) where
+  after_cells : (effect : CallEffect) → IsAsLong shared effect → cells_made shared (after_call unit classes in_use k shared s line target f args rest effect) ≡ sizes (made_by classes effect)
   after_cells (Throws c) long = put_cells shared target _ _ _ ∙ ap sizes (made_after shared shared.heap (fresh_object classes c ∷ []) refl)
   after_cells (Leaves made s' t' c) long = put_cells shared target _ _ _ ∙ ap sizes (made_after shared s'.heap made long)
   after_cells (Halts trap) long = ap sizes (drop-length shared.heap)
 
-  pub call_cells : (effect : CallEffect) → effect_of_call classes in_use k shared s line target f args rest ≡ effect → IsAsLong shared effect
-      → cells_made shared (after_effect classes in_use k shared s rest (Calls line target f args)) ≡ sizes (made_by classes effect)
-  call_cells effect is long = ap (λ (e : CallEffect). cells_made shared (after_call classes in_use k shared s line target f args rest e)) is ∙ after_cells effect long
+  pub call_cells : (effect : CallEffect) → effect_of_call unit classes in_use k shared s line target f args rest ≡ effect → IsAsLong shared effect
+      → cells_made shared (after_effect unit classes in_use k shared s rest (Calls line target f args)) ≡ sizes (made_by classes effect)
+  call_cells effect is long = ap (λ (e : CallEffect). cells_made shared (after_call unit classes in_use k shared s line target f args rest e)) is ∙ after_cells effect long
 
 -- an entry makes nothing
 entered_cells : (shared : Shared) (o : Option Thread) → cells_made shared (entry_advance shared o) ≡ 0

@@ -8,16 +8,17 @@ use Rattle.std.proofs.lemmas.Slice.Eq.{bytes_eq-Decides}
 use Rattle.base.specs.Bytes.{Identifier, ByName, lookup}
 use Rattle.base.specs.Element.{ElementType}
 use Rattle.class_rules.specs.Fields.{FieldId}
+use Rattle.semantics.specs.Method.{MethodId}
 use Rattle.semantics.specs.Object.{Reference}
 use Rattle.semantics.specs.Sight.{scalar, holds_null, variable_is_null, elements_of, in_range, held_reference, held_field}
 use Rattle.semantics.specs.Thread as source
 use Rattle.semantics.specs.Thread.{Shared}
 use Rattle.semantics.specs.Value.{Value, Gives, Stuck, outcome_then, convert}
 use Rattle.semantics.specs.Variable as variable
-use Rattle.semantics.specs.Variable.{Variable, Scalar, LocalRef, FieldHandle, Elements, LocalArray, NoBuffer, Copy, View, Empty, Variables, assign, change}
-use Rattle.semantics.specs.Task.{VariableKind, ScalarKind, ReferenceKind, FieldKind, BufferKind}
+use Rattle.semantics.specs.Variable.{Variable, Scalar, LocalRef, FieldHandle, MethodHandle, Elements, LocalArray, NoBuffer, Copy, View, Empty, Variables, assign, change}
+use Rattle.semantics.specs.Task.{VariableKind, ScalarKind, ReferenceKind, FieldKind, BufferKind, MethodKind}
 use Rattle.semantics_safety.specs.Owners.{Owners}
-use Rattle.code_meaning.specs.Slots.{visible_to, type_of_array, kind_of_variable, held_buffer, is_no_buffer, OthersStay, IsSet, IsNulled, IsReferred, IsFieldSet, IsBufferSet, IsMade, IsElementSet}
+use Rattle.code_meaning.specs.Slots.{visible_to, type_of_array, kind_of_variable, held_buffer, is_no_buffer, OthersStay, IsSet, IsNulled, IsReferred, IsFieldSet, IsBufferSet, IsMade, IsElementSet, held_method, IsMethodSet}
 use Rattle.machine_answers.proofs.SetPlaces.{get_set_same, get_set_other}
 
 -- ---- lists by name
@@ -107,6 +108,7 @@ scalar_by_kind None h = absurd (cc)
 scalar_by_kind (Some (Scalar v)) h = (v, refl)
 scalar_by_kind (Some (LocalRef level r)) h = absurd (cc)
 scalar_by_kind (Some (FieldHandle f)) h = absurd (cc)
+scalar_by_kind (Some (MethodHandle f)) h = absurd (cc)
 scalar_by_kind (Some (Elements t b)) h = absurd (cc)
 scalar_by_kind (Some (LocalArray t zs)) h = absurd (cc)
 
@@ -115,6 +117,7 @@ local_by_kind None h = absurd (cc)
 local_by_kind (Some (Scalar v)) h = absurd (cc)
 local_by_kind (Some (LocalRef level r)) h = (level, r, refl)
 local_by_kind (Some (FieldHandle f)) h = absurd (cc)
+local_by_kind (Some (MethodHandle f)) h = absurd (cc)
 local_by_kind (Some (Elements t b)) h = absurd (cc)
 local_by_kind (Some (LocalArray t zs)) h = absurd (cc)
 
@@ -123,14 +126,25 @@ field_by_kind None h = absurd (cc)
 field_by_kind (Some (Scalar v)) h = absurd (cc)
 field_by_kind (Some (LocalRef level r)) h = absurd (cc)
 field_by_kind (Some (FieldHandle f)) h = (f, refl)
+field_by_kind (Some (MethodHandle f)) h = absurd (cc)
 field_by_kind (Some (Elements t b)) h = absurd (cc)
 field_by_kind (Some (LocalArray t zs)) h = absurd (cc)
+
+pub method_by_kind : (o : Option Variable) → kind_of_variable o ≡ Some MethodKind → (m : Option MethodId) × (o ≡ Some (MethodHandle m))
+method_by_kind None h = absurd (cc)
+method_by_kind (Some (Scalar v)) h = absurd (cc)
+method_by_kind (Some (LocalRef level r)) h = absurd (cc)
+method_by_kind (Some (FieldHandle f)) h = absurd (cc)
+method_by_kind (Some (MethodHandle m)) h = (m, refl)
+method_by_kind (Some (Elements t b)) h = absurd (cc)
+method_by_kind (Some (LocalArray t zs)) h = absurd (cc)
 
 pub buffer_by_kind : (o : Option Variable) (t : ElementType) → kind_of_variable o ≡ Some (BufferKind t) → (b : variable.Buffer) × (o ≡ Some (Elements t b))
 buffer_by_kind None t h = absurd (cc)
 buffer_by_kind (Some (Scalar v)) t h = absurd (cc)
 buffer_by_kind (Some (LocalRef level r)) t h = absurd (cc)
 buffer_by_kind (Some (FieldHandle f)) t h = absurd (cc)
+buffer_by_kind (Some (MethodHandle f)) t h = absurd (cc)
 buffer_by_kind (Some (Elements u b)) t h = (b, let same : u ≡ t = cc in ap (λ (e : ElementType). Some (Elements e b)) same)
 buffer_by_kind (Some (LocalArray u zs)) t h = absurd (cc)
 
@@ -154,6 +168,7 @@ module _ (own own' : Owners) (shared : Shared) (s t : source.Thread) (x : Identi
         element = λ u i array. ap (λ (o : Option Variable). outcome_then (λ (zs : List ℤ). in_range (slice_get zs i)) (elements_of shared.heap o)) same;
         reference = ap (λ (o : Option Variable). held_reference o (lookup y shared.statics)) same;
         field = ap held_field same;
+        method = ap held_method same;
         buffer = ap held_buffer same;
         array_type = ap type_of_array same;
         kind = ap kind_of_variable same;
@@ -164,13 +179,14 @@ module _ (own own' : Owners) (shared : Shared) (s t : source.Thread) (x : Identi
   element_of i = ap (λ (o : Option Variable). outcome_then (λ (zs : List ℤ). in_range (slice_get zs i)) (elements_of shared.heap o)) found
 
   -- a variable that is NULL
-  pub is_nulled : (kind : VariableKind) → scalar (Some v) ≡ Stuck → holds_null (Some v) (lookup x shared.statics) ≡ Gives true → held_reference (Some v) (lookup x shared.statics) ≡ Empty → held_field (Some v) ≡ None → held_buffer (Some v) ≡ NoBuffer → type_of_array (Some v) ≡ None → kind_of_variable (Some v) ≡ Some kind
+  pub is_nulled : (kind : VariableKind) → scalar (Some v) ≡ Stuck → holds_null (Some v) (lookup x shared.statics) ≡ Gives true → held_reference (Some v) (lookup x shared.statics) ≡ Empty → held_field (Some v) ≡ None → held_method (Some v) ≡ None → held_buffer (Some v) ≡ NoBuffer → type_of_array (Some v) ≡ None → kind_of_variable (Some v) ≡ Some kind
       → IsNulled (visible_to own shared s) (Some kind) x (visible_to own' shared t)
-  is_nulled kind number null reference field no_buffer no_array same_kind = record {
+  is_nulled kind number null reference field method no_buffer no_array same_kind = record {
     number = ap scalar found ∙ number;
     is_null = ap (λ (o : Option Variable). holds_null o (lookup x shared.statics)) found ∙ null;
     reference = ap (λ (o : Option Variable). held_reference o (lookup x shared.statics)) found ∙ reference;
     field = ap held_field found ∙ field;
+    method = ap held_method found ∙ method;
     buffer = ap held_buffer found ∙ no_buffer;
     array_type = ap type_of_array found ∙ no_array;
     same_kind = ap kind_of_variable found ∙ same_kind;
@@ -206,6 +222,19 @@ is_field_set own own' shared s t x stay f e =
       kind = ap kind_of_variable is;
       statics = refl;
       others = others own own' shared s t x stay (FieldHandle f) e;
+    }
+
+-- a method ID
+pub is_method_set : (own own' : Owners) (shared : Shared) (s t : source.Thread) (x : Identifier) → OthersOwn own own' x → (m : Option MethodId) → t.variables ≡ assign x (MethodHandle m) s.variables → IsMethodSet (visible_to own shared s) x m (visible_to own' shared t)
+is_method_set own own' shared s t x stay m e =
+    let is = found own own' shared s t x stay (MethodHandle m) e in
+    record {
+      number = ap scalar is;
+      is_null = ap (λ (o : Option Variable). holds_null o (lookup x shared.statics)) is;
+      method = ap held_method is;
+      kind = ap kind_of_variable is;
+      statics = refl;
+      others = others own own' shared s t x stay (MethodHandle m) e;
     }
 
 -- a buffer

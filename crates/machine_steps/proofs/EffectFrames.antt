@@ -4,6 +4,7 @@ use Rattle.class_rules.specs.BuiltIns.{array_index_out_of_bounds, no_class_def_f
 use Rattle.class_rules.specs.Class.{Classes, class_named}
 use Rattle.jni.specs.JniFunction.{JniFunction, FindClass, GetSuperclass, GetObjectClass, AllocObject, NewLocalRef, PopLocalFrame, GetObjectField, GetStaticObjectField, NewArray, NewObjectArray, GetObjectArrayElement, NewStringUTF, ExceptionOccurred, prototype}
 use Rattle.jni.specs.Prototype.{NewLocal}
+use Rattle.syntax.specs.Tree.{SourceUnit}
 use Rattle.semantics.specs.Arguments.{Actual, number_given, text_given}
 use Rattle.semantics.specs.CallEffects.{Leaves, ReferenceResult, Throws, at_index, found_class_effect, new_array_effect}
 use Rattle.semantics.specs.CallStep.{makes_objects}
@@ -13,7 +14,7 @@ use Rattle.semantics.specs.Object.{ObjectValue, Reference}
 use Rattle.semantics.specs.Thread.{BuffersInUse, Shared, Thread}
 use Rattle.machine_calls.specs.CarriedOut.{frames_left}
 
-module _ (classes : Classes) (in_use : BuffersInUse) (k : ℕ) (shared : Shared) (s : Thread) (args : List Actual) where
+module _ (unit : SourceUnit) (classes : Classes) (in_use : BuffersInUse) (k : ℕ) (shared : Shared) (s : Thread) (args : List Actual) where
   -- a new array leaves the frames
   of_array : (class : ℕ) (z : ℤ) (v : ObjectValue) → frames_left false s (new_array_effect shared s class z v) ≡ s.frames
   of_array class (pos i) v = refl
@@ -29,8 +30,8 @@ module _ (classes : Classes) (in_use : BuffersInUse) (k : ℕ) (shared : Shared)
       by_test false = refl
 
   -- it is put into the frames that the call leaves, which are the frames that were checked for room
-  pub left_is : (f : JniFunction) → (prototype f).result ≡ NewLocal → (refused : Bool) → (refused ≡ true → makes_objects (call_effect classes in_use k shared s args f) ≡ true)
-      → frames_left refused s (call_effect classes in_use k shared s args f) ≡ frames_after f s.frames
+  pub left_is : (f : JniFunction) → (prototype f).result ≡ NewLocal → (refused : Bool) → (refused ≡ true → makes_objects (call_effect unit classes in_use k shared s args f) ≡ true)
+      → frames_left refused s (call_effect unit classes in_use k shared s args f) ≡ frames_after f s.frames
   unfolding call_effect
   left_is FindClass n true could = refl
   left_is FindClass n false could = by_class (class_named classes (text_given args 0))

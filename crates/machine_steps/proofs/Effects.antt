@@ -19,6 +19,7 @@ use Rattle.code.specs.declared.instr.Plain.{Plain}
 use Rattle.code.specs.declared.instr.Plain.TheVariants as plain
 use Rattle.code.specs.Effect.{truth_word, plain_of, IsPlain}
 use Rattle.code.specs.Depth.{Listing, depth_after, depth_at, LeadsInside, Leaves, within_slots}
+use Rattle.syntax.specs.Views.{unit_tree}
 use Rattle.semantics.specs.Arguments.{Actual}
 use Rattle.semantics.specs.CallEffects.{CallResult}
 use Rattle.semantics.specs.Effect as effects
@@ -204,7 +205,7 @@ module _ (p : Lowered) (classes : Classes) (space : Space) (copies : List (Optio
   slot_there (nullable.FieldId j) statics is same =
       let within : within_slots code.slots (instr.StoreNull (nullable.FieldId j)) ≡ true = subst (λ (h : Instr). IsTrue (within_slots code.slots h)) is (runs p classes space copies k call code visible frames task rest r i at).slots in
       let below : j < code.slots.field_ids = ltb-true j code.slots.field_ids within in
-      omega (arith, below, fields_count classes call.slots.fields.items r.meant.fields r.holds.fields, r.shows.fields)
+      omega (arith, below, fields_count (unit_tree p.unit) classes call.slots.fields.items r.meant.fields r.holds.fields, r.shows.fields)
   slot_there (nullable.Buffer j) statics is same =
       let within : within_slots code.slots (instr.StoreNull (nullable.Buffer j)) ≡ true = subst (λ (h : Instr). IsTrue (within_slots code.slots h)) is (runs p classes space copies k call code visible frames task rest r i at).slots in
       let below : j < code.slots.buffers = ltb-true j code.slots.buffers within in
@@ -285,11 +286,12 @@ module _ (p : Lowered) (w : World) (store : Store) (others : Acquired) (k owner 
           views = subst (λ (l : List HeldBuffer). AreViewed space l s) (sym m.buffers) views;
           pending_agrees = pends;
           calls = refl;
+          callers = refl;
           ending = refl;
           short = λ e. absurd (cc);
         }
 
-    writes : (did : Effect) (changed : Visible → Type 0) → Writes code r.known call.place call.stack held seen changed rest → (vs : _) → after_effect classes (in_use_with others s) k shared s rest did ≡ source.Advances shared (record s { tasks = Some rest; variables = vs }) source.Quiet
+    writes : (did : Effect) (changed : Visible → Type 0) → Writes code r.known call.place call.stack held seen changed rest → (vs : _) → after_effect (unit_tree p.unit) classes (in_use_with others s) k shared s rest did ≡ source.Advances shared (record s { tasks = Some rest; variables = vs }) source.Quiet
         → changed (visible_to own shared (record s { tasks = Some rest; variables = vs })) → taken_by vs ≡ taken_by s.variables → agrees.owners_left did (event_view e) (length s.frames) own vs ≡ own → agrees.GoesOn p w store store others k owner own shared s rest after pending did false e
     writes did changed h vs steps shown taken left =
         let same : h.here ≡ i = cc (h.at, at) in
@@ -316,6 +318,7 @@ module _ (p : Lowered) (w : World) (store : Store) (others : Acquired) (k owner 
               omega (arith, same, views n, ap (λ (a : Acquired). times n a.viewed) taken);
           pending_agrees = pends;
           calls = refl;
+          callers = refl;
           ending = refl;
           short = λ e. absurd (cc);
         }
@@ -345,6 +348,7 @@ module _ (p : Lowered) (w : World) (store : Store) (others : Acquired) (k owner 
           views = subst (λ (l : List HeldBuffer). AreViewed space l s) (sym m.buffers) views;
           pending_agrees = pends;
           calls = refl;
+          callers = refl;
           ending = refl;
           short = λ e. absurd (cc);
         }
@@ -391,7 +395,7 @@ module _ (p : Lowered) (w : World) (store : Store) (others : Acquired) (k owner 
       goes tasks h =
           let same : h.here ≡ instr.TestNull variable equal = cc (h.at, at, is) in
           let v = subst (λ (j : Instr). Works seen held j call.stack h.way h.after) same h.works in
-          let null : is_null (references_of store call) call.slots.fields.items call.slots.buffers.items variable ≡ v.0 = variable_null_agrees classes space store.elements owner (references_of store call) call.slots.fields.items call.slots.buffers.items seen held variable v.0 r.holds.keys shares.statics r.holds.fields r.holds.buffers v.1 in
+          let null : is_null (references_of store call) call.slots.fields.items call.slots.buffers.items variable ≡ v.0 = variable_null_agrees (unit_tree p.unit) classes space store.elements owner (references_of store call) call.slots.fields.items call.slots.buffers.items seen held variable v.0 r.holds.keys shares.statics r.holds.fields r.holds.buffers v.1 in
           let words : h.after ≡ truth_word (beq (is_null (references_of store call) call.slots.fields.items call.slots.buffers.items variable) equal) ∷ call.stack = v.3 ∙ ap (λ (b : Bool). truth_word (beq b equal) ∷ call.stack) (sym null) in
           let next : source.Thread = with_tasks s (tasks ++ rest) in
           let stack : List ℕ = truth_word (beq (is_null (references_of store call) call.slots.fields.items call.slots.buffers.items variable) equal) ∷ call.stack in
@@ -410,6 +414,7 @@ module _ (p : Lowered) (w : World) (store : Store) (others : Acquired) (k owner 
             views = subst (λ (l : List HeldBuffer). AreViewed space l s) (sym m.buffers) views;
             pending_agrees = pends;
             calls = refl;
+            callers = refl;
             ending = refl;
             short = λ e. absurd (cc);
           }
@@ -435,7 +440,7 @@ module _ (p : Lowered) (w : World) (store : Store) (others : Acquired) (k owner 
           let next : source.Thread = record s { tasks = Some rest; variables = null.variables } in
           let now : Shared = record shared { statics = lower.nulled_statics kind h.name shared.statics } in
           let stored = subst (λ (v : NullableVariable). IsStoredIn code r.known call.place call.stack held seen v kind h.name) same h.stored in
-          let nulled = nulled_agree classes space store.elements owner call.locals call.slots.references.items call.slots.fields.items call.slots.buffers.items held variable r.holds.keys r.holds.fields r.holds.buffers r.holds.small in
+          let nulled = nulled_agree (unit_tree p.unit) classes space store.elements owner call.locals call.slots.references.items call.slots.fields.items call.slots.buffers.items held variable r.holds.keys r.holds.fields r.holds.buffers r.holds.small in
           let m' : HasMoved call after (call.place + 1) [] (record (nulled_slots variable (values_in call)) { numbers = (lower.with_null variable held).numbers }) =
           record { function = m.function; place = m.place; stack = m.stack ∙ h.empty; numbers = m.numbers ∙ sym nulled.numbers; references = m.references; fields = m.fields; buffers = m.buffers; locals = m.locals } in
           record {
@@ -452,6 +457,7 @@ module _ (p : Lowered) (w : World) (store : Store) (others : Acquired) (k owner 
                 omega (arith, same, views_nulled space call.slots.buffers.items variable n, views n, ap (λ (a : Acquired). times n a.viewed) null.taken);
             pending_agrees = pends;
             calls = refl;
+            callers = refl;
             ending = refl;
             short = λ e. absurd (cc);
           }
@@ -487,6 +493,7 @@ module _ (p : Lowered) (w : World) (store : Store) (others : Acquired) (k owner 
             views = subst (λ (l : List HeldBuffer). AreViewed space l s) (sym m.buffers) views;
             pending_agrees = pends;
             calls = refl;
+            callers = refl;
             ending = refl;
             short = λ e. absurd (cc);
           }

@@ -192,6 +192,7 @@ module _ (p : Lowered) (w : World) (store : Store) (others : Acquired) (k owner 
     views = subst (λ (a : Activation). AreViewed space a.slots.buffers.items s) (sym same) views;
     pending_agrees = pends;
     calls = refl;
+    callers = refl;
     ending = refl;
     short = λ e. absurd (cc);
   }
@@ -232,6 +233,7 @@ module _ (p : Lowered) (w : World) (store : Store) (others : Acquired) (k owner 
               views = subst (λ (l : List HeldBuffer). AreViewed space l s) (sym m.0.buffers) views;
               pending_agrees = pends;
               calls = refl;
+              callers = refl;
               ending = refl;
               short = λ e. absurd (cc);
             }
@@ -376,6 +378,7 @@ module _ (p : Lowered) (w : World) (store : Store) (others : Acquired) (k owner 
                 omega (arith, still, views m, ap (λ (a : Acquired). times m a.viewed) (assigned_same x (Elements h.type new) s.variables (length-set zs j number ∙ sym (ap copied_there was)) (sym (ap viewed_there was))));
             pending_agrees = pends;
             calls = refl;
+            callers = refl;
             ending = refl;
             short = λ e. absurd (cc);
           })
@@ -416,6 +419,7 @@ module _ (p : Lowered) (w : World) (store : Store) (others : Acquired) (k owner 
             views = subst (λ (l : List HeldBuffer). AreViewed space' l s) (sym wrote.1.0.buffers) (views_stay space space' store.elements owner call.slots.buffers.items r.meant.buffers s s keeps.names r.holds.buffers.agree refl views);
             pending_agrees = reference_stays space space' keeps.names pending s.pending pends;
             calls = refl;
+            callers = refl;
             ending = refl;
             short = λ e. absurd (cc);
           })

@@ -1,6 +1,6 @@
 -- The entry into a call is that of the source's thread.
 use Rattle.std.specs.Global.{Vec}
-use Rattle.std.proofs.Common.{zip, ◌≡◌, ℕ, zero, suc, ◌+◌, ◌-◌, ◌<◌, ◌≤◌, Bool, true, false, List, [], ◌∷◌, ◌++◌, length, filter_map, map, replicate, Option, Some, None, refl, sym, ap, ◌∙◌, subst, arith, append_assoc, length-append, if◌then◌else◌}
+use Rattle.std.proofs.Common.{zip, ◌≡◌, ℕ, zero, suc, ◌+◌, ◌-◌, ◌<◌, ◌≤◌, Bool, true, false, List, [], ◌∷◌, ◌++◌, length, filter_map, map, replicate, reverse, Option, Some, None, refl, sym, ap, ◌∙◌, subst, arith, append_assoc, length-append, if◌then◌else◌}
 use Rattle.std.specs.Prelude.{slice_get, nat_lt, nat_le, ◌&&◌}
 use Rattle.std.specs.List.{list_all}
 use Rattle.std.specs.Str.{bytes_eq}
@@ -9,12 +9,10 @@ use Rattle.std.proofs.lemmas.List.{length-map, length-replicate, map-append}
 use Rattle.std.proofs.lemmas.Slice.Eq.{bytes_eq-Decides}
 use Rattle.std.proofs.lemmas.Bool.Decides.{nat_tests}
 use Rattle.syntax.specs.Parts.{functions_of, statics_of}
-use Rattle.syntax.specs.Tree.{Static, Function, Parameter, Item, StaticItem, FunctionItem}
+use Rattle.syntax.specs.Tree.{Static, Function, Parameter, Item, StaticItem, FunctionItem, SourceUnit}
 use Rattle.syntax.specs.Views.{unit_tree}
 use Rattle.base.specs.Bytes.{Identifier, lookup}
 use Rattle.class_rules.specs.Class.{Classes}
-use Rattle.class_rules.specs.Fields.{FieldId}
-use Rattle.classes.specs.declared.class.FieldHandle.{FieldHandle}
 use Rattle.heap.specs.Heap.{Space}
 use Rattle.type_rules.specs.SortRules.{static_sort}
 use Rattle.world_values.specs.CallArguments.{is_argument}
@@ -40,7 +38,10 @@ use Rattle.machine_threads.specs.declared.thread.PendingCall.{PendingCall}
 use Rattle.machine_scenes.specs.declared.activation.Activation.{Activation}
 use Rattle.machine_scenes.specs.declared.store.Store.{Store}
 use Rattle.machine_scenes.specs.StoreAgrees.{AreNamed, StoreAgrees}
-use Rattle.machine_scenes.specs.FieldIds.{FieldsAgree}
+use Rattle.machine_scenes.specs.FieldIds.{HandlesAgree}
+use Rattle.code_meaning.specs.Slots as meant
+use Rattle.machine_scenes.specs.declared.handle.Handle.{Handle}
+use Rattle.machine_threads.specs.Callers.{CallersAgree, beside_callers, owner_at}
 use Rattle.machine_threads.specs.ThreadAgrees.{CallAgrees, CallsAgree, ThreadAgrees, buffers_of}
 use Rattle.semantics.specs.EventViews.{ending_view}
 use Rattle.machine_steps.specs.Advances.{Advances}
@@ -245,10 +246,10 @@ entered_lowest s rest f class arguments =
 
 -- ---- the call
 
--- NULL field IDs
-no_fields : (classes : Classes) (n : ℕ) → FieldsAgree classes (replicate n None) (replicate n None)
-no_fields classes zero = tt
-no_fields classes (suc n) = (tt, no_fields classes n)
+-- NULL field IDs and method IDs
+no_fields : (unit : SourceUnit) (classes : Classes) (n : ℕ) → HandlesAgree unit classes (replicate n None) (replicate n None)
+no_fields unit classes zero = tt
+no_fields unit classes (suc n) = (tt, no_fields unit classes n)
 
 -- what a function with these variables has of its own
 abbrev owned_at : source.Thread → List Invocation → Function → (class : ℕ) → List ObjectValue → Owners
@@ -264,7 +265,7 @@ begun p classes space copies k loaded made shared s rest n c call lowered table 
     let begins = b.begins in
     let words = begins.numbers in
     let slots = begins.given in
-    let fields : List (Option FieldId) = replicate b.code.slots.field_ids None in
+    let fields : List (Option meant.Handle) = replicate b.code.slots.field_ids None in
     let references : List Reference = Some n.class.number ∷ filter_map argument_reference c.arguments ++ replicate slots.more None in
     let owners : List (Option ℕ) = replicate b.code.slots.references (Some 1) in
     let buffers : List Buffer = replicate b.code.slots.buffers NoBuffer in
@@ -277,7 +278,7 @@ begun p classes space copies k loaded made shared s rest n c call lowered table 
     (subst (λ (t : LocalTable). KeysAgree space t (keys_from 0 begins.addresses) references owners) (sym begins.locals) (entry_keys space begins.addresses references b.code.slots.references agree)) in
     let entry : EntrySlots b.code n.class.number c.arguments (slots_of call (record { references = references; owners = owners; fields = fields; buffers = buffers })) =
     record {
-      fields = length-replicate {A = Option FieldId} b.code.slots.field_ids None;
+      fields = length-replicate {A = Option meant.Handle} b.code.slots.field_ids None;
       buffers = length-replicate {A = Buffer} b.code.slots.buffers NoBuffer;
       numbers = words.counted;
       more_numbers = words.more;
@@ -296,7 +297,7 @@ begun p classes space copies k loaded made shared s rest n c call lowered table 
       meant = record { references = references; owners = owners; fields = fields; buffers = buffers };
       holds = record {
         keys = keys;
-        fields = subst (λ (l : List (Option FieldHandle)). FieldsAgree classes l fields) (sym begins.fields) (no_fields classes b.code.slots.field_ids);
+        fields = subst (λ (l : List (Option Handle)). HandlesAgree (unit_tree p.unit) classes l fields) (sym begins.fields) (no_fields (unit_tree p.unit) classes b.code.slots.field_ids);
         buffers = subst (λ (l : List HeldBuffer). BuffersAgree space copies k l buffers) (sym begins.buffers) (no_buffers space copies k b.code.slots.buffers);
         small = none_small b.code.slots.buffers;
       };
@@ -307,12 +308,13 @@ begun p classes space copies k loaded made shared s rest n c call lowered table 
       depth = ap (depth_at b.code.instrs) begins.place ∙ ap (λ (st : List ℕ). Some (length st)) (sym begins.stack);
     }
 
-pub enters : (p : Lowered) (w : World) (store : Store) (others : Acquired) (k : ℕ) (own : ThreadOwners) (shared : Shared) (t after : Thread) (s : source.Thread) (n : PendingCall) (call : Activation) → IsLowered p → StoreAgrees p w store shared (beside others (acquired_by s)) → ThreadAgrees p w.classes store.heap store.elements (length (loaded_objects w)) k own.current shared t s
+pub enters : (p : Lowered) (w : World) (store : Store) (others : Acquired) (k : ℕ) (own : ThreadOwners) (shared : Shared) (t after : Thread) (s : source.Thread) (n : PendingCall) (call : Activation) → IsLowered p → StoreAgrees p w store shared (beside (beside_callers others s) (acquired_by s)) → ThreadAgrees p w.classes store.heap store.elements (length (loaded_objects w)) k own shared t s
     → t.call ≡ None → t.calls.items ≡ n ∷ after.calls.items → after.call ≡ Some call → Begins p store.loaded.items n call → after.callers ≡ t.callers → after.pending ≡ t.pending → after.ending ≡ t.ending → Advances p w store store others k own shared s after false event.Quiet
 enters p w store others k own shared t after s n call lowered shares h none calls is begins callers pending ending =
     let classes : Classes = w.classes in
     let space : Space = store.heap in
     let made : ℕ = length (loaded_objects w) in
+    let owner = owner_at k (length s.callers) in
     let c = coming p classes made n t.calls.items after.calls.items s.calls h.calls calls in
     let f = c.function in
     let next : source.Thread = entered s c.rest f.function n.class.number c.call.arguments in
@@ -321,18 +323,19 @@ enters p w store others k own shared t after s n call lowered shares h none call
     ap (enter (unit_tree p.unit) classes s) c.is
     ∙ ap (entered_function classes s c.call c.rest) f.named
     ∙ ap (option_map (λ d. entered s c.rest f.function d c.call.arguments)) f.of_class in
-    let rests : s.tasks ≡ None = resting p classes space store.elements k (visible_to own.current shared s) s.frames t.call s.tasks h.work none in
+    let rests : s.tasks ≡ None = resting p classes space store.elements owner (visible_to own.current shared s) s.frames t.call s.tasks h.work none in
     record {
       next_shared = shared;
       next = next;
-      steps = ap (step_within (unit_tree p.unit) classes (in_use_with others s) k shared s false) rests ∙ ap (entry_advance shared) found;
-      store_agrees = store_same p w store shared others s.variables next.variables (entered_nothing f.function.class_name 1 n.class.number (zip f.function.parameters c.call.arguments) ∙ sym (ap taken_by (h.idle rests))) shares;
+      steps = ap (step_within (unit_tree p.unit) classes (in_use_with (beside_callers others s) s) k shared s false) rests ∙ ap (entry_advance shared) found;
+      store_agrees = store_same p w store shared (beside_callers others s) s.variables next.variables (entered_nothing f.function.class_name 1 n.class.number (zip f.function.parameters c.call.arguments) ∙ sym (ap taken_by (h.idle rests))) shares;
       keeps = keeps_same space shared;
       keeps_copies = λ key c there other. there;
-      agrees = subst (λ (o : Owners). ThreadAgrees p classes space store.elements made k o shared after next) (sym (ap (λ (o : Option (List Task)). (after_tasks shared s o own source.Quiet next.variables).current) rests)) (record {
+      agrees = subst (λ (o : ThreadOwners). ThreadAgrees p classes space store.elements made k o shared after next) (sym (ap (λ (o : Option (List Task)). after_tasks shared s o own source.Quiet next.variables) rests)) (record {
         calls = c.agrees;
-        work = subst (λ a. WorkAgrees p classes space store.elements k (visible_to now shared next) a next.frames (Some (tasks_of f.function.body))) (sym is) (begun p classes space store.elements k store.loaded.items made shared s c.rest n c.call call lowered shares.table shares.named f begins);
-        callers = ap (λ (v : Vec Activation). v.items) callers ∙ h.callers;
+        work = subst (λ a. WorkAgrees p classes space store.elements owner (visible_to now shared next) a next.frames (Some (tasks_of f.function.body))) (sym is) (begun p classes space store.elements owner store.loaded.items made shared s c.rest n c.call call lowered shares.table shares.named f begins);
+        callers = subst (λ (v : Vec Activation). CallersAgree p classes space store.elements k shared (reverse v.items) own.callers s.callers) (sym callers) h.callers;
+        few = subst (λ (v : Vec Activation). length v.items ≤ 63) (sym callers) h.few;
         pending = subst (λ (a : Option ℕ). ReferenceAgrees space a s.pending) (sym pending) h.pending;
         ending = h.ending ∙ ap ending_view (sym ending);
         busy = λ a b d. cc;

@@ -1,4 +1,5 @@
 -- What a call gives that is a buffer, and what the variable that is told of it was.
+use Rattle.syntax.specs.Tree.{SourceUnit}
 use Rattle.std.proofs.Common.{◌≡◌, inl, inr, ℕ, ℤ, ◌+◌, Bool, true, false, List, [], ◌∷◌, length, Option, Some, None, refl, sym, ap, ◌∙◌, subst, arith, if◌then◌else◌}
 use Rattle.std.specs.Prelude.{FitsSigned, nat_le, nat_lt}
 use Rattle.std.specs.Int.{w32}
@@ -127,9 +128,9 @@ module _ (code : Listing) (known : Known) (place : ℕ) (stack : List ℕ) (slot
 -- ---- a buffer that is given
 
 -- a function that gives one is of this kind
-pub gives_buffer : (classes : Classes) (store : Store) (k : ℕ) (kind : ResultKind) (g : Given) (c : CallResult) (b : variable.Buffer) → ResultAgrees classes store k g kind c → c ≡ BufferResult b → IsBufferResult kind
-gives_buffer classes store k (GivesBuffer access) g c b h is = (access, refl)
-gives_buffer classes store k kind g c b h is = absurd (subst IsNoBuffer is (plain_result classes store k kind g c (λ of_buffer. let clash : kind ≡ GivesBuffer of_buffer.0 = of_buffer.1 in cc) h))
+pub gives_buffer : (unit : SourceUnit) (classes : Classes) (store : Store) (k : ℕ) (kind : ResultKind) (g : Given) (c : CallResult) (b : variable.Buffer) → ResultAgrees unit classes store k g kind c → c ≡ BufferResult b → IsBufferResult kind
+gives_buffer unit classes store k (GivesBuffer access) g c b h is = (access, refl)
+gives_buffer unit classes store k kind g c b h is = absurd (subst IsNoBuffer is (plain_result unit classes store k kind g c (λ of_buffer. let clash : kind ≡ GivesBuffer of_buffer.0 = of_buffer.1 in cc) h))
 
 -- a copy that is made is small
 small_copy : (n : ℕ) (zs : List ℤ) (taken : ℕ) (b : variable.Buffer) → AllByRecursion (FitsSigned w32) zs → BufferResult (if nat_le (taken + length zs) 65536 then Copy n zs else NoBuffer) ≡ BufferResult b → IsSmallCopy b

@@ -1,4 +1,7 @@
 -- After a call the machine's call in progress stands for the source's thread.
+use Rattle.semantics.specs.Method.{MethodId}
+use Rattle.syntax.specs.Tree.{SourceUnit}
+use Rattle.syntax.specs.Views.{unit_tree}
 use Rattle.std.specs.Int.{w32, cast_signed}
 use Rattle.std.specs.Ordering.{int_eq}
 use Rattle.std.proofs.Math.Facts.{to_z-of_z}
@@ -6,28 +9,31 @@ use Rattle.std.proofs.lemmas.Bool.Decides.{Decides-int_eq, eqb_tells}
 use Rattle.code.specs.Effect.{truth_word}
 use Rattle.std.proofs.Common.{◌≡◌, ℕ, ℤ, pos, ◌+◌, Bool, true, false, ⊎_elim, inl, inr, List, [], ◌∷◌, ◌++◌, length, Option, Some, None, refl, sym, ap, ◌∙◌, subst, if◌then◌else◌}
 use Rattle.std.specs.Global.{Vec}
-use Rattle.std.specs.Option.{option_and_then}
+use Rattle.std.specs.Option.{option_and_then, option_map}
 use Rattle.std.specs.Prelude.{slice_get, slice_set, ◌==◌}
 use Rattle.base.specs.Bytes.{Identifier, lookup}
 use Rattle.class_rules.specs.Class.{Classes}
 use Rattle.class_rules.specs.Fields.{FieldId}
-use Rattle.classes.specs.declared.class.FieldHandle.{FieldHandle as Handle}
+use Rattle.classes.specs.declared.class.FieldHandle.{FieldHandle as FieldIn}
+use Rattle.machine_scenes.specs.declared.handle.Handle.{Handle}
+use Rattle.machine_scenes.specs.declared.handle.Handle.TheVariants as handle
+use Rattle.machine_scenes.specs.declared.handle.MethodHandle.{MethodHandle as MethodIn}
 use Rattle.heap.specs.Heap.{Space}
 use Rattle.jni.specs.JniFunction.{JniFunction, prototype}
-use Rattle.jni.specs.Prototype.{ResultKind, NewLocal, NewGlobal, NewWeak, GivesFlag, GivesInt, GivesField, GivesNothing, GivesBuffer}
+use Rattle.jni.specs.Prototype.{ResultKind, NewLocal, NewGlobal, NewWeak, GivesFlag, GivesInt, GivesField, GivesMethod, GivesNothing, GivesBuffer}
 use Rattle.type_rules.specs.Sorts.{Sort, Jint}
 use Rattle.type_rules.specs.Sorts as sort
 use Rattle.semantics.specs.Arguments.{Actual, address_given}
-use Rattle.semantics.specs.CallEffects.{CallResult, NoResult, NullResult, ScalarResult, ReferenceResult, WeakResult, FieldResult, BufferResult}
+use Rattle.semantics.specs.CallEffects.{CallResult, NoResult, NullResult, ScalarResult, ReferenceResult, WeakResult, FieldResult, MethodResult, BufferResult}
 use Rattle.semantics.specs.CallStep.{blank, filled, is_zero, put, put_assigned, static_result, received, tell_copy}
 use Rattle.semantics.specs.Effect.{tasks_after}
 use Rattle.semantics.specs.Object.{Reference}
 use Rattle.semantics.specs.Term.{Done}
-use Rattle.semantics.specs.Task.{Task, Branch, Target, VariableKind, ScalarKind, ReferenceKind, FieldKind, BufferKind, Declared, Assigned, Tested, Dropped}
+use Rattle.semantics.specs.Task.{Task, Branch, Target, VariableKind, ScalarKind, ReferenceKind, FieldKind, BufferKind, Declared, Assigned, Tested, Dropped, MethodKind}
 use Rattle.semantics.specs.Thread as source
 use Rattle.semantics.specs.Thread.{Shared}
 use Rattle.semantics.specs.Value.{Value, Word, Int, Flag, Truth}
-use Rattle.semantics.specs.Variable.{Buffer, NoBuffer, StaticReference, Variable, Variables, Scalar, LocalRef, FieldHandle, Elements, LocalArray, assign}
+use Rattle.semantics.specs.Variable.{Buffer, NoBuffer, StaticReference, Variable, Variables, Scalar, LocalRef, FieldHandle, MethodHandle, Elements, LocalArray, assign}
 use Rattle.semantics.specs.World.{World}
 use Rattle.code.specs.Call.{Call}
 use Rattle.code.specs.Depth.{Listing, depth_at, with_fewer, with_result, words_taken}
@@ -35,9 +41,9 @@ use Rattle.code.specs.declared.instr.Instr.TheVariants as instr
 use Rattle.code.specs.declared.instr.Target.{Target as Destination}
 use Rattle.code.specs.declared.instr.Target.TheVariants as destination
 use Rattle.code_meaning.specs.Layout.{Known}
-use Rattle.code_meaning.specs.Does.{GoesInto, TakesBuffer, TakesStatic, TakesTest, TakesField, TakesNumber, TakesReference, TakesResult}
+use Rattle.code_meaning.specs.Does.{GoesInto, TakesBuffer, TakesStatic, TakesTest, TakesField, TakesMethod, TakesNumber, TakesReference, TakesResult}
 use Rattle.code_meaning.specs.Lowered.{Lowered}
-use Rattle.code_meaning.specs.Slots.{Visible, Shows, Slots, ValueHasSort, kind_of_variable, static_index, type_of_array, visible_to, word_of}
+use Rattle.code_meaning.specs.Slots.{Visible, Shows, Slots, ValueHasSort, kind_of_variable, static_index, type_of_array, visible_to, word_of, OfField, OfMethod}
 use Rattle.code_meaning.specs.Stands.{IsBufferResult, IsStaticResult, StandsFor, number_sort}
 use Rattle.type_rules.specs.SortRules.{is_droppable}
 use Rattle.base.specs.Element.{ElementType}
@@ -48,7 +54,7 @@ use Rattle.machine_answers.specs.declared.answer.Given.{Given}
 use Rattle.machine_answers.specs.declared.answer.Given.TheVariants as given
 use Rattle.machine_scenes.specs.declared.activation.Activation.{Activation}
 use Rattle.machine_threads.specs.InProgress.{CallStands}
-use Rattle.machine_scenes.specs.FieldIds.{FieldAgrees, FieldsAgree}
+use Rattle.machine_scenes.specs.FieldIds.{FieldAgrees, HandlesAgree, MethodAgrees}
 use Rattle.machine_scenes.specs.StoreAgrees.{HeldAgrees, Keeps, StoreAgrees}
 use Rattle.machine_scenes.specs.Locals.{FramesAgree, IsKeyOf, KeysAgree}
 use Rattle.tables.specs.Locals.{LocalTable, AreStacked}
@@ -72,12 +78,12 @@ use Rattle.machine_scenes.specs.HeapAgrees.{ReferenceAgrees}
 use Rattle.machine_steps.specs.Received.{HasRoom, MakesLocal, Receives, buffers_with, fields_with, numbers_with, stack_with, statics_with}
 use Rattle.machine_steps.proofs.Calls.{Ready, depth_behind}
 use Rattle.machine_threads.specs.SlotsHold.{IsSmallCopy, Meant, SlotsHold, slots_of, values_in}
-use Rattle.machine_steps.proofs.Changes.{OthersOwn, lookup_same, buffer_by_kind, field_by_kind, is_buffer_set, is_field_set, is_referred, is_set, local_by_kind, scalar_by_kind}
+use Rattle.machine_steps.proofs.Changes.{OthersOwn, lookup_same, buffer_by_kind, field_by_kind, method_by_kind, is_buffer_set, is_field_set, is_method_set, is_referred, is_set, local_by_kind, scalar_by_kind}
 use Rattle.machine_steps.proofs.StillShown.{shows_stay}
 use Rattle.machine_scenes.proofs.KeyLaws.{key_put, keys_left, live_there}
 use Rattle.machine_steps.proofs.MadeKeys.{made_left, made_new, room_frame}
 use Rattle.machine_scenes.proofs.LocalFrames.{as_many_frames}
-use Rattle.machine_steps.proofs.Receives.{received_count, IsNoBuffer, field_put, frames_agree, frames_received, no_buffer, received_is, plain_static}
+use Rattle.machine_steps.proofs.Receives.{received_count, IsNoBuffer, field_handle, method_handle, handle_put, frames_agree, frames_received, no_buffer, received_is, plain_static}
 use Rattle.machine_steps.proofs.Acquisitions.{assigned_buffer, assigned_nothing, nothing_more, store_taken, taken_by}
 use Rattle.machine_steps.proofs.SlotBuffers.{all_put}
 use Rattle.machine_steps.proofs.ViewCounts.{views_same, views_taken}
@@ -139,72 +145,104 @@ record IsReference (space : Space) (g : Given) (c : CallResult) : Type 0 where
 
 -- a field ID
 record IsField (classes : Classes) (g : Given) (c : CallResult) : Type 0 where
-  pub handle : Option Handle
+  pub handle : Option FieldIn
   pub field : Option FieldId
   pub same : g ≡ given.FieldId handle
   pub agrees : FieldAgrees classes handle field
   pub fills : (old : Option FieldId) → filled (FieldHandle old) c ≡ FieldHandle field
 
-number_given : (classes : Classes) (space : Space) (kind : ResultKind) (g : Given) (c : CallResult) (of : Sort) → GivenAgrees classes space kind g c → number_sort kind ≡ Some of → IsNumber g c of
-number_given classes space GivesInt (given.Number word) (ScalarResult (Int z)) of h e = record { value = Int z; gave = refl; same = ap given.Number h.0; sorted = (h.1, let same : Jint ≡ of = cc in sym same) }
-number_given classes space GivesInt (given.Number word) (ScalarResult (Word n)) of h e = absurd h
-number_given classes space GivesInt (given.Number word) (ScalarResult (Flag b)) of h e = absurd h
-number_given classes space GivesInt (given.Number word) (ScalarResult (Truth b)) of h e = absurd h
-number_given classes space GivesInt (given.Number word) NoResult of h e = absurd h
-number_given classes space GivesInt (given.Number word) NullResult of h e = absurd h
-number_given classes space GivesInt (given.Number word) (ReferenceResult r) of h e = absurd h
-number_given classes space GivesInt (given.Number word) (FieldResult f) of h e = absurd h
-number_given classes space GivesInt (given.Number word) (WeakResult r) of h e = absurd h
-number_given classes space GivesInt (given.Number word) (BufferResult b) of h e = absurd h
-number_given classes space GivesInt given.Nothing c of h e = absurd h
-number_given classes space GivesInt (given.Reference a) c of h e = absurd h
-number_given classes space GivesInt (given.FieldId a) c of h e = absurd h
-number_given classes space GivesInt (given.Global s) c of h e = absurd h
-number_given classes space GivesInt (given.Buffer b) c of h e = absurd h
-number_given classes space GivesFlag (given.Number word) (ScalarResult (Flag b)) of h e = record { value = Flag b; gave = refl; same = ap given.Number h; sorted = let same : sort.Flag ≡ of = cc in sym same }
-number_given classes space GivesFlag (given.Number word) (ScalarResult (Word n)) of h e = absurd h
-number_given classes space GivesFlag (given.Number word) (ScalarResult (Int z)) of h e = absurd h
-number_given classes space GivesFlag (given.Number word) (ScalarResult (Truth b)) of h e = absurd h
-number_given classes space GivesFlag (given.Number word) NoResult of h e = absurd h
-number_given classes space GivesFlag (given.Number word) NullResult of h e = absurd h
-number_given classes space GivesFlag (given.Number word) (ReferenceResult r) of h e = absurd h
-number_given classes space GivesFlag (given.Number word) (FieldResult f) of h e = absurd h
-number_given classes space GivesFlag (given.Number word) (WeakResult r) of h e = absurd h
-number_given classes space GivesFlag (given.Number word) (BufferResult b) of h e = absurd h
-number_given classes space GivesFlag given.Nothing c of h e = absurd h
-number_given classes space GivesFlag (given.Reference a) c of h e = absurd h
-number_given classes space GivesFlag (given.FieldId a) c of h e = absurd h
-number_given classes space GivesFlag (given.Global s) c of h e = absurd h
-number_given classes space GivesFlag (given.Buffer b) c of h e = absurd h
-number_given classes space kind g c of h e = absurd (cc)
+-- a method ID
+record IsMethodId (unit : SourceUnit) (g : Given) (c : CallResult) : Type 0 where
+  pub handle : Option MethodIn
+  pub method : Option MethodId
+  pub same : g ≡ given.MethodId handle
+  pub agrees : MethodAgrees unit handle method
+  pub fills : (old : Option MethodId) → filled (MethodHandle old) c ≡ MethodHandle method
 
-reference_given : (classes : Classes) (space : Space) (g : Given) (c : CallResult) → GivenAgrees classes space NewLocal g c → IsReference space g c
-reference_given classes space (given.Reference a) (ReferenceResult r) h = record { address = a; reference = r; same = refl; agrees = h; fills = λ level old. refl }
-reference_given classes space (given.Reference a) NullResult h = record { address = a; reference = None; same = refl; agrees = subst (λ (o : Option ℕ). ReferenceAgrees space o None) (sym h) tt; fills = λ level old. refl }
-reference_given classes space (given.Reference a) NoResult h = absurd h
-reference_given classes space (given.Reference a) (ScalarResult v) h = absurd h
-reference_given classes space (given.Reference a) (FieldResult f) h = absurd h
-reference_given classes space (given.Reference a) (WeakResult r) h = absurd h
-reference_given classes space (given.Reference a) (BufferResult b) h = absurd h
-reference_given classes space given.Nothing c h = absurd h
-reference_given classes space (given.Number word) c h = absurd h
-reference_given classes space (given.FieldId a) c h = absurd h
-reference_given classes space (given.Global s) c h = absurd h
-reference_given classes space (given.Buffer b) c h = absurd h
+number_given : (unit : SourceUnit) (classes : Classes) (space : Space) (kind : ResultKind) (g : Given) (c : CallResult) (of : Sort) → GivenAgrees unit classes space kind g c → number_sort kind ≡ Some of → IsNumber g c of
+number_given unit classes space GivesInt (given.Number word) (ScalarResult (Int z)) of h e = record { value = Int z; gave = refl; same = ap given.Number h.0; sorted = (h.1, let same : Jint ≡ of = cc in sym same) }
+number_given unit classes space GivesInt (given.Number word) (ScalarResult (Word n)) of h e = absurd h
+number_given unit classes space GivesInt (given.Number word) (ScalarResult (Flag b)) of h e = absurd h
+number_given unit classes space GivesInt (given.Number word) (ScalarResult (Truth b)) of h e = absurd h
+number_given unit classes space GivesInt (given.Number word) NoResult of h e = absurd h
+number_given unit classes space GivesInt (given.Number word) NullResult of h e = absurd h
+number_given unit classes space GivesInt (given.Number word) (ReferenceResult r) of h e = absurd h
+number_given unit classes space GivesInt (given.Number word) (FieldResult f) of h e = absurd h
+number_given unit classes space GivesInt (given.Number word) (MethodResult f) of h e = absurd h
+number_given unit classes space GivesInt (given.Number word) (WeakResult r) of h e = absurd h
+number_given unit classes space GivesInt (given.Number word) (BufferResult b) of h e = absurd h
+number_given unit classes space GivesInt given.Nothing c of h e = absurd h
+number_given unit classes space GivesInt (given.Reference a) c of h e = absurd h
+number_given unit classes space GivesInt (given.FieldId a) c of h e = absurd h
+number_given unit classes space GivesInt (given.MethodId a) c of h e = absurd h
+number_given unit classes space GivesInt (given.Global s) c of h e = absurd h
+number_given unit classes space GivesInt (given.Buffer b) c of h e = absurd h
+number_given unit classes space GivesFlag (given.Number word) (ScalarResult (Flag b)) of h e = record { value = Flag b; gave = refl; same = ap given.Number h; sorted = let same : sort.Flag ≡ of = cc in sym same }
+number_given unit classes space GivesFlag (given.Number word) (ScalarResult (Word n)) of h e = absurd h
+number_given unit classes space GivesFlag (given.Number word) (ScalarResult (Int z)) of h e = absurd h
+number_given unit classes space GivesFlag (given.Number word) (ScalarResult (Truth b)) of h e = absurd h
+number_given unit classes space GivesFlag (given.Number word) NoResult of h e = absurd h
+number_given unit classes space GivesFlag (given.Number word) NullResult of h e = absurd h
+number_given unit classes space GivesFlag (given.Number word) (ReferenceResult r) of h e = absurd h
+number_given unit classes space GivesFlag (given.Number word) (FieldResult f) of h e = absurd h
+number_given unit classes space GivesFlag (given.Number word) (MethodResult f) of h e = absurd h
+number_given unit classes space GivesFlag (given.Number word) (WeakResult r) of h e = absurd h
+number_given unit classes space GivesFlag (given.Number word) (BufferResult b) of h e = absurd h
+number_given unit classes space GivesFlag given.Nothing c of h e = absurd h
+number_given unit classes space GivesFlag (given.Reference a) c of h e = absurd h
+number_given unit classes space GivesFlag (given.FieldId a) c of h e = absurd h
+number_given unit classes space GivesFlag (given.MethodId a) c of h e = absurd h
+number_given unit classes space GivesFlag (given.Global s) c of h e = absurd h
+number_given unit classes space GivesFlag (given.Buffer b) c of h e = absurd h
+number_given unit classes space kind g c of h e = absurd (cc)
 
-field_given : (classes : Classes) (space : Space) (g : Given) (c : CallResult) → GivenAgrees classes space GivesField g c → IsField classes g c
-field_given classes space (given.FieldId a) (WeakResult r) h = absurd h
-field_given classes space (given.FieldId a) (FieldResult f) h = record { handle = a; field = f; same = refl; agrees = h; fills = λ old. refl }
-field_given classes space (given.FieldId a) NullResult h = record { handle = a; field = None; same = refl; agrees = subst (λ (o : Option Handle). FieldAgrees classes o None) (sym h) tt; fills = λ old. refl }
-field_given classes space (given.FieldId a) NoResult h = absurd h
-field_given classes space (given.FieldId a) (ScalarResult v) h = absurd h
-field_given classes space (given.FieldId a) (ReferenceResult r) h = absurd h
-field_given classes space (given.FieldId a) (BufferResult b) h = absurd h
-field_given classes space given.Nothing c h = absurd h
-field_given classes space (given.Number word) c h = absurd h
-field_given classes space (given.Reference a) c h = absurd h
-field_given classes space (given.Global s) c h = absurd h
-field_given classes space (given.Buffer b) c h = absurd h
+reference_given : (unit : SourceUnit) (classes : Classes) (space : Space) (g : Given) (c : CallResult) → GivenAgrees unit classes space NewLocal g c → IsReference space g c
+reference_given unit classes space (given.Reference a) (ReferenceResult r) h = record { address = a; reference = r; same = refl; agrees = h; fills = λ level old. refl }
+reference_given unit classes space (given.Reference a) NullResult h = record { address = a; reference = None; same = refl; agrees = subst (λ (o : Option ℕ). ReferenceAgrees space o None) (sym h) tt; fills = λ level old. refl }
+reference_given unit classes space (given.Reference a) NoResult h = absurd h
+reference_given unit classes space (given.Reference a) (ScalarResult v) h = absurd h
+reference_given unit classes space (given.Reference a) (FieldResult f) h = absurd h
+reference_given unit classes space (given.Reference a) (MethodResult f) h = absurd h
+reference_given unit classes space (given.Reference a) (WeakResult r) h = absurd h
+reference_given unit classes space (given.Reference a) (BufferResult b) h = absurd h
+reference_given unit classes space given.Nothing c h = absurd h
+reference_given unit classes space (given.Number word) c h = absurd h
+reference_given unit classes space (given.FieldId a) c h = absurd h
+reference_given unit classes space (given.MethodId a) c h = absurd h
+reference_given unit classes space (given.Global s) c h = absurd h
+reference_given unit classes space (given.Buffer b) c h = absurd h
+
+field_given : (unit : SourceUnit) (classes : Classes) (space : Space) (g : Given) (c : CallResult) → GivenAgrees unit classes space GivesField g c → IsField classes g c
+field_given unit classes space (given.FieldId a) (WeakResult r) h = absurd h
+field_given unit classes space (given.FieldId a) (FieldResult f) h = record { handle = a; field = f; same = refl; agrees = h; fills = λ old. refl }
+field_given unit classes space (given.FieldId a) NullResult h = record { handle = a; field = None; same = refl; agrees = subst (λ (o : Option FieldIn). FieldAgrees classes o None) (sym h) tt; fills = λ old. refl }
+field_given unit classes space (given.FieldId a) NoResult h = absurd h
+field_given unit classes space (given.FieldId a) (ScalarResult v) h = absurd h
+field_given unit classes space (given.FieldId a) (ReferenceResult r) h = absurd h
+field_given unit classes space (given.FieldId a) (BufferResult b) h = absurd h
+field_given unit classes space (given.FieldId a) (MethodResult f) h = absurd h
+field_given unit classes space given.Nothing c h = absurd h
+field_given unit classes space (given.MethodId a) c h = absurd h
+field_given unit classes space (given.Number word) c h = absurd h
+field_given unit classes space (given.Reference a) c h = absurd h
+field_given unit classes space (given.Global s) c h = absurd h
+field_given unit classes space (given.Buffer b) c h = absurd h
+
+method_given : (unit : SourceUnit) (classes : Classes) (space : Space) (g : Given) (c : CallResult) → GivenAgrees unit classes space GivesMethod g c → IsMethodId unit g c
+method_given unit classes space (given.MethodId a) (WeakResult r) h = absurd h
+method_given unit classes space (given.MethodId a) (MethodResult f) h = record { handle = a; method = f; same = refl; agrees = h; fills = λ old. refl }
+method_given unit classes space (given.MethodId a) NullResult h = record { handle = a; method = None; same = refl; agrees = subst (λ (o : Option MethodIn). MethodAgrees unit o None) (sym h) tt; fills = λ old. refl }
+method_given unit classes space (given.MethodId a) NoResult h = absurd h
+method_given unit classes space (given.MethodId a) (ScalarResult v) h = absurd h
+method_given unit classes space (given.MethodId a) (ReferenceResult r) h = absurd h
+method_given unit classes space (given.MethodId a) (BufferResult b) h = absurd h
+method_given unit classes space (given.MethodId a) (FieldResult f) h = absurd h
+method_given unit classes space given.Nothing c h = absurd h
+method_given unit classes space (given.FieldId a) c h = absurd h
+method_given unit classes space (given.Number word) c h = absurd h
+method_given unit classes space (given.Reference a) c h = absurd h
+method_given unit classes space (given.Global s) c h = absurd h
+method_given unit classes space (given.Buffer b) c h = absurd h
 
 -- what a static takes
 record IsGlobal (store : Store) (g : Given) (c : CallResult) : Type 0 where
@@ -213,20 +251,22 @@ record IsGlobal (store : Store) (g : Given) (c : CallResult) : Type 0 where
   pub agrees : HeldAgrees store.heap (held_of store.globals store.weaks held) (static_result c)
   pub fresh : IsFresh store held
 
-static_given : (classes : Classes) (store : Store) (k : ℕ) (kind : ResultKind) (g : Given) (c : CallResult) → IsStaticResult kind → ResultAgrees classes store k g kind c → IsGlobal store g c
-static_given classes store k NewGlobal (given.Global s) c goes h = record { held = s; same = refl; agrees = h.1; fresh = h.2 }
-static_given classes store k NewGlobal given.Nothing c goes h = absurd h
-static_given classes store k NewGlobal (given.Number word) c goes h = absurd h
-static_given classes store k NewGlobal (given.Reference a) c goes h = absurd h
-static_given classes store k NewGlobal (given.FieldId f) c goes h = absurd h
-static_given classes store k NewGlobal (given.Buffer b) c goes h = absurd (let e = h.0.1 in cc)
-static_given classes store k NewWeak (given.Global s) c goes h = record { held = s; same = refl; agrees = h.1; fresh = h.2 }
-static_given classes store k NewWeak given.Nothing c goes h = absurd h
-static_given classes store k NewWeak (given.Number word) c goes h = absurd h
-static_given classes store k NewWeak (given.Reference a) c goes h = absurd h
-static_given classes store k NewWeak (given.FieldId f) c goes h = absurd h
-static_given classes store k NewWeak (given.Buffer b) c goes h = absurd (let e = h.0.1 in cc)
-static_given classes store k kind g c goes h = absurd goes
+static_given : (unit : SourceUnit) (classes : Classes) (store : Store) (k : ℕ) (kind : ResultKind) (g : Given) (c : CallResult) → IsStaticResult kind → ResultAgrees unit classes store k g kind c → IsGlobal store g c
+static_given unit classes store k NewGlobal (given.Global s) c goes h = record { held = s; same = refl; agrees = h.1; fresh = h.2 }
+static_given unit classes store k NewGlobal given.Nothing c goes h = absurd h
+static_given unit classes store k NewGlobal (given.Number word) c goes h = absurd h
+static_given unit classes store k NewGlobal (given.Reference a) c goes h = absurd h
+static_given unit classes store k NewGlobal (given.FieldId f) c goes h = absurd h
+static_given unit classes store k NewGlobal (given.MethodId f) c goes h = absurd h
+static_given unit classes store k NewGlobal (given.Buffer b) c goes h = absurd (let e = h.0.1 in cc)
+static_given unit classes store k NewWeak (given.Global s) c goes h = record { held = s; same = refl; agrees = h.1; fresh = h.2 }
+static_given unit classes store k NewWeak given.Nothing c goes h = absurd h
+static_given unit classes store k NewWeak (given.Number word) c goes h = absurd h
+static_given unit classes store k NewWeak (given.Reference a) c goes h = absurd h
+static_given unit classes store k NewWeak (given.FieldId f) c goes h = absurd h
+static_given unit classes store k NewWeak (given.MethodId f) c goes h = absurd h
+static_given unit classes store k NewWeak (given.Buffer b) c goes h = absurd (let e = h.0.1 in cc)
+static_given unit classes store k kind g c goes h = absurd goes
 
 -- what is given for a static is of a function whose result goes into one
 for_static : (kind : ResultKind) (c : CallResult) → IsForStatic kind c → IsStaticResult kind
@@ -236,6 +276,7 @@ for_static NewLocal c h = h
 for_static GivesFlag c h = h
 for_static GivesInt c h = h
 for_static GivesField c h = h
+for_static GivesMethod c h = h
 for_static GivesNothing c h = h
 for_static (GivesBuffer a) c h = h
 
@@ -246,30 +287,33 @@ no_number NewWeak s is goes = cc
 no_number kind s is goes = goes
 
 -- what any other target takes
-other_given : (classes : Classes) (store : Store) (k : ℕ) (kind : ResultKind) (g : Given) (c : CallResult) → (IsStaticResult kind → ⊥) → (IsBufferResult kind → ⊥) → ResultAgrees classes store k g kind c → GivenAgrees classes store.heap kind g c
-other_given classes store k kind given.Nothing c other no_buffer h = h
-other_given classes store k kind (given.Number word) c other no_buffer h = h
-other_given classes store k kind (given.Reference a) c other no_buffer h = h
-other_given classes store k kind (given.FieldId f) c other no_buffer h = h
-other_given classes store k kind (given.Global s) c other no_buffer h = absurd (other (for_static kind c h.0))
-other_given classes store k kind (given.Buffer b) c other no_buffer h = absurd (no_buffer h.0)
+other_given : (unit : SourceUnit) (classes : Classes) (store : Store) (k : ℕ) (kind : ResultKind) (g : Given) (c : CallResult) → (IsStaticResult kind → ⊥) → (IsBufferResult kind → ⊥) → ResultAgrees unit classes store k g kind c → GivenAgrees unit classes store.heap kind g c
+other_given unit classes store k kind given.Nothing c other no_buffer h = h
+other_given unit classes store k kind (given.Number word) c other no_buffer h = h
+other_given unit classes store k kind (given.Reference a) c other no_buffer h = h
+other_given unit classes store k kind (given.FieldId f) c other no_buffer h = h
+other_given unit classes store k kind (given.MethodId f) c other no_buffer h = h
+other_given unit classes store k kind (given.Global s) c other no_buffer h = absurd (other (for_static kind c h.0))
+other_given unit classes store k kind (given.Buffer b) c other no_buffer h = absurd (no_buffer h.0)
 
 -- what is no buffer
-pub plain_result : (classes : Classes) (store : Store) (k : ℕ) (kind : ResultKind) (g : Given) (c : CallResult) → (IsBufferResult kind → ⊥) → ResultAgrees classes store k g kind c → IsNoBuffer c
-plain_result classes store k kind given.Nothing c other h = no_buffer classes store.heap kind given.Nothing c h
-plain_result classes store k kind (given.Number word) c other h = no_buffer classes store.heap kind (given.Number word) c h
-plain_result classes store k kind (given.Reference a) c other h = no_buffer classes store.heap kind (given.Reference a) c h
-plain_result classes store k kind (given.FieldId f) c other h = no_buffer classes store.heap kind (given.FieldId f) c h
-plain_result classes store k kind (given.Global s) c other h = plain_static kind c h.0
-plain_result classes store k kind (given.Buffer b) c other h = absurd (other h.0)
+pub plain_result : (unit : SourceUnit) (classes : Classes) (store : Store) (k : ℕ) (kind : ResultKind) (g : Given) (c : CallResult) → (IsBufferResult kind → ⊥) → ResultAgrees unit classes store k g kind c → IsNoBuffer c
+plain_result unit classes store k kind given.Nothing c other h = no_buffer unit classes store.heap kind given.Nothing c h
+plain_result unit classes store k kind (given.Number word) c other h = no_buffer unit classes store.heap kind (given.Number word) c h
+plain_result unit classes store k kind (given.Reference a) c other h = no_buffer unit classes store.heap kind (given.Reference a) c h
+plain_result unit classes store k kind (given.FieldId f) c other h = no_buffer unit classes store.heap kind (given.FieldId f) c h
+plain_result unit classes store k kind (given.MethodId f) c other h = no_buffer unit classes store.heap kind (given.MethodId f) c h
+plain_result unit classes store k kind (given.Global s) c other h = plain_static kind c h.0
+plain_result unit classes store k kind (given.Buffer b) c other h = absurd (other h.0)
 
 -- it takes nothing
-nothing_with : (c : CallResult) → IsNoBuffer c → acquired_with c ≡ nothing_acquired
+pub nothing_with : (c : CallResult) → IsNoBuffer c → acquired_with c ≡ nothing_acquired
 nothing_with NoResult h = refl
 nothing_with NullResult h = refl
 nothing_with (ScalarResult v) h = refl
 nothing_with (ReferenceResult r) h = refl
 nothing_with (FieldResult f) h = refl
+nothing_with (MethodResult f) h = refl
 nothing_with (WeakResult r) h = refl
 nothing_with (BufferResult b) h = absurd h
 
@@ -283,34 +327,37 @@ record IsBuffer (store : Store) (k : ℕ) (g : Given) (c : CallResult) : Type 0 
   pub takes : acquired_with c ≡ acquired_of buffer
   pub small : IsSmallCopy buffer
 
-buffer_given : (classes : Classes) (store : Store) (k : ℕ) (access : Access) (g : Given) (c : CallResult) → ((b : Buffer) → c ≡ BufferResult b → IsSmallCopy b) → ResultAgrees classes store k g (GivesBuffer access) c → IsBuffer store k g c
-buffer_given classes store k access (given.Buffer h) (BufferResult b) small agrees = record { held = h; buffer = b; same = refl; agrees = agrees.1; fills = λ t old. refl; takes = refl; small = small b refl }
-buffer_given classes store k access (given.Buffer h) NullResult small agrees =
+buffer_given : (unit : SourceUnit) (classes : Classes) (store : Store) (k : ℕ) (access : Access) (g : Given) (c : CallResult) → ((b : Buffer) → c ≡ BufferResult b → IsSmallCopy b) → ResultAgrees unit classes store k g (GivesBuffer access) c → IsBuffer store k g c
+buffer_given unit classes store k access (given.Buffer h) (BufferResult b) small agrees = record { held = h; buffer = b; same = refl; agrees = agrees.1; fills = λ t old. refl; takes = refl; small = small b refl }
+buffer_given unit classes store k access (given.Buffer h) NullResult small agrees =
     record { held = h; buffer = NoBuffer; same = refl; agrees = subst (λ (y : HeldBuffer). BufferAgrees store.heap store.elements k y NoBuffer) (sym agrees.1) tt; fills = λ t old. refl; takes = refl; small = tt }
-buffer_given classes store k access (given.Buffer h) NoResult small agrees = absurd agrees.1
-buffer_given classes store k access (given.Buffer h) (ScalarResult v) small agrees = absurd agrees.1
-buffer_given classes store k access (given.Buffer h) (ReferenceResult r) small agrees = absurd agrees.1
-buffer_given classes store k access (given.Buffer h) (FieldResult f) small agrees = absurd agrees.1
-buffer_given classes store k access (given.Buffer h) (WeakResult r) small agrees = absurd agrees.1
-buffer_given classes store k access given.Nothing c small agrees = absurd agrees
-buffer_given classes store k access (given.Number word) c small agrees = absurd agrees
-buffer_given classes store k access (given.Reference a) c small agrees = absurd agrees
-buffer_given classes store k access (given.FieldId f) c small agrees = absurd agrees
-buffer_given classes store k access (given.Global s) c small agrees = absurd agrees.0
+buffer_given unit classes store k access (given.Buffer h) NoResult small agrees = absurd agrees.1
+buffer_given unit classes store k access (given.Buffer h) (ScalarResult v) small agrees = absurd agrees.1
+buffer_given unit classes store k access (given.Buffer h) (ReferenceResult r) small agrees = absurd agrees.1
+buffer_given unit classes store k access (given.Buffer h) (FieldResult f) small agrees = absurd agrees.1
+buffer_given unit classes store k access (given.Buffer h) (MethodResult f) small agrees = absurd agrees.1
+buffer_given unit classes store k access (given.Buffer h) (WeakResult r) small agrees = absurd agrees.1
+buffer_given unit classes store k access given.Nothing c small agrees = absurd agrees
+buffer_given unit classes store k access (given.Number word) c small agrees = absurd agrees
+buffer_given unit classes store k access (given.Reference a) c small agrees = absurd agrees
+buffer_given unit classes store k access (given.FieldId f) c small agrees = absurd agrees
+buffer_given unit classes store k access (given.MethodId f) c small agrees = absurd agrees
+buffer_given unit classes store k access (given.Global s) c small agrees = absurd agrees.0
 
-frames_result : (classes : Classes) (store : Store) (k : ℕ) (kind : ResultKind) (g : Given) (c : CallResult) (locals after : LocalTable) (key : Option ℕ) (gs : List source.Frame) → AreStacked locals → ResultAgrees classes store k g kind c → MakesLocal kind g locals key after → FramesAgree store.heap locals gs → FramesAgree store.heap after (frames_received kind c gs)
-frames_result classes store k kind given.Nothing c locals after key gs stacked h makes agree = frames_agree store.heap classes kind given.Nothing c locals key after gs stacked h makes agree
-frames_result classes store k kind (given.Number word) c locals after key gs stacked h makes agree = frames_agree store.heap classes kind (given.Number word) c locals key after gs stacked h makes agree
-frames_result classes store k kind (given.Reference a) c locals after key gs stacked h makes agree = frames_agree store.heap classes kind (given.Reference a) c locals key after gs stacked h makes agree
-frames_result classes store k kind (given.FieldId f) c locals after key gs stacked h makes agree = frames_agree store.heap classes kind (given.FieldId f) c locals key after gs stacked h makes agree
-frames_result classes store k kind (given.Global s) c locals after key gs stacked h makes agree =
+frames_result : (unit : SourceUnit) (classes : Classes) (store : Store) (k : ℕ) (kind : ResultKind) (g : Given) (c : CallResult) (locals after : LocalTable) (key : Option ℕ) (gs : List source.Frame) → AreStacked locals → ResultAgrees unit classes store k g kind c → MakesLocal kind g locals key after → FramesAgree store.heap locals gs → FramesAgree store.heap after (frames_received kind c gs)
+frames_result unit classes store k kind given.Nothing c locals after key gs stacked h makes agree = frames_agree store.heap unit classes kind given.Nothing c locals key after gs stacked h makes agree
+frames_result unit classes store k kind (given.Number word) c locals after key gs stacked h makes agree = frames_agree store.heap unit classes kind (given.Number word) c locals key after gs stacked h makes agree
+frames_result unit classes store k kind (given.Reference a) c locals after key gs stacked h makes agree = frames_agree store.heap unit classes kind (given.Reference a) c locals key after gs stacked h makes agree
+frames_result unit classes store k kind (given.FieldId f) c locals after key gs stacked h makes agree = frames_agree store.heap unit classes kind (given.FieldId f) c locals key after gs stacked h makes agree
+frames_result unit classes store k kind (given.MethodId f) c locals after key gs stacked h makes agree = frames_agree store.heap unit classes kind (given.MethodId f) c locals key after gs stacked h makes agree
+frames_result unit classes store k kind (given.Global s) c locals after key gs stacked h makes agree =
     static_frames kind (for_static kind c h.0) makes
   where
     static_frames : (kind : ResultKind) → IsStaticResult kind → MakesLocal kind (given.Global s) locals key after → FramesAgree store.heap after (frames_received kind c gs)
     static_frames NewGlobal goes makes = subst (λ (t : LocalTable). FramesAgree store.heap t gs) (sym makes.1) agree
     static_frames NewWeak goes makes = subst (λ (t : LocalTable). FramesAgree store.heap t gs) (sym makes.1) agree
     static_frames kind goes makes = absurd goes
-frames_result classes store k kind (given.Buffer b) c locals after key gs stacked h makes agree =
+frames_result unit classes store k kind (given.Buffer b) c locals after key gs stacked h makes agree =
     subst (λ (k : ResultKind). FramesAgree store.heap after (frames_received k c gs)) (sym h.0.1)
     (subst (λ (t : LocalTable). FramesAgree store.heap t gs) (sym (subst (λ (k : ResultKind). MakesLocal k (given.Buffer b) locals key after) h.0.1 makes).1) agree)
 
@@ -374,6 +421,7 @@ nothing_named None k t = refl
 nothing_named (Some (Scalar v)) k t = absurd (cc)
 nothing_named (Some (LocalRef level q)) k t = absurd (cc)
 nothing_named (Some (FieldHandle f)) k t = absurd (cc)
+nothing_named (Some (MethodHandle f)) k t = absurd (cc)
 nothing_named (Some (Elements type b)) k t = absurd (cc)
 nothing_named (Some (LocalArray type zs)) k t = absurd (cc)
 
@@ -410,7 +458,7 @@ pub record Finishes (p : Lowered) (w : World) (old : Space) (shared : Shared) (s
 module _ (p : Lowered) (w : World) (old : Space) (old_copies : List (Option OwnedNumbers)) (store : Store) (others : Acquired) (k : ℕ) (own : Owners) (shared next : Shared) (keeps : Keeps old shared store.heap next) (s : source.Thread) (call : Activation) (code : Listing) (task : Task) (rest : List Task)
     (r : Ready p w.classes old old_copies k call code (visible_to own shared s) s.frames task rest) (line : ℕ) (f : JniFunction) (args : List Actual) (locals : LocalTable) (stacked : AreStacked locals) (room : HasRoom (prototype f).result locals) (keyed : KeysAgree store.heap locals call.slots.references.items r.meant.references r.meant.owners)
     (buffered : BuffersAgree store.heap store.elements k call.slots.buffers.items r.meant.buffers) (viewed : AreViewed store.heap call.slots.buffers.items s) (left : List source.Frame) (framed : FramesAgree store.heap locals left) (q : Reference) (g : Given) (c : CallResult) (untold : Variables) (told : tell_copy (address_given args 1) c untold ≡ s.variables) (told_taken : taken_by s.variables ≡ taken_by untold)
-    (shares : StoreAgrees p w store next (beside others (beside (taken_by untold) (acquired_with c)))) (agrees : ResultAgrees w.classes store k g (prototype f).result c) (small : (b : Buffer) → c ≡ BufferResult b → IsSmallCopy b) (apart : (b : HeldBuffer) (j key : ℕ) → g ≡ given.Buffer b → b ≡ held_as.Copy key → slice_get call.slots.buffers.items j ≡ Some (held_as.Copy key) → ⊥)
+    (shares : StoreAgrees p w store next (beside others (beside (taken_by untold) (acquired_with c)))) (agrees : ResultAgrees (unit_tree p.unit) w.classes store k g (prototype f).result c) (small : (b : Buffer) → c ≡ BufferResult b → IsSmallCopy b) (apart : (b : HeldBuffer) (j key : ℕ) → g ≡ given.Buffer b → b ≡ held_as.Copy key → slice_get call.slots.buffers.items j ≡ Some (held_as.Copy key) → ⊥)
     (still : IsStaticResult (prototype f).result → next.statics ≡ shared.statics) (function : Call) (at : slice_get code.instrs call.place ≡ Some (instr.Call function)) (none_left : with_fewer (words_taken function.operands) (length call.stack) ≡ Some 0) (after : Activation) (statics : Vec InMemory) where
   abbrev space : Space
   space = store.heap
@@ -451,16 +499,16 @@ module _ (p : Lowered) (w : World) (old : Space) (old_copies : List (Option Owne
   kept_keys d receives = keys_left space space locals after.locals call.slots.references.items r.meant.references r.meant.owners keyed (λ i key n level at_key owned h. made_left space kind g locals after.locals receives.key stacked receives.makes key n level h)
 
   -- the slots hold what they did, where a result has gone elsewhere
-  still_held : (d : Destination) → Receives d kind None g carried after → after.slots.references.items ≡ call.slots.references.items → after.slots.fields.items ≡ call.slots.fields.items → after.slots.buffers.items ≡ call.slots.buffers.items → SlotsHold w.classes space store.elements k after.locals (values_in after) r.meant
+  still_held : (d : Destination) → Receives d kind None g carried after → after.slots.references.items ≡ call.slots.references.items → after.slots.fields.items ≡ call.slots.fields.items → after.slots.buffers.items ≡ call.slots.buffers.items → SlotsHold (unit_tree p.unit) w.classes space store.elements k after.locals (values_in after) r.meant
   still_held d receives keys fields same_buffers = record {
     keys = subst (λ (l : List (Option ℕ)). KeysAgree space after.locals l r.meant.references r.meant.owners) (sym keys) (kept_keys d receives);
-    fields = subst (λ (l : List (Option Handle)). FieldsAgree w.classes l r.meant.fields) (sym fields) r.holds.fields;
+    fields = subst (λ (l : List (Option Handle)). HandlesAgree (unit_tree p.unit) w.classes l r.meant.fields) (sym fields) r.holds.fields;
     buffers = subst (λ (l : List HeldBuffer). BuffersAgree space store.elements k l r.meant.buffers) (sym same_buffers) buffered;
     small = r.holds.small;
   }
 
   frames_after : (d : Destination) → Receives d kind None g carried after → FramesAgree space after.locals (frames_received kind c left)
-  frames_after d receives = frames_result w.classes store k kind g c locals after.locals receives.key left stacked agrees receives.makes framed
+  frames_after d receives = frames_result (unit_tree p.unit) w.classes store k kind g c locals after.locals receives.key left stacked agrees receives.makes framed
 
   -- the statics hold what they did
   abbrev SameStatics : Type 0
@@ -472,7 +520,7 @@ module _ (p : Lowered) (w : World) (old : Space) (old_copies : List (Option Owne
 
   -- with these words on the stack it stands for these tasks
   stands_with : (words : List ℕ) (tasks : List Task) → with_result function.target 0 ≡ Some (length words) → (d : Destination) → Receives d kind None g carried after → stack_with d g ≡ words
-      → (now : Owners) (names : Known) (vs : Variables) (meant : Meant) → SlotsHold w.classes space store.elements k after.locals (values_in after) meant
+      → (now : Owners) (names : Known) (vs : Variables) (meant : Meant) → SlotsHold (unit_tree p.unit) w.classes space store.elements k after.locals (values_in after) meant
       → StandsFor code names (call.place + 1) words tasks → Shows code names (visible_to now shared (resuming vs)) (slots_of after meant)
       → CallStands p w.classes space store.elements k after (visible_to now next (resuming vs)) (frames_received kind c left) tasks
   stands_with words tasks count d receives put now names vs meant holds stands shows = record {
@@ -499,7 +547,7 @@ module _ (p : Lowered) (w : World) (old : Space) (old_copies : List (Option Owne
   frames_count : length locals.frames ≡ length left
   frames_count = as_many_frames space locals left framed
 
-  stands_after : HasNoWord → (d : Destination) → stack_with d g ≡ [] → Receives d kind None g carried after → (now : Owners) (names : Known) (vs : Variables) (meant : Meant) → SlotsHold w.classes space store.elements k after.locals (values_in after) meant
+  stands_after : HasNoWord → (d : Destination) → stack_with d g ≡ [] → Receives d kind None g carried after → (now : Owners) (names : Known) (vs : Variables) (meant : Meant) → SlotsHold (unit_tree p.unit) w.classes space store.elements k after.locals (values_in after) meant
       → StandsFor code names (call.place + 1) [] rest → Shows code names (visible_to now shared (resuming vs)) (slots_of after meant)
       → CallStands p w.classes space store.elements k after (visible_to now next (resuming vs)) (frames_received kind c left) rest
   stands_after no_word d empty receives = stands_with [] rest no_word d receives empty
@@ -558,7 +606,7 @@ module _ (p : Lowered) (w : World) (old : Space) (old_copies : List (Option Owne
               let same : level ≡ own_level = let both : Some level ≡ Some own_level = ap (λ (q : Reference). level_held (Some (LocalRef level q))) (sym named) ∙ sym here ∙ owned in cc in
               subst (IsKeyOf space after.locals place m) (counted ∙ same) (made.key_of place m at named))
               (λ j place own_level at found owned. let live = live_there space locals call.slots.references.items r.meant.references r.meant.owners j place own_level keyed found owned in let clash : None ≡ Some live.0 = sym (made.fresh place at) ∙ live.1 in cc));
-          fields = subst (λ (l : List (Option Handle)). FieldsAgree w.classes l r.meant.fields) (sym receives.fields) r.holds.fields;
+          fields = subst (λ (l : List (Option Handle)). HandlesAgree (unit_tree p.unit) w.classes l r.meant.fields) (sym receives.fields) r.holds.fields;
           buffers = subst (λ (l : List HeldBuffer). BuffersAgree space store.elements k l r.meant.buffers) (sym receives.buffers) buffered;
           small = r.holds.small;
         }) takes.stands
@@ -605,12 +653,12 @@ module _ (p : Lowered) (w : World) (old : Space) (old_copies : List (Option Owne
     field_stands : CallStands p w.classes space store.elements k after (visible_to own next (resuming (assign x (FieldHandle n.field) s.variables))) (frames_received kind c left) rest
     field_stands =
         let vs = assign x (FieldHandle n.field) s.variables in
-        let fields : after.slots.fields.items ≡ slice_set call.slots.fields.items i n.handle = receives.fields ∙ ap (λ (h : Given). fields_with (destination.FieldId i) h call.slots.fields.items) n.same in
-        let meant : Meant = record r.meant { fields = slice_set r.meant.fields i n.field } in
+        let fields : after.slots.fields.items ≡ slice_set call.slots.fields.items i (option_map handle.Field n.handle) = receives.fields ∙ ap (λ (h : Given). fields_with (destination.FieldId i) h call.slots.fields.items) n.same in
+        let meant : Meant = record r.meant { fields = slice_set r.meant.fields i (option_map OfField n.field) } in
         stands_after no_word (destination.FieldId i) refl receives own takes.names vs meant
         (record {
           keys = subst (λ (l : List (Option ℕ)). KeysAgree space after.locals l r.meant.references r.meant.owners) (sym receives.references) (kept_keys (destination.FieldId i) receives);
-          fields = subst (λ (l : List (Option Handle)). FieldsAgree w.classes l meant.fields) (sym fields) (field_put w.classes call.slots.fields.items r.meant.fields i n.handle n.field r.holds.fields n.agrees);
+          fields = subst (λ (l : List (Option Handle)). HandlesAgree (unit_tree p.unit) w.classes l meant.fields) (sym fields) (handle_put (unit_tree p.unit) w.classes call.slots.fields.items r.meant.fields i (option_map handle.Field n.handle) (option_map OfField n.field) r.holds.fields (field_handle (unit_tree p.unit) w.classes n.handle n.field n.agrees));
           buffers = subst (λ (l : List HeldBuffer). BuffersAgree space store.elements k l r.meant.buffers) (sym receives.buffers) buffered;
           small = r.holds.small;
         }) takes.stands
@@ -642,6 +690,50 @@ module _ (p : Lowered) (w : World) (old : Space) (old_copies : List (Option Owne
       }
   field_finishes plain same_statics no_word i (Tested a b) free receives n goes = absurd goes
   field_finishes plain same_statics no_word i Dropped free receives n goes = absurd goes
+
+  -- ---- a method ID
+
+  module _ (no_word : HasNoWord) (i : ℕ) (receives : Receives (destination.MethodId i) kind None g carried after) (x : Identifier) (takes : TakesMethod code r.known call.place call.stack held (visible_to own shared s) i x rest) (n : IsMethodId (unit_tree p.unit) g c) where
+    method_stands : CallStands p w.classes space store.elements k after (visible_to own next (resuming (assign x (MethodHandle n.method) s.variables))) (frames_received kind c left) rest
+    method_stands =
+        let vs = assign x (MethodHandle n.method) s.variables in
+        let fields : after.slots.fields.items ≡ slice_set call.slots.fields.items i (option_map handle.Method n.handle) = receives.fields ∙ ap (λ (h : Given). fields_with (destination.MethodId i) h call.slots.fields.items) n.same in
+        let meant : Meant = record r.meant { fields = slice_set r.meant.fields i (option_map OfMethod n.method) } in
+        stands_after no_word (destination.MethodId i) refl receives own takes.names vs meant
+        (record {
+          keys = subst (λ (l : List (Option ℕ)). KeysAgree space after.locals l r.meant.references r.meant.owners) (sym receives.references) (kept_keys (destination.MethodId i) receives);
+          fields = subst (λ (l : List (Option Handle)). HandlesAgree (unit_tree p.unit) w.classes l meant.fields) (sym fields) (handle_put (unit_tree p.unit) w.classes call.slots.fields.items r.meant.fields i (option_map handle.Method n.handle) (option_map OfMethod n.method) r.holds.fields (method_handle (unit_tree p.unit) w.classes n.handle n.method n.agrees));
+          buffers = subst (λ (l : List HeldBuffer). BuffersAgree space store.elements k l r.meant.buffers) (sym receives.buffers) buffered;
+          small = r.holds.small;
+        }) takes.stands
+        (shown takes.names (visible_to own shared (resuming vs)) meant receives.numbers
+        (takes.shows n.method (visible_to own shared (resuming vs)) (is_method_set own own shared s (resuming vs) x (λ y other. refl) n.method refl)))
+
+  method_finishes : IsNoBuffer c → SameStatics → HasNoWord → (i : ℕ) (target : Target) → IsFree target → Receives (destination.MethodId i) kind None g carried after → IsMethodId (unit_tree p.unit) g c → GoesInto code r.known call.place call.stack held (visible_to own shared s) MethodKind target (λ x. TakesMethod code r.known call.place call.stack held (visible_to own shared s) i x rest) → Ends target
+  method_finishes plain same_statics no_word i (Declared declared x) free receives n goes = record {
+    now = next;
+    tasks = rest;
+    store_agrees = with_same p w store next (beside others (taken_by (assign x (MethodHandle n.method) s.variables))) (plain_shares plain (assign x (MethodHandle n.method) s.variables) (assigned_nothing x (MethodHandle n.method) s.variables refl refl (free x (same_target x)))) statics same_statics;
+    keeps = keeps;
+    views = plain_views (assign x (MethodHandle n.method) s.variables) receives.buffers (assigned_nothing x (MethodHandle n.method) s.variables refl refl (free x (same_target x)));
+    variables = assign x (MethodHandle n.method) s.variables;
+    steps = declared_is line f args rest s left q c untold told next declared x (MethodHandle n.method) (ap (λ (k : VariableKind). filled (blank k (length (frames_received kind c left))) c) goes.0 ∙ n.fills None);
+    stands = fewer_stands p w.classes space store.elements k after own (put_owners (Declared declared x) own (assign x (MethodHandle n.method) s.variables)) next (resuming (assign x (MethodHandle n.method) s.variables)) (frames_received kind c left) rest (fewer_put declared x (MethodHandle n.method) own s.variables refl) (method_stands no_word i receives x goes.1 n);
+  }
+  method_finishes plain same_statics no_word i (Assigned x) free receives n goes =
+      let old = method_by_kind (lookup x s.variables) goes.0 in
+      record {
+        now = next;
+        tasks = rest;
+        store_agrees = with_same p w store next (beside others (taken_by (assign x (MethodHandle n.method) s.variables))) (plain_shares plain (assign x (MethodHandle n.method) s.variables) (assigned_nothing x (MethodHandle n.method) s.variables refl refl (free x (same_target x)))) statics same_statics;
+        keeps = keeps;
+        views = plain_views (assign x (MethodHandle n.method) s.variables) receives.buffers (assigned_nothing x (MethodHandle n.method) s.variables refl refl (free x (same_target x)));
+        variables = assign x (MethodHandle n.method) s.variables;
+        steps = assigned_is line f args rest s left q c untold told next x (MethodHandle old.0) (MethodHandle n.method) old.1 (n.fills old.0);
+        stands = fewer_stands p w.classes space store.elements k after own (put_owners (Assigned x) own (assign x (MethodHandle n.method) s.variables)) next (resuming (assign x (MethodHandle n.method) s.variables)) (frames_received kind c left) rest (fewer_put MethodKind x (MethodHandle n.method) own s.variables refl) (method_stands no_word i receives x goes.1 n);
+      }
+  method_finishes plain same_statics no_word i (Tested a b) free receives n goes = absurd goes
+  method_finishes plain same_statics no_word i Dropped free receives n goes = absurd goes
 
   -- ---- a global reference
 
@@ -713,7 +805,7 @@ module _ (p : Lowered) (w : World) (old : Space) (old_copies : List (Option Owne
         stands_after no_word (destination.Buffer element i) refl receives own takes.names vs meant
         (record {
           keys = subst (λ (l : List (Option ℕ)). KeysAgree space after.locals l r.meant.references r.meant.owners) (sym receives.references) (kept_keys (destination.Buffer element i) receives);
-          fields = subst (λ (l : List (Option Handle)). FieldsAgree w.classes l r.meant.fields) (sym receives.fields) r.holds.fields;
+          fields = subst (λ (l : List (Option Handle)). HandlesAgree (unit_tree p.unit) w.classes l r.meant.fields) (sym receives.fields) r.holds.fields;
           buffers = subst (λ (l : List HeldBuffer). BuffersAgree space store.elements k l meant.buffers) (sym buffers) (buffer_put space store.elements k call.slots.buffers.items r.meant.buffers i n.held n.buffer buffered n.agrees (λ j key is at_key. apart n.held j key n.same is at_key));
           small = all_put IsSmallCopy r.meant.buffers i n.buffer r.holds.small n.small;
         }) takes.stands
@@ -764,26 +856,29 @@ module _ (p : Lowered) (w : World) (old : Space) (old_copies : List (Option Owne
   pub finishes : (d : Destination) (target : Target) → (kind ≡ NewLocal → IsDeclaredThere target) → IsFree target → function.target ≡ d → TakesResult code r.known call.place call.stack held (visible_to own shared s) line d kind target rest → Receives d kind None g carried after → statics.items ≡ statics_with d g store.statics.items → Ends target
   finishes (destination.Number i) target there free same goes receives same_statics =
       number_finishes same_statics (ap (λ (d : Destination). with_result d 0) same) i target free receives goes.0
-      (number_given w.classes space kind g c goes.0 (other_given w.classes store k kind g c (no_number kind goes.0 goes.1) (λ b. let clash : None ≡ Some goes.0 = sym (ap number_sort b.1) ∙ goes.1 in cc) agrees) goes.1) goes.2
+      (number_given (unit_tree p.unit) w.classes space kind g c goes.0 (other_given (unit_tree p.unit) w.classes store k kind g c (no_number kind goes.0 goes.1) (λ b. let clash : None ≡ Some goes.0 = sym (ap number_sort b.1) ∙ goes.1 in cc) agrees) goes.1) goes.2
   finishes (destination.Local i) target there free same goes receives same_statics =
-      let given = subst (λ (k : ResultKind). GivenAgrees w.classes space k g c) goes.0 (other_given w.classes store k kind g c (λ e. subst IsStaticResult goes.0 e) (λ b. let clash : NewLocal ≡ GivesBuffer b.0 = sym goes.0 ∙ b.1 in cc) agrees) in
-      reference_finishes (no_buffer w.classes space NewLocal g c given) goes.0 same_statics (ap (λ (d : Destination). with_result d 0) same) i target free (there goes.0) receives (reference_given w.classes space g c given) goes.1
+      let given = subst (λ (k : ResultKind). GivenAgrees (unit_tree p.unit) w.classes space k g c) goes.0 (other_given (unit_tree p.unit) w.classes store k kind g c (λ e. subst IsStaticResult goes.0 e) (λ b. let clash : NewLocal ≡ GivesBuffer b.0 = sym goes.0 ∙ b.1 in cc) agrees) in
+      reference_finishes (no_buffer (unit_tree p.unit) w.classes space NewLocal g c given) goes.0 same_statics (ap (λ (d : Destination). with_result d 0) same) i target free (there goes.0) receives (reference_given (unit_tree p.unit) w.classes space g c given) goes.1
   finishes (destination.FieldId i) target there free same goes receives same_statics =
-      let given = subst (λ (k : ResultKind). GivenAgrees w.classes space k g c) goes.0 (other_given w.classes store k kind g c (λ e. subst IsStaticResult goes.0 e) (λ b. let clash : GivesField ≡ GivesBuffer b.0 = sym goes.0 ∙ b.1 in cc) agrees) in
-      field_finishes (no_buffer w.classes space GivesField g c given) same_statics (ap (λ (d : Destination). with_result d 0) same) i target free receives (field_given w.classes space g c given) goes.1
+      let given = subst (λ (k : ResultKind). GivenAgrees (unit_tree p.unit) w.classes space k g c) goes.0 (other_given (unit_tree p.unit) w.classes store k kind g c (λ e. subst IsStaticResult goes.0 e) (λ b. let clash : GivesField ≡ GivesBuffer b.0 = sym goes.0 ∙ b.1 in cc) agrees) in
+      field_finishes (no_buffer (unit_tree p.unit) w.classes space GivesField g c given) same_statics (ap (λ (d : Destination). with_result d 0) same) i target free receives (field_given (unit_tree p.unit) w.classes space g c given) goes.1
+  finishes (destination.MethodId i) target there free same goes receives same_statics =
+      let given = subst (λ (k : ResultKind). GivenAgrees (unit_tree p.unit) w.classes space k g c) goes.0 (other_given (unit_tree p.unit) w.classes store k kind g c (λ e. subst IsStaticResult goes.0 e) (λ b. let clash : GivesMethod ≡ GivesBuffer b.0 = sym goes.0 ∙ b.1 in cc) agrees) in
+      method_finishes (no_buffer (unit_tree p.unit) w.classes space GivesMethod g c given) same_statics (ap (λ (d : Destination). with_result d 0) same) i target free receives (method_given (unit_tree p.unit) w.classes space g c given) goes.1
   finishes (destination.Static i) target there free same goes receives same_statics =
       subst Ends (sym goes.1.1)
-      (static_finishes (plain_result w.classes store k kind g c (λ b. subst IsStaticResult b.1 goes.0) agrees) i goes.1.0 (ap (λ (d : Destination). with_result d 0) same) receives goes.0 same_statics (static_given w.classes store k kind g c goes.0 agrees) goes.1.2)
+      (static_finishes (plain_result (unit_tree p.unit) w.classes store k kind g c (λ b. subst IsStaticResult b.1 goes.0) agrees) i goes.1.0 (ap (λ (d : Destination). with_result d 0) same) receives goes.0 same_statics (static_given (unit_tree p.unit) w.classes store k kind g c goes.0 agrees) goes.1.2)
   finishes (destination.Buffer element i) target there free same goes receives same_statics =
-      buffer_finishes same_statics (ap (λ (d : Destination). with_result d 0) same) element i target free receives goes.1.0 (buffer_given w.classes store k goes.0.0 g c small (subst (λ (x : ResultKind). ResultAgrees w.classes store k g x c) goes.0.1 agrees)) goes.1.2
+      buffer_finishes same_statics (ap (λ (d : Destination). with_result d 0) same) element i target free receives goes.1.0 (buffer_given (unit_tree p.unit) w.classes store k goes.0.0 g c small (subst (λ (x : ResultKind). ResultAgrees (unit_tree p.unit) w.classes store k g x c) goes.0.1 agrees)) goes.1.2
   finishes destination.Test target there free same goes receives same_statics =
       test_finishes same_statics target (ap (λ (d : Destination). with_result d 0) same) receives
-      (number_given w.classes space kind g c Jint (other_given w.classes store k kind g c (λ e. subst IsStaticResult goes.0 e) (λ b. let clash : GivesInt ≡ GivesBuffer b.0 = sym goes.0 ∙ b.1 in cc) agrees) (ap number_sort goes.0)) goes.1
+      (number_given (unit_tree p.unit) w.classes space kind g c Jint (other_given (unit_tree p.unit) w.classes store k kind g c (λ e. subst IsStaticResult goes.0 e) (λ b. let clash : GivesInt ≡ GivesBuffer b.0 = sym goes.0 ∙ b.1 in cc) agrees) (ap number_sort goes.0)) goes.1
   finishes destination.Dropped target there free same goes receives same_statics =
       subst Ends (sym goes.0) (record {
         now = next;
         tasks = rest;
-        store_agrees = with_same p w store next (beside others (taken_by s.variables)) (plain_shares (plain_result w.classes store k kind g c (λ b. let clash : false ≡ true = sym (ap is_droppable b.1) ∙ goes.1 in cc) agrees) s.variables refl) statics same_statics;
+        store_agrees = with_same p w store next (beside others (taken_by s.variables)) (plain_shares (plain_result (unit_tree p.unit) w.classes store k kind g c (λ b. let clash : false ≡ true = sym (ap is_droppable b.1) ∙ goes.1 in cc) agrees) s.variables refl) statics same_statics;
         keeps = keeps;
         views = plain_views s.variables receives.buffers refl;
         variables = s.variables;

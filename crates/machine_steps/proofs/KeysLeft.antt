@@ -19,7 +19,9 @@ use Rattle.machine_scenes.specs.declared.references.Held.{Held}
 use Rattle.machine_scenes.specs.declared.references.Held.TheVariants as held_by
 use Rattle.machine_scenes.specs.Statics.{References, static_at}
 use Rattle.machine_scenes.specs.declared.buffer.Buffer.{Buffer}
-use Rattle.jni.specs.JniFunction.{GetBuffer, ReleaseBuffer, JniFunction, FindClass, DeleteLocalRef, DeleteGlobalRef, DeleteWeakGlobalRef, EnsureLocalCapacity, PushLocalFrame, PopLocalFrame, GetFieldID, GetStaticFieldID, SetField, SetStaticField, SetObjectField, SetStaticObjectField, NewArray, NewObjectArray, GetObjectArrayElement, SetObjectArrayElement, MonitorEnter, MonitorExit, GetArrayRegion, SetArrayRegion, GetStringRegion}
+use Rattle.jni.specs.JniFunction.{GetBuffer, ReleaseBuffer, JniFunction, FindClass, DeleteLocalRef, DeleteGlobalRef, DeleteWeakGlobalRef, EnsureLocalCapacity, PushLocalFrame, PopLocalFrame, GetFieldID, GetStaticFieldID, SetField, SetStaticField, SetObjectField, SetStaticObjectField, NewArray, NewObjectArray, GetObjectArrayElement, SetObjectArrayElement, MonitorEnter, MonitorExit, GetArrayRegion, SetArrayRegion, GetStringRegion, GetStaticMethodID}
+use Rattle.syntax.specs.Tree.{SourceUnit}
+use Rattle.semantics.specs.Method.{MethodId}
 use Rattle.semantics_safety.specs.Owners.{other_than}
 use Rattle.code.specs.declared.instr.LocalArray.{LocalArray}
 use Rattle.machine_scenes.specs.declared.array_region.ArrayRegion.{ArrayRegion}
@@ -30,7 +32,7 @@ use Rattle.machine_answers.specs.declared.answer.Answer.TheVariants as answer
 use Rattle.machine_calls.specs.CarriedOut.{IsLeft}
 use Rattle.machine_scenes.specs.Scenes.{Scene}
 use Rattle.machine_scenes.specs.Given.{name_there, operand_of}
-use Rattle.machine_answers.specs.WorkedOut.{acquires, releases, IsFoundField, IsWorkedOut, copies_in, copies_out, local_array, region, deletes_global, deletes_held, deletes_held_weakly, deletes_weak, element_there, entered_by, enters, found_class, frame_for, leaves, left_by, new_array, room_for, stores_there, writes_there}
+use Rattle.machine_answers.specs.WorkedOut.{acquires, releases, IsFoundField, IsWorkedOut, copies_in, copies_out, local_array, region, deletes_global, deletes_held, deletes_held_weakly, deletes_weak, element_there, entered_by, enters, found_class, frame_for, leaves, left_by, new_array, room_for, stores_there, writes_there, IsFoundMethod}
 use Rattle.monitors.specs.declared.monitors.Enter.{Enter}
 use Rattle.monitors.specs.declared.monitors.Enter.TheVariants as enter
 use Rattle.monitors.specs.declared.monitors.Exit.{Exit}
@@ -98,6 +100,10 @@ none_store space r true (Some i) v = none_write space r i v
 none_field : (classes : Classes) (o : Option FieldId) (a : Answer) → IsFoundField classes o a → ends_none a ≡ true
 none_field classes None a h = ap ends_none h
 none_field classes (Some f) a h = ap ends_none h.1
+
+none_method : (unit : SourceUnit) (o : Option MethodId) (a : Answer) → IsFoundMethod unit o a → ends_none a ≡ true
+none_method unit None a h = ap ends_none h
+none_method unit (Some m) a h = ap ends_none h.1
 
 none_copied_out : (exception : ℕ) (array : LocalArray) (r : Option ArrayRegion) → ends_none (copies_out exception array r) ≡ true
 none_copied_out exception array None = refl
@@ -170,6 +176,7 @@ module _ (scene : Scene) (call : Call) where
   others_end_none MonitorExit a m is = ap ends_none is ∙ none_exited scene.space scene.monitors scene.thread _
   others_end_none GetFieldID a m is = none_field scene.classes _ a is
   others_end_none GetStaticFieldID a m is = none_field scene.classes _ a is
+  others_end_none GetStaticMethodID a m is = none_method scene.unit _ a is
   others_end_none DeleteLocalRef a m is = absurd (cc)
   others_end_none PopLocalFrame a m is = absurd (cc)
   others_end_none f a m is = ap ends_none is

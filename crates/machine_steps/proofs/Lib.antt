@@ -4,6 +4,7 @@ pub mod SlotBuffers
 pub mod CellsMade
 pub mod Changes
 pub mod StillShown
+pub mod KeptCallers
 pub mod Elements
 pub mod NulledStatics
 pub mod Calls
@@ -36,3 +37,4 @@ pub mod MonitorCalls
 pub mod EntryKeys
 pub mod Threads
 pub mod Entries
+pub mod Returns

@@ -36,6 +36,7 @@ made_left space NewLocal (given.Reference None) locals after key stacked h = sam
 made_left space NewLocal given.Nothing locals after key stacked h = same_left space locals after stacked h.1
 made_left space NewLocal (given.Number word) locals after key stacked h = same_left space locals after stacked h.1
 made_left space NewLocal (given.FieldId f) locals after key stacked h = same_left space locals after stacked h.1
+made_left space NewLocal (given.MethodId f) locals after key stacked h = same_left space locals after stacked h.1
 made_left space NewLocal (given.Global s) locals after key stacked h = same_left space locals after stacked h.1
 made_left space kind g locals after key stacked h = same_left space locals after stacked h.1
 

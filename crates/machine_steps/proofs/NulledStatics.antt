@@ -30,7 +30,8 @@ module _ (p : Lowered) (w : World) (store : Store) (shared : Shared) (all : Acqu
     pub store_nulled : (variable : NullableVariable) (kind : Option VariableKind) → IsStoredIn code known place stack slots (visible_to own shared s) variable kind x → statics.items ≡ nulled_statics variable store.statics.items
         → StoreAgrees p w (record store { statics = statics }) (record shared { statics = lower.nulled_statics kind x shared.statics }) all
     store_nulled (nullable.Local i) kind stored is = subst (λ (k : Option VariableKind). StoreAgrees p w (record store { statics = statics }) (record shared { statics = lower.nulled_statics k x shared.statics }) all) (sym stored) (with_same p w store shared all h statics is)
-    store_nulled (nullable.FieldId i) kind stored is = subst (λ (k : Option VariableKind). StoreAgrees p w (record store { statics = statics }) (record shared { statics = lower.nulled_statics k x shared.statics }) all) (sym stored) (with_same p w store shared all h statics is)
+    store_nulled (nullable.FieldId i) kind (inl stored) is = subst (λ (k : Option VariableKind). StoreAgrees p w (record store { statics = statics }) (record shared { statics = lower.nulled_statics k x shared.statics }) all) (sym stored) (with_same p w store shared all h statics is)
+    store_nulled (nullable.FieldId i) kind (inr stored) is = subst (λ (k : Option VariableKind). StoreAgrees p w (record store { statics = statics }) (record shared { statics = lower.nulled_statics k x shared.statics }) all) (sym stored) (with_same p w store shared all h statics is)
     store_nulled (nullable.Buffer i) kind stored is = subst (λ (k : Option VariableKind). StoreAgrees p w (record store { statics = statics }) (record shared { statics = lower.nulled_statics k x shared.statics }) all) (sym stored.1) (with_same p w store shared all h statics is)
     store_nulled (nullable.Static i) kind stored is =
         subst (λ (k : Option VariableKind). StoreAgrees p w (record store { statics = statics }) (record shared { statics = lower.nulled_statics k x shared.statics }) all) (sym stored.0)

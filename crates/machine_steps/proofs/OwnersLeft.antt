@@ -1,4 +1,5 @@
 -- The owners of local references that a call leaves.
+use Rattle.syntax.specs.Views.{unit_tree}
 use Rattle.std.proofs.Common.{◌≡◌, ◌≢◌, ◌⊎◌, inl, inr, map, ℕ, false, List, length, Option, Some, None, refl, sym, ap, ◌∙◌, subst}
 use Rattle.std.specs.Prelude.{slice_get, slice_set, if◌then◌else◌}
 use Rattle.jni.specs.JniFunction.{JniFunction, DeleteLocalRef, PopLocalFrame}
@@ -51,9 +52,9 @@ module _ (p : Lowered) (w : World) (store : Store) (pending : Option ℕ) (call 
     pub among : (i level : ℕ) → slice_get owners i ≡ Some (Some level) → slice_get r.meant.owners i ≡ Some (Some level)
     pub left : (i key level : ℕ) → slice_get call.slots.references.items i ≡ Some (Some key) → slice_get owners i ≡ Some (Some level) → IsLeft answer (length call.locals.frames) key level
 
-  module _ (answer : Answer) (works : IsWorkedOut (scene_of w.classes store call k pending) function called.f answer) where
+  module _ (answer : Answer) (works : IsWorkedOut (scene_of (unit_tree p.unit) w.classes store call k pending) function called.f answer) where
     abbrev Works : JniFunction → Type 0
-    Works f = IsWorkedOut (scene_of w.classes store call k pending) function f answer
+    Works f = IsWorkedOut (scene_of (unit_tree p.unit) w.classes store call k pending) function f answer
 
     delete_leaves : called.f ≡ DeleteLocalRef → Works DeleteLocalRef → LeavesOwners DeleteLocalRef answer
     delete_leaves e is =
@@ -103,7 +104,7 @@ module _ (p : Lowered) (w : World) (store : Store) (pending : Option ℕ) (call 
       owners = r.meant.owners;
       shows = subst (λ (o : Owners). Shows h.code r.known (visible_to o shared s) (slots_of call r.meant)) (sym same) r.shows;
       among = λ i level at. at;
-      left = λ i key level found at. none_left_out answer (length call.locals.frames) key level (others_end_none (scene_of w.classes store call k pending) function f answer none is);
+      left = λ i key level found at. none_left_out answer (length call.locals.frames) key level (others_end_none (scene_of (unit_tree p.unit) w.classes store call k pending) function f answer none is);
     }
 
     leaves : (f : JniFunction) → called.f ≡ f → Works f → LeavesOwners f answer

@@ -1,4 +1,8 @@
 -- What a call in progress has received is what the source's thread has.
+use Rattle.std.specs.Option.{option_map}
+use Rattle.code_meaning.specs.Slots.{OfField, OfMethod}
+use Rattle.semantics.specs.Method.{MethodId}
+use Rattle.syntax.specs.Tree.{SourceUnit}
 use Rattle.std.proofs.Common.{◌≡◌, ℕ, zero, suc, length, List, [], ◌∷◌, Option, Some, None, refl, sym, subst}
 use Rattle.std.specs.Prelude.{slice_set}
 use Rattle.base.specs.Bytes.{Identifier}
@@ -6,15 +10,19 @@ use Rattle.class_rules.specs.Class.{Classes}
 use Rattle.class_rules.specs.Fields.{FieldId}
 use Rattle.classes.specs.declared.class.FieldHandle.{FieldHandle}
 use Rattle.heap.specs.Heap.{Space}
-use Rattle.jni.specs.Prototype.{ResultKind, NewLocal, NewGlobal, NewWeak, GivesFlag, GivesInt, GivesField, GivesNothing, GivesBuffer}
+use Rattle.jni.specs.Prototype.{ResultKind, NewLocal, NewGlobal, NewWeak, GivesFlag, GivesInt, GivesField, GivesMethod, GivesNothing, GivesBuffer}
 use Rattle.machine_calls.specs.CarriedOut.{IsForStatic}
-use Rattle.semantics.specs.CallEffects.{CallResult, NoResult, NullResult, ScalarResult, ReferenceResult, WeakResult, FieldResult, BufferResult, with_local}
+use Rattle.semantics.specs.CallEffects.{CallResult, NoResult, NullResult, ScalarResult, ReferenceResult, WeakResult, FieldResult, MethodResult, BufferResult, with_local}
 use Rattle.semantics.specs.CallStep.{received, tell_copy}
 use Rattle.semantics.specs.Thread as source
 use Rattle.semantics.specs.Variable.{Variables}
 use Rattle.machine_answers.specs.declared.answer.Given.{Given}
 use Rattle.machine_answers.specs.declared.answer.Given.TheVariants as given
-use Rattle.machine_scenes.specs.FieldIds.{FieldAgrees, FieldsAgree}
+use Rattle.machine_scenes.specs.FieldIds.{FieldAgrees, HandleAgrees, HandlesAgree, MethodAgrees}
+use Rattle.machine_scenes.specs.declared.handle.Handle.{Handle}
+use Rattle.machine_scenes.specs.declared.handle.Handle.TheVariants as handle
+use Rattle.machine_scenes.specs.declared.handle.MethodHandle.{MethodHandle}
+use Rattle.code_meaning.specs.Slots as meant
 use Rattle.machine_scenes.specs.Locals.{FramesAgree}
 use Rattle.machine_answers.specs.Answers.{GivenAgrees}
 use Rattle.machine_steps.specs.Received.{MakesLocal}
@@ -36,56 +44,71 @@ plain_static kind (ScalarResult v) h = tt
 plain_static kind (ReferenceResult r) h = tt
 plain_static kind (WeakResult r) h = tt
 plain_static kind (FieldResult f) h = tt
+plain_static kind (MethodResult f) h = tt
 plain_static NewLocal (BufferResult b) h = h
 plain_static NewGlobal (BufferResult b) h = h
 plain_static NewWeak (BufferResult b) h = h
 plain_static GivesFlag (BufferResult b) h = h
 plain_static GivesInt (BufferResult b) h = h
 plain_static GivesField (BufferResult b) h = h
+plain_static GivesMethod (BufferResult b) h = h
 plain_static GivesNothing (BufferResult b) h = h
 plain_static (GivesBuffer a) (BufferResult b) h = h
 
 -- nothing that is given is a buffer
-pub no_buffer : (classes : Classes) (space : Space) (kind : ResultKind) (g : Given) (c : CallResult) → GivenAgrees classes space kind g c → IsNoBuffer c
-no_buffer classes space kind g NoResult h = tt
-no_buffer classes space kind g NullResult h = tt
-no_buffer classes space kind g (ScalarResult v) h = tt
-no_buffer classes space kind g (ReferenceResult r) h = tt
-no_buffer classes space kind g (FieldResult f) h = tt
-no_buffer classes space kind g (WeakResult r) h = tt
-no_buffer classes space NewGlobal g (BufferResult b) h = h
-no_buffer classes space NewWeak g (BufferResult b) h = h
-no_buffer classes space (GivesBuffer a) g (BufferResult b) h = h
-no_buffer classes space NewLocal given.Nothing (BufferResult b) h = h
-no_buffer classes space NewLocal (given.Number n) (BufferResult b) h = h
-no_buffer classes space NewLocal (given.Reference a) (BufferResult b) h = h
-no_buffer classes space NewLocal (given.FieldId a) (BufferResult b) h = h
-no_buffer classes space NewLocal (given.Global s) (BufferResult b) h = h
-no_buffer classes space NewLocal (given.Buffer held) (BufferResult b) h = h
-no_buffer classes space GivesFlag given.Nothing (BufferResult b) h = h
-no_buffer classes space GivesFlag (given.Number n) (BufferResult b) h = h
-no_buffer classes space GivesFlag (given.Reference a) (BufferResult b) h = h
-no_buffer classes space GivesFlag (given.FieldId a) (BufferResult b) h = h
-no_buffer classes space GivesFlag (given.Global s) (BufferResult b) h = h
-no_buffer classes space GivesFlag (given.Buffer held) (BufferResult b) h = h
-no_buffer classes space GivesInt given.Nothing (BufferResult b) h = h
-no_buffer classes space GivesInt (given.Number n) (BufferResult b) h = h
-no_buffer classes space GivesInt (given.Reference a) (BufferResult b) h = h
-no_buffer classes space GivesInt (given.FieldId a) (BufferResult b) h = h
-no_buffer classes space GivesInt (given.Global s) (BufferResult b) h = h
-no_buffer classes space GivesInt (given.Buffer held) (BufferResult b) h = h
-no_buffer classes space GivesField given.Nothing (BufferResult b) h = h
-no_buffer classes space GivesField (given.Number n) (BufferResult b) h = h
-no_buffer classes space GivesField (given.Reference a) (BufferResult b) h = h
-no_buffer classes space GivesField (given.FieldId a) (BufferResult b) h = h
-no_buffer classes space GivesField (given.Global s) (BufferResult b) h = h
-no_buffer classes space GivesField (given.Buffer held) (BufferResult b) h = h
-no_buffer classes space GivesNothing given.Nothing (BufferResult b) h = h
-no_buffer classes space GivesNothing (given.Number n) (BufferResult b) h = h
-no_buffer classes space GivesNothing (given.Reference a) (BufferResult b) h = h
-no_buffer classes space GivesNothing (given.FieldId a) (BufferResult b) h = h
-no_buffer classes space GivesNothing (given.Global s) (BufferResult b) h = h
-no_buffer classes space GivesNothing (given.Buffer held) (BufferResult b) h = h
+pub no_buffer : (unit : SourceUnit) (classes : Classes) (space : Space) (kind : ResultKind) (g : Given) (c : CallResult) → GivenAgrees unit classes space kind g c → IsNoBuffer c
+no_buffer unit classes space kind g NoResult h = tt
+no_buffer unit classes space kind g NullResult h = tt
+no_buffer unit classes space kind g (ScalarResult v) h = tt
+no_buffer unit classes space kind g (ReferenceResult r) h = tt
+no_buffer unit classes space kind g (FieldResult f) h = tt
+no_buffer unit classes space kind g (MethodResult f) h = tt
+no_buffer unit classes space kind g (WeakResult r) h = tt
+no_buffer unit classes space NewGlobal g (BufferResult b) h = h
+no_buffer unit classes space NewWeak g (BufferResult b) h = h
+no_buffer unit classes space (GivesBuffer a) g (BufferResult b) h = h
+no_buffer unit classes space NewLocal given.Nothing (BufferResult b) h = h
+no_buffer unit classes space NewLocal (given.Number n) (BufferResult b) h = h
+no_buffer unit classes space NewLocal (given.Reference a) (BufferResult b) h = h
+no_buffer unit classes space NewLocal (given.FieldId a) (BufferResult b) h = h
+no_buffer unit classes space NewLocal (given.MethodId a) (BufferResult b) h = h
+no_buffer unit classes space NewLocal (given.Global s) (BufferResult b) h = h
+no_buffer unit classes space NewLocal (given.Buffer held) (BufferResult b) h = h
+no_buffer unit classes space GivesFlag given.Nothing (BufferResult b) h = h
+no_buffer unit classes space GivesFlag (given.Number n) (BufferResult b) h = h
+no_buffer unit classes space GivesFlag (given.Reference a) (BufferResult b) h = h
+no_buffer unit classes space GivesFlag (given.FieldId a) (BufferResult b) h = h
+no_buffer unit classes space GivesFlag (given.MethodId a) (BufferResult b) h = h
+no_buffer unit classes space GivesFlag (given.Global s) (BufferResult b) h = h
+no_buffer unit classes space GivesFlag (given.Buffer held) (BufferResult b) h = h
+no_buffer unit classes space GivesInt given.Nothing (BufferResult b) h = h
+no_buffer unit classes space GivesInt (given.Number n) (BufferResult b) h = h
+no_buffer unit classes space GivesInt (given.Reference a) (BufferResult b) h = h
+no_buffer unit classes space GivesInt (given.FieldId a) (BufferResult b) h = h
+no_buffer unit classes space GivesInt (given.MethodId a) (BufferResult b) h = h
+no_buffer unit classes space GivesInt (given.Global s) (BufferResult b) h = h
+no_buffer unit classes space GivesInt (given.Buffer held) (BufferResult b) h = h
+no_buffer unit classes space GivesField given.Nothing (BufferResult b) h = h
+no_buffer unit classes space GivesMethod given.Nothing (BufferResult b) h = h
+no_buffer unit classes space GivesField (given.Number n) (BufferResult b) h = h
+no_buffer unit classes space GivesMethod (given.Number n) (BufferResult b) h = h
+no_buffer unit classes space GivesField (given.Reference a) (BufferResult b) h = h
+no_buffer unit classes space GivesMethod (given.Reference a) (BufferResult b) h = h
+no_buffer unit classes space GivesField (given.FieldId a) (BufferResult b) h = h
+no_buffer unit classes space GivesField (given.MethodId a) (BufferResult b) h = h
+no_buffer unit classes space GivesMethod (given.MethodId a) (BufferResult b) h = h
+no_buffer unit classes space GivesMethod (given.FieldId a) (BufferResult b) h = h
+no_buffer unit classes space GivesField (given.Global s) (BufferResult b) h = h
+no_buffer unit classes space GivesMethod (given.Global s) (BufferResult b) h = h
+no_buffer unit classes space GivesField (given.Buffer held) (BufferResult b) h = h
+no_buffer unit classes space GivesMethod (given.Buffer held) (BufferResult b) h = h
+no_buffer unit classes space GivesNothing given.Nothing (BufferResult b) h = h
+no_buffer unit classes space GivesNothing (given.Number n) (BufferResult b) h = h
+no_buffer unit classes space GivesNothing (given.Reference a) (BufferResult b) h = h
+no_buffer unit classes space GivesNothing (given.FieldId a) (BufferResult b) h = h
+no_buffer unit classes space GivesNothing (given.MethodId a) (BufferResult b) h = h
+no_buffer unit classes space GivesNothing (given.Global s) (BufferResult b) h = h
+no_buffer unit classes space GivesNothing (given.Buffer held) (BufferResult b) h = h
 
 -- so nothing is told of a copy
 pub nothing_told : (x : Option Identifier) (c : CallResult) (variables : Variables) → IsNoBuffer c → tell_copy x c variables ≡ variables
@@ -95,6 +118,7 @@ nothing_told (Some x) NullResult variables h = refl
 nothing_told (Some x) (ScalarResult v) variables h = refl
 nothing_told (Some x) (ReferenceResult r) variables h = refl
 nothing_told (Some x) (FieldResult f) variables h = refl
+nothing_told (Some x) (MethodResult f) variables h = refl
 nothing_told (Some x) (WeakResult r) variables h = refl
 nothing_told (Some x) (BufferResult c) variables h = absurd h
 
@@ -113,6 +137,7 @@ received_count NewLocal NoResult frames = refl
 received_count NewLocal NullResult frames = refl
 received_count NewLocal (ScalarResult v) frames = refl
 received_count NewLocal (FieldResult f) frames = refl
+received_count NewLocal (MethodResult f) frames = refl
 received_count NewLocal (WeakResult r) frames = refl
 received_count NewLocal (BufferResult b) frames = refl
 received_count NewGlobal c frames = refl
@@ -120,6 +145,7 @@ received_count NewWeak c frames = refl
 received_count GivesFlag c frames = refl
 received_count GivesInt c frames = refl
 received_count GivesField c frames = refl
+received_count GivesMethod c frames = refl
 received_count GivesNothing c frames = refl
 received_count (GivesBuffer a) c frames = refl
 
@@ -130,6 +156,7 @@ received_is NewLocal NoResult t = refl
 received_is NewLocal NullResult t = refl
 received_is NewLocal (ScalarResult v) t = refl
 received_is NewLocal (FieldResult f) t = refl
+received_is NewLocal (MethodResult f) t = refl
 received_is NewLocal (WeakResult r) t = refl
 received_is NewLocal (BufferResult b) t = refl
 received_is NewGlobal c t = refl
@@ -137,6 +164,7 @@ received_is NewWeak c t = refl
 received_is GivesFlag c t = refl
 received_is GivesInt c t = refl
 received_is GivesField c t = refl
+received_is GivesMethod c t = refl
 received_is GivesNothing c t = refl
 received_is (GivesBuffer a) c t = refl
 
@@ -147,40 +175,57 @@ module _ (space : Space) where
   same_table locals after gs same agree = subst (λ (t : LocalTable). FramesAgree space t gs) (sym same) agree
 
   -- the frames with what was given
-  pub frames_agree : (classes : Classes) (kind : ResultKind) (g : Given) (c : CallResult) (locals : LocalTable) (key : Option ℕ) (after : LocalTable) (gs : List source.Frame) → AreStacked locals → GivenAgrees classes space kind g c → MakesLocal kind g locals key after
+  pub frames_agree : (unit : SourceUnit) (classes : Classes) (kind : ResultKind) (g : Given) (c : CallResult) (locals : LocalTable) (key : Option ℕ) (after : LocalTable) (gs : List source.Frame) → AreStacked locals → GivenAgrees unit classes space kind g c → MakesLocal kind g locals key after
       → FramesAgree space locals gs → FramesAgree space after (frames_received kind c gs)
-  frames_agree classes NewLocal (given.Reference (Some a)) (ReferenceResult (Some n)) locals key after gs stacked h makes agree = reference_made space locals after gs makes.0 a n stacked makes.2 h agree
-  frames_agree classes NewLocal (given.Reference (Some a)) (ReferenceResult None) locals key after gs stacked h makes agree = absurd h
-  frames_agree classes NewLocal (given.Reference (Some a)) NullResult locals key after gs stacked h makes agree = absurd (cc)
-  frames_agree classes NewLocal (given.Reference (Some a)) NoResult locals key after gs stacked h makes agree = absurd h
-  frames_agree classes NewLocal (given.Reference (Some a)) (ScalarResult v) locals key after gs stacked h makes agree = absurd h
-  frames_agree classes NewLocal (given.Reference (Some a)) (FieldResult f) locals key after gs stacked h makes agree = absurd h
-  frames_agree classes NewLocal (given.Reference (Some a)) (WeakResult r) locals key after gs stacked h makes agree = absurd h
-  frames_agree classes NewLocal (given.Reference (Some a)) (BufferResult b) locals key after gs stacked h makes agree = absurd h
-  frames_agree classes NewLocal (given.Reference None) (ReferenceResult (Some n)) locals key after gs stacked h makes agree = absurd h
-  frames_agree classes NewLocal (given.Reference None) (ReferenceResult None) locals key after gs stacked h makes agree = same_table locals after gs makes.1 agree
-  frames_agree classes NewLocal (given.Reference None) NullResult locals key after gs stacked h makes agree = same_table locals after gs makes.1 agree
-  frames_agree classes NewLocal (given.Reference None) NoResult locals key after gs stacked h makes agree = same_table locals after gs makes.1 agree
-  frames_agree classes NewLocal (given.Reference None) (ScalarResult v) locals key after gs stacked h makes agree = same_table locals after gs makes.1 agree
-  frames_agree classes NewLocal (given.Reference None) (FieldResult f) locals key after gs stacked h makes agree = same_table locals after gs makes.1 agree
-  frames_agree classes NewLocal (given.Reference None) (WeakResult r) locals key after gs stacked h makes agree = same_table locals after gs makes.1 agree
-  frames_agree classes NewLocal (given.Reference None) (BufferResult b) locals key after gs stacked h makes agree = same_table locals after gs makes.1 agree
-  frames_agree classes NewLocal given.Nothing c locals key after gs stacked h makes agree = absurd h
-  frames_agree classes NewLocal (given.Number n) c locals key after gs stacked h makes agree = absurd h
-  frames_agree classes NewLocal (given.FieldId f) c locals key after gs stacked h makes agree = absurd h
-  frames_agree classes NewLocal (given.Global s) c locals key after gs stacked h makes agree = absurd h
-  frames_agree classes NewLocal (given.Buffer b) c locals key after gs stacked h makes agree = absurd h
-  frames_agree classes NewGlobal g c locals key after gs stacked h makes agree = same_table locals after gs makes.1 agree
-  frames_agree classes NewWeak g c locals key after gs stacked h makes agree = same_table locals after gs makes.1 agree
-  frames_agree classes GivesFlag g c locals key after gs stacked h makes agree = same_table locals after gs makes.1 agree
-  frames_agree classes GivesInt g c locals key after gs stacked h makes agree = same_table locals after gs makes.1 agree
-  frames_agree classes GivesField g c locals key after gs stacked h makes agree = same_table locals after gs makes.1 agree
-  frames_agree classes GivesNothing g c locals key after gs stacked h makes agree = same_table locals after gs makes.1 agree
-  frames_agree classes (GivesBuffer x) g c locals key after gs stacked h makes agree = same_table locals after gs makes.1 agree
+  frames_agree unit classes NewLocal (given.Reference (Some a)) (ReferenceResult (Some n)) locals key after gs stacked h makes agree = reference_made space locals after gs makes.0 a n stacked makes.2 h agree
+  frames_agree unit classes NewLocal (given.Reference (Some a)) (ReferenceResult None) locals key after gs stacked h makes agree = absurd h
+  frames_agree unit classes NewLocal (given.Reference (Some a)) NullResult locals key after gs stacked h makes agree = absurd (cc)
+  frames_agree unit classes NewLocal (given.Reference (Some a)) NoResult locals key after gs stacked h makes agree = absurd h
+  frames_agree unit classes NewLocal (given.Reference (Some a)) (ScalarResult v) locals key after gs stacked h makes agree = absurd h
+  frames_agree unit classes NewLocal (given.Reference (Some a)) (FieldResult f) locals key after gs stacked h makes agree = absurd h
+  frames_agree unit classes NewLocal (given.Reference (Some a)) (MethodResult f) locals key after gs stacked h makes agree = absurd h
+  frames_agree unit classes NewLocal (given.Reference (Some a)) (WeakResult r) locals key after gs stacked h makes agree = absurd h
+  frames_agree unit classes NewLocal (given.Reference (Some a)) (BufferResult b) locals key after gs stacked h makes agree = absurd h
+  frames_agree unit classes NewLocal (given.Reference None) (ReferenceResult (Some n)) locals key after gs stacked h makes agree = absurd h
+  frames_agree unit classes NewLocal (given.Reference None) (ReferenceResult None) locals key after gs stacked h makes agree = same_table locals after gs makes.1 agree
+  frames_agree unit classes NewLocal (given.Reference None) NullResult locals key after gs stacked h makes agree = same_table locals after gs makes.1 agree
+  frames_agree unit classes NewLocal (given.Reference None) NoResult locals key after gs stacked h makes agree = same_table locals after gs makes.1 agree
+  frames_agree unit classes NewLocal (given.Reference None) (ScalarResult v) locals key after gs stacked h makes agree = same_table locals after gs makes.1 agree
+  frames_agree unit classes NewLocal (given.Reference None) (FieldResult f) locals key after gs stacked h makes agree = same_table locals after gs makes.1 agree
+  frames_agree unit classes NewLocal (given.Reference None) (MethodResult f) locals key after gs stacked h makes agree = same_table locals after gs makes.1 agree
+  frames_agree unit classes NewLocal (given.Reference None) (WeakResult r) locals key after gs stacked h makes agree = same_table locals after gs makes.1 agree
+  frames_agree unit classes NewLocal (given.Reference None) (BufferResult b) locals key after gs stacked h makes agree = same_table locals after gs makes.1 agree
+  frames_agree unit classes NewLocal given.Nothing c locals key after gs stacked h makes agree = absurd h
+  frames_agree unit classes NewLocal (given.Number n) c locals key after gs stacked h makes agree = absurd h
+  frames_agree unit classes NewLocal (given.FieldId f) c locals key after gs stacked h makes agree = absurd h
+  frames_agree unit classes NewLocal (given.MethodId f) c locals key after gs stacked h makes agree = absurd h
+  frames_agree unit classes NewLocal (given.Global s) c locals key after gs stacked h makes agree = absurd h
+  frames_agree unit classes NewLocal (given.Buffer b) c locals key after gs stacked h makes agree = absurd h
+  frames_agree unit classes NewGlobal g c locals key after gs stacked h makes agree = same_table locals after gs makes.1 agree
+  frames_agree unit classes NewWeak g c locals key after gs stacked h makes agree = same_table locals after gs makes.1 agree
+  frames_agree unit classes GivesFlag g c locals key after gs stacked h makes agree = same_table locals after gs makes.1 agree
+  frames_agree unit classes GivesInt g c locals key after gs stacked h makes agree = same_table locals after gs makes.1 agree
+  frames_agree unit classes GivesField g c locals key after gs stacked h makes agree = same_table locals after gs makes.1 agree
+  frames_agree unit classes GivesMethod g c locals key after gs stacked h makes agree = same_table locals after gs makes.1 agree
+  frames_agree unit classes GivesNothing g c locals key after gs stacked h makes agree = same_table locals after gs makes.1 agree
+  frames_agree unit classes (GivesBuffer x) g c locals key after gs stacked h makes agree = same_table locals after gs makes.1 agree
 
-pub field_put : (classes : Classes) (handles : List (Option FieldHandle)) (fields : List (Option FieldId)) (i : ℕ) (h : Option FieldHandle) (f : Option FieldId) → FieldsAgree classes handles fields → FieldAgrees classes h f → FieldsAgree classes (slice_set handles i h) (slice_set fields i f)
-field_put classes [] [] i h f all agrees = all
-field_put classes [] (g ∷ fields) i h f all agrees = absurd all
-field_put classes (x ∷ handles) [] i h f all agrees = absurd all
-field_put classes (x ∷ handles) (g ∷ fields) zero h f all agrees = (agrees, all.1)
-field_put classes (x ∷ handles) (g ∷ fields) (suc i) h f all agrees = (all.0, field_put classes handles fields i h f all.1 agrees)
+-- a handle of a field, and one of a method, as slots hold them
+pub field_handle : (unit : SourceUnit) (classes : Classes) (h : Option FieldHandle) (f : Option FieldId) → FieldAgrees classes h f → HandleAgrees unit classes (option_map handle.Field h) (option_map OfField f)
+field_handle unit classes None None a = a
+field_handle unit classes None (Some f) a = absurd a
+field_handle unit classes (Some h) None a = absurd a
+field_handle unit classes (Some h) (Some f) a = a
+
+pub method_handle : (unit : SourceUnit) (classes : Classes) (h : Option MethodHandle) (m : Option MethodId) → MethodAgrees unit h m → HandleAgrees unit classes (option_map handle.Method h) (option_map OfMethod m)
+method_handle unit classes None None a = a
+method_handle unit classes None (Some m) a = absurd a
+method_handle unit classes (Some h) None a = absurd a
+method_handle unit classes (Some h) (Some m) a = a
+
+pub handle_put : (unit : SourceUnit) (classes : Classes) (handles : List (Option Handle)) (fields : List (Option meant.Handle)) (i : ℕ) (h : Option Handle) (f : Option meant.Handle) → HandlesAgree unit classes handles fields → HandleAgrees unit classes h f → HandlesAgree unit classes (slice_set handles i h) (slice_set fields i f)
+handle_put unit classes [] [] i h f all agrees = all
+handle_put unit classes [] (g ∷ fields) i h f all agrees = absurd all
+handle_put unit classes (x ∷ handles) [] i h f all agrees = absurd all
+handle_put unit classes (x ∷ handles) (g ∷ fields) zero h f all agrees = (agrees, all.1)
+handle_put unit classes (x ∷ handles) (g ∷ fields) (suc i) h f all agrees = (all.0, handle_put unit classes handles fields i h f all.1 agrees)

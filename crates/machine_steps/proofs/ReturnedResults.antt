@@ -16,7 +16,7 @@ use Rattle.code_meaning.specs.Slots.{visible_to}
 use Rattle.code_meaning.specs.Stands.{NumberStands, ReturnStands, TasksStand}
 use Rattle.heap.specs.Heap.{Space}
 use Rattle.jni.specs.JniFunction.{JniFunction}
-use Rattle.machine_answers.specs.declared.answer.Given.TheVariants as given
+use Rattle.machine_steps.specs.declared.execute.ReturnValue.TheVariants as value
 use Rattle.machine_scenes.proofs.KeyLaws.{address_there}
 use Rattle.machine_scenes.specs.declared.activation.Activation.{Activation}
 use Rattle.machine_steps.proofs.Calls.{Ready}
@@ -112,7 +112,7 @@ module _ (p : Lowered) (classes : Classes) (space : Space) (copies : List (Optio
       let same : i ≡ instr.ReturnJint = cc (at, there.0) in
       let gives : ScalarResult (Int z) ≡ c = cc (is) in
       subst (λ (j : Instr). ReturnAgrees space (given_by j call) c) (sym same)
-      (subst (ReturnAgrees space (given.Number (top_of call.stack))) gives (ap top_of under_way.operands, under_way.sort.0))
+      (subst (ReturnAgrees space (value.Number (top_of call.stack))) gives (ap top_of under_way.operands, under_way.sort.0))
   by_number line (Done (Word n)) c (under_way, at_code) is = absurd (let e : Jint ≡ sort.Word = under_way.sort.1 in cc)
   by_number line (Done (Flag b)) c (under_way, at_code) is = absurd (let e : Jint ≡ sort.Flag = under_way.sort in cc)
   by_number line (Done (Truth b)) c (under_way, at_code) is = absurd (let e : Jint ≡ sort.Truth = under_way.sort in cc)
@@ -137,7 +137,7 @@ module _ (p : Lowered) (classes : Classes) (space : Space) (copies : List (Optio
       let gives : ReferenceResult shown.reference ≡ c = ap (λ (q : Reference). ReferenceResult q) (sym (ap as_reference shown.is ∙ same_reference shown.reference)) ∙ (let both = named in cc) in
       let has = owner_of_one p classes space copies owner call code own shared s task rest r (operand.Local n) (ReferenceActual x (sees.reference x)) (x, refl, found) (own_argument own s.variables x (sees.reference x) owned.0) in
       subst (λ (j : Instr). ReturnAgrees space (given_by j call) c) (sym same)
-      (subst (ReturnAgrees space (given.Reference (returned_at call (Local n)))) gives
+      (subst (ReturnAgrees space (value.Reference (returned_at call (Local n)))) gives
       (address_there space call.locals call.slots.references.items r.meant.references r.meant.owners n shown.reference r.holds.keys shown.there (λ m object. has m (shown.there ∙ ap (λ (q : Reference). Some q) object))))
 
   by_value : (line : ℕ) (t : Term) (c : CallResult) → ReturnStands code r.known call.place call.stack line t → AreOwn (task_names (ReturnValue line t)) → return_effect (sight_of shared s) line t ≡ Returns c → Agrees c
@@ -146,7 +146,7 @@ module _ (p : Lowered) (classes : Classes) (space : Space) (copies : List (Optio
       let same : i ≡ instr.ReturnReference Null = cc (at, there) in
       let named : Returns (ReferenceResult None) ≡ Returns c = sym (ap (return_effect (sight_of shared s) line) null) ∙ is in
       let gives : ReferenceResult None ≡ c = cc (named) in
-      subst (λ (j : Instr). ReturnAgrees space (given_by j call) c) (sym same) (subst (ReturnAgrees space (given.Reference None)) gives tt)
+      subst (λ (j : Instr). ReturnAgrees space (given_by j call) c) (sym same) (subst (ReturnAgrees space (value.Reference None)) gives tt)
   by_value line t c (inr (inr (x, n, read, found, there))) owned is =
       by_name line x n c found there (subst (λ (u : Term). AreOwn (task_names (ReturnValue line u))) read owned) (sym (ap (return_effect (sight_of shared s) line) read) ∙ is)
 
@@ -154,7 +154,7 @@ module _ (p : Lowered) (classes : Classes) (space : Space) (copies : List (Optio
   by_task Return c (empty, there) owned is =
       let same : i ≡ instr.Return = cc (at, there) in
       let gives : NoResult ≡ c = cc (is) in
-      subst (λ (j : Instr). ReturnAgrees space (given_by j call) c) (sym same) (subst (ReturnAgrees space given.Nothing) gives tt)
+      subst (λ (j : Instr). ReturnAgrees space (given_by j call) c) (sym same) (subst (ReturnAgrees space value.Nothing) gives tt)
   by_task (ReturnValue line t) c stand owned is = by_value line t c stand owned is
   by_task (SetScalar line x t) c stand owned is = no_result (effect_of (sight_of shared s) (SetScalar line x t)) c (stays_value line (sight_of shared s) (Sets x) (SetScalar line x) t (λ v. tt)) is
   by_task (SetElement line x j t) c stand owned is =

@@ -1,4 +1,5 @@
 -- What is known of a call by what it sees. Its checks don't look at monitors.
+use Rattle.syntax.specs.Tree.{SourceUnit}
 use Rattle.std.proofs.Common.{◌≡◌, ℕ, ◌+◌, true, List, Option, Some, None, sym, ap, ◌∙◌, subst}
 use Rattle.std.specs.Prelude.{slice_get}
 use Rattle.code.specs.Call.{Call, call_view}
@@ -28,7 +29,7 @@ use Rattle.machine_steps.specs.Invoked.{AtCall}
 use Rattle.machine_steps.proofs.AskedCalls.{CalledAs, called, r, trap_is}
 
 module _ (p : Lowered) (w : World) (store : Store) (pending : Option ℕ) (call : Activation) (in_memory : InMemory) (others : Acquired) (k owner : ℕ) (own : Owners) (shared : Shared) (s : Thread) (task : Task) (rest : List Task) (h : AtCall p w store pending call in_memory others k owner own shared s task rest)
-    (monitors : List Monitor) (scene : Scene) (same : scene ≡ record (scene_of w.classes store call k pending) { monitors = monitors }) where
+    (monitors : List Monitor) (unit : SourceUnit) (scene : Scene) (same : scene ≡ record (scene_of unit w.classes store call k pending) { monitors = monitors }) where
   abbrev function : Call
   function = call_view in_memory
 

@@ -44,6 +44,7 @@ module _ (own : Owners) (shared shared' : Shared) (statics : shared'.statics ≡
     reference = referred x ∙ h.reference;
   }
   slot_stays x slots slot sort.FieldId h = record { field = h.field; is = h.is; is_null = nulls x ∙ h.is_null; no_number = h.no_number; kind = h.kind; there = h.there }
+  slot_stays x slots slot sort.MethodId h = record { method = h.method; is = h.is; is_null = nulls x ∙ h.is_null; no_number = h.no_number; kind = h.kind; there = h.there }
   slot_stays x slots slot (sort.Buffer t writable) h = record { buffer = h.buffer; is = h.is; is_null = nulls x ∙ h.is_null; kind = h.kind; there = h.there }
   slot_stays x slots slot (sort.Array t size) h =
       let array = array_of (lookup x s.variables) t h.array_type in

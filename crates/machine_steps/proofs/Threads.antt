@@ -1,8 +1,8 @@
 -- A thread's step is that of the source's thread.
-use Rattle.std.specs.Global.{Vec}
-use Rattle.std.proofs.Common.{arith, ◌≡◌, ℕ, Bool, true, false, List, [], ◌∷◌, length, cond, eqb, Option, Some, None, refl, sym, ap, ◌∙◌, subst}
+use Rattle.std.proofs.Common.{arith, ◌≡◌, ℕ, Bool, true, false, List, [], ◌∷◌, length, reverse, cond, eqb, Option, Some, None, refl, sym, ap, ◌∙◌, subst, ⊎_elim}
 use Rattle.std.specs.Prelude.{find}
 use Rattle.std.specs.Option.{option_map, option_map_or, option_and_then}
+use Rattle.syntax.specs.Tree.{SourceUnit}
 use Rattle.syntax.specs.Views.{unit_tree}
 use Rattle.class_rules.specs.Class.{Classes}
 use Rattle.heap.specs.Heap.{Block, Space, class_at}
@@ -10,12 +10,13 @@ use Rattle.semantics.specs.Object.{Object, Reference}
 use Rattle.semantics.specs.World.{Invocation, World, loaded_objects}
 use Rattle.semantics.specs.Heap.{Heap, class_of}
 use Rattle.semantics.specs.CallEffects.{CallResult}
-use Rattle.semantics.specs.Return.{return_by, return_step, monitors_after}
+use Rattle.semantics.specs.Return.{given_back, return_by, return_step, resumed_in, monitors_after}
 use Rattle.semantics.specs.Return as activation
+use Rattle.semantics.specs.CallStep.{received}
 use Rattle.semantics.specs.Effect.{Effect, Calls, Returns, effect_of}
 use Rattle.semantics.specs.Task.{Task}
 use Rattle.semantics.specs.Thread as source
-use Rattle.semantics.specs.Thread.{Shared, sight_of}
+use Rattle.semantics.specs.Thread.{BuffersInUse, Shared, sight_of}
 use Rattle.semantics.specs.Variable.{Variables}
 use Rattle.semantics.specs.ThreadStep.{thread_step, step_within, after_effect}
 use Rattle.code_meaning.specs.Slots.{Visible, visible_to}
@@ -27,6 +28,8 @@ use Rattle.tables.specs.Elements.{OwnedNumbers}
 use Rattle.tables.specs.Keys.{value_at}
 use Rattle.machine_scenes.specs.Buffers.{Acquired, AreViewed, acquired_by, beside}
 use Rattle.semantics_safety.specs.StepSafe.{MayReturn}
+use Rattle.semantics_safety.proofs.CallLaws.{IsNoReturn, returns_or_not}
+use Rattle.semantics_safety.proofs.KeptCalls.{Held, KeepsCalls, put_keeps, received_calls}
 use Rattle.semantics.specs.declared.event.Ending.{Ending}
 use Rattle.semantics.specs.declared.event.Ending.TheVariants.{Unfinished}
 use Rattle.semantics.specs.declared.event.Event.{Event}
@@ -41,11 +44,14 @@ use Rattle.machine_threads.specs.ThreadAgrees.{CallsAgree, ThreadAgrees, buffers
 use Rattle.semantics.specs.EventViews.{ending_view, event_view}
 use Rattle.machine_steps.specs.Advances.{Advances, GivesUp, LeavesMonitors, calls_after, ending_after, ends_with}
 use Rattle.machine_steps.specs.Executes.{GoesOn, after_any, cells_made, in_use_with, owners_left}
+use Rattle.machine_threads.specs.Callers.{CallersAgree, acquired_by_callers, beside_callers, owner_at}
 use Rattle.machine_threads.specs.InProgress.{CallStands, WorkAgrees}
+use Rattle.machine_threads.proofs.Reversed.{none_there}
 use Rattle.machine_calls.specs.CarriedOut.{IsShortOf}
 use Rattle.machine_calls.proofs.MonitorCarries.{agrees_monitors, keeps_monitors}
 use Rattle.machine_scenes.specs.HeapAgrees.{ReferenceAgrees, BlocksAgree}
 use Rattle.machine_steps.proofs.Acquisitions.{nothing_lent, store_same}
+use Rattle.machine_steps.proofs.KeptCallers.{callers_stay, others_below}
 
 -- ---- work
 
@@ -70,54 +76,89 @@ resting p classes space copies k visible frames (Some x) tasks w e = absurd (cc)
 
 -- ---- an instruction
 
--- the owners after an effect, where the thread has no callers
-left_owners : (s : source.Thread) (own : ThreadOwners) → s.callers ≡ [] → (effect : Effect) (event : source.Event) (vs : Variables) → (after_step s own event effect vs).current ≡ owners_left effect event (length s.frames) own.current vs
-left_owners s own alone (Calls line target f args) source.Quiet vs = refl
-left_owners s own alone (Calls line target f args) (source.PrintedNumber z) vs = refl
-left_owners s own alone (Calls line target f args) (source.Trapped trap at) vs = refl
-left_owners s own alone (Returns given) event vs = ap (λ (callers : List source.Caller). (after_return callers own.callers own vs).current) alone
-left_owners s own alone other source.Quiet vs = refl
-left_owners s own alone other (source.PrintedNumber z) vs = refl
-left_owners s own alone other (source.Trapped trap at) vs = refl
+-- the owners after an effect but a return
+left_owners : (s : source.Thread) (own : ThreadOwners) (effect : Effect) → IsNoReturn effect → (event : source.Event) (vs : Variables) → after_step s own event effect vs ≡ record own { current = owners_left effect event (length s.frames) own.current vs }
+left_owners s own (Calls line target f args) away source.Quiet vs = refl
+left_owners s own (Calls line target f args) away (source.PrintedNumber z) vs = refl
+left_owners s own (Calls line target f args) away (source.Trapped trap at) vs = refl
+left_owners s own (Returns given) away event vs = absurd away
+left_owners s own other away source.Quiet vs = refl
+left_owners s own other away (source.PrintedNumber z) vs = refl
+left_owners s own other away (source.Trapped trap at) vs = refl
 
 -- those after a step within a call
-advanced_owners : (shared : Shared) (s : source.Thread) (own : ThreadOwners) → s.callers ≡ [] → (task : Task) (rest : List Task) → s.tasks ≡ Some (task ∷ rest) → (event : source.Event) (vs : Variables)
-    → (after_tasks shared s s.tasks own event vs).current ≡ owners_left (effect_of (sight_of shared s) task) event (length s.frames) own.current vs
-advanced_owners shared s own alone task rest is event vs = ap (λ (o : Option (List Task)). (after_tasks shared s o own event vs).current) is ∙ left_owners s own alone (effect_of (sight_of shared s) task) event vs
+advanced_owners : (shared : Shared) (s : source.Thread) (own : ThreadOwners) (task : Task) (rest : List Task) → s.tasks ≡ Some (task ∷ rest) → IsNoReturn (effect_of (sight_of shared s) task) → (event : source.Event) (vs : Variables)
+    → after_tasks shared s s.tasks own event vs ≡ record own { current = owners_left (effect_of (sight_of shared s) task) event (length s.frames) own.current vs }
+advanced_owners shared s own task rest is away event vs = ap (λ (o : Option (List Task)). after_tasks shared s o own event vs) is ∙ left_owners s own (effect_of (sight_of shared s) task) away event vs
+
+-- a step that keeps callers and tasks is no return
+abbrev tasks_left : source.Advance → Option (List Task)
+tasks_left (source.Advances shared t event) = t.tasks
+tasks_left source.NoAdvance = None
+
+no_return : (unit : SourceUnit) (classes : Classes) (in_use : BuffersInUse) (k : ℕ) (shared next_shared : Shared) (s next : source.Thread) (rest : List Task) (refused : Bool) (effect : Effect) (event : source.Event) → after_any unit classes in_use k shared s rest refused effect ≡ source.Advances next_shared next event
+    → next.callers ≡ s.callers → (next.tasks ≡ None → ⊥) → IsNoReturn effect
+no_return unit classes in_use k shared next_shared s next rest refused effect event steps same goes = ⊎_elim (λ (r : (given : CallResult) × (effect ≡ Returns given)). absurd (by_refusal refused r.0 (sym (ap (after_any unit classes in_use k shared s rest refused) r.1) ∙ steps))) (λ (away : IsNoReturn effect). away) (returns_or_not effect)
+  where
+    by_callers : (given : CallResult) (callers : List source.Caller) → s.callers ≡ callers → return_by k shared s given callers ≡ source.Advances next_shared next event → ⊥
+    by_callers given [] is ends = goes (ap tasks_left (sym ends))
+    by_callers given (c ∷ callers) is into =
+        let back = given_back s.pending c.result given in
+        let kept = put_keeps c.target back shared (received c.result back (resumed_in s c callers)) (s.calls, callers) (received_calls c.result back (resumed_in s c callers)) in
+        let fewer : next.callers ≡ callers = ap (λ (x : Held). x.1) (subst (KeepsCalls (s.calls, callers)) into kept) in
+        let longer : length callers ≡ length (c ∷ callers) = ap length (sym fewer ∙ same ∙ is) in
+        omega (arith, longer)
+
+    by_refusal : (refused : Bool) (given : CallResult) → after_any unit classes in_use k shared s rest refused (Returns given) ≡ source.Advances next_shared next event → ⊥
+    by_refusal true given e = cc
+    by_refusal false given e = by_callers given s.callers refl e
 
 -- One step of a thread.
-module _ (p : Lowered) (w : World) (old : Store) (others : Acquired) (k : ℕ) (own : ThreadOwners) (shared : Shared) (t : Thread) (s : source.Thread) (h : ThreadAgrees p w.classes old.heap old.elements (length (loaded_objects w)) k own.current shared t s) where
+module _ (p : Lowered) (w : World) (old : Store) (others : Acquired) (k : ℕ) (own : ThreadOwners) (shared : Shared) (t : Thread) (s : source.Thread) (h : ThreadAgrees p w.classes old.heap old.elements (length (loaded_objects w)) k own shared t s) where
+  -- what the buffers of all other calls take, and the owner of the copied lists of the call in progress
+  abbrev rest_of : Acquired
+  rest_of = beside_callers others s
+
+  abbrev copier : ℕ
+  copier = owner_at k (length s.callers)
+
   -- a step of the source's thread within its call
-  steps_by : (refused : Bool) (task : Task) (rest : List Task) → s.tasks ≡ Some (task ∷ rest) → thread_step (unit_tree p.unit) w.classes (in_use_with others s) k shared s refused ≡ after_any w.classes (in_use_with others s) k shared s rest refused (effect_of (sight_of shared s) task)
-  steps_by false task rest tasks = ap (step_within (unit_tree p.unit) w.classes (in_use_with others s) k shared s false) tasks
-  steps_by true task rest tasks = ap (step_within (unit_tree p.unit) w.classes (in_use_with others s) k shared s true) tasks
+  steps_by : (refused : Bool) (task : Task) (rest : List Task) → s.tasks ≡ Some (task ∷ rest) → thread_step (unit_tree p.unit) w.classes (in_use_with rest_of s) k shared s refused ≡ after_any (unit_tree p.unit) w.classes (in_use_with rest_of s) k shared s rest refused (effect_of (sight_of shared s) task)
+  steps_by false task rest tasks = ap (step_within (unit_tree p.unit) w.classes (in_use_with rest_of s) k shared s false) tasks
+  steps_by true task rest tasks = ap (step_within (unit_tree p.unit) w.classes (in_use_with rest_of s) k shared s true) tasks
 
   -- an instruction but a return
-  pub did : (store : Store) (refused : Bool) (e : Event) (task : Task) (rest : List Task) → s.callers ≡ [] → s.tasks ≡ Some (task ∷ rest) → (after : Activation) (pending : Option ℕ) → GoesOn p w old store others k k own.current shared s rest after pending (effect_of (sight_of shared s) task) refused e
+  pub did : (store : Store) (refused : Bool) (e : Event) (task : Task) (rest : List Task) → s.tasks ≡ Some (task ∷ rest) → (after : Activation) (pending : Option ℕ) → GoesOn p w old store rest_of k copier own.current shared s rest after pending (effect_of (sight_of shared s) task) refused e
       → Advances p w old store others k own shared s (record t { call = Some after; pending = pending }) refused e
-  did store refused e task rest alone is after pending g = record {
-    next_shared = g.next_shared;
-    next = g.next;
-    steps = steps_by refused task rest is ∙ g.steps;
-    store_agrees = g.store_agrees;
-    keeps = g.keeps;
-    keeps_copies = g.keeps_copies;
-    agrees =
-        let owned = owners_left (effect_of (sight_of shared s) task) (event_view e) (length s.frames) own.current g.next.variables in
-        subst (λ (now : Owners). ThreadAgrees p w.classes store.heap store.elements (length (loaded_objects w)) k now g.next_shared (record t { call = Some after; pending = pending }) g.next)
-        (sym (advanced_owners shared s own alone task rest is (event_view e) g.next.variables)) (record {
-          calls = subst (CallsAgree p w.classes (length (loaded_objects w)) t.calls.items) (sym g.calls) h.calls;
-          work = g.work;
-          callers = h.callers;
-          pending = g.pending_agrees;
-          ending = g.ending ∙ h.ending;
-          busy = λ a b c. subst (λ (o : Option (List Task)). WorkAgrees p w.classes store.heap store.elements k (visible_to owned g.next_shared g.next) (Some after) g.next.frames o) b g.work;
-          caught = λ b. absurd (subst (λ (o : Option (List Task)). WorkAgrees p w.classes store.heap store.elements k (visible_to owned g.next_shared g.next) (Some after) g.next.frames o) b g.work);
-          idle = λ b. absurd (subst (λ (o : Option (List Task)). WorkAgrees p w.classes store.heap store.elements k (visible_to owned g.next_shared g.next) (Some after) g.next.frames o) b g.work);
-          views = g.views;
-        });
-    short = λ was. subst (λ (a : source.Advance). IsShortOf (cells_made shared a) old.heap store.heap) (sym (steps_by false task rest is)) (g.short was);
-  }
+  did store refused e task rest is after pending g =
+      let effect = effect_of (sight_of shared s) task in
+      let now : Owners = owners_left effect (event_view e) (length s.frames) own.current g.next.variables in
+      let Works : Option (List Task) → Type 0 = λ o. WorkAgrees p w.classes store.heap store.elements copier (visible_to now g.next_shared g.next) (Some after) g.next.frames o in
+      let away = no_return (unit_tree p.unit) w.classes (in_use_with rest_of s) k shared g.next_shared s g.next rest refused effect (event_view e) g.steps g.callers (λ b. subst Works b g.work) in
+      record {
+        next_shared = g.next_shared;
+        next = g.next;
+        steps = steps_by refused task rest is ∙ g.steps;
+        store_agrees = subst (λ (callers : List source.Caller). StoreAgrees p w store g.next_shared (beside (beside others (acquired_by_callers (record s { callers = callers }))) (acquired_by g.next))) (sym g.callers) g.store_agrees;
+        keeps = g.keeps;
+        keeps_copies = g.keeps_copies;
+        agrees =
+            subst (λ (now : ThreadOwners). ThreadAgrees p w.classes store.heap store.elements (length (loaded_objects w)) k now g.next_shared (record t { call = Some after; pending = pending }) g.next)
+            (sym (advanced_owners shared s own task rest is away (event_view e) g.next.variables)) (record {
+              calls = subst (CallsAgree p w.classes (length (loaded_objects w)) t.calls.items) (sym g.calls) h.calls;
+              work = subst (λ (callers : List source.Caller). WorkAgrees p w.classes store.heap store.elements (owner_at k (length callers)) (visible_to now g.next_shared g.next) (Some after) g.next.frames g.next.tasks) (sym g.callers) g.work;
+              callers = subst (CallersAgree p w.classes store.heap store.elements k g.next_shared (reverse t.callers.items) own.callers) (sym g.callers)
+                  (callers_stay p w.classes copier old.heap store.heap old.elements store.elements shared g.next_shared g.keeps g.keeps_copies k (reverse t.callers.items) own.callers s.callers (λ below less. others_below k below (length s.callers) less) h.callers);
+              few = h.few;
+              pending = g.pending_agrees;
+              ending = g.ending ∙ h.ending;
+              busy = λ a b c. subst Works b g.work;
+              caught = λ b. absurd (subst Works b g.work);
+              idle = λ b. absurd (subst Works b g.work);
+              views = g.views;
+            });
+        short = λ was. subst (λ (a : source.Advance). IsShortOf (cells_made shared a) old.heap store.heap) (sym (steps_by false task rest is)) (g.short was);
+      }
 
 -- ---- a return
 
@@ -212,9 +253,13 @@ rest_left : (ended : Bool) (k : ℕ) (old store : Store) → LeavesMonitors ende
 rest_left true k old store g = (ap (λ (x : Store). x.heap) g.is, ap (λ (x : Store). x.elements) g.is)
 rest_left false k old store same = (ap (λ (x : Store). x.heap) same, ap (λ (x : Store). x.elements) same)
 
-module _ (p : Lowered) (w : World) (old : Store) (others : Acquired) (k : ℕ) (own : ThreadOwners) (shared : Shared) (t : Thread) (s : source.Thread) (h : ThreadAgrees p w.classes old.heap old.elements (length (loaded_objects w)) k own.current shared t s) where
-  pub returned : (store left : Store) (pending : Option ℕ) (after : Thread) (task : Task) (rest : List Task) → s.callers ≡ [] → s.tasks ≡ Some (task ∷ rest) → StoreAgrees p w store shared (beside others (acquired_by s)) → store ≡ old → MayReturn s → ReferenceAgrees store.heap pending s.pending → t.ending ≡ Unfinished
-      → ((given : CallResult) × (effect_of (sight_of shared s) task ≡ Returns given)) → after.call ≡ None → after.callers ≡ t.callers → after.pending ≡ None → after.calls.items ≡ calls_after (option_and_then (class_at store.heap) pending) t.calls.items
+module _ (p : Lowered) (w : World) (old : Store) (others : Acquired) (k : ℕ) (own : ThreadOwners) (shared : Shared) (t : Thread) (s : source.Thread) (h : ThreadAgrees p w.classes old.heap old.elements (length (loaded_objects w)) k own shared t s) where
+  -- what the buffers of all other calls take
+  abbrev rest_there : Acquired
+  rest_there = beside_callers others s
+
+  pub returned : (store left : Store) (pending : Option ℕ) (after : Thread) (task : Task) (rest : List Task) → s.callers ≡ [] → s.tasks ≡ Some (task ∷ rest) → StoreAgrees p w store shared (beside rest_there (acquired_by s)) → store ≡ old → MayReturn s → ReferenceAgrees store.heap pending s.pending → t.ending ≡ Unfinished
+      → ((given : CallResult) × (effect_of (sight_of shared s) task ≡ Returns given)) → after.call ≡ None → after.callers.items ≡ [] → after.pending ≡ None → after.calls.items ≡ calls_after (option_and_then (class_at store.heap) pending) t.calls.items
       → after.ending ≡ ending_after (option_and_then (class_at store.heap) pending) t.calls.items t.ending
       → LeavesMonitors (ends_with (option_and_then (class_at store.heap) pending) t.calls.items) k store left
       → Advances p w old left others k own shared s after false event.Quiet
@@ -224,23 +269,31 @@ module _ (p : Lowered) (w : World) (old : Store) (others : Acquired) (k : ℕ) (
       let of : option_map (class_of shared.heap) s.pending ≡ class = class_pending store.heap shared.heap pending s.pending shares.heap.blocks pends in
       let next : Shared = record shared { monitors = monitors_after (ending_of class s.calls) k shared.monitors } in
       let parts = rest_left (ends_with class t.calls.items) k store left monitors in
+      let below = none_there p w.classes old.heap old.elements k shared (reverse t.callers.items) own.callers s.callers h.callers alone in
+      let owners_now : after_tasks shared s s.tasks own source.Quiet [] ≡ own =
+      ap (λ (ts : Option (List Task)). after_tasks shared s ts own source.Quiet []) tasks
+      ∙ ap (λ (e : Effect). after_step s own source.Quiet e []) is.1
+      ∙ ap (λ (cs : List source.Caller). after_return cs own.callers own []) alone in
       record {
         next_shared = next;
         next = idle class s.calls;
-        steps = steps_by p w old others k own shared t s h false task rest tasks ∙ ap (after_effect w.classes (in_use_with others s) k shared s rest) is.1 ∙ returns_by k shared s class is.0 alone of;
-        store_agrees = store_same p w left next others s.variables [] (sym (nothing_lent s.variables may.0)) (monitors_left p w k shared s store left (beside others (acquired_by s)) shares w.classes made class t.calls.items s.calls h.calls monitors);
+        steps = steps_by p w old others k own shared t s h false task rest tasks ∙ ap (after_effect (unit_tree p.unit) w.classes (in_use_with rest_there s) k shared s rest) is.1 ∙ returns_by k shared s class is.0 alone of;
+        store_agrees = subst (λ (callers : List source.Caller). StoreAgrees p w left next (beside (beside others (acquired_by_callers (record s { callers = callers }))) (acquired_by (idle class s.calls)))) alone
+            (store_same p w left next rest_there s.variables [] (sym (nothing_lent s.variables may.0)) (monitors_left p w k shared s store left (beside rest_there (acquired_by s)) shares w.classes made class t.calls.items s.calls h.calls monitors));
         keeps = subst (λ (space : Space). Keeps old.heap shared space next) (sym (parts.0 ∙ ap (λ (x : Store). x.heap) same)) (keeps_monitors old.heap shared next.monitors);
         keeps_copies = λ key c there other. subst (λ (copies : List (Option OwnedNumbers)). value_at copies key ≡ Some c) (sym (parts.1 ∙ ap (λ (x : Store). x.elements) same)) there;
-        agrees = record {
+        agrees = subst (λ (o : ThreadOwners). ThreadAgrees p w.classes left.heap left.elements made k o next after (idle class s.calls)) (sym owners_now) (record {
           calls = subst (λ (ns : List PendingCall). CallsAgree p w.classes made ns (activation.calls_after (ending_of class s.calls) s.calls)) (sym calls) (calls_left p w.classes made class t.calls.items s.calls h.calls);
-          work = subst (λ (c : Option Activation). WorkAgrees p w.classes left.heap left.elements k (visible_to (after_tasks shared s s.tasks own source.Quiet []).current next (idle class s.calls)) c [] None) (sym no_call) refl;
-          callers = ap (λ (v : Vec Activation). v.items) callers ∙ h.callers;
+          work = subst (λ (c : Option Activation). WorkAgrees p w.classes left.heap left.elements (owner_at k 0) (visible_to own.current next (idle class s.calls)) c [] None) (sym no_call) refl;
+          callers = subst (λ (cs : List Activation). CallersAgree p w.classes left.heap left.elements k next cs own.callers []) (sym (ap reverse callers))
+              (subst (λ (os : List Owners). CallersAgree p w.classes left.heap left.elements k next [] os []) (sym below.1) tt);
+          few = omega (arith, ap length callers);
           pending = subst (λ (a : Option ℕ). ReferenceAgrees left.heap a None) (sym no_pending) tt;
           ending = ending_agrees p w.classes made class t.calls.items s.calls t.ending h.calls o ∙ ap ending_view (sym ending);
           busy = λ a b c. something_to_do p w.classes made class t.calls.items s.calls t.ending h.calls (sym ending ∙ a) c;
           caught = λ b. refl;
           idle = λ b. refl;
           views = subst (λ (c : Option Activation). AreViewed left.heap (buffers_of c) (idle class s.calls)) (sym no_call) (λ n. omega arith);
-        };
+        });
         short = λ e. absurd (cc);
       }

@@ -9,7 +9,7 @@ use Rattle.heap.specs.Heap.{Space, name_at}
 use Rattle.semantics.specs.CallEffects.{freed, with_freed}
 use Rattle.semantics.specs.Thread.{Thread, objects_viewed}
 use Rattle.semantics.specs.Variable as source
-use Rattle.semantics.specs.Variable.{Variable, Variables, Scalar, LocalRef, FieldHandle, Elements, LocalArray, NoBuffer, Copy, View, assign, change, viewed}
+use Rattle.semantics.specs.Variable.{Variable, Variables, Scalar, LocalRef, FieldHandle, MethodHandle, Elements, LocalArray, NoBuffer, Copy, View, assign, change, viewed}
 use Rattle.semantics_safety.specs.StepSafe.{HoldsNoBuffer}
 use Rattle.code.specs.declared.instr.NullableVariable.{NullableVariable}
 use Rattle.code.specs.declared.instr.NullableVariable.TheVariants as nullable
@@ -116,6 +116,7 @@ counts_held n None = refl
 counts_held n (Some (Scalar v)) = refl
 counts_held n (Some (LocalRef level r)) = refl
 counts_held n (Some (FieldHandle f)) = refl
+counts_held n (Some (MethodHandle f)) = refl
 counts_held n (Some (LocalArray t zs)) = refl
 counts_held n (Some (Elements t NoBuffer)) = refl
 counts_held n (Some (Elements t (Copy m zs))) = refl

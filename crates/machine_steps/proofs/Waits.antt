@@ -23,7 +23,7 @@ use Rattle.semantics.specs.Value.{Trap}
 use Rattle.semantics.specs.declared.trap.Trap.{Trap as TrapInMemory}
 use Rattle.semantics.specs.ThreadStep.{next_effect, waits}
 use Rattle.semantics.specs.World.{World, loaded_objects}
-use Rattle.semantics_safety.specs.Owners.{Owners}
+use Rattle.semantics_safety.specs.Owners.{Owners, ThreadOwners}
 use Rattle.code.specs.Call.{Call, call_view}
 use Rattle.code.specs.Depth.{Listing}
 use Rattle.code.specs.declared.instr.Call.{Call as InMemory}
@@ -50,6 +50,7 @@ use Rattle.machine_answers.proofs.CallTraps.{none_deleted, none_lacking}
 use Rattle.machine_calls.proofs.MonitorCarries.{agrees_monitors}
 use Rattle.machine_threads.specs.declared.thread.Thread.{Thread}
 use Rattle.machine_steps.specs.Executes.{IsExecuting, IsSteady}
+use Rattle.machine_threads.specs.Callers.{owner_at}
 use Rattle.machine_threads.specs.SlotsHold.{slots_of}
 use Rattle.machine_threads.specs.ThreadAgrees.{ThreadAgrees, buffers_of}
 use Rattle.machine_steps.specs.Waiting.{MayWait, is_busy, store_unowned, unowned}
@@ -75,7 +76,7 @@ unowned_agrees p w store shared all h = agrees_monitors p w store shared all h [
 
 pub unowned_steady : (classes : Classes) (own : Owners) (shared : Shared) (s : source.Thread) → IsSteady classes own shared s → IsSteady classes own (unowned shared) s
 unowned_steady classes own shared s h = record {
-  alone = h.alone;
+  callers = h.callers;
   view = h.view;
   return = h.return;
   release = h.release;
@@ -85,6 +86,7 @@ unowned_steady classes own shared s h = record {
   variables = h.variables;
   declared = h.declared;
   owned = h.owned;
+  methods = h.methods;
 }
 
 -- a number is itself
@@ -111,7 +113,7 @@ value_enters function.MonitorEnter is = refl
 value_enters f is = absurd (cc)
 
 -- an instruction that is no call of MonitorEnter doesn't wait
-module _ (p : Lowered) (classes : Classes) (space : Space) (copies : List (Option OwnedNumbers)) (k : ℕ) (call : Activation) (code : Listing) (own : Owners) (shared : Shared) (s : source.Thread) (task : Task) (rest : List Task) (r : Ready p classes space copies k call code (visible_to own shared s) s.frames task rest) where
+module _ (p : Lowered) (classes : Classes) (space : Space) (copies : List (Option OwnedNumbers)) (k owner : ℕ) (call : Activation) (code : Listing) (own : Owners) (shared : Shared) (s : source.Thread) (task : Task) (rest : List Task) (r : Ready p classes space copies owner call code (visible_to own shared s) s.frames task rest) where
   pub waits_for_none : (i : Instr) → slice_get code.instrs call.place ≡ Some i → ((c : Call) → i ≡ instr.Call c → c.function ≡ MonitorEnter → ⊥) → waits_with classes k shared s (effect_of (sight_of shared s) task) ≡ false
   waits_for_none i at none =
       does_cases code r.known call.place call.stack (slots_of call r.meant) (visible_to own shared s) rest (λ (e : Effect). waits_with classes k shared s e ≡ false)
@@ -125,19 +127,23 @@ module _ (p : Lowered) (classes : Classes) (space : Space) (copies : List (Optio
 
 -- ---- a call in progress
 
-module _ (p : Lowered) (w : World) (store : Store) (others : Acquired) (k : ℕ) (own : Owners) (shared : Shared) (t : Thread) (s : source.Thread) (call : Activation) (shares : StoreAgrees p w store shared (beside others (acquired_by s)))
-    (h : ThreadAgrees p w.classes store.heap store.elements (length (loaded_objects w)) k own shared t s) (is : t.call ≡ Some call) (steady : IsSteady w.classes own shared s) where
-  pub work : Working p w.classes store.heap store.elements k call (visible_to own shared s) s.frames s.tasks
-  work = working p w.classes store.heap store.elements k (visible_to own shared s) s.frames t.call call s.tasks h.work is
+module _ (p : Lowered) (w : World) (store : Store) (others : Acquired) (k : ℕ) (own : ThreadOwners) (shared : Shared) (t : Thread) (s : source.Thread) (call : Activation) (shares : StoreAgrees p w store shared (beside others (acquired_by s)))
+    (h : ThreadAgrees p w.classes store.heap store.elements (length (loaded_objects w)) k own shared t s) (is : t.call ≡ Some call) (steady : IsSteady w.classes own.current shared s) where
+  -- the owner of its copied lists
+  abbrev pub copier : ℕ
+  copier = owner_at k (length s.callers)
 
-  pub would_execute : IsExecuting p w (store_unowned store) call t.pending others k k own (unowned shared) s work.task work.rest
+  pub work : Working p w.classes store.heap store.elements copier call (visible_to own.current shared s) s.frames s.tasks
+  work = working p w.classes store.heap store.elements copier (visible_to own.current shared s) s.frames t.call call s.tasks h.work is
+
+  pub would_execute : IsExecuting p w (store_unowned store) call t.pending others k copier own.current (unowned shared) s work.task work.rest
   would_execute = record {
     store_agrees = unowned_agrees p w store shared (beside others (acquired_by s)) shares;
     tasks = work.is;
     stands = work.stands;
     pending_agrees = h.pending;
     views = subst (λ (c : Option Activation). AreViewed store.heap (buffers_of c) s) is h.views;
-    steady = unowned_steady w.classes own shared s steady;
+    steady = unowned_steady w.classes own.current shared s steady;
     ready = nobody_waits w.classes k shared s (effect_of (sight_of shared s) work.task);
   }
 
@@ -148,10 +154,10 @@ module _ (p : Lowered) (w : World) (store : Store) (others : Acquired) (k : ℕ)
   -- and its place in the function's code
   pub place_there : (code : Listing) → IsLowered p → slice_get p.codes call.function ≡ Some code → store.heap.cells ≤ 1048576 → call.place < length code.instrs
   place_there code lowered there few =
-      let found = here p w.classes store.heap store.elements k call code (visible_to own shared s) s.frames work.task work.rest
-      (ready p w.classes store.heap store.elements k call code (visible_to own shared s) s.frames work.task work.rest lowered there would_execute.stands
-      (seeing p w (store_unowned store) call t.pending others k k own (unowned shared) s work.task work.rest would_execute few))
-      (possible p w (store_unowned store) call t.pending others k k own (unowned shared) s work.task work.rest would_execute) in
+      let found = here p w.classes store.heap store.elements copier call code (visible_to own.current shared s) s.frames work.task work.rest
+      (ready p w.classes store.heap store.elements copier call code (visible_to own.current shared s) s.frames work.task work.rest lowered there would_execute.stands
+      (seeing p w (store_unowned store) call t.pending others k copier own.current (unowned shared) s work.task work.rest would_execute few))
+      (possible p w (store_unowned store) call t.pending others k copier own.current (unowned shared) s work.task work.rest would_execute) in
       slice_get_within code.instrs call.place found.0 found.1
 
   -- whether it waits is by its first task
@@ -159,7 +165,7 @@ module _ (p : Lowered) (w : World) (store : Store) (others : Acquired) (k : ℕ)
   waits_by = ap (λ (tasks : Option (List Task)). waits_with w.classes k shared s (next_effect shared s tasks)) (sym work.is)
 
   -- where it doesn't wait, it executes
-  pub executes : waits w.classes k shared s ≡ false → IsExecuting p w store call t.pending others k k own shared s work.task work.rest
+  pub executes : waits w.classes k shared s ≡ false → IsExecuting p w store call t.pending others k copier own.current shared s work.task work.rest
   executes free = record {
     store_agrees = shares;
     tasks = work.is;
@@ -171,9 +177,9 @@ module _ (p : Lowered) (w : World) (store : Store) (others : Acquired) (k : ℕ)
   }
 
   -- a call of which nothing is known yet but that it is there
-  pub may_wait : (i : Instr) (f : Fetched p (store_unowned store) call i) (function : InMemory) → i ≡ instr.Call (call_view function) → MayWait p w store t.pending call function others k k own shared s work.task work.rest
+  pub may_wait : (i : Instr) (f : Fetched p (store_unowned store) call i) (function : InMemory) → i ≡ instr.Call (call_view function) → MayWait p w store t.pending call function others k copier own.current shared s work.task work.rest
   may_wait i f function is = record {
-    at_call = at_call p w (store_unowned store) t.pending call i f function is others k k own (unowned shared) s work.task work.rest would_execute;
+    at_call = at_call p w (store_unowned store) t.pending call i f function is others k copier own.current (unowned shared) s work.task work.rest would_execute;
     monitors = shares.monitors;
   }
 
@@ -181,7 +187,7 @@ module _ (p : Lowered) (w : World) (store : Store) (others : Acquired) (k : ℕ)
   pub goes_on : (i : Instr) (f : Fetched p (store_unowned store) call i) → ((c : Call) → i ≡ instr.Call c → c.function ≡ MonitorEnter → ⊥) → waits w.classes k shared s ≡ false
   goes_on i f none =
       sym waits_by
-      ∙ waits_for_none p w.classes store.heap store.elements k call f.code own shared s work.task work.rest (ready_for p w (store_unowned store) call i f t.pending others k k own (unowned shared) s work.task work.rest would_execute) i f.at none
+      ∙ waits_for_none p w.classes store.heap store.elements k copier call f.code own.current shared s work.task work.rest (ready_for p w (store_unowned store) call i f t.pending others k copier own.current (unowned shared) s work.task work.rest would_execute) i f.at none
 
 -- ---- a call of MonitorEnter
 

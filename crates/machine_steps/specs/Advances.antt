@@ -25,6 +25,7 @@ use Rattle.machine_scenes.specs.StoreAgrees.{StoreAgrees, Keeps}
 use Rattle.machine_steps.specs.Executes.{IsHindered, IsSteady, cells_made, in_use_with}
 use Rattle.machine_steps.specs.declared.fault.StepFault.{StepFault}
 use Rattle.semantics.specs.EventViews.{event_view}
+use Rattle.machine_threads.specs.Callers.{beside_callers, owner_at}
 use Rattle.machine_threads.specs.ThreadAgrees.{ThreadAgrees}
 
 -- ---- steps
@@ -32,25 +33,25 @@ use Rattle.machine_threads.specs.ThreadAgrees.{ThreadAgrees}
 -- thread k, in a store, stands for one of the source that no step breaks; the buffers of the other threads take this
 abbrev pub Stands : Lowered → World → Store → (others : Acquired) → (k : ℕ) → ThreadOwners → Shared → source.Thread → Thread → Type 0
 Stands p w store others k own shared s t =
-    StoreAgrees p w store shared (beside others (acquired_by s))
-    × ThreadAgrees p w.classes store.heap store.elements (length (loaded_objects w)) k own.current shared t s
+    StoreAgrees p w store shared (beside (beside_callers others s) (acquired_by s))
+    × ThreadAgrees p w.classes store.heap store.elements (length (loaded_objects w)) k own shared t s
     × IsSteady w.classes own.current shared s
 
 -- Thread k took the step that the source's thread takes, or the same with its allocation refused, where too few cells were left. The
--- buffers of the other threads, which take this, are as they were.
+-- buffers of the other threads, which take this, are as they were, and so are the copies of all other calls.
 pub record Advances (p : Lowered) (w : World) (old store : Store) (others : Acquired) (k : ℕ) (own : ThreadOwners)
     (shared : Shared) (s : source.Thread) (t : Thread) (refused : Bool) (event : Event) : Type 0 where
   pub next_shared : Shared
   pub next : source.Thread
-  pub steps : thread_step (unit_tree p.unit) w.classes (in_use_with others s) k shared s refused
+  pub steps : thread_step (unit_tree p.unit) w.classes (in_use_with (beside_callers others s) s) k shared s refused
       ≡ source.Advances next_shared next (event_view event)
-  pub store_agrees : StoreAgrees p w store next_shared (beside others (acquired_by next))
+  pub store_agrees : StoreAgrees p w store next_shared (beside (beside_callers others next) (acquired_by next))
   pub keeps : Keeps old.heap shared store.heap next_shared
-  pub keeps_copies : KeepsCopies k old.elements store.elements
+  pub keeps_copies : KeepsCopies (owner_at k (length s.callers)) old.elements store.elements
   pub agrees : ThreadAgrees p w.classes store.heap store.elements (length (loaded_objects w)) k
-      (after_advance shared s own (source.Advances next_shared next (event_view event))).current next_shared t next
+      (after_advance shared s own (source.Advances next_shared next (event_view event))) next_shared t next
   pub short : refused ≡ true → IsShortOf (cells_made shared (thread_step (unit_tree p.unit) w.classes
-      (in_use_with others s) k shared s false)) old.heap store.heap
+      (in_use_with (beside_callers others s) s) k shared s false)) old.heap store.heap
 
 -- the same by what is told of it
 abbrev pub AdvancesBy : Lowered → World → (old store : Store) → (others : Acquired) → (k : ℕ) → ThreadOwners → Shared
@@ -62,8 +63,8 @@ AdvancesBy p w old store others k own shared s t advanced.Refused = Advances p w
 abbrev pub StandsReady : Lowered → World → (k : ℕ) → Store → Thread → Type 0
 StandsReady p w k store t =
     (others : Acquired) × (own : ThreadOwners) × (shared : Shared) × (s : source.Thread)
-    × StoreAgrees p w store shared (beside others (acquired_by s))
-    × ThreadAgrees p w.classes store.heap store.elements (length (loaded_objects w)) k own.current shared t s
+    × StoreAgrees p w store shared (beside (beside_callers others s) (acquired_by s))
+    × ThreadAgrees p w.classes store.heap store.elements (length (loaded_objects w)) k own shared t s
     × (t.ending ≡ Unfinished) × IsSteady w.classes own.current shared s × (waits w.classes k shared s ≡ false)
 
 -- what holds of thread k with whatever state it stands for in which it doesn't wait
@@ -71,8 +72,8 @@ abbrev pub HoldsAlways : Lowered → World → (k : ℕ) → Store → Thread
     → (Acquired → ThreadOwners → Shared → source.Thread → Type 0) → Type 0
 HoldsAlways p w k store t Holds =
     (others : Acquired) (own : ThreadOwners) (shared : Shared) (s : source.Thread)
-    → StoreAgrees p w store shared (beside others (acquired_by s))
-    → ThreadAgrees p w.classes store.heap store.elements (length (loaded_objects w)) k own.current shared t s
+    → StoreAgrees p w store shared (beside (beside_callers others s) (acquired_by s))
+    → ThreadAgrees p w.classes store.heap store.elements (length (loaded_objects w)) k own shared t s
     → IsSteady w.classes own.current shared s → waits w.classes k shared s ≡ false → Holds others own shared s
 
 -- it took the step that the source's thread takes
@@ -84,7 +85,7 @@ AdvancesAlways p w k store after t t' x =
 abbrev pub IsHinderedAlways : Lowered → World → (k : ℕ) → Store → Thread → (may_refuse : Bool) → StepFault → Type 0
 IsHinderedAlways p w k store t may_refuse fault =
     HoldsAlways p w k store t (λ others own shared s. IsHindered (left_of store.heap) (cells_made shared
-    (thread_step (unit_tree p.unit) w.classes (in_use_with others s) k shared s false)) may_refuse fault)
+    (thread_step (unit_tree p.unit) w.classes (in_use_with (beside_callers others s) s) k shared s false)) may_refuse fault)
 
 -- ---- returns
 

@@ -1,23 +1,28 @@
 -- What an instruction does to a call in progress.
-use Rattle.std.specs.Prelude.{◌≡◌, ◌≢◌, ℕ, ◌<◌, Bool, true, false, List, [], ◌∷◌, length, drop, Option, Some}
+use Rattle.std.specs.Prelude.{◌≡◌, ◌≢◌, ℕ, ◌<◌, Bool, true, false, List, [], ◌∷◌, length, drop, slice_get, Option, Some}
 use Rattle.std.specs.List.{AllByRecursion}
 use Rattle.base.specs.Bytes.{Identifier, lookup}
 use Rattle.class_rules.specs.Class.{Classes}
+use Rattle.class_rules.specs.Grown.{HasMethodError}
 use Rattle.heap.specs.Heap.{left_of}
+use Rattle.syntax.specs.Views.{unit_tree}
+use Rattle.syntax.specs.Tree.{SourceUnit}
 use Rattle.semantics.specs.Object.{Reference, sizes}
 use Rattle.semantics.specs.World.{World}
 use Rattle.semantics.specs.CallEffects.{CallResult}
 use Rattle.semantics.specs.CallStep.{waits_with}
 use Rattle.semantics.specs.Effect.{Effect, Calls, Returns, NoEffect, effect_of}
-use Rattle.semantics.specs.Task.{Task, Target, Assigned}
-use Rattle.semantics.specs.Checks.{frames_after}
+use Rattle.syntax.specs.Tree.{Block}
+use Rattle.semantics.specs.Task.{Task, Target, Assigned, Tested}
+use Rattle.semantics.specs.Checks.{frames_after, is_full}
 use Rattle.semantics.specs.Arguments.{Actual, object_given, variable_given}
-use Rattle.semantics_safety.specs.Owners.{Owners, IsOwn, after_call}
+use Rattle.semantics_safety.specs.Owners.{Owners, IsOwn, after_call, is_target}
+use Rattle.semantics_safety.specs.Stands.{IsMethodResult}
 use Rattle.semantics_safety.specs.StepSafe.{HoldsNoBuffer, MayMeetView, MayReturn, SetsWhole, came_from}
 use Rattle.semantics_safety.specs.Used.{task_names}
 use Rattle.semantics_typing.specs.Objects.{AreTypedObjects, AreTypedVariables}
 use Rattle.jni.specs.Access.{Access}
-use Rattle.jni.specs.JniFunction.{JniFunction, ReleaseBuffer, prototype}
+use Rattle.jni.specs.JniFunction.{JniFunction, GetStaticMethodID, ReleaseBuffer, prototype}
 use Rattle.jni.specs.Prototype.{NewLocal}
 use Rattle.semantics.specs.Thread as source
 use Rattle.semantics.specs.Thread.{BuffersInUse, Shared, Advance, Advances, NoAdvance, sight_of, objects_viewed}
@@ -41,9 +46,20 @@ use Rattle.machine_threads.specs.InProgress.{CallStands, WorkAgrees}
 use Rattle.semantics.specs.EventViews.{event_view}
 use Rattle.machine_scenes.specs.StoreAgrees.{StoreAgrees, Keeps}
 
+-- A caller of an accepted unit can go on once the call that it made returns: it tests no result, wants one that a function of the unit can
+-- give, and has room for a local reference. The variable that takes the result is no buffer that holds something, and one that takes a local
+-- reference was declared at the frame that is current.
+pub record IsResumable (c : source.Caller) : Type 0 where
+  pub method : IsMethodResult c.result
+  pub untested : (then' else' : Block) → c.target ≡ Tested then' else' → ⊥
+  pub room : c.result ≡ NewLocal → is_full (slice_get c.frames 0) ≡ false
+  pub free : (x : Identifier) → is_target c.target x ≡ true → HoldsNoBuffer (lookup x c.variables)
+  pub declared : (x : Identifier) (level : ℕ) (r : Reference) → c.target ≡ Assigned x → c.result ≡ NewLocal
+      → lookup x c.variables ≡ Some (LocalRef level r) → level ≡ length c.frames
+
 -- What no step of an accepted unit breaks, as `StepSafe` has it of the thread alone, and what its objects and variables are made of.
 pub record IsSteady (classes : Classes) (own : Owners) (shared : Shared) (s : source.Thread) : Type 0 where
-  pub alone : s.callers ≡ []
+  pub callers : (c : source.Caller) (below : List source.Caller) → s.callers ≡ c ∷ below → IsResumable c
   pub view : (task : Task) (rest : List Task) → s.tasks ≡ Some (task ∷ rest) → objects_viewed s.variables ≢ [] → MayMeetView task
   pub return : (given : CallResult) → next_effect shared s s.tasks ≡ Returns given → MayReturn s
   pub release : (line : ℕ) (target : Target) (access : Access) (args : List Actual)
@@ -58,13 +74,16 @@ pub record IsSteady (classes : Classes) (own : Owners) (shared : Shared) (s : so
       → lookup x s.variables ≡ Some (LocalRef level r) → level ≡ length (frames_after f s.frames)
   pub owned : (task : Task) (rest : List Task) → s.tasks ≡ Some (task ∷ rest)
       → AllByRecursion (λ x. IsOwn own x (lookup x s.variables)) (task_names task)
+  -- a method is asked for only where its exception is there
+  pub methods : (line : ℕ) (target : Target) (args : List Actual) → next_effect shared s s.tasks ≡ Calls line target GetStaticMethodID args
+      → HasMethodError classes
 
--- what all buffers take of what there is for them, where those of the other threads take this
+-- what all buffers take of what there is for them, where those of the other calls take this
 abbrev pub in_use_with : Acquired → source.Thread → BuffersInUse
 in_use_with others s = in_use_of (beside others (acquired_by s))
 
 -- A call in progress of thread k, with what is pending, stands for the thread's tasks, of which this is the first; the buffers of the
--- other threads take this. Its own copies have this owner. The thread doesn't wait for a monitor.
+-- other calls take this. Its own copies have this owner. The thread doesn't wait for a monitor.
 pub record IsExecuting (p : Lowered) (w : World) (store : Store) (activation : Activation) (pending : Option ℕ)
     (others : Acquired) (k owner : ℕ) (own : Owners) (shared : Shared) (s : source.Thread) (task : Task)
     (rest : List Task) : Type 0 where
@@ -77,9 +96,9 @@ pub record IsExecuting (p : Lowered) (w : World) (store : Store) (activation : A
   pub ready : waits_with w.classes k shared s (effect_of (sight_of shared s) task) ≡ false
 
 -- what an effect of the first task leaves, or the same with its allocation refused
-abbrev pub after_any : Classes → BuffersInUse → ℕ → Shared → source.Thread → List Task → (refused : Bool) → Effect → Advance
-after_any classes in_use k shared s rest false effect = after_effect classes in_use k shared s rest effect
-after_any classes in_use k shared s rest true effect = after_refused_effect classes in_use k shared s rest effect
+abbrev pub after_any : SourceUnit → Classes → BuffersInUse → ℕ → Shared → source.Thread → List Task → (refused : Bool) → Effect → Advance
+after_any unit classes in_use k shared s rest false effect = after_effect unit classes in_use k shared s rest effect
+after_any unit classes in_use k shared s rest true effect = after_refused_effect unit classes in_use k shared s rest effect
 
 -- the cells of the objects that a step makes
 abbrev pub cells_made : Shared → Advance → ℕ
@@ -99,13 +118,13 @@ owners_left (Calls line target f args) event frames own vs = after_call target f
 owners_left other event frames own vs = own
 
 -- The first task had this effect on thread k, with the rest still to do: the thread goes on within its call. Its allocation was
--- refused only where too few cells were left. The buffers of the other threads, and the copies of other owners, are as they were.
+-- refused only where too few cells were left. The buffers of the other calls, and the copies of other owners, are as they were.
 pub record GoesOn (p : Lowered) (w : World) (old store : Store) (others : Acquired) (k owner : ℕ) (own : Owners)
     (shared : Shared) (s : source.Thread) (rest : List Task) (activation : Activation) (pending : Option ℕ) (effect : Effect)
     (refused : Bool) (event : Event) : Type 0 where
   pub next_shared : Shared
   pub next : source.Thread
-  pub steps : after_any w.classes (in_use_with others s) k shared s rest refused effect
+  pub steps : after_any (unit_tree p.unit) w.classes (in_use_with others s) k shared s rest refused effect
       ≡ source.Advances next_shared next (event_view event)
   pub store_agrees : StoreAgrees p w store next_shared (beside others (acquired_by next))
   pub keeps : Keeps old.heap shared store.heap next_shared
@@ -116,9 +135,10 @@ pub record GoesOn (p : Lowered) (w : World) (old store : Store) (others : Acquir
   pub pending_agrees : ReferenceAgrees store.heap pending next.pending
   pub views : AreViewed store.heap activation.slots.buffers.items next
   pub calls : next.calls ≡ s.calls
+  pub callers : next.callers ≡ s.callers
   pub ending : next.ending ≡ s.ending
   pub short : refused ≡ true
-      → IsShortOf (cells_made shared (after_effect w.classes (in_use_with others s) k shared s rest effect)) old.heap store.heap
+      → IsShortOf (cells_made shared (after_effect (unit_tree p.unit) w.classes (in_use_with others s) k shared s rest effect)) old.heap store.heap
 
 -- what an instruction did is the effect of the first of the tasks; a return gives what the source's does, and leaves the store as it was
 abbrev pub Executes : Lowered → World → (old store : Store) → (others : Acquired) → (k owner : ℕ) → Owners → Shared
@@ -153,5 +173,5 @@ abbrev pub IsHinderedExecuting : Lowered → World → Store → Activation → 
 IsHinderedExecuting p w store activation pending k owner may_refuse fault =
     (others : Acquired) (own : Owners) (shared : Shared) (s : source.Thread) (task : Task) (rest : List Task)
     → IsExecuting p w store activation pending others k owner own shared s task rest
-    → IsHindered (left_of store.heap) (cells_made shared (after_effect w.classes (in_use_with others s) k shared s rest
+    → IsHindered (left_of store.heap) (cells_made shared (after_effect (unit_tree p.unit) w.classes (in_use_with others s) k shared s rest
     (effect_of (sight_of shared s) task))) may_refuse fault

@@ -1,5 +1,6 @@
 -- Where a call of a function of the JNI is made.
 use Rattle.std.specs.Prelude.{◌≡◌, ℕ, Bool, true, false, List, ◌∷◌, slice_get, ◌⊎◌, Option, Some, None}
+use Rattle.syntax.specs.Views.{unit_tree}
 use Rattle.code.specs.Call.{call_view}
 use Rattle.code.specs.Depth.{Listing}
 use Rattle.code.specs.declared.instr.Call.{Call as InMemory}
@@ -60,23 +61,23 @@ pub record AtCall (p : Lowered) (w : World) (store : Store) (pending : Option �
   pub at : slice_get code.instrs activation.place ≡ Some (instr.Call (call_view call))
 
 -- the trap of a call of thread k before it does anything
-abbrev pub trap_at : World → Store → (pending : Option ℕ) → Activation → (k : ℕ) → InMemory → Option SourceTrap
-trap_at w store pending activation k call =
-    trap_found (scene_of w.classes store activation k pending) (has_room (locals_after
+abbrev pub trap_at : Lowered → World → Store → (pending : Option ℕ) → Activation → (k : ℕ) → InMemory → Option SourceTrap
+trap_at p w store pending activation k call =
+    trap_found (scene_of (unit_tree p.unit) w.classes store activation k pending) (has_room (locals_after
     (function_value call.function) activation.locals)) (element_wanted call.target)
     (function_value call.function) call.operands.items
 
 -- No check stops a call of thread k, and this is what it answers.
-pub record IsAnswered (w : World) (store : Store) (pending : Option ℕ) (activation : Activation) (k : ℕ)
+pub record IsAnswered (p : Lowered) (w : World) (store : Store) (pending : Option ℕ) (activation : Activation) (k : ℕ)
     (call : InMemory) (given : Answer) : Type 0 where
   pub sound : IsSound w
-  pub free : trap_at w store pending activation k call ≡ None
-  pub works : IsWorkedOut (scene_of w.classes store activation k pending) (call_view call) (function_value call.function) given
+  pub free : trap_at p w store pending activation k call ≡ None
+  pub works : IsWorkedOut (scene_of (unit_tree p.unit) w.classes store activation k pending) (call_view call) (function_value call.function) given
 
 -- A trap stops a call: a check found it, or it is what the call does.
-abbrev pub IsStopped : World → Store → (pending : Option ℕ) → Activation → (k : ℕ) → InMemory → Trap → Type 0
-IsStopped w store pending activation k call trap = (trap_at w store pending activation k call ≡ Some (trap_view trap))
-    ⊎ IsAnswered w store pending activation k call (answer.Halts trap)
+abbrev pub IsStopped : Lowered → World → Store → (pending : Option ℕ) → Activation → (k : ℕ) → InMemory → Trap → Type 0
+IsStopped p w store pending activation k call trap = (trap_at p w store pending activation k call ≡ Some (trap_view trap))
+    ⊎ IsAnswered p w store pending activation k call (answer.Halts trap)
 
 -- what a call came to that wasn't stopped
 abbrev pub done_or_refused : (refused : Bool) → Invoked
@@ -92,25 +93,25 @@ executed_as line (invoked.Trapped trap) = Did (Trapped trap line)
 -- ---- a call of any thread of the source
 
 -- some thread k of the source is at this call, with copies of this owner
-abbrev pub StandsAtCall : World → Store → (pending : Option ℕ) → Activation → InMemory → (k owner : ℕ) → Type 0
-StandsAtCall w store pending activation call k owner =
-    (p : Lowered) × (others : Acquired) × (own : Owners) × (shared : Shared) × (s : Thread) × (task : Task)
+abbrev pub StandsAtCall : Lowered → World → Store → (pending : Option ℕ) → Activation → InMemory → (k owner : ℕ) → Type 0
+StandsAtCall p w store pending activation call k owner =
+    (others : Acquired) × (own : Owners) × (shared : Shared) × (s : Thread) × (task : Task)
     × (rest : List Task) × AtCall p w store pending activation call others k owner own shared s task rest
 
 -- of each thread that is, the call does the first task
-abbrev pub DoesCall : World → (old store : Store) → (pending left : Option ℕ) → (activation after : Activation) → InMemory
+abbrev pub DoesCall : Lowered → World → (old store : Store) → (pending left : Option ℕ) → (activation after : Activation) → InMemory
     → (k owner : ℕ) → Invoked → Type 0
-DoesCall w old store pending left activation after call k owner done =
-    (p : Lowered) (others : Acquired) (own : Owners) (shared : Shared) (s : Thread) (task : Task) (rest : List Task)
+DoesCall p w old store pending left activation after call k owner done =
+    (others : Acquired) (own : Owners) (shared : Shared) (s : Thread) (task : Task) (rest : List Task)
     → AtCall p w old pending activation call others k owner own shared s task rest
     → Executes p w old store others k owner own shared s rest after left (effect_of (sight_of shared s) task)
     (executed_as call.line done)
 
 -- or this is why it wasn't done
-abbrev pub IsHinderedAtCall : World → Store → (pending : Option ℕ) → Activation → InMemory → (k owner : ℕ) → (may_refuse : Bool)
+abbrev pub IsHinderedAtCall : Lowered → World → Store → (pending : Option ℕ) → Activation → InMemory → (k owner : ℕ) → (may_refuse : Bool)
     → StepFault → Type 0
-IsHinderedAtCall w store pending activation call k owner may_refuse fault =
-    (p : Lowered) (others : Acquired) (own : Owners) (shared : Shared) (s : Thread) (task : Task) (rest : List Task)
+IsHinderedAtCall p w store pending activation call k owner may_refuse fault =
+    (others : Acquired) (own : Owners) (shared : Shared) (s : Thread) (task : Task) (rest : List Task)
     → AtCall p w store pending activation call others k owner own shared s task rest
-    → IsHindered (left_of store.heap) (cells_made shared (after_effect w.classes (in_use_with others s) k shared s rest
+    → IsHindered (left_of store.heap) (cells_made shared (after_effect (unit_tree p.unit) w.classes (in_use_with others s) k shared s rest
     (effect_of (sight_of shared s) task))) may_refuse fault

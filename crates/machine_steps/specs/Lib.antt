@@ -4,6 +4,7 @@ pub mod BufferElements
 pub mod Returned
 pub mod Executes
 pub mod Received
+pub mod Resumed
 pub mod Invoked
 pub mod MonitorCalls
 pub mod Advances

@@ -1,14 +1,16 @@
 -- What a call in progress is after what a function gives is put where it belongs.
 use Rattle.std.specs.Prelude.{◌≡◌, ℕ, ◌+◌, ◌<◌, ◌==◌, true, List, [], ◌∷◌, length, slice_set, Option, Some, None}
+use Rattle.std.specs.Option.{option_map}
 use Rattle.code.specs.Effect.{truth_word}
-use Rattle.classes.specs.declared.class.FieldHandle.{FieldHandle}
 use Rattle.code.specs.declared.instr.Target.{Target}
-use Rattle.code.specs.declared.instr.Target.TheVariants.{Number, Local, FieldId, Static, Buffer, Test}
+use Rattle.code.specs.declared.instr.Target.TheVariants.{Number, Local, FieldId, MethodId, Static, Buffer, Test}
 use Rattle.code.specs.declared.instr.Operand.{Operand}
 use Rattle.code.specs.declared.instr.Operand.TheVariants.{IsCopy}
 use Rattle.jni.specs.Prototype.{ResultKind, NewLocal}
 use Rattle.machine_answers.specs.declared.answer.Given.{Given}
 use Rattle.machine_answers.specs.declared.answer.Given.TheVariants as given
+use Rattle.machine_scenes.specs.declared.handle.Handle.{Handle}
+use Rattle.machine_scenes.specs.declared.handle.Handle.TheVariants as handle
 use Rattle.machine_scenes.specs.declared.activation.Activation.{Activation}
 use Rattle.machine_scenes.specs.declared.buffer.Buffer.{Buffer as HeldBuffer}
 use Rattle.machine_scenes.specs.declared.buffer.Buffer.TheVariants as held
@@ -46,9 +48,10 @@ abbrev pub references_with : Target → (key : Option ℕ) → List (Option ℕ)
 references_with (Local i) key references = slice_set references i key
 references_with target key references = references
 
--- the slots of field IDs with it
-abbrev pub fields_with : Target → Given → List (Option FieldHandle) → List (Option FieldHandle)
-fields_with (FieldId i) (given.FieldId h) fields = slice_set fields i h
+-- the slots of field IDs and method IDs with it
+abbrev pub fields_with : Target → Given → List (Option Handle) → List (Option Handle)
+fields_with (FieldId i) (given.FieldId h) fields = slice_set fields i (option_map handle.Field h)
+fields_with (MethodId i) (given.MethodId h) fields = slice_set fields i (option_map handle.Method h)
 fields_with target g fields = fields
 
 -- the slots of buffers with it
@@ -71,9 +74,10 @@ abbrev pub HasReference : Target → ℕ → Type 0
 HasReference (Local i) count = i < count
 HasReference target count = Unit {0}
 
--- among this number of slots of field IDs
+-- among this number of slots of field IDs and method IDs
 abbrev pub HasField : Target → ℕ → Type 0
 HasField (FieldId i) count = i < count
+HasField (MethodId i) count = i < count
 HasField target count = Unit {0}
 
 -- among this number of slots of buffers

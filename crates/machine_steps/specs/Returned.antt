@@ -7,8 +7,11 @@ use Rattle.code.specs.declared.instr.ReferenceOperand.{ReferenceOperand}
 use Rattle.code.specs.declared.instr.ReferenceOperand.TheVariants.{Null, Local}
 use Rattle.code_meaning.specs.Slots.{word_of}
 use Rattle.heap.specs.Heap.{Space}
+use Rattle.jni.specs.Prototype.{ResultKind, NewLocal, GivesInt}
 use Rattle.machine_answers.specs.declared.answer.Given.{Given}
 use Rattle.machine_answers.specs.declared.answer.Given.TheVariants as given
+use Rattle.machine_steps.specs.declared.execute.ReturnValue.{ReturnValue}
+use Rattle.machine_steps.specs.declared.execute.ReturnValue.TheVariants as value
 use Rattle.machine_scenes.specs.declared.activation.Activation.{Activation}
 use Rattle.machine_scenes.specs.Given.{held_in}
 use Rattle.machine_scenes.specs.HeapAgrees.{ReferenceAgrees}
@@ -27,14 +30,22 @@ returned_at activation Null = None
 returned_at activation (Local i) = address_of activation.locals (held_in (slice_get activation.slots.references.items i))
 
 -- what the instruction gives that leaves a function: the topmost word, a reference, or nothing
-abbrev pub given_by : Instr → Activation → Given
-given_by instr.ReturnJint activation = given.Number (top_of activation.stack)
-given_by (instr.ReturnReference operand) activation = given.Reference (returned_at activation operand)
-given_by i activation = given.Nothing
+abbrev pub given_by : Instr → Activation → ReturnValue
+given_by instr.ReturnJint activation = value.Number (top_of activation.stack)
+given_by (instr.ReturnReference operand) activation = value.Reference (returned_at activation operand)
+given_by i activation = value.Nothing
 
 -- it is what the source's return gives
-abbrev pub ReturnAgrees : Space → Given → CallResult → Type 0
-ReturnAgrees space given.Nothing NoResult = Unit {0}
-ReturnAgrees space (given.Number word) (ScalarResult (Int z)) = (word ≡ word_of (Int z)) × FitsSigned w32 z
-ReturnAgrees space (given.Reference a) (ReferenceResult r) = ReferenceAgrees space a r
-ReturnAgrees space g c = ⊥
+abbrev pub ReturnAgrees : Space → ReturnValue → CallResult → Type 0
+ReturnAgrees space value.Nothing NoResult = Unit {0}
+ReturnAgrees space (value.Number word) (ScalarResult (Int z)) = (word ≡ word_of (Int z)) × FitsSigned w32 z
+ReturnAgrees space (value.Reference a) (ReferenceResult r) = ReferenceAgrees space a r
+ReturnAgrees space v c = ⊥
+
+-- what a caller that wants a result of this kind is given, with this exception pending or none: 0, NULL or nothing where there is one
+abbrev pub given_back : (pending : Option ℕ) → ResultKind → ReturnValue → Given
+given_back None NewLocal (value.Reference a) = given.Reference a
+given_back None GivesInt (value.Number word) = given.Number word
+given_back pending NewLocal v = given.Reference None
+given_back pending GivesInt v = given.Number 0
+given_back pending kind v = given.Nothing

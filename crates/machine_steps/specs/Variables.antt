@@ -1,12 +1,12 @@
 -- Variables that can be NULL.
 use Rattle.std.specs.Prelude.{ℕ, ◌<◌, Bool, true, false, is_none, List, slice_get, slice_set, Option, None}
-use Rattle.classes.specs.declared.class.FieldHandle.{FieldHandle}
 use Rattle.code.specs.declared.instr.NullableVariable.{NullableVariable}
 use Rattle.code.specs.declared.instr.NullableVariable.TheVariants.{Local, Static, FieldId, Buffer}
 use Rattle.machine_scenes.specs.declared.buffer.Buffer.{Buffer as HeldBuffer}
 use Rattle.machine_scenes.specs.declared.buffer.Buffer.TheVariants as held
 use Rattle.machine_scenes.specs.Statics.{StaticReference}
 use Rattle.semantics.specs.declared.static_reference.StaticReference.TheVariants.{Empty}
+use Rattle.machine_scenes.specs.declared.handle.Handle.{Handle}
 use Rattle.machine_scenes.specs.Given.{held_in}
 use Rattle.machine_threads.specs.SlotsHold.{SlotValues}
 use Rattle.machine_scenes.specs.Statics.{References, static_at}
@@ -25,7 +25,7 @@ is_empty_held held_by.Empty = true
 is_empty_held h = false
 
 -- whether a variable is NULL
-abbrev pub is_null : References → List (Option FieldHandle) → List HeldBuffer → NullableVariable → Bool
+abbrev pub is_null : References → List (Option Handle) → List HeldBuffer → NullableVariable → Bool
 is_null references fields buffers (Local i) = is_none (held_in (slice_get references.keys i))
 is_null references fields buffers (Static i) = is_empty_held (static_at references i)
 is_null references fields buffers (FieldId i) = is_none (held_in (slice_get fields i))
@@ -44,7 +44,7 @@ nulled_references (Local i) references = slice_set references i None
 nulled_references v references = references
 
 -- the slots of field IDs with NULL in a variable
-abbrev pub nulled_fields : NullableVariable → List (Option FieldHandle) → List (Option FieldHandle)
+abbrev pub nulled_fields : NullableVariable → List (Option Handle) → List (Option Handle)
 nulled_fields (FieldId i) fields = slice_set fields i None
 nulled_fields v fields = fields
 

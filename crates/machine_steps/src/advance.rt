@@ -1,6 +1,6 @@
 //! A step of a thread.
 
-ghost use Rattle.std.specs.Prelude.{◌≡◌, ℕ, ◌+◌, ◌<◌, ◌^◌, true, false, Some, None, ◌∷◌, List, length, Ok, IfOk, IfErr, IfSome, IfNone, OnOk, OnErr};
+ghost use Rattle.std.specs.Prelude.{◌≡◌, ℕ, ◌+◌, ◌<◌, ◌≤◌, ◌^◌, true, false, Some, None, [], ◌∷◌, ◌++◌, List, length, Ok, IfOk, IfErr, IfSome, IfNone, OnOk, OnErr};
 ghost use Rattle.std.specs.Option.{option_and_then};
 ghost use Rattle.std.specs.VecDeque.{deque_len};
 ghost use Rattle.heap.specs.Heap.{IsAddress, class_at};
@@ -11,14 +11,21 @@ ghost use Rattle.semantics_safety.specs.Owners.{ThreadOwners};
 ghost use Rattle.code_meaning.specs.Lowered.{IsLowered};
 ghost use Rattle.machine_scenes.specs.Buffers.{Acquired};
 ghost use Rattle.machine_steps.specs.Advances.{Advances, AdvancesAlways, IsHinderedAlways, LeavesMonitors, Stands, StandsReady, calls_after, ending_after, ends_with};
+ghost use Rattle.machine_threads.specs.Callers.{owner_at};
 ghost use Rattle.machine_threads.specs.Entry.{IsReady, Begins};
 ghost use Rattle.machine_steps.specs.Moved.{IsSilent};
+ghost use Rattle.machine_steps.specs.Resumed.{HasCalled, Resumes};
+ghost use Rattle.machine_steps.specs.Returned.{given_back};
+ghost use Rattle.jni.specs.Table.{result_value};
 
-use crate::execute::{Executed, execute, run_plain};
+use crate::execute::{Executed, ReturnValue, execute, run_plain};
 use crate::fault::StepFault;
+use crate::receive::receive;
 use code::instr::Instr;
 use code_meaning::Program;
 use heap::{Addr, Heap};
+use jni::ResultKind;
+use machine_answers::answer::Given;
 use machine_scenes::activation::Activation;
 use machine_scenes::operands::class_there;
 use machine_scenes::store::Store;
@@ -63,6 +70,7 @@ pub fn advance(
     ensures store { OnErr result (store.new ≡ store.old) }
     ensures thread { OnErr result (thread.new ≡ thread.old) }
 {
+    let owner = owner_at(number, thread.callers.len());
     match &mut thread.call {
         None => {
             enter(program, &store.loaded, thread)?;
@@ -75,18 +83,31 @@ pub fn advance(
             &mut thread.pending,
             activation,
             number,
-            number as u16,
+            owner,
             may_refuse,
         ) {
             Ok(Executed::Did(event)) => Ok(Advanced::Did(event)),
             Ok(Executed::Refused) => Ok(Advanced::Refused),
-            Ok(Executed::Returned(_)) => {
-                leave(store, thread, number);
+            Ok(Executed::Returned(value)) => {
+                if thread.callers.is_empty() {
+                    leave(store, thread, number);
+                    return Ok(Advanced::Did(Event::Quiet));
+                }
+                resume(program, store, thread, value);
                 Ok(Advanced::Did(Event::Quiet))
             }
             Err(fault) => Err(fault),
         },
     }
+}
+
+/// The owner of what a call of this thread copies, where so many calls are below it.
+#[inline(always)]
+fn owner_at(thread: u8, below: usize) -> u16
+    requires { below ≤ 63 }
+    ensures { result ≡ owner_at thread below }
+{
+    thread as u16 + 8 * below as u16
 }
 
 /// Takes one step of a thread, if its next instruction works on the stack and the number slots alone.
@@ -148,6 +169,54 @@ fn enter(program: &Program<'_>, loaded: &[Addr], thread: &mut Thread) -> Result<
     let _ = thread.calls.pop_front();
     thread.call = Some(activation);
     Ok(())
+}
+
+/// Goes on with the last caller of a thread, where the call that it made gives this. It takes no host memory.
+#[inline(never)]
+fn resume(program: &Program<'_>, store: &mut Store, thread: &mut Thread, value: ReturnValue)
+    requires lowered { IsLowered program.now }
+    requires some { 0 < length thread.old.callers.items }
+    requires called { (below : List Activation) (caller : Activation)
+        → thread.old.callers.items ≡ below ++ caller ∷ [] → HasCalled program.now store.old caller }
+    ensures { (below : List Activation) (caller : Activation) → thread.old.callers.items ≡ below ++ caller ∷ []
+        → Resumes program.now value caller below store.old store.new thread.old thread.new }
+{
+    let caller = thread.callers.pop().unwrap();
+    // The proof reads off this call that no object has as many elements as a `jint` can say.
+    let _ = store.heap.cells();
+    // Here the proof takes up what is known of a table.
+    let _ = caller.locals.frames();
+    let code = program.code_at(caller.function);
+    match code.instr_at(caller.place) {
+        Instr::Call(boxed) => {
+            let call = boxed.call();
+            let given = given_back(thread.pending, call.result, value);
+            let mut resumed = caller;
+            receive(
+                &mut resumed,
+                &mut store.statics,
+                call.target,
+                call.result,
+                None,
+                &given,
+            );
+            thread.call = Some(resumed);
+        }
+        _ => unreachable!(),
+    }
+}
+
+/// What a caller that wants a result of this kind is given, with this exception pending or none.
+fn given_back(pending: Option<Addr>, kind: ResultKind, value: ReturnValue) -> Given
+    ensures { result ≡ given_back pending (result_value kind) value }
+{
+    match (pending, kind, value) {
+        (None, ResultKind::NewLocal, ReturnValue::Reference(addr)) => Given::Reference(addr),
+        (None, ResultKind::GivesInt, ReturnValue::Number(word)) => Given::Number(word),
+        (_, ResultKind::NewLocal, _) => Given::Reference(None),
+        (_, ResultKind::GivesInt, _) => Given::Number(0),
+        _ => Given::Nothing,
+    }
 }
 
 /// The end of a call of the thread of this number. A thread that has ended owns no monitor.

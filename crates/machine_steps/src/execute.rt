@@ -21,7 +21,6 @@ use code::instr::{Instr, NullableVariable, Plain, ReferenceOperand};
 use code::plain::plain;
 use code_meaning::Program;
 use heap::Addr;
-use machine_answers::answer::Given;
 use machine_calls::trap::trap_of;
 use machine_scenes::activation::Activation;
 use machine_scenes::references::{References, local_of};
@@ -30,6 +29,14 @@ use machine_scenes::store::Store;
 use semantics::Event;
 use world_values::World;
 
+/// What a call returns: nothing, a number, or a reference by its object's address, which is none for NULL.
+#[derive(Clone, Copy)]
+pub enum ReturnValue {
+    Nothing,
+    Number(u32),
+    Reference(Option<Addr>),
+}
+
 /// What an instruction did.
 #[derive(Clone, Copy)]
 pub enum Executed {
@@ -37,7 +44,7 @@ pub enum Executed {
     /// A call's allocation was refused.
     Refused,
     /// The call returned, and gives this.
-    Returned(Given),
+    Returned(ReturnValue),
 }
 
 /// One instruction of the call in progress of the thread of this number. What it copies has this owner.
@@ -94,7 +101,7 @@ pub fn execute(
         Instr::Call(boxed) => {
             let call = boxed.call();
             match invoke(
-                world, store, pending, activation, call, thread, owner, may_refuse,
+                program, world, store, pending, activation, call, thread, owner, may_refuse,
             ) {
                 Ok(invoked) => Ok(outcome_of(call.line, invoked)),
                 Err(fault) => Err(fault),
@@ -109,14 +116,16 @@ pub fn execute(
 
 /// What an instruction gives that leaves a function (6.8.6.4): the topmost word, a reference, or nothing.
 #[inline(always)]
-fn given_by(instr: &Instr, activation: &Activation) -> Given
+fn given_by(instr: &Instr, activation: &Activation) -> ReturnValue
     requires room { IsSome (depth_after instr.now (length activation.now.stack)) }
     ensures { result ≡ given_by instr.now activation.now }
 {
     match instr {
-        Instr::ReturnJint => Given::Number(activation.stack.top()),
-        Instr::ReturnReference(operand) => Given::Reference(returned_at(activation, *operand)),
-        _ => Given::Nothing,
+        Instr::ReturnJint => ReturnValue::Number(activation.stack.top()),
+        Instr::ReturnReference(operand) => {
+            ReturnValue::Reference(returned_at(activation, *operand))
+        }
+        _ => ReturnValue::Nothing,
     }
 }
 

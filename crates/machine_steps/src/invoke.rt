@@ -2,6 +2,7 @@
 
 ghost use Rattle.std.specs.Prelude.{◌≡◌, ℕ, ◌+◌, ◌<◌, ◌^◌, ◌||◌, nat_le, false, true, Option, Some, Ok, slice_get, IfOk, IfErr, IfSome, OnOk, OnErr};
 ghost use Rattle.code.specs.Call.{IsPrepared};
+ghost use Rattle.code_meaning.specs.Lowered.{Lowered};
 ghost use Rattle.heap.specs.Heap.{left_of};
 ghost use Rattle.machine_calls.specs.CarriedOut.{takes_memory};
 ghost use Rattle.machine_calls.specs.Made.{cells_of};
@@ -18,6 +19,7 @@ use crate::receive::{receive, receive_number};
 use crate::scene::scene_of;
 use classes::table::ClassTable;
 use code::instr::{Call, Operand};
+use code_meaning::Program;
 use heap::{Addr, Heap};
 use machine_answers::answer::{Answer, work_out};
 use machine_answers::check::check;
@@ -43,6 +45,7 @@ pub enum Invoked {
 /// leaves a monitor goes a shorter way.
 #[inline(always)]
 pub fn invoke(
+    program: &Program<'_>,
     world: &World,
     store: &mut Store,
     pending: &mut Option<Addr>,
@@ -52,26 +55,26 @@ pub fn invoke(
     owner: u16,
     may_refuse: bool,
 ) -> Result<Invoked, StepFault>
-    requires at_call { StandsAtCall world.now store.old pending.old activation.old call.now thread owner }
+    requires at_call { StandsAtCall program.now world.now store.old pending.old activation.old call.now thread owner }
     requires place { activation.old.place + 1 < 2 ^ 64 }
     requires few { store.old.births + 2 < 2 ^ 32 }
     requires prepared { IsPrepared call.now }
-    ensures done { IfOk result (λ done. DoesCall world.now store.old store.new pending.old pending.new
+    ensures done { IfOk result (λ done. DoesCall program.now world.now store.old store.new pending.old pending.new
         activation.old activation.new call.now thread owner done) }
-    ensures hindered { IfErr result (λ fault. IsHinderedAtCall world.now store.old pending.old activation.old call.now
+    ensures hindered { IfErr result (λ fault. IsHinderedAtCall program.now world.now store.old pending.old activation.old call.now
         thread owner may_refuse fault) }
     ensures refuses { result ≡ Ok Invoked.Refused → may_refuse ≡ true }
     ensures store { OnErr result (store.new ≡ store.old) }
     ensures pending { OnErr result (pending.new ≡ pending.old) }
     ensures activation { OnErr result (activation.new ≡ activation.old) }
 {
-    match unchecked_answer(world, store, *pending, activation, call, thread) {
+    match unchecked_answer(program, world, store, *pending, activation, call, thread) {
         Some(answer) => {
             finish_monitor(store, activation, call, thread, answer)?;
             Ok(Invoked::Done)
         }
         None => invoke_checked(
-            world, store, pending, activation, call, thread, owner, may_refuse,
+            program, world, store, pending, activation, call, thread, owner, may_refuse,
         ),
     }
 }
@@ -80,6 +83,7 @@ pub fn invoke(
 /// It is made by the thread of this number. None says nothing of the call.
 #[inline(always)]
 fn unchecked_answer(
+    program: &Program<'_>,
     world: &World,
     store: &Store,
     pending: Option<Addr>,
@@ -87,8 +91,8 @@ fn unchecked_answer(
     call: &Call,
     thread: u8,
 ) -> Option<Answer>
-    requires at_call { (owner : ℕ) × StandsAtCall world.now store.now pending activation.now call.now thread owner }
-    ensures answer { IfSome result (IsAnswered world.now store.now pending activation.now thread call.now) }
+    requires at_call { (owner : ℕ) × StandsAtCall program.now world.now store.now pending activation.now call.now thread owner }
+    ensures answer { IfSome result (IsAnswered program.now world.now store.now pending activation.now thread call.now) }
     ensures changes { IfSome result (λ answer. changes_monitor answer ≡ true) }
 {
     // Here the proof takes up what is known of a world.
@@ -99,6 +103,7 @@ fn unchecked_answer(
 /// The instruction that calls a function, after all checks.
 #[inline(never)]
 fn invoke_checked(
+    program: &Program<'_>,
     world: &World,
     store: &mut Store,
     pending: &mut Option<Addr>,
@@ -108,20 +113,20 @@ fn invoke_checked(
     owner: u16,
     may_refuse: bool,
 ) -> Result<Invoked, StepFault>
-    requires at_call { StandsAtCall world.now store.old pending.old activation.old call.now thread owner }
+    requires at_call { StandsAtCall program.now world.now store.old pending.old activation.old call.now thread owner }
     requires place { activation.old.place + 1 < 2 ^ 64 }
     requires few { store.old.births + 2 < 2 ^ 32 }
     requires prepared { IsPrepared call.now }
-    ensures done { IfOk result (λ done. DoesCall world.now store.old store.new pending.old pending.new
+    ensures done { IfOk result (λ done. DoesCall program.now world.now store.old store.new pending.old pending.new
         activation.old activation.new call.now thread owner done) }
-    ensures hindered { IfErr result (λ fault. IsHinderedAtCall world.now store.old pending.old activation.old call.now
+    ensures hindered { IfErr result (λ fault. IsHinderedAtCall program.now world.now store.old pending.old activation.old call.now
         thread owner may_refuse fault) }
     ensures refuses { result ≡ Ok Invoked.Refused → may_refuse ≡ true }
     ensures store { OnErr result (store.new ≡ store.old) }
     ensures pending { OnErr result (pending.new ≡ pending.old) }
     ensures activation { OnErr result (activation.new ≡ activation.old) }
 {
-    match answer_or_trap(world, store, *pending, activation, call, thread) {
+    match answer_or_trap(program, world, store, *pending, activation, call, thread) {
         Ok(answer) => {
             if goes_ahead(
                 world.classes(),
@@ -131,7 +136,7 @@ fn invoke_checked(
                 may_refuse,
             ) {
                 Ok(finish(
-                    world, store, pending, activation, call, thread, owner, answer,
+                    program, world, store, pending, activation, call, thread, owner, answer,
                 )?)
             } else {
                 Err(StepFault::NoRoom)
@@ -158,6 +163,7 @@ fn goes_ahead(
 /// What a call of the thread of this number answers, or the trap that stops it.
 #[inline(always)]
 fn answer_or_trap(
+    program: &Program<'_>,
     world: &World,
     store: &Store,
     pending: Option<Addr>,
@@ -165,13 +171,13 @@ fn answer_or_trap(
     call: &Call,
     thread: u8,
 ) -> Result<Answer, Trap>
-    requires at_call { (owner : ℕ) × StandsAtCall world.now store.now pending activation.now call.now thread owner }
+    requires at_call { (owner : ℕ) × StandsAtCall program.now world.now store.now pending activation.now call.now thread owner }
     requires prepared { IsPrepared call.now }
-    ensures answer { IfOk result (IsAnswered world.now store.now pending activation.now thread call.now) }
+    ensures answer { IfOk result (IsAnswered program.now world.now store.now pending activation.now thread call.now) }
     ensures runs { IfOk result (λ answer. is_halt answer ≡ false) }
-    ensures trap { IfErr result (IsStopped world.now store.now pending activation.now thread call.now) }
+    ensures trap { IfErr result (IsStopped program.now world.now store.now pending activation.now thread call.now) }
 {
-    let scene = scene_of(world, store, pending, activation, thread);
+    let scene = scene_of(program, world, store, pending, activation, thread);
     match check(&scene, &activation.locals, call) {
         Some(trap) => Err(trap),
         None => running(work_out(&scene, call)),
@@ -194,6 +200,7 @@ fn running(answer: Answer) -> Result<Answer, Trap>
 /// Does what a call answers, and puts what it gives where it goes.
 #[inline(always)]
 fn finish(
+    program: &Program<'_>,
     world: &World,
     store: &mut Store,
     pending: &mut Option<Addr>,
@@ -203,13 +210,13 @@ fn finish(
     owner: u16,
     answer: Answer,
 ) -> Result<Invoked, AllocError>
-    requires at_call { StandsAtCall world.now store.old pending.old activation.old call.now thread owner }
+    requires at_call { StandsAtCall program.now world.now store.old pending.old activation.old call.now thread owner }
     requires place { activation.old.place + 1 < 2 ^ 64 }
     requires few { store.old.births + 2 < 2 ^ 32 }
     requires prepared { IsPrepared call.now }
-    requires answered { IsAnswered world.now store.old pending.old activation.old thread call.now answer }
+    requires answered { IsAnswered program.now world.now store.old pending.old activation.old thread call.now answer }
     requires runs { is_halt answer ≡ false }
-    ensures done { IfOk result (λ done. DoesCall world.now store.old store.new pending.old pending.new
+    ensures done { IfOk result (λ done. DoesCall program.now world.now store.old store.new pending.old pending.new
         activation.old activation.new call.now thread owner done) }
     ensures refused { result ≡ Ok Invoked.Refused
         → left_of store.old.heap < cells_of world.now.classes (texts_in call.now.texts.items) answer }
@@ -247,13 +254,13 @@ fn finish_monitor(
     thread: u8,
     answer: Answer,
 ) -> Result<(), AllocError>
-    requires at_call { (w : SourceWorld) × (pending : Option ℕ) × (owner : ℕ)
-        × StandsAtCall w store.old pending activation.old call.now thread owner }
+    requires at_call { (p : Lowered) × (w : SourceWorld) × (pending : Option ℕ) × (owner : ℕ)
+        × StandsAtCall p w store.old pending activation.old call.now thread owner }
     requires place { activation.old.place + 1 < 2 ^ 64 }
     requires changes { changes_monitor answer ≡ true }
-    ensures done { OnOk result ((w : SourceWorld) (pending : Option ℕ) (owner : ℕ)
-        → IsAnswered w store.old pending activation.old thread call.now answer
-        → DoesCall w store.old store.new pending pending activation.old activation.new call.now thread owner
+    ensures done { OnOk result ((p : Lowered) (w : SourceWorld) (pending : Option ℕ) (owner : ℕ)
+        → IsAnswered p w store.old pending activation.old thread call.now answer
+        → DoesCall p w store.old store.new pending pending activation.old activation.new call.now thread owner
         Invoked.Done) }
     ensures store { OnErr result (store.new ≡ store.old) }
     ensures activation { OnErr result (activation.new ≡ activation.old) }

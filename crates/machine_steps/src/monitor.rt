@@ -2,6 +2,7 @@
 
 ghost use Rattle.std.specs.Prelude.{◌≡◌, ℕ, Bool, true, [], ◌∷◌, None, Some, slice_get, IfSome, OnOk, OnErr};
 ghost use Rattle.base.specs.Element.{ElementType};
+ghost use Rattle.syntax.specs.Tree.{SourceUnit};
 ghost use Rattle.class_rules.specs.Class.{Classes};
 ghost use Rattle.code.specs.Call.{call_view};
 ghost use Rattle.heap.specs.Heap.{name_at};
@@ -36,11 +37,11 @@ pub(crate) fn answer_at_once(
     thread: u8,
 ) -> Option<Answer>
     requires objects { AreAddresses store.now.heap (references_of store.now activation.now) call.now.operands.items }
-    ensures free { IfSome result (λ answer. (classes : Classes) (room : Bool) (wanted : ElementType)
-        → trap_found (scene_of classes store.now activation.now thread pending) room wanted
+    ensures free { IfSome result (λ answer. (unit : SourceUnit) (classes : Classes) (room : Bool) (wanted : ElementType)
+        → trap_found (scene_of unit classes store.now activation.now thread pending) room wanted
         (function_value call.now.function) call.now.operands.items ≡ None) }
-    ensures works { IfSome result (λ answer. (classes : Classes)
-        → IsWorkedOut (scene_of classes store.now activation.now thread pending) (call_view call.now)
+    ensures works { IfSome result (λ answer. (unit : SourceUnit) (classes : Classes)
+        → IsWorkedOut (scene_of unit classes store.now activation.now thread pending) (call_view call.now)
         (function_value call.now.function) answer) }
     ensures changes { IfSome result (λ answer. changes_monitor answer ≡ true) }
 {

@@ -1,6 +1,7 @@
 //! Stores a call's result where its target says.
 
 ghost use Rattle.std.specs.Prelude.{◌≡◌, ℕ, Option, ◌<◌, ◌^◌, ◌+◌, [], length};
+ghost use Rattle.std.specs.Option.{option_map};
 ghost use Rattle.base.specs.declared.element.ElementType.{ElementType};
 ghost use Rattle.jni.specs.Prototype.{ResultKind as SourceKind};
 ghost use Rattle.jni.specs.Table.{result_value};
@@ -13,6 +14,7 @@ use jni::ResultKind;
 use machine_answers::answer::Given;
 use machine_scenes::activation::Activation;
 use machine_scenes::buffer::Buffer;
+use machine_scenes::handle::{Handle, MethodHandle};
 use machine_scenes::statics::StaticReference;
 use tables::{Local, Locals};
 
@@ -45,6 +47,7 @@ pub fn receive(
         Target::Number(slot) => put_number(&mut activation.slots.numbers, slot, given),
         Target::Local(slot) => activation.slots.references[slot as usize] = key,
         Target::FieldId(slot) => put_field(&mut activation.slots.fields, slot, given),
+        Target::MethodId(slot) => put_method(&mut activation.slots.fields, slot, given),
         Target::Buffer(_, slot) => put_buffer(&mut activation.slots.buffers, slot, given),
         Target::Static(slot) => put_static(statics, slot, given),
         Target::Test => put_test(&mut activation.stack, given),
@@ -66,7 +69,11 @@ pub fn receive_number(activation: &mut Activation, target: Target, word: u32)
         Target::Number(slot) => activation.slots.numbers[slot as usize] = word,
         Target::Local(slot) => activation.slots.references[slot as usize] = None,
         Target::Test => activation.stack.push(u32::from(word == 0)),
-        Target::Dropped | Target::FieldId(_) | Target::Buffer(_, _) | Target::Static(_) => {}
+        Target::Dropped
+        | Target::FieldId(_)
+        | Target::MethodId(_)
+        | Target::Buffer(_, _)
+        | Target::Static(_) => {}
     }
 }
 
@@ -102,12 +109,42 @@ fn put_number(numbers: &mut [u32], slot: u32, given: &Given)
 }
 
 /// Puts a field ID into its slot.
-fn put_field(fields: &mut [Option<FieldHandle>], slot: u32, given: &Given)
+fn put_field(fields: &mut [Option<Handle>], slot: u32, given: &Given)
     requires { slot < length fields.old }
     ensures { fields.new ≡ fields_with (Target.FieldId slot) given.now fields.old }
 {
     if let Given::FieldId(field) = *given {
-        fields[slot as usize] = field;
+        fields[slot as usize] = field_handle(field);
+    }
+}
+
+/// What the slot of a field ID holds.
+fn field_handle(field: Option<FieldHandle>) -> Option<Handle>
+    ensures { result ≡ option_map Handle.Field field }
+{
+    match field {
+        Some(field) => Some(Handle::Field(field)),
+        None => None,
+    }
+}
+
+/// Puts a method ID into its slot.
+fn put_method(fields: &mut [Option<Handle>], slot: u32, given: &Given)
+    requires { slot < length fields.old }
+    ensures { fields.new ≡ fields_with (Target.MethodId slot) given.now fields.old }
+{
+    if let Given::MethodId(method) = *given {
+        fields[slot as usize] = method_handle(method);
+    }
+}
+
+/// What the slot of a method ID holds.
+fn method_handle(method: Option<MethodHandle>) -> Option<Handle>
+    ensures { result ≡ option_map Handle.Method method }
+{
+    match method {
+        Some(method) => Some(Handle::Method(method)),
+        None => None,
     }
 }
 

@@ -4,9 +4,9 @@ ghost use Rattle.std.specs.Prelude.{◌≡◌, length};
 ghost use Rattle.machine_answers.specs.WorkedOut.{buffer_there};
 ghost use Rattle.machine_steps.specs.Variables.{is_null, HasSlot, nulled_references, nulled_fields, nulled_buffers, nulled_statics};
 
-use classes::class::FieldHandle;
 use code::instr::NullableVariable;
 use machine_scenes::buffer::Buffer;
+use machine_scenes::handle::Handle;
 use machine_scenes::references::{Held, References};
 use machine_scenes::statics::StaticReference;
 use tables::Local;
@@ -14,7 +14,7 @@ use tables::Local;
 /// Whether a variable is NULL.
 pub fn is_null(
     references: &References<'_>,
-    fields: &[Option<FieldHandle>],
+    fields: &[Option<Handle>],
     buffers: &[Buffer],
     variable: NullableVariable,
 ) -> bool
@@ -43,7 +43,7 @@ pub(crate) fn buffer_there(buffers: &[Buffer], slot: usize) -> Buffer
 /// Makes a variable NULL. A global reference that a static held stays.
 pub fn set_null(
     references: &mut [Option<Local>],
-    fields: &mut [Option<FieldHandle>],
+    fields: &mut [Option<Handle>],
     buffers: &mut [Buffer],
     statics: &mut [StaticReference],
     variable: NullableVariable,

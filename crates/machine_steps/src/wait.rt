@@ -15,6 +15,7 @@ ghost use Rattle.code_meaning.specs.Lowered.{IsLowered, Lowered};
 ghost use Rattle.machine_scenes.specs.Buffers.{Acquired, acquired_by, beside};
 ghost use Rattle.machine_scenes.specs.StoreAgrees.{StoreAgrees};
 ghost use Rattle.machine_steps.specs.Executes.{IsSteady};
+ghost use Rattle.machine_threads.specs.Callers.{beside_callers};
 ghost use Rattle.machine_threads.specs.ThreadAgrees.{ThreadAgrees};
 ghost use Rattle.machine_steps.specs.Waiting.{MayWait, is_busy};
 ghost use Rattle.machine_steps.specs.Advances.{Stands};
@@ -48,9 +49,9 @@ pub fn waits(
     requires agrees { (others : Acquired) × (own : ThreadOwners) × (shared : Shared) × (s : SourceThread)
         × Stands program.now world.now store.now others number own shared s thread.now }
     ensures { (others : Acquired) (own : ThreadOwners) (shared : Shared) (s : SourceThread)
-        → StoreAgrees program.now world.now store.now shared (beside others (acquired_by s))
+        → StoreAgrees program.now world.now store.now shared (beside (beside_callers others s) (acquired_by s))
         → ThreadAgrees program.now world.now.classes store.now.heap store.now.elements
-        (length (loaded_objects world.now)) number own.current shared thread.now s
+        (length (loaded_objects world.now)) number own shared thread.now s
         → IsSteady world.now.classes own.current shared s → result ≡ waits world.now.classes number shared s }
 {
     if store.monitors.len() == 0 {
@@ -68,7 +69,15 @@ pub fn waits(
                     let call = boxed.call();
                     match call.function {
                         JniFunction::MonitorEnter => {
-                            waits_to_enter(world, store, thread.pending, activation, call, number)
+                            waits_to_enter(
+                                program,
+                                world,
+                                store,
+                                thread.pending,
+                                activation,
+                                call,
+                                number,
+                            )
                         }
                         _ => false,
                     }
@@ -83,6 +92,7 @@ pub fn waits(
 /// It is checked only where another thread owns the monitor.
 #[inline(never)]
 fn waits_to_enter(
+    program: &Program<'_>,
     world: &World,
     store: &Store,
     pending: Option<Addr>,
@@ -100,7 +110,7 @@ fn waits_to_enter(
         → MayWait p world.now store.now pending activation.now call.now others thread owner own shared s task rest
         → result ≡ waits_with world.now.classes thread shared s (effect_of (sight_of shared s) task) }
 {
-    let scene = scene_of(world, store, pending, activation, thread);
+    let scene = scene_of(program, world, store, pending, activation, thread);
     match argument(&scene, call, 0) {
         Some(addr) => {
             is_busy(store.monitors.entering(store.heap.birth_of(addr), thread))

@@ -6,3 +6,5 @@ pub mod FilledObjects
 pub mod MadeInOrder
 pub mod WaitingThreads
 pub mod ThreadLoads
+pub mod Reversed
+pub mod SameViews

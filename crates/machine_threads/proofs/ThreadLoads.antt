@@ -13,7 +13,7 @@ use Rattle.semantics.specs.Start.{waiting_thread}
 use Rattle.semantics.specs.Thread as source
 use Rattle.semantics.specs.Thread.{Shared}
 use Rattle.semantics.specs.Load.{refused_calls}
-use Rattle.semantics_safety.specs.Owners.{Owners, AllOwners}
+use Rattle.semantics_safety.specs.Owners.{AllOwners, no_owners}
 use Rattle.code_meaning.specs.Lowered.{Lowered}
 use Rattle.machine_threads.specs.declared.fault.LoadFault.{LoadFault}
 use Rattle.machine_threads.specs.declared.fault.LoadFault.TheVariants.{DoesNotFit, Memory}
@@ -28,22 +28,22 @@ called ts = map (λ (t : Vec Invocation). t.items) ts
 
 -- ---- threads that agree
 
--- with whatever owners, and from whatever number on
+-- from whatever number on
 abbrev pub AllAgree : Lowered → Classes → Space → List (Option OwnedNumbers) → (made : ℕ) → Shared → List Thread → List source.Thread → Type 0
-AllAgree p classes space copies made shared ts ss = (owners : AllOwners) (k : ℕ) → ThreadsAgree p classes space copies made owners k shared ts ss
+AllAgree p classes space copies made shared ts ss = (k : ℕ) → ThreadsAgree p classes space copies made (λ j. no_owners) k shared ts ss
 
 module _ (p : Lowered) (classes : Classes) (space : Space) (copies : List (Option OwnedNumbers)) (made : ℕ) (shared : Shared) where
   abbrev pub AgreeSoFar : List (Vec Invocation) → (i : ℕ) → List Thread → Type 0
   AgreeSoFar ts i threads = (rest : List Thread) → AllAgree p classes space copies made shared rest (map waiting_thread (called (drop i ts))) → AllAgree p classes space copies made shared (threads ++ rest) (map waiting_thread (called ts))
 
-  pub one_more : (ts : List (Vec Invocation)) (i : ℕ) (x : Vec Invocation) (t : Thread) (threads : List Thread) → slice_get ts i ≡ Some x → ((k : ℕ) (own : Owners) → ThreadAgrees p classes space copies made k own shared t (waiting_thread x.items)) → AgreeSoFar ts i threads → AgreeSoFar ts (i + 1) (threads ++ t ∷ [])
+  pub one_more : (ts : List (Vec Invocation)) (i : ℕ) (x : Vec Invocation) (t : Thread) (threads : List Thread) → slice_get ts i ≡ Some x → ((k : ℕ) → ThreadAgrees p classes space copies made k no_owners shared t (waiting_thread x.items)) → AgreeSoFar ts i threads → AgreeSoFar ts (i + 1) (threads ++ t ∷ [])
   one_more ts i x t threads at a so_far rest h =
       subst (λ (l : List Thread). AllAgree p classes space copies made shared l (map waiting_thread (called ts))) (sym (append_assoc threads (t ∷ []) rest))
-      (so_far (t ∷ rest) (subst (λ (us : List (Vec Invocation)). AllAgree p classes space copies made shared (t ∷ rest) (map waiting_thread (called us))) (sym (drop_next ts i x at)) (λ owners k. (a k (owners k).current, h owners (suc k)))))
+      (so_far (t ∷ rest) (subst (λ (us : List (Vec Invocation)). AllAgree p classes space copies made shared (t ∷ rest) (map waiting_thread (called us))) (sym (drop_next ts i x at)) (λ k. (a k, h (suc k)))))
 
   pub all_agree : (ts : List (Vec Invocation)) (i : ℕ) (threads : List Thread) → length ts ≤ i → AgreeSoFar ts i threads → AllAgree p classes space copies made shared threads (map waiting_thread (called ts))
   all_agree ts i threads past so_far =
-      let none : AllAgree p classes space copies made shared [] (map waiting_thread (called (drop i ts))) = λ owners k. rw (drop_of_length-le ts past) tt in
+      let none : AllAgree p classes space copies made shared [] (map waiting_thread (called (drop i ts))) = λ k. rw (drop_of_length-le ts past) tt in
       subst (λ (n : List Thread). AllAgree p classes space copies made shared n (map waiting_thread (called ts))) (append-nil threads) (so_far [] none)
 
 -- ---- calls that don't load

@@ -1,5 +1,5 @@
 -- A thread before its first call.
-use Rattle.std.proofs.Common.{◌≡◌, ℕ, List, [], Option, None, refl, sym, ap, arith}
+use Rattle.std.proofs.Common.{◌≡◌, ℕ, List, [], length, Option, None, refl, sym, ap, arith}
 use Rattle.class_rules.specs.Class.{Classes}
 use Rattle.heap.specs.Heap.{Space}
 use Rattle.tables.specs.Elements.{OwnedNumbers}
@@ -9,9 +9,9 @@ use Rattle.semantics.specs.Thread.{Shared}
 use Rattle.code_meaning.specs.Lowered.{Lowered}
 use Rattle.semantics.specs.declared.event.Ending.TheVariants.{Unfinished}
 use Rattle.machine_threads.specs.declared.thread.Thread.{Thread}
-use Rattle.semantics_safety.specs.Owners.{Owners}
+use Rattle.semantics_safety.specs.Owners.{no_owners}
 use Rattle.machine_threads.specs.ThreadAgrees.{CallsAgree, ThreadAgrees}
 use Rattle.semantics.specs.EventViews.{ending_view}
 
-pub before_agrees : (p : Lowered) (classes : Classes) (space : Space) (copies : List (Option OwnedNumbers)) (made k : ℕ) (own : Owners) (shared : Shared) (t : Thread) (calls : List Invocation) → CallsAgree p classes made t.calls.items calls → (calls ≡ [] → ⊥) → t.call ≡ None → t.callers.items ≡ [] → t.pending ≡ None → t.ending ≡ Unfinished → ThreadAgrees p classes space copies made k own shared t (waiting_thread calls)
-before_agrees p classes space copies made k own shared t calls h some none no_callers no_exception ending = record { calls = h; work = rw none refl; callers = no_callers; pending = rw no_exception tt; caught = λ b. refl; idle = λ b. refl; views = rw none (λ n. omega arith); ending = ap ending_view (sym ending); busy = λ a b c. some c }
+pub before_agrees : (p : Lowered) (classes : Classes) (space : Space) (copies : List (Option OwnedNumbers)) (made k : ℕ) (shared : Shared) (t : Thread) (calls : List Invocation) → CallsAgree p classes made t.calls.items calls → (calls ≡ [] → ⊥) → t.call ≡ None → t.callers.items ≡ [] → t.pending ≡ None → t.ending ≡ Unfinished → ThreadAgrees p classes space copies made k no_owners shared t (waiting_thread calls)
+before_agrees p classes space copies made k shared t calls h some none no_callers no_exception ending = record { calls = h; work = rw none refl; callers = rw no_callers tt; few = omega (arith, ap length no_callers); pending = rw no_exception tt; caught = λ b. refl; idle = λ b. refl; views = rw none (λ n. omega arith); ending = ap ending_view (sym ending); busy = λ a b c. some c }

@@ -1,5 +1,6 @@
 -- How a call in progress stands for its tasks.
 use Rattle.std.specs.Prelude.{◌≡◌, ℕ, List, [], length, Option, Some, None, slice_get}
+use Rattle.syntax.specs.Views.{unit_tree}
 use Rattle.class_rules.specs.Class.{Classes}
 use Rattle.heap.specs.Heap.{Space}
 use Rattle.code.specs.Depth.{Listing, depth_at}
@@ -22,7 +23,7 @@ pub record CallStands (p : Lowered) (classes : Classes) (space : Space) (copies 
   pub known : Known
   pub stands : StandsFor code known activation.place activation.stack tasks
   pub meant : Meant
-  pub holds : SlotsHold classes space copies owner activation.locals (values_in activation) meant
+  pub holds : SlotsHold (unit_tree p.unit) classes space copies owner activation.locals (values_in activation) meant
   pub shows : Shows code known visible (slots_of activation meant)
   pub depth : depth_at code.instrs activation.place ≡ Some (length activation.stack)
   pub frames_agree : FramesAgree space activation.locals frames

@@ -11,7 +11,7 @@ use Rattle.semantics.specs.Activation.{function_at}
 use Rattle.semantics.specs.Load.{call_loads, first_load_fault, refused_calls}
 use Rattle.semantics.specs.Start.{waiting_thread}
 use Rattle.semantics.specs.Thread.{Shared}
-use Rattle.semantics_safety.specs.Owners.{AllOwners}
+use Rattle.semantics_safety.specs.Owners.{no_owners}
 use Rattle.code_meaning.specs.Lowered.{Lowered}
 use Rattle.machine_threads.specs.declared.fault.LoadFault.{LoadFault}
 use Rattle.machine_threads.specs.declared.fault.LoadFault.TheVariants.{DoesNotFit, Memory}
@@ -39,8 +39,8 @@ all_refused unit w = flat_map (refused_calls unit w.classes) w.threads
 -- stand by may be anything.
 abbrev pub AreWaiting : Lowered → World → List Thread → Type 0
 AreWaiting p w threads =
-    (space : Space) (copies : List (Option OwnedNumbers)) (owners : AllOwners) (k : ℕ) (shared : Shared)
-    → ThreadsAgree p w.classes space copies (length (loaded_objects w)) owners k shared threads (map waiting_thread w.threads)
+    (space : Space) (copies : List (Option OwnedNumbers)) (k : ℕ) (shared : Shared)
+    → ThreadsAgree p w.classes space copies (length (loaded_objects w)) (λ j. no_owners) k shared threads (map waiting_thread w.threads)
 
 -- the fault's line is that of the first of these
 abbrev pub IsFirstOf : List Invocation → LoadFault → Type 0

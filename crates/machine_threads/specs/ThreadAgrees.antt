@@ -1,5 +1,5 @@
 -- How threads stand for those of the source.
-use Rattle.std.specs.Prelude.{◌≡◌, ℕ, ◌<◌, ◌≤◌, List, [], ◌∷◌, length, map, Option, Some, None, IsTrue, slice_get, suc}
+use Rattle.std.specs.Prelude.{◌≡◌, ℕ, ◌<◌, ◌≤◌, List, [], ◌∷◌, length, map, reverse, Option, Some, None, IsTrue, slice_get, suc}
 use Rattle.std.specs.List.{list_all}
 use Rattle.base.specs.Limits.{most_names}
 use Rattle.syntax.specs.Parts.{functions_of}
@@ -11,7 +11,7 @@ use Rattle.world_values.specs.CallArguments.{is_argument}
 use Rattle.world_values.specs.Views.{object_value_view}
 use Rattle.semantics.specs.World.{Invocation}
 use Rattle.semantics.specs.Activation.{function_at, class_of_function}
-use Rattle.semantics_safety.specs.Owners.{Owners, AllOwners}
+use Rattle.semantics_safety.specs.Owners.{ThreadOwners, AllOwners}
 use Rattle.semantics.specs.Thread as source
 use Rattle.semantics.specs.Thread.{Shared}
 use Rattle.code_meaning.specs.Slots.{ArgumentsFit, visible_to}
@@ -22,6 +22,7 @@ use Rattle.machine_scenes.specs.declared.activation.Activation.{Activation}
 use Rattle.machine_scenes.specs.declared.buffer.Buffer.{Buffer}
 use Rattle.machine_scenes.specs.Buffers.{AreViewed}
 use Rattle.machine_scenes.specs.HeapAgrees.{ReferenceAgrees}
+use Rattle.machine_threads.specs.Callers.{CallersAgree, owner_at}
 use Rattle.machine_threads.specs.InProgress.{WorkAgrees}
 use Rattle.semantics.specs.declared.event.Ending.TheVariants.{Unfinished}
 use Rattle.semantics.specs.EventViews.{ending_view}
@@ -57,11 +58,12 @@ buffers_of (Some activation) = activation.slots.buffers.items
 
 -- thread k stands for one of the source, with this heap and these copied lists, where this number of objects were made at load
 pub record ThreadAgrees (p : Lowered) (classes : Classes) (space : Space) (copies : List (Option OwnedNumbers))
-    (made k : ℕ) (own : Owners) (shared : Shared) (t : Thread) (s : source.Thread) : Type 0 where
+    (made k : ℕ) (own : ThreadOwners) (shared : Shared) (t : Thread) (s : source.Thread) : Type 0 where
   pub calls : CallsAgree p classes made t.calls.items s.calls
-  pub work : WorkAgrees p classes space copies k (visible_to own shared s) t.call s.frames s.tasks
-  -- no call makes another yet
-  pub callers : t.callers.items ≡ []
+  pub work : WorkAgrees p classes space copies (owner_at k (length s.callers)) (visible_to own.current shared s) t.call s.frames s.tasks
+  -- memory has the last caller last
+  pub callers : CallersAgree p classes space copies k shared (reverse t.callers.items) own.callers s.callers
+  pub few : length t.callers.items ≤ 63
   pub pending : ReferenceAgrees space t.pending s.pending
   pub ending : s.ending ≡ ending_view t.ending
   -- a thread with nothing to do has ended
@@ -80,4 +82,4 @@ ThreadsAgree p classes space copies made owners k shared [] [] = Unit {0}
 ThreadsAgree p classes space copies made owners k shared [] (s ∷ ss) = ⊥
 ThreadsAgree p classes space copies made owners k shared (t ∷ ts) [] = ⊥
 ThreadsAgree p classes space copies made owners k shared (t ∷ ts) (s ∷ ss) = ThreadAgrees p classes space copies made k
-    (owners k).current shared t s × ThreadsAgree p classes space copies made owners (suc k) shared ts ss
+    (owners k) shared t s × ThreadsAgree p classes space copies made owners (suc k) shared ts ss

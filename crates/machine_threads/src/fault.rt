@@ -10,8 +10,8 @@ use world_schedules::Rule;
 /// Why a world was not loaded.
 #[derive(Clone, Copy, Debug, Error)]
 pub enum LoadFault {
-    /// Fault 82: the function of a call or its class is unknown, or the arguments don't fit.
-    /// The line is the call's in the world, counted from 1.
+    /// Fault 82: the function of a call or its class is unknown, or the arguments don't fit; or methods are asked for, which
+    /// the world doesn't allow. The line is the call's in the world, or that of its heap, counted from 1.
     #[error("fault {} line {}", Rule::Name.number(), .0)]
     DoesNotFit(usize),
     /// Host memory was refused.

@@ -9,13 +9,13 @@ ghost use Rattle.world_values.specs.CallArguments.{are_arguments};
 ghost use Rattle.world_values.specs.SoundWorlds.{has_call};
 ghost use Rattle.semantics.specs.World.{loaded_objects};
 ghost use Rattle.semantics.specs.Activation.{function_at};
-ghost use Rattle.semantics.specs.Load.{refused_calls};
+ghost use Rattle.semantics.specs.Load.{methods_load, refused_calls};
 ghost use Rattle.semantics.specs.Start.{waiting_thread};
 ghost use Rattle.semantics.specs.Thread.{Shared};
-ghost use Rattle.semantics_safety.specs.Owners.{Owners};
+ghost use Rattle.semantics_safety.specs.Owners.{no_owners};
 ghost use Rattle.tables.specs.Elements.{OwnedNumbers};
 ghost use Rattle.machine_threads.specs.ThreadAgrees.{ThreadAgrees};
-ghost use Rattle.machine_threads.specs.Loading.{AreWaiting, IsCallOf, IsFirstOf, IsNumberOf, all_refused};
+ghost use Rattle.machine_threads.specs.Loading.{AreWaiting, IsCallOf, IsFirstOf, IsLoadFault, IsNumberOf, all_refused};
 
 use crate::fault::LoadFault;
 use crate::thread::{PendingCall, Thread};
@@ -25,7 +25,7 @@ use functions::{Functions, NumberedFunction};
 use semantics::Ending;
 use std::alloc::{AllocError, Global};
 use std::collections::VecDeque;
-use world_calls::arguments_fit;
+use world_calls::{arguments_fit, methods_load};
 use world_values::{Call, World};
 
 /// The world's threads before their first calls.
@@ -35,9 +35,13 @@ pub fn load_threads(
     world: &World,
 ) -> Result<Vec<Thread>, LoadFault>
     ensures agree { IfOk result (λ threads. AreWaiting program.now world.now threads.items) }
+    ensures methods { OnOk result (IsTrue (methods_load (unit_tree program.now.unit) world.now)) }
     ensures all { OnOk result (all_refused (unit_tree program.now.unit) world.now ≡ []) }
-    ensures refused { IfErr result (IsFirstOf (all_refused (unit_tree program.now.unit) world.now)) }
+    ensures refused { IfErr result (IsLoadFault (unit_tree program.now.unit) world.now) }
 {
+    if !methods_load(program.items(), world) {
+        return Err(LoadFault::DoesNotFit(world.heap_line()));
+    }
     let functions = Functions::of(alloc, program.items())?;
     load_all(alloc, program, &functions, world)
 }
@@ -74,9 +78,9 @@ fn load_thread(
     requires functions { functions.now ≡ program.now.unit }
     requires some { IsTrue (has_call calls.now) }
     requires given { IsTrue (list_all (are_arguments (length (loaded_objects world.now))) calls.now) }
-    ensures agrees { IfOk result (λ thread. (space : Space) (copies : List (Option OwnedNumbers)) (k : ℕ) (own : Owners)
+    ensures agrees { IfOk result (λ thread. (space : Space) (copies : List (Option OwnedNumbers)) (k : ℕ)
         (shared : Shared) → ThreadAgrees program.now world.now.classes space copies
-        (length (loaded_objects world.now)) k own shared thread
+        (length (loaded_objects world.now)) k no_owners shared thread
         (waiting_thread calls.now)) }
     ensures all { OnOk result (refused_calls (unit_tree program.now.unit) world.now.classes calls.now ≡ []) }
     ensures refused { IfErr result (IsFirstOf (refused_calls (unit_tree program.now.unit) world.now.classes calls.now)) }

@@ -11,7 +11,7 @@ use world_values::ObjectValue;
 pub struct Thread {
     pub calls: VecDeque<PendingCall>,
     pub call: Option<Activation>,
-    /// The calls from which the one in progress was made, the last one last. No call makes another yet.
+    /// The calls from which the one in progress was made, the last one last. They are 63 at most. No call makes another yet.
     pub callers: Vec<Activation>,
     /// The pending exception.
     pub pending: Option<Addr>,

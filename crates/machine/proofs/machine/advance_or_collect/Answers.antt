@@ -19,7 +19,7 @@ advance-requires-clause-agrees c =
       f.source,
       shared_there c.args.program.now c.args.world.now c.args.store.now c.args.threads.now c.args.index s d,
       subst (λ (n : ℕ). ThreadAgrees c.args.program.now c.args.world.now.classes c.args.store.now.heap c.args.store.now.elements (length (loaded_objects c.args.world.now)) n
-          (own c.args.program.now c.args.world.now c.args.store.now c.args.threads.now c.args.index s d).current s.stands.state.shared (slice_index_or c.args.threads.now c.args.index d) f.source)
+          (own c.args.program.now c.args.world.now c.args.store.now c.args.threads.now c.args.index s d) s.stands.state.shared (slice_index_or c.args.threads.now c.args.index d) f.source)
           (numbered c.args.k c.args.index c.requires.number) f.agrees,
       lives_there c.args.program.now c.args.world.now c.args.store.now c.args.threads.now c.args.index s d,
       is_steady c.args.program.now c.args.world.now c.args.store.now c.args.threads.now c.args.index s d,

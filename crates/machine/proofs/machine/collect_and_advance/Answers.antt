@@ -60,7 +60,7 @@ advance-requires-clause-agrees c =
       s.stands.state.shared,
       f.source,
       shared_there p w store threads c.args.index s d,
-      subst (λ (n : ℕ). ThreadAgrees p w.classes store.heap store.elements (length (loaded_objects w)) n (own p w store threads c.args.index s d).current s.stands.state.shared (slice_index_or threads c.args.index d) f.source)
+      subst (λ (n : ℕ). ThreadAgrees p w.classes store.heap store.elements (length (loaded_objects w)) n (own p w store threads c.args.index s d) s.stands.state.shared (slice_index_or threads c.args.index d) f.source)
           (numbered c.args.k c.args.index c.requires.number) f.agrees,
       lives_there p w store threads c.args.index s d,
       is_steady p w store threads c.args.index s d,
@@ -80,7 +80,7 @@ unreachable-requires c =
     let number = numbered c.args.k c.args.index c.requires.number in
     let hindered = c.in-Err.ensures.hindered (rest p w store threads c.args.index s d) (own p w store threads c.args.index s d) s.stands.state.shared f.source
     (shared_there p w store threads c.args.index s d)
-    (subst (λ (n : ℕ). ThreadAgrees p w.classes store.heap store.elements (length (loaded_objects w)) n (own p w store threads c.args.index s d).current s.stands.state.shared (slice_index_or threads c.args.index d) f.source) number f.agrees)
+    (subst (λ (n : ℕ). ThreadAgrees p w.classes store.heap store.elements (length (loaded_objects w)) n (own p w store threads c.args.index s d) s.stands.state.shared (slice_index_or threads c.args.index d) f.source) number f.agrees)
     (is_steady p w store threads c.args.index s d)
     (subst (λ (n : ℕ). waits w.classes n s.stands.state.shared f.source ≡ false) number (is_ready p w store threads c.args.index s d)) in
     unhindered p w store threads c.args.index s d c.args.k number _ c.in-Err.field-0 (makes_after a) hindered

@@ -42,18 +42,19 @@ returns-clause-begins c =
     let s = start (unit_tree c.args.program.now.unit) w in
     let made = c.in_ok-store.ensures.made in
     let owners : AllOwners = owners_after (unit_tree c.args.program.now.unit) w [] in
-    let agree = c.in_ok-threads.ensures.agree c.in_ok-store.store.heap c.in_ok-store.store.elements owners 1 s.shared in
+    let agree = c.in_ok-threads.ensures.agree c.in_ok-store.store.heap c.in_ok-store.store.elements 1 s.shared in
     let none = none_taken w.threads in
     let count : length c.in_ok-threads.threads.items ≡ length c.args.world.now.threads = agree_length _ _ _ _ _ owners _ _ _ _ agree ∙ length-map c.args.world.now.threads waiting_thread in
     record {
       lowered = c.items.ensures.lowered;
       safe = c.accepted_is_safe.ensures (unit_tree c.args.program.now.unit) w
           (subst (λ (l : List Item). IsSorted (unit_tree l)) c.items.ensures.items c.items.ensures.sorted) (subst (λ (l : List Item). HasRegions (unit_tree l)) c.items.ensures.items c.items.ensures.regions)
-          (all_load (unit_tree c.args.program.now.unit) w.classes w.threads c.in_ok-threads.ensures.all) (all_have_calls w.threads c.threads.ensures.sound.calls);
+          (c.in_ok-threads.ensures.methods, all_load (unit_tree c.args.program.now.unit) w.classes w.threads c.in_ok-threads.ensures.all) (all_have_calls w.threads c.threads.ensures.sound.calls);
       typed = c.objects_are_typed.ensures (unit_tree c.args.program.now.unit) w
           (subst (λ (l : List Item). IsSorted (unit_tree l)) c.items.ensures.items c.items.ensures.sorted) (subst (λ (l : List Item). HasRegions (unit_tree l)) c.items.ensures.items c.items.ensures.regions)
           (subst (λ (l : List Item). HasTexts (unit_tree l)) c.items.ensures.items (texts_are_bytes (unit_tree c.items.result.now) c.items.ensures.tree))
-          (all_load (unit_tree c.args.program.now.unit) w.classes w.threads c.in_ok-threads.ensures.all) c.threads.ensures.sound;
+          (c.in_ok-threads.ensures.methods, all_load (unit_tree c.args.program.now.unit) w.classes w.threads c.in_ok-threads.ensures.all) c.threads.ensures.sound;
+      methods = c.threads.ensures.sound.methods;
       state = s;
       replays = refl;
       store_agrees = record {

@@ -6,6 +6,8 @@ use Rattle.std.proofs.lemmas.List.{with_items_is}
 use Rattle.std.specs.Global.{Vec}
 use Rattle.std.specs.Prelude.{slice_get, IfOk, OnErr}
 use Rattle.std.specs.Vec.{with_items}
+use Rattle.syntax.specs.Tree.{SourceUnit}
+use Rattle.syntax.specs.Views.{unit_tree}
 use Rattle.class_rules.specs.Class.{Classes}
 use Rattle.class_rules.specs.declared.class_id.ClassId.{ClassId}
 use Rattle.heap.specs.Heap.{Space, left_of}
@@ -41,8 +43,8 @@ use Rattle.machine_answers.proofs.LongTables.{classes_loaded}
 use Rattle.machine_calls.proofs.carry_out.carry_out.Goals as goal
 
 -- what a call of thread k, of this number, brings
-abbrev brings : (texts : List (List ℕ)) → (numbers : List ℕ) → List Buffer → Store → (k owner : ℕ) → (others : Acquired) → Thread → Option (Identifier × LocalArray) → Brought
-brings texts numbers buffers store k owner others s array = bringing texts numbers (holding buffers store.elements owner) k (in_use_of (beside others (acquired_by s))) array
+abbrev brings : SourceUnit → (texts : List (List ℕ)) → (numbers : List ℕ) → List Buffer → Store → (k owner : ℕ) → (others : Acquired) → Thread → Option (Identifier × LocalArray) → Brought
+brings unit texts numbers buffers store k owner others s array = bringing unit texts numbers (holding buffers store.elements owner) k (in_use_of (beside others (acquired_by s))) array
 
 -- a class of the table has a small number
 small : (w : World) (class : ℕ) → IsSound w → class ≤ length w.classes → class < 2 ^ 32
@@ -74,7 +76,7 @@ make-requires-clause-class c =
     let w = c.args.world.now in
     let kind = result_value c.args.call.now.result in
     let texts = texts_in c.args.call.now.texts.items in
-    let brought = brings texts c.args.activation.now.slots.numbers.items c.args.activation.now.slots.buffers.items c.args.store.now c.args.thread c.args.owner r.2 r.4 r.1 in
+    let brought = brings (unit_tree r.0.unit) texts c.args.activation.now.slots.numbers.items c.args.activation.now.slots.buffers.items c.args.store.now c.args.thread c.args.owner r.2 r.4 r.1 in
     small w (class_of_new c.in-Makes.new) c.threads.ensures.sound
     (makes_it w.classes brought c.args.store.now.heap c.args.activation.now.locals kind r.3 r.4 c.in-Makes.new r.5 (subst (λ (a : Answer). IsAnswer w.classes brought c.args.store.now.heap c.args.activation.now.locals kind r.3 r.4 a r.5) c.in-Makes.is r.7)).describes.makeable.high
 
@@ -84,7 +86,7 @@ make-requires-in-Throws-clause-class c =
     let w = c.args.world.now in
     let kind = result_value c.args.call.now.result in
     let texts = texts_in c.args.call.now.texts.items in
-    let brought = brings texts c.args.activation.now.slots.numbers.items c.args.activation.now.slots.buffers.items c.args.store.now c.args.thread c.args.owner r.2 r.4 r.1 in
+    let brought = brings (unit_tree r.0.unit) texts c.args.activation.now.slots.numbers.items c.args.activation.now.slots.buffers.items c.args.store.now c.args.thread c.args.owner r.2 r.4 r.1 in
     small w c.in-Throws.class.number c.threads.ensures.sound
     (throws_it w.classes brought c.args.store.now.heap c.args.activation.now.locals kind r.3 r.4 c.in-Throws.class r.5 (subst (λ (a : Answer). IsAnswer w.classes brought c.args.store.now.heap c.args.activation.now.locals kind r.3 r.4 a r.5) c.in-Throws.is r.7)).makeable.high
 
@@ -93,7 +95,7 @@ returns-in-Writes-clause-carried c p array others shared s effect h does =
     let w = c.args.world.now in
     let kind = result_value c.args.call.now.result in
     let texts = texts_in c.args.call.now.texts.items in
-    let brought = brings texts c.args.activation.now.slots.numbers.items c.args.activation.now.slots.buffers.items c.args.store.now c.args.thread c.args.owner others s array in
+    let brought = brings (unit_tree p.unit) texts c.args.activation.now.slots.numbers.items c.args.activation.now.slots.buffers.items c.args.store.now c.args.thread c.args.owner others s array in
     let old = c.args.store.now in
     carries.by_answer p w old.heap c.args.activation.now.locals kind others c.args.owner shared s effect brought c.args.answer (answer.Writes c.in-Writes.addr c.in-Writes.place c.in-Writes.value) c.in-Writes.is _ _ _ _ _ (λ writes.
     subst (λ (space : Space). CarriesOut p w old.heap c.args.activation.now.locals (answer.Writes c.in-Writes.addr c.in-Writes.place c.in-Writes.value) kind others c.args.owner shared s effect false (record old { heap = space }) c.args.pending.now c.args.activation.now.locals given.Nothing) (sym c.set.ensures)
@@ -104,7 +106,7 @@ returns-in-Some-clause-carried c p array others shared s effect h does =
     let w = c.args.world.now in
     let kind = result_value c.args.call.now.result in
     let texts = texts_in c.args.call.now.texts.items in
-    let brought = brings texts c.args.activation.now.slots.numbers.items c.args.activation.now.slots.buffers.items c.args.store.now c.args.thread c.args.owner others s array in
+    let brought = brings (unit_tree p.unit) texts c.args.activation.now.slots.numbers.items c.args.activation.now.slots.buffers.items c.args.store.now c.args.thread c.args.owner others s array in
     let old = c.args.store.now in
     let made = subst (λ (l : List (Vec ℕ)). Makes c.classes.result.now (texts_in l) old c.in-Makes.new c.make.new.store c.make.result) c.deref-texts.ensures.value c.make.ensures in
     carries.by_answer p w old.heap c.args.activation.now.locals kind others c.args.owner shared s effect brought c.args.answer (answer.Makes c.in-Makes.new) c.in-Makes.is _ _ _ _ _ (λ makes.
@@ -116,7 +118,7 @@ returns-in-None-clause-carried c p array others shared s effect h does =
     let w = c.args.world.now in
     let kind = result_value c.args.call.now.result in
     let texts = texts_in c.args.call.now.texts.items in
-    let brought = brings texts c.args.activation.now.slots.numbers.items c.args.activation.now.slots.buffers.items c.args.store.now c.args.thread c.args.owner others s array in
+    let brought = brings (unit_tree p.unit) texts c.args.activation.now.slots.numbers.items c.args.activation.now.slots.buffers.items c.args.store.now c.args.thread c.args.owner others s array in
     let old = c.args.store.now in
     let made = subst (λ (l : List (Vec ℕ)). Makes c.classes.result.now (texts_in l) old c.in-Makes.new c.make.new.store c.make.result) c.deref-texts.ensures.value c.make.ensures in
     carries.by_answer p w old.heap c.args.activation.now.locals kind others c.args.owner shared s effect brought c.args.answer (answer.Makes c.in-Makes.new) c.in-Makes.is _ _ _ _ _ (λ makes.
@@ -129,7 +131,7 @@ returns-in-Some-make-clause-carried c p array others shared s effect h does =
     let w = c.args.world.now in
     let kind = result_value c.args.call.now.result in
     let texts = texts_in c.args.call.now.texts.items in
-    let brought = brings texts c.args.activation.now.slots.numbers.items c.args.activation.now.slots.buffers.items c.args.store.now c.args.thread c.args.owner others s array in
+    let brought = brings (unit_tree p.unit) texts c.args.activation.now.slots.numbers.items c.args.activation.now.slots.buffers.items c.args.store.now c.args.thread c.args.owner others s array in
     let old = c.args.store.now in
     let made = subst (λ (l : List (Vec ℕ)). Makes c.classes-in-Throws.result.now (texts_in l) old (Fresh c.in-Throws.class) c.make-in-Throws.new.store c.make-in-Throws.result) c.deref-texts.ensures.value c.make-in-Throws.ensures in
     carries.by_answer p w old.heap c.args.activation.now.locals kind others c.args.owner shared s effect brought c.args.answer (answer.Throws c.in-Throws.class) c.in-Throws.is _ _ _ _ _ (λ throws.
@@ -142,7 +144,7 @@ returns-in-None-make-clause-carried c p array others shared s effect h does =
     let w = c.args.world.now in
     let kind = result_value c.args.call.now.result in
     let texts = texts_in c.args.call.now.texts.items in
-    let brought = brings texts c.args.activation.now.slots.numbers.items c.args.activation.now.slots.buffers.items c.args.store.now c.args.thread c.args.owner others s array in
+    let brought = brings (unit_tree p.unit) texts c.args.activation.now.slots.numbers.items c.args.activation.now.slots.buffers.items c.args.store.now c.args.thread c.args.owner others s array in
     let old = c.args.store.now in
     let made = subst (λ (l : List (Vec ℕ)). Makes c.classes-in-Throws.result.now (texts_in l) old (Fresh c.in-Throws.class) c.make-in-Throws.new.store c.make-in-Throws.result) c.deref-texts.ensures.value c.make-in-Throws.ensures in
     carries.by_answer p w old.heap c.args.activation.now.locals kind others c.args.owner shared s effect brought c.args.answer (answer.Throws c.in-Throws.class) c.in-Throws.is _ _ _ _ _ (λ throws.
@@ -155,9 +157,9 @@ returns-in-Gives-clause-carried c p array others shared s effect h does =
     let w = c.args.world.now in
     let kind = result_value c.args.call.now.result in
     let texts = texts_in c.args.call.now.texts.items in
-    let brought = brings texts c.args.activation.now.slots.numbers.items c.args.activation.now.slots.buffers.items c.args.store.now c.args.thread c.args.owner others s array in
+    let brought = brings (unit_tree p.unit) texts c.args.activation.now.slots.numbers.items c.args.activation.now.slots.buffers.items c.args.store.now c.args.thread c.args.owner others s array in
     let old = c.args.store.now in
-    carries.by_answer p w old.heap c.args.activation.now.locals kind others c.args.owner shared s effect brought c.args.answer (answer.Gives c.in-Gives.given) c.in-Gives.is _ _ _ _ _ (λ gives. carries.gives p w old c.args.pending.now c.args.activation.now.locals kind others c.args.owner shared s h brought c.in-Gives.given effect gives) does
+    carries.by_answer p w old.heap c.args.activation.now.locals kind others c.args.owner shared s effect brought c.args.answer (answer.Gives c.in-Gives.given) c.in-Gives.is _ _ _ _ _ (λ gives. carries.gives p w old c.args.pending.now c.args.activation.now.locals kind others c.args.owner shared s h brought refl c.in-Gives.given effect gives) does
 
 -- what is told of an answer of buffers, of each kind of result
 told_on : {T E : Type 0} (P Q : T → Type 0) (r : Result T E) → ((x : T) → P x → Q x) → IfOk r P → IfOk r Q
@@ -167,7 +169,7 @@ told_on P Q (Err e) f h = h
 pub returns-in_default-clause-carried : goal.returns-in_default-clause-carried
 returns-in_default-clause-carried c =
     told_on _ _ c.carry_out_buffers.result (λ carried told p array others shared s effect h does.
-    told p (result_value c.args.call.now.result) (brings (texts_in c.args.call.now.texts.items) c.args.activation.now.slots.numbers.items c.args.activation.now.slots.buffers.items c.args.store.now c.args.thread c.args.owner others s array) others shared s effect h does (ap (λ (l : List Buffer). holding l c.args.store.now.elements c.args.owner) (sym c.deref_mut-in_default.ensures.value)) refl refl) c.carry_out_buffers.ensures.carried
+    told p (result_value c.args.call.now.result) (brings (unit_tree p.unit) (texts_in c.args.call.now.texts.items) c.args.activation.now.slots.numbers.items c.args.activation.now.slots.buffers.items c.args.store.now c.args.thread c.args.owner others s array) others shared s effect h does (ap (λ (l : List Buffer). holding l c.args.store.now.elements c.args.owner) (sym c.deref_mut-in_default.ensures.value)) refl refl) c.carry_out_buffers.ensures.carried
 
 -- where nothing was done the slots are as they were
 both_on_err : {T E : Type 0} (P Q R : Type 0) (r : Result T E) → (P → Q → R) → OnErr r P → OnErr r Q → OnErr r R
@@ -189,7 +191,7 @@ returns-in_default-clause-activation c =
 pub carry_out_buffers-requires-clause-possible : goal.carry_out_buffers-requires-clause-possible
 carry_out_buffers-requires-clause-possible c =
     let r = c.requires.possible in
-    (r.0, result_value c.args.call.now.result, brings (texts_in c.args.call.now.texts.items) c.args.activation.now.slots.numbers.items c.args.activation.now.slots.buffers.items c.args.store.now c.args.thread c.args.owner r.2 r.4 r.1, r.2, r.3, r.4, r.5, r.6, r.7, ap (λ (l : List Buffer). holding l c.args.store.now.elements c.args.owner) (sym c.deref_mut-in_default.ensures.value), refl, refl)
+    (r.0, result_value c.args.call.now.result, brings (unit_tree r.0.unit) (texts_in c.args.call.now.texts.items) c.args.activation.now.slots.numbers.items c.args.activation.now.slots.buffers.items c.args.store.now c.args.thread c.args.owner r.2 r.4 r.1, r.2, r.3, r.4, r.5, r.6, r.7, ap (λ (l : List Buffer). holding l c.args.store.now.elements c.args.owner) (sym c.deref_mut-in_default.ensures.value), refl, refl)
 
 -- a message and an exception were made in the store of the world's classes
 both_made : (classes table : Classes) (texts : List (List ℕ)) (old after : Store) (class : ClassId) (place a : ℕ) (o : Option ℕ) → table ≡ classes → Raises table texts old class place after o → o ≡ Some a → Raises classes texts old class place after (Some a)
@@ -204,7 +206,7 @@ raise-requires-clause-class c =
     let w = c.args.world.now in
     let kind = result_value c.args.call.now.result in
     let texts = texts_in c.args.call.now.texts.items in
-    let brought = brings texts c.args.activation.now.slots.numbers.items c.args.activation.now.slots.buffers.items c.args.store.now c.args.thread c.args.owner r.2 r.4 r.1 in
+    let brought = brings (unit_tree r.0.unit) texts c.args.activation.now.slots.numbers.items c.args.activation.now.slots.buffers.items c.args.store.now c.args.thread c.args.owner r.2 r.4 r.1 in
     let does = subst (λ (a : Answer). IsAnswer w.classes brought c.args.store.now.heap c.args.activation.now.locals kind r.3 r.4 a r.5) c.in-Raises.is r.7 in
     small w c.in-Raises.class.number c.threads.ensures.sound does.2.high
 
@@ -213,7 +215,7 @@ returns-in-Some-raise-clause-carried c p array others shared s effect h does =
     let w = c.args.world.now in
     let kind = result_value c.args.call.now.result in
     let texts = texts_in c.args.call.now.texts.items in
-    let brought = brings texts c.args.activation.now.slots.numbers.items c.args.activation.now.slots.buffers.items c.args.store.now c.args.thread c.args.owner others s array in
+    let brought = brings (unit_tree p.unit) texts c.args.activation.now.slots.numbers.items c.args.activation.now.slots.buffers.items c.args.store.now c.args.thread c.args.owner others s array in
     let old = c.args.store.now in
     let raised = subst (λ (l : List (Vec ℕ)). Raises c.classes-in-Raises.result.now (texts_in l) old c.in-Raises.class c.in-Raises.place c.raise.new.store c.raise.result) c.deref-texts.ensures.value c.raise.ensures in
     let class = c.in-Raises.class in
@@ -227,7 +229,7 @@ returns-in-None-raise-clause-carried c p array others shared s effect h does =
     let w = c.args.world.now in
     let kind = result_value c.args.call.now.result in
     let texts = texts_in c.args.call.now.texts.items in
-    let brought = brings texts c.args.activation.now.slots.numbers.items c.args.activation.now.slots.buffers.items c.args.store.now c.args.thread c.args.owner others s array in
+    let brought = brings (unit_tree p.unit) texts c.args.activation.now.slots.numbers.items c.args.activation.now.slots.buffers.items c.args.store.now c.args.thread c.args.owner others s array in
     let old = c.args.store.now in
     let raised = subst (λ (l : List (Vec ℕ)). Raises c.classes-in-Raises.result.now (texts_in l) old c.in-Raises.class c.in-Raises.place c.raise.new.store c.raise.result) c.deref-texts.ensures.value c.raise.ensures in
     let class = c.in-Raises.class in
@@ -242,16 +244,16 @@ returns-in-Pends-clause-carried c p array others shared s effect h does =
     let w = c.args.world.now in
     let kind = result_value c.args.call.now.result in
     let texts = texts_in c.args.call.now.texts.items in
-    let brought = brings texts c.args.activation.now.slots.numbers.items c.args.activation.now.slots.buffers.items c.args.store.now c.args.thread c.args.owner others s array in
+    let brought = brings (unit_tree p.unit) texts c.args.activation.now.slots.numbers.items c.args.activation.now.slots.buffers.items c.args.store.now c.args.thread c.args.owner others s array in
     let old = c.args.store.now in
     carries.by_answer p w old.heap c.args.activation.now.locals kind others c.args.owner shared s effect brought c.args.answer (answer.Pends c.in-Pends.exception c.in-Pends.given) c.in-Pends.is _ _ _ _ _ (λ pends.
-    carries.pends p w old c.args.pending.now c.args.activation.now.locals kind others c.args.owner shared s h brought c.in-Pends.exception c.in-Pends.given effect pends) does
+    carries.pends p w old c.args.pending.now c.args.activation.now.locals kind others c.args.owner shared s h brought refl c.in-Pends.exception c.in-Pends.given effect pends) does
 
 pub returns-in-CopiesOut-clause-carried : goal.returns-in-CopiesOut-clause-carried
 returns-in-CopiesOut-clause-carried c p array others shared s effect h does =
     let w = c.args.world.now in
     let kind = result_value c.args.call.now.result in
-    let brought = brings (texts_in c.args.call.now.texts.items) c.args.activation.now.slots.numbers.items c.args.activation.now.slots.buffers.items c.args.store.now c.args.thread c.args.owner others s array in
+    let brought = brings (unit_tree p.unit) (texts_in c.args.call.now.texts.items) c.args.activation.now.slots.numbers.items c.args.activation.now.slots.buffers.items c.args.store.now c.args.thread c.args.owner others s array in
     let old = c.args.store.now in
     carries.by_answer p w old.heap c.args.activation.now.locals kind others c.args.owner shared s effect brought c.args.answer (answer.CopiesOut c.in-CopiesOut.region) c.in-CopiesOut.is _ _ _ _ _ (λ copies.
     carries.copies_out p w old c.args.pending.now c.args.activation.now.locals kind others c.args.owner shared s h brought c.in-CopiesOut.region effect copies) does
@@ -260,7 +262,7 @@ pub returns-in-CopiesIn-clause-carried : goal.returns-in-CopiesIn-clause-carried
 returns-in-CopiesIn-clause-carried c p array others shared s effect h does =
     let w = c.args.world.now in
     let kind = result_value c.args.call.now.result in
-    let brought = brings (texts_in c.args.call.now.texts.items) c.args.activation.now.slots.numbers.items c.args.activation.now.slots.buffers.items c.args.store.now c.args.thread c.args.owner others s array in
+    let brought = brings (unit_tree p.unit) (texts_in c.args.call.now.texts.items) c.args.activation.now.slots.numbers.items c.args.activation.now.slots.buffers.items c.args.store.now c.args.thread c.args.owner others s array in
     let old = c.args.store.now in
     carries.by_answer p w old.heap c.args.activation.now.locals kind others c.args.owner shared s effect brought c.args.answer (answer.CopiesIn c.in-CopiesIn.region) c.in-CopiesIn.is _ _ _ _ _ (λ copies.
     subst (λ (space : Space). CarriesOut p w old.heap c.args.activation.now.locals (answer.CopiesIn c.in-CopiesIn.region) kind others c.args.owner shared s effect false (record old { heap = space }) c.args.pending.now c.args.activation.now.locals given.Nothing) (ap (space_with old.heap c.in-CopiesIn.region) (sym c.deref.ensures.value) ∙ sym c.copy_in.ensures)
@@ -270,13 +272,13 @@ returns-in-CopiesIn-clause-carried c p array others shared s effect h does =
 pub copy_out-requires : goal.copy_out-requires
 copy_out-requires c =
     let r = c.requires.possible in
-    let brought = brings (texts_in c.args.call.now.texts.items) c.args.activation.now.slots.numbers.items c.args.activation.now.slots.buffers.items c.args.store.now c.args.thread c.args.owner r.2 r.4 r.1 in
+    let brought = brings (unit_tree r.0.unit) (texts_in c.args.call.now.texts.items) c.args.activation.now.slots.numbers.items c.args.activation.now.slots.buffers.items c.args.store.now c.args.thread c.args.owner r.2 r.4 r.1 in
     let copied = (subst (λ (a : Answer). IsAnswer c.args.world.now.classes brought c.args.store.now.heap c.args.activation.now.locals (result_value c.args.call.now.result) r.3 r.4 a r.5) c.in-CopiesOut.is r.7).1 in
     record { within = copied.within; slots = λ i inside. subst (λ (l : List ℕ). c.in-CopiesOut.region.slot + i < length l) (sym c.deref_mut.ensures.value) (copied.slots i inside) }
 
 pub copy_in-requires : goal.copy_in-requires
 copy_in-requires c =
     let r = c.requires.possible in
-    let brought = brings (texts_in c.args.call.now.texts.items) c.args.activation.now.slots.numbers.items c.args.activation.now.slots.buffers.items c.args.store.now c.args.thread c.args.owner r.2 r.4 r.1 in
+    let brought = brings (unit_tree r.0.unit) (texts_in c.args.call.now.texts.items) c.args.activation.now.slots.numbers.items c.args.activation.now.slots.buffers.items c.args.store.now c.args.thread c.args.owner r.2 r.4 r.1 in
     let copied = (subst (λ (a : Answer). IsAnswer c.args.world.now.classes brought c.args.store.now.heap c.args.activation.now.locals (result_value c.args.call.now.result) r.3 r.4 a r.5) c.in-CopiesIn.is r.7).1 in
     record { within = copied.within; slots = λ i inside. subst (λ (l : List ℕ). c.in-CopiesIn.region.slot + i < length l) (sym c.deref.ensures.value) (copied.slots i inside) }

@@ -1,8 +1,7 @@
-use Rattle.std.proofs.Common.{◌≡◌, ℕ, List, [], Option, Some, None, refl, sym, ap, ◌∙◌, subst}
+use Rattle.std.proofs.Common.{ℕ, List, Option, refl, sym, ◌∙◌, subst}
 use Rattle.heap.specs.Heap.{Space}
 use Rattle.compact.specs.Reach.{IsKept}
 use Rattle.compact.specs.Same.{IsSame, MovesBy}
-use Rattle.machine_collections.specs.Moving.{AreFollowed}
 use Rattle.machine_collections.specs.Roots.{root_places}
 use Rattle.machine_collections.proofs.PutWeaks.{none_followed}
 use Rattle.machine_collections.proofs.collecting.collect_strongly.Goals as goal

@@ -1,11 +1,12 @@
-use Rattle.std.proofs.Common.{ℕ, ◌+◌, ◌≤◌, ◌++◌, List, [], ◌∷◌, Option, length, drop, refl, sym, ap, ◌∙◌, arith, append_assoc, append-nil}
+use Rattle.std.proofs.Common.{ℕ, ◌+◌, ◌≤◌, ◌++◌, List, [], ◌∷◌, Option, length, drop, refl, sym, ap, ◌∙◌, subst, arith, append_assoc, append-nil}
 use Rattle.std.specs.Prelude.{flat_map}
 use Rattle.std.proofs.lemmas.List.Concat.{flat_map-cons}
 use Rattle.std.proofs.lemmas.Option.{slice_get_read}
-use Rattle.machine_collections.specs.Roots.{slots_of, thread_places}
+use Rattle.machine_scenes.specs.declared.activation.Activation.{Activation}
+use Rattle.machine_collections.specs.Roots.{CallersAreStacked, ThreadIsStacked, call_places, slots_of, thread_places}
 use Rattle.machine_threads.proofs.Lists.{drop_next}
 use Rattle.machine_collections.proofs.MovedRoots.{drop_past}
-use Rattle.machine_collections.proofs.RootNames.{stacked_more, there_within}
+use Rattle.machine_collections.proofs.RootNames.{holds_more, there_within}
 use Rattle.machine_collections.proofs.roots.push_threads.Goals as goal
 
 pub loop-thread-preserved : goal.loop-thread-preserved
@@ -16,13 +17,17 @@ loop-thread-preserved c =
     let places = c.loop-thread.places.items in
     let at = slice_get_read ts (length ts) i x refl c.loop-thread-test.true c.thread-item.is in
     let further = flat_map thread_places (drop (i + 1) ts) in
+    let below = flat_map call_places x.callers.items in
+    let own = slots_of x.call ++ x.pending ∷ [] in
+    let under = c.in_ok-push_callers.ensures.places ∙ ap (λ (l : List Activation). places ++ flat_map call_places l) c.deref.ensures.value in
     let one = c.in_ok-push.ensures.items
-    ∙ ap (λ (l : List (Option ℕ)). l ++ x.pending ∷ []) c.in_ok-push_call.ensures.places
-    ∙ append_assoc places (slots_of x.call) (x.pending ∷ []) in
+    ∙ ap (λ (l : List (Option ℕ)). l ++ x.pending ∷ []) (c.in_ok-push_call.ensures.places ∙ ap (λ (l : List (Option ℕ)). l ++ slots_of x.call) under)
+    ∙ append_assoc (places ++ below) (slots_of x.call) (x.pending ∷ [])
+    ∙ append_assoc places below own in
     record {
       places = ap (λ (l : List (Option ℕ)). l ++ further) one ∙ append_assoc places (thread_places x) further
           ∙ ap (λ (l : List (Option ℕ)). places ++ l) (sym (ap (flat_map thread_places) (drop_next ts i x at) ∙ flat_map-cons thread_places x (drop (i + 1) ts))) ∙ c.loop-thread.invariant.places;
-      stacked = stacked_more ts i x at c.in_ok-push_call.ensures.stacked c.loop-thread.invariant.stacked;
+      stacked = holds_more ThreadIsStacked ts i x at (subst CallersAreStacked c.deref.ensures.value c.in_ok-push_callers.ensures.stacked, c.in_ok-push_call.ensures.stacked) c.loop-thread.invariant.stacked;
     }
 
 pub returns-clause-places : goal.returns-clause-places

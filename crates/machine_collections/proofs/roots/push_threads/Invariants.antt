@@ -1,11 +1,11 @@
 use Rattle.std.proofs.Common.{◌≡◌, ℕ, ◌<◌, ◌++◌, Some, drop}
 use Rattle.std.specs.Prelude.{flat_map, slice_get}
 use Rattle.machine_threads.specs.declared.thread.Thread.{Thread}
-use Rattle.machine_collections.specs.Roots.{thread_places, CallIsStacked}
+use Rattle.machine_collections.specs.Roots.{ThreadIsStacked, thread_places}
 use Rattle.machine_collections.proofs.roots.push_threads.Given as goal
 
 abbrev pub invariant-loop-thread : goal.invariant-loop-thread
 invariant-loop-thread l = record {
   places : l.places.items ++ flat_map thread_places (drop l.thread-index l.threads) ≡ l.fn.places.items ++ flat_map thread_places l.threads;
-  stacked : (i : ℕ) (t : Thread) → i < l.thread-index → slice_get l.threads i ≡ Some t → CallIsStacked t.call;
+  stacked : (i : ℕ) (t : Thread) → i < l.thread-index → slice_get l.threads i ≡ Some t → ThreadIsStacked t;
 }

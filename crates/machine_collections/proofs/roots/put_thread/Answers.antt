@@ -1,33 +1,90 @@
-use Rattle.std.proofs.Common.{ℕ, ◌+◌, ◌<◌, [], ◌∷◌, Option, length, ap, ◌∙◌, arith}
+use Rattle.std.proofs.Common.{◌≡◌, ℕ, ◌+◌, ◌<◌, ◌++◌, [], ◌∷◌, List, Option, length, map, sym, ap, ◌∙◌, subst, arith, length-append}
+use Rattle.std.specs.Prelude.{flat_map}
 use Rattle.std.specs.Option.{option_map}
+use Rattle.std.specs.Vec.{with_items}
 use Rattle.machine_scenes.specs.declared.activation.Activation.{Activation}
 use Rattle.machine_threads.specs.declared.thread.Thread.{Thread}
-use Rattle.machine_collections.specs.Moving.{moved_call}
-use Rattle.machine_collections.specs.Roots.{slots_of}
+use Rattle.machine_collections.specs.Moving.{AreMovedAt, moved_call}
+use Rattle.machine_collections.specs.Roots.{call_places, slots_of, thread_places}
 use Rattle.machine_collections.proofs.MovedRoots.{last_moved, moved_back, moved_below, moved_front}
 use Rattle.machine_collections.proofs.roots.put_thread.Goals as goal
 use Rattle.machine_collections.proofs.roots.put_thread.Goals.{After-put_call-next}
 
--- the pending exception's place
-below : (c : After-put_call-next) → c.put_call-next.result < length c.args.roots.now.places.items
-below c =
+module _ (t : Thread) (places : List (Option ℕ)) (from : ℕ) (to : ℕ → ℕ) (h : AreMovedAt to (thread_places t) places from) where
+  abbrev below : List (Option ℕ)
+  below = flat_map call_places t.callers.items
+
+  abbrev own : List (Option ℕ)
+  own = slots_of t.call ++ t.pending ∷ []
+
+  callers_there : AreMovedAt to below places from
+  callers_there = moved_front to below own places from h
+
+  own_there : AreMovedAt to own places (from + length below)
+  own_there = moved_back to below own places from h
+
+  call_there : AreMovedAt to (slots_of t.call) places (from + length below)
+  call_there = moved_front to (slots_of t.call) (t.pending ∷ []) places (from + length below) own_there
+
+  pending_there : AreMovedAt to (t.pending ∷ []) places (from + length below + length (slots_of t.call))
+  pending_there = moved_back to (slots_of t.call) (t.pending ∷ []) places (from + length below) own_there
+
+pub put_callers-next-requires : goal.put_callers-next-requires
+put_callers-next-requires c =
+    let t = c.args.thread.now in
+    let items = c.args.roots.now.places.items in (
+      c.requires.0,
+      subst (λ (l : List Activation). AreMovedAt c.requires.0 (flat_map call_places l) items c.args.from) (sym c.deref_mut.ensures.value) (callers_there t items c.args.from c.requires.0 c.requires.1),
+    )
+
+pub put_call-next-requires : goal.put_call-next-requires
+put_call-next-requires c =
+    let t = c.args.thread.now in
+    let items = c.args.roots.now.places.items in
+    let next = c.put_callers-next.ensures.next ∙ ap (λ (l : List Activation). c.args.from + length (flat_map call_places l)) c.deref_mut.ensures.value in
+    (c.requires.0, subst (λ (n : ℕ). AreMovedAt c.requires.0 (slots_of t.call) items n) (sym next) (call_there t items c.args.from c.requires.0 c.requires.1))
+
+-- where the pending exception is
+last : (c : After-put_call-next) → c.put_call-next.result ≡ c.args.from + length (flat_map call_places c.args.thread.now.callers.items) + length (slots_of c.args.thread.now.call)
+last c =
+    c.put_call-next.ensures.next
+    ∙ ap (λ (n : ℕ). n + length (slots_of c.args.thread.now.call))
+    (c.put_callers-next.ensures.next ∙ ap (λ (l : List Activation). c.args.from + length (flat_map call_places l)) c.deref_mut.ensures.value)
+
+within : (c : After-put_call-next) → c.put_call-next.result < length c.args.roots.now.places.items
+within c =
     let t = c.args.thread.now in
     let places = c.args.roots.now.places.items in
-    let last = moved_back c.requires.0 (slots_of t.call) (t.pending ∷ []) places c.args.from c.requires.1 in
-    let less = moved_below c.requires.0 (t.pending ∷ []) places (c.args.from + length (slots_of t.call)) 0 last (omega arith) in
-    omega (arith, less, c.put_call-next.ensures.next)
+    let from = c.args.from + length (flat_map call_places t.callers.items) + length (slots_of t.call) in
+    let less = moved_below c.requires.0 (t.pending ∷ []) places from 0 (pending_there t places c.args.from c.requires.0 c.requires.1) (omega arith) in
+    omega (arith, less, last c)
 
 pub root-thread-requires : goal.root-thread-requires
-root-thread-requires c = below c
+root-thread-requires c = within c
 
 pub overflow_add-result : goal.overflow_add-result
-overflow_add-result c = let less = below (goal.at.overflow_add-result c).After-put_call-next in omega (arith, less, c.args.roots.now.places.ok.0)
+overflow_add-result c = let less = within (goal.at.overflow_add-result c).After-put_call-next in omega (arith, less, c.args.roots.now.places.ok.0)
 
 pub returns-clause-moved : goal.returns-clause-moved
 returns-clause-moved c = λ to h.
     let t = c.args.thread.now in
-    let places = c.args.roots.now.places.items in
-    let call = c.put_call-next.ensures.moved to (moved_front to (slots_of t.call) (t.pending ∷ []) places c.args.from h) in
-    let pending = last_moved to t.pending places (c.args.from + length (slots_of t.call)) c.put_call-next.result c.root-thread.result (moved_back to (slots_of t.call) (t.pending ∷ []) places c.args.from h) c.put_call-next.ensures.next c.root-thread.ensures in
-    ap (λ (o : Option Activation). let u : Thread = record t { call = o; pending = c.root-thread.result } in u) call
-    ∙ ap (λ (o : Option ℕ). let u : Thread = record t { call = option_map (moved_call to) t.call; pending = o } in u) pending
+    let items = c.args.roots.now.places.items in
+    let at = (goal.at.returns-clause-moved c).After-put_call-next in
+    let callers = c.put_callers-next.ensures.moved to (subst (λ (l : List Activation). AreMovedAt to (flat_map call_places l) items c.args.from) (sym c.deref_mut.ensures.value) (callers_there t items c.args.from to h)) in
+    let next = c.put_callers-next.ensures.next ∙ ap (λ (l : List Activation). c.args.from + length (flat_map call_places l)) c.deref_mut.ensures.value in
+    let call = c.put_call-next.ensures.moved to (subst (λ (n : ℕ). AreMovedAt to (slots_of t.call) items n) (sym next) (call_there t items c.args.from to h)) in
+    let from = c.args.from + length (flat_map call_places t.callers.items) + length (slots_of t.call) in
+    let pending = last_moved to t.pending items from c.put_call-next.result c.root-thread.result (pending_there t items c.args.from to h) (last at) c.root-thread.ensures in
+    ap (λ (l : List Activation). let u : Thread = record t { callers = with_items t.callers l; call = c.put_call-next.new.call; pending = c.root-thread.result } in u)
+    (callers ∙ ap (map (moved_call to)) c.deref_mut.ensures.value)
+    ∙ ap (λ (o : Option Activation). let u : Thread = record t { callers = with_items t.callers (map (moved_call to) t.callers.items); call = o; pending = c.root-thread.result } in u) call
+    ∙ ap (λ (o : Option ℕ). let u : Thread = record t { callers = with_items t.callers (map (moved_call to) t.callers.items); call = option_map (moved_call to) t.call; pending = o } in u) pending
+
+pub returns-clause-next : goal.returns-clause-next
+returns-clause-next c =
+    let t = c.args.thread.now in
+    let at = (goal.at.returns-clause-next c).After-put_call-next in
+    let below = flat_map call_places t.callers.items in
+    let parts : length (thread_places t) ≡ length below + length (slots_of t.call ++ t.pending ∷ []) = length-append below (slots_of t.call ++ t.pending ∷ []) in
+    let own : length (slots_of t.call ++ t.pending ∷ []) ≡ length (slots_of t.call) + 1 = length-append (slots_of t.call) (t.pending ∷ []) in
+    omega (arith, last at, parts, own)

@@ -6,7 +6,7 @@ use Rattle.compact.proofs.Fronts.{front_all, front_get, front_step}
 use Rattle.machine_threads.specs.declared.thread.Thread.{Thread}
 use Rattle.machine_collections.specs.Moving.{AreMovedAt, moved_thread}
 use Rattle.machine_collections.specs.Roots.{thread_places}
-use Rattle.machine_collections.proofs.MovedRoots.{places_more, thread_still, threads_at}
+use Rattle.machine_collections.proofs.MovedRoots.{moved_there, places_more, still_there}
 use Rattle.machine_collections.proofs.roots.put_threads.Goals as goal
 use Rattle.machine_collections.proofs.roots.put_threads.Goals.{After-index-threads-index}
 
@@ -20,10 +20,10 @@ here_at c = slice_get-get_or c.loop-index.threads c.loop-index.index c.index-thr
 module _ (c : After-index-threads-index) (to : ℕ → ℕ) (h : AreMovedAt to (flat_map thread_places c.args.threads.now) c.args.roots.now.places.items c.args.from) where
   -- it is as it was
   here_before : slice_get c.args.threads.now c.loop-index.index ≡ Some (here c)
-  here_before = thread_still to c.args.threads.now c.loop-index.index (here c) (ap (λ (l : List Thread). slice_get l c.loop-index.index) (sym (c.loop-index.invariant.moved to h)) ∙ here_at c)
+  here_before = still_there (moved_thread to) c.args.threads.now c.loop-index.index (here c) (ap (λ (l : List Thread). slice_get l c.loop-index.index) (sym (c.loop-index.invariant.moved to h)) ∙ here_at c)
 
   here_moved : AreMovedAt to (thread_places (here c)) c.args.roots.now.places.items c.loop-index.next
-  here_moved = subst (λ (n : ℕ). AreMovedAt to (thread_places (here c)) c.args.roots.now.places.items n) (sym c.loop-index.invariant.next) (threads_at to c.args.threads.now c.args.roots.now.places.items c.args.from c.loop-index.index (here c) h here_before)
+  here_moved = subst (λ (n : ℕ). AreMovedAt to (thread_places (here c)) c.args.roots.now.places.items n) (sym c.loop-index.invariant.next) (moved_there thread_places to c.args.threads.now c.args.roots.now.places.items c.args.from c.loop-index.index (here c) h here_before)
 
 pub put_thread-next-requires : goal.put_thread-next-requires
 put_thread-next-requires c = (c.requires.0, here_moved c c.requires.0 c.requires.1)
@@ -33,7 +33,7 @@ loop-index-preserved c =
     let a = (goal.at.loop-index-preserved c).After-index-threads-index in
     let ts = c.args.threads.now in
     let i = c.loop-index.index in
-    let more = places_more ts i (here a) (here_before a c.requires.0 c.requires.1) in
+    let more = places_more thread_places ts i (here a) (here_before a c.requires.0 c.requires.1) in
     record {
       next = omega (arith, more, c.put_thread-next.ensures.next, c.loop-index.invariant.next);
       moved = λ to h.

@@ -8,6 +8,6 @@ use Rattle.machine_collections.proofs.roots.put_threads.Given as goal
 
 abbrev pub invariant-loop-index : goal.invariant-loop-index
 invariant-loop-index l = record {
-  next : l.next ≡ l.from + length (places_to l.fn.threads l.index);
+  next : l.next ≡ l.from + length (places_to thread_places l.fn.threads l.index);
   moved : (to : ℕ → ℕ) → AreMovedAt to (flat_map thread_places l.fn.threads) l.roots.places.items l.from → l.threads ≡ front (moved_thread to) l.index l.fn.threads;
 }

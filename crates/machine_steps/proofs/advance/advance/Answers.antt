@@ -1,29 +1,63 @@
-use Rattle.std.proofs.Common.{◌≡◌, ℕ, true, false, List, Option, Some, None, length, sym, ap, ◌∙◌, subst, refl}
-use Rattle.std.specs.Prelude.{IsSome}
+use Rattle.std.proofs.Common.{◌≡◌, ℕ, zero, suc, ◌<◌, true, false, List, [], ◌∷◌, ◌++◌, Option, Some, None, length, reverse, sym, ap, ◌∙◌, subst, refl, arith}
+use Rattle.std.specs.Prelude.{IsSome, ◌==◌}
+use Rattle.std.proofs.lemmas.Bool.Decides.{Decides-eqb}
+use Rattle.std.specs.Global.{Vec}
 use Rattle.std.specs.Option.{option_map}
 use Rattle.syntax.specs.Views.{unit_tree}
 use Rattle.heap.specs.Heap.{Block, Space, IsAddress, block_at, left_of}
-use Rattle.semantics.specs.ThreadStep.{next_effect, step_within}
+use Rattle.semantics.specs.ThreadStep.{next_effect, step_within, waits}
 use Rattle.semantics.specs.Effect.{effect_of}
 use Rattle.semantics.specs.Object.{Reference}
 use Rattle.semantics.specs.Thread as source
 use Rattle.semantics.specs.Thread.{Shared, sight_of}
-use Rattle.semantics.specs.World.{loaded_objects}
+use Rattle.semantics.specs.World.{World, loaded_objects}
 use Rattle.semantics.specs.declared.event.Event.TheVariants.{Quiet}
-use Rattle.machine_steps.specs.Executes.{IsHindered, Executes, cells_made, in_use_with}
+use Rattle.semantics_safety.specs.Owners.{ThreadOwners}
+use Rattle.code_meaning.specs.Lowered.{Lowered}
+use Rattle.code_meaning.specs.Slots.{visible_to}
+use Rattle.machine_scenes.specs.Buffers.{Acquired, acquired_by, beside}
+use Rattle.machine_scenes.specs.StoreAgrees.{StoreAgrees}
+use Rattle.machine_scenes.specs.declared.activation.Activation.{Activation}
+use Rattle.machine_scenes.specs.declared.store.Store.{Store}
+use Rattle.machine_threads.specs.Callers.{beside_callers, owner_at}
+use Rattle.machine_threads.specs.ThreadAgrees.{ThreadAgrees}
+use Rattle.machine_steps.specs.Advances.{StandsReady}
+use Rattle.machine_steps.specs.Executes.{DoesFirstTask, IsExecuting, IsHindered, IsSteady, Executes, cells_made, in_use_with}
+use Rattle.machine_steps.specs.Resumed.{HasCalled, Resumes}
+use Rattle.machine_steps.specs.Returned.{ReturnAgrees}
+use Rattle.machine_steps.specs.declared.execute.ReturnValue.{ReturnValue}
+use Rattle.machine_steps.specs.declared.execute.Executed.TheVariants.{Did, Refused, Returned}
 use Rattle.machine_steps.specs.declared.execute.Executed.{Executed}
 use Rattle.machine_scenes.specs.HeapAgrees.{ReferenceAgrees}
 use Rattle.machine_threads.specs.Entry.{IsReady, Begins}
 use Rattle.machine_steps.proofs.Entries.{enters, coming, ready_to_begin}
-use Rattle.machine_steps.proofs.Threads.{did, returned}
+use Rattle.machine_steps.proofs.Threads.{Working, did, returned}
+use Rattle.machine_steps.proofs.Returns.{copier_is, first, has_called, none_below, returned_into}
 use Rattle.machine_steps.proofs.Waits.{executes, work}
 use Rattle.machine_steps.proofs.advance.advance.Goals as goal
+use Rattle.machine_steps.proofs.advance.advance.Goals.{After-owner_at-owner}
+
+pub owner_at-owner-requires : goal.owner_at-owner-requires
+owner_at-owner-requires c = let few = c.requires.agrees.5.few in omega (arith, few, c.len.ensures, c.args.thread.now.callers.ok.0)
 
 pub execute-requires-clause-stands : goal.execute-requires-clause-stands
 execute-requires-clause-stands c =
     let a = c.requires.agrees in
-    let it = work c.args.program.now c.args.world.now c.args.store.now a.0 c.args.number a.1.current a.2 c.args.thread.now a.3 c.in-Some.activation a.4 a.5 c.in-Some.is a.7 in
-    (a.0, a.1.current, a.2, a.3, it.task, it.rest, executes c.args.program.now c.args.world.now c.args.store.now a.0 c.args.number a.1.current a.2 c.args.thread.now a.3 c.in-Some.activation a.4 a.5 c.in-Some.is a.7 a.8)
+    let p = c.args.program.now in
+    let w = c.args.world.now in
+    let store = c.args.store.now in
+    let others = beside_callers a.0 a.3 in
+    let it = work p w store others c.args.number a.1 a.2 c.args.thread.now a.3 c.in-Some.activation a.4 a.5 c.in-Some.is a.7 in
+    let same = c.owner_at-owner.ensures ∙ copier_is p w.classes store.heap store.elements (length (loaded_objects w)) c.args.number a.1 a.2 c.args.thread.now a.3 a.5 c.len.result (c.len.ensures ∙ c.args.thread.now.callers.ok.0) in (
+      others,
+      a.1.current,
+      a.2,
+      a.3,
+      it.task,
+      it.rest,
+      subst (λ (n : ℕ). IsExecuting p w store c.in-Some.activation c.args.thread.now.pending others c.args.number n a.1.current a.2 a.3 it.task it.rest) (sym same)
+          (executes p w store others c.args.number a.1 a.2 c.args.thread.now a.3 c.in-Some.activation a.4 a.5 c.in-Some.is a.7 a.8),
+    )
 
 pub enter-requires-clause-ready : goal.enter-requires-clause-ready
 enter-requires-clause-ready c next rest is =
@@ -40,25 +74,53 @@ returns-in_ok-enter-in-None-clause-advances c others own shared s shares h stead
     let begins = subst (λ (l : List ℕ). Begins c.args.program.now l e.0 e.1) c.deref.ensures.value e.4 in
     enters c.args.program.now c.args.world.now c.args.store.now others c.args.number own shared c.args.thread.now c.enter.new.thread s e.0 e.1 c.requires.lowered shares h c.in-None.is e.2 e.3 begins c.in_ok-enter-in-None.ensures.callers c.in_ok-enter-in-None.ensures.pending c.in_ok-enter-in-None.ensures.ending
 
+-- whatever thread of the source it stands for
+module _ (c : After-owner_at-owner) (others : Acquired) (own : ThreadOwners) (shared : Shared) (s : source.Thread) (shares : StoreAgrees c.args.program.now c.args.world.now c.args.store.now shared (beside (beside_callers others s) (acquired_by s)))
+    (h : ThreadAgrees c.args.program.now c.args.world.now.classes c.args.store.now.heap c.args.store.now.elements (length (loaded_objects c.args.world.now)) c.args.number own shared c.args.thread.now s) (steady : IsSteady c.args.world.now.classes own.current shared s) (activation : Activation) (is : c.args.thread.now.call ≡ Some activation) where
+  abbrev p : Lowered
+  p = c.args.program.now
+
+  abbrev w : World
+  w = c.args.world.now
+
+  abbrev old : Store
+  old = c.args.store.now
+
+  abbrev k : ℕ
+  k = c.args.number
+
+  abbrev rest_of : Acquired
+  rest_of = beside_callers others s
+
+  abbrev it : Working p w.classes old.heap old.elements (owner_at k (length s.callers)) activation (visible_to own.current shared s) s.frames s.tasks
+  it = work p w old rest_of k own shared c.args.thread.now s activation shares h is steady
+
+  owner_same : c.owner_at-owner.result ≡ owner_at k (length s.callers)
+  owner_same = c.owner_at-owner.ensures ∙ copier_is p w.classes old.heap old.elements (length (loaded_objects w)) k own shared c.args.thread.now s h c.len.result (c.len.ensures ∙ c.args.thread.now.callers.ok.0)
+
+  stands_as : waits w.classes k shared s ≡ false → IsExecuting p w old activation c.args.thread.now.pending rest_of k c.owner_at-owner.result own.current shared s it.task it.rest
+  stands_as free = subst (λ (n : ℕ). IsExecuting p w old activation c.args.thread.now.pending rest_of k n own.current shared s it.task it.rest) (sym owner_same) (executes p w old rest_of k own shared c.args.thread.now s activation shares h is steady free)
+
+  -- what was executed
+  does : (store : Store) (after : Activation) (left : Option ℕ) (done x : Executed) → waits w.classes k shared s ≡ false → DoesFirstTask p w old store activation after c.args.thread.now.pending left k c.owner_at-owner.result done → done ≡ x
+      → Executes p w old store rest_of k (owner_at k (length s.callers)) own.current shared s it.rest after left (effect_of (sight_of shared s) it.task) x
+  does store after left done x free told same =
+      subst (λ (y : Executed). Executes p w old store rest_of k (owner_at k (length s.callers)) own.current shared s it.rest after left (effect_of (sight_of shared s) it.task) y) same
+      (subst (λ (n : ℕ). Executes p w old store rest_of k n own.current shared s it.rest after left (effect_of (sight_of shared s) it.task) done) owner_same (told rest_of own.current shared s it.task it.rest (stands_as free)))
+
 pub returns-in-Ok-Did-clause-advances : goal.returns-in-Ok-Did-clause-advances
 returns-in-Ok-Did-clause-advances c others own shared s shares h steady free =
-    let p = c.args.program.now in
-    let w = c.args.world.now in
-    let old = c.args.store.now in
-    let b = work p w old others c.args.number own.current shared c.args.thread.now s c.in-Some.activation shares h c.in-Some.is steady in
-    let executed = c.in-Ok-Did.ensures.done others own.current shared s b.task b.rest (executes p w old others c.args.number own.current shared c.args.thread.now s c.in-Some.activation shares h c.in-Some.is steady free) in
-    let goes = subst (λ (x : Executed). Executes p w old c.execute.new.store others c.args.number c.args.number own.current shared s b.rest c.execute.new.activation c.execute.new.pending (effect_of (sight_of shared s) b.task) x) c.in-Ok-Did.field-0-is executed in
-    did p w old others c.args.number own shared c.args.thread.now s h c.execute.new.store false c.in-Ok-Did.event b.task b.rest steady.alone b.is c.execute.new.activation c.execute.new.pending goes
+    let a = (goal.at.returns-in-Ok-Did-clause-advances c).After-owner_at-owner in
+    let b = it a others own shared s shares h steady c.in-Some.activation c.in-Some.is in
+    did c.args.program.now c.args.world.now c.args.store.now others c.args.number own shared c.args.thread.now s h c.execute.new.store false c.in-Ok-Did.event b.task b.rest b.is c.execute.new.activation c.execute.new.pending
+    (does a others own shared s shares h steady c.in-Some.activation c.in-Some.is c.execute.new.store c.execute.new.activation c.execute.new.pending _ (Did c.in-Ok-Did.event) free c.in-Ok-Did.ensures.done c.in-Ok-Did.field-0-is)
 
 pub returns-in-Ok-Refused-clause-advances : goal.returns-in-Ok-Refused-clause-advances
 returns-in-Ok-Refused-clause-advances c others own shared s shares h steady free =
-    let p = c.args.program.now in
-    let w = c.args.world.now in
-    let old = c.args.store.now in
-    let b = work p w old others c.args.number own.current shared c.args.thread.now s c.in-Some.activation shares h c.in-Some.is steady in
-    let executed = c.in-Ok-Refused.ensures.done others own.current shared s b.task b.rest (executes p w old others c.args.number own.current shared c.args.thread.now s c.in-Some.activation shares h c.in-Some.is steady free) in
-    let goes = subst (λ (x : Executed). Executes p w old c.execute.new.store others c.args.number c.args.number own.current shared s b.rest c.execute.new.activation c.execute.new.pending (effect_of (sight_of shared s) b.task) x) c.in-Ok-Refused.field-0-is executed in
-    did p w old others c.args.number own shared c.args.thread.now s h c.execute.new.store true Quiet b.task b.rest steady.alone b.is c.execute.new.activation c.execute.new.pending goes
+    let a = (goal.at.returns-in-Ok-Refused-clause-advances c).After-owner_at-owner in
+    let b = it a others own shared s shares h steady c.in-Some.activation c.in-Some.is in
+    did c.args.program.now c.args.world.now c.args.store.now others c.args.number own shared c.args.thread.now s h c.execute.new.store true Quiet b.task b.rest b.is c.execute.new.activation c.execute.new.pending
+    (does a others own shared s shares h steady c.in-Some.activation c.in-Some.is c.execute.new.store c.execute.new.activation c.execute.new.pending _ Refused free c.in-Ok-Refused.ensures.done c.in-Ok-Refused.field-0-is)
 
 -- an address with a name is that of a block
 there_is : (o : Option Block) (n : ℕ) → option_map (λ (b : Block). b.birth) o ≡ Some n → IsSome o
@@ -70,33 +132,81 @@ named space None r a h e = absurd (cc)
 named space (Some b) None a h e = absurd h
 named space (Some b) (Some n) a h e = let same : b ≡ a = cc in subst (IsAddress space) same (there_is (block_at space b) n h)
 
-pub leave-requires : goal.leave-requires
-leave-requires c a is =
-    let p = c.args.program.now in
-    let w = c.args.world.now in
-    let old = c.args.store.now in
-    let r = c.requires.agrees in
-    let k = c.args.number in
-    let b = work p w old r.0 k r.1.current r.2 c.args.thread.now r.3 c.in-Some.activation r.4 r.5 c.in-Some.is r.7 in
-    let executed = c.in-Ok-Returned.ensures.done r.0 r.1.current r.2 r.3 b.task b.rest (executes p w old r.0 k r.1.current r.2 c.args.thread.now r.3 c.in-Some.activation r.4 r.5 c.in-Some.is r.7 r.8) in
-    let left = subst (λ (x : Executed). Executes p w old c.execute.new.store r.0 k k r.1.current r.2 r.3 b.rest c.execute.new.activation c.execute.new.pending (effect_of (sight_of r.2 r.3) b.task) x) c.in-Ok-Returned.field-0-is executed in
-    named c.execute.new.store.heap c.execute.new.pending r.3.pending a left.3 is
+-- the source's return, and what is pending
+module _ (c : After-owner_at-owner) (activation : Activation) (is : c.args.thread.now.call ≡ Some activation) where
+  abbrev a : StandsReady c.args.program.now c.args.world.now c.args.number c.args.store.now c.args.thread.now
+  a = c.requires.agrees
 
-pub returns-in-Ok-Returned-clause-advances : goal.returns-in-Ok-Returned-clause-advances
-returns-in-Ok-Returned-clause-advances c others own shared s shares h steady free =
+  returns_there : (store : Store) (after : Activation) (left : Option ℕ) (done : Executed) (v : ReturnValue) → DoesFirstTask c.args.program.now c.args.world.now c.args.store.now store activation after c.args.thread.now.pending left c.args.number c.owner_at-owner.result done → done ≡ Returned v
+      → Executes c.args.program.now c.args.world.now c.args.store.now store (beside_callers a.0 a.3) c.args.number (owner_at c.args.number (length a.3.callers)) a.1.current a.2 a.3 (it c a.0 a.1 a.2 a.3 a.4 a.5 a.7 activation is).rest after left (effect_of (sight_of a.2 a.3) (it c a.0 a.1 a.2 a.3 a.4 a.5 a.7 activation is).task) (Returned v)
+  returns_there store after left done v told same = does c a.0 a.1 a.2 a.3 a.4 a.5 a.7 activation is store after left done (Returned v) a.8 told same
+
+pub leave-requires : goal.leave-requires
+leave-requires c x is =
+    let r = returns_there (goal.at.leave-requires c).After-owner_at-owner c.in-Some.activation c.in-Some.is c.execute.new.store c.execute.new.activation c.execute.new.pending _ c.in-Ok-Returned.value c.in-Ok-Returned.ensures.done c.in-Ok-Returned.field-0-is in
+    named c.execute.new.store.heap c.execute.new.pending c.requires.agrees.3.pending x r.3 is
+
+none_by : (n : ℕ) → (n == 0) ≡ true → n ≡ 0
+none_by n h = (Decides-eqb n 0).0 h
+
+some_by : (n : ℕ) → (n == 0) ≡ false → 0 < n
+some_by zero h = absurd (cc)
+some_by (suc n) h = omega arith
+
+no_items : {A : Type 0} (xs : List A) → length xs ≡ 0 → xs ≡ []
+no_items [] h = refl
+no_items (x ∷ xs) h = absurd (cc)
+
+-- the last of a list that has some
+last_of : {A : Type 0} (xs : List A) → 0 < length xs → (front : List A) × (x : A) × (xs ≡ front ++ x ∷ [])
+last_of [] some = absurd (omega (arith, some))
+last_of (x ∷ []) some = ([], x, refl)
+last_of {A} (x ∷ y ∷ xs) some = let r = last_of (y ∷ xs) (omega arith) in (x ∷ r.0, r.1, ap (λ (l : List A). x ∷ l) r.2)
+
+pub resume-requires-clause-called : goal.resume-requires-clause-called
+resume-requires-clause-called c below caller last =
+    let a = c.requires.agrees in
+    let r = returns_there (goal.at.resume-requires-clause-called c).After-owner_at-owner c.in-Some.activation c.in-Some.is c.execute.new.store c.execute.new.activation c.execute.new.pending _ c.in-Ok-Returned.value c.in-Ok-Returned.ensures.done c.in-Ok-Returned.field-0-is in
+    let f = first c.args.program.now c.args.world.now c.args.store.now a.0 c.args.number a.1 a.2 c.args.thread.now a.3 a.5 below caller last in
+    subst (λ (store : Store). HasCalled c.args.program.now store caller) (sym r.2)
+    (has_called c.args.program.now c.args.world.now c.args.store.now a.0 c.args.number a.1 a.2 c.args.thread.now a.3 a.5 below caller last c.requires.lowered a.4 (a.7.callers f.caller f.below f.is))
+
+pub returns-then-is_empty-clause-advances : goal.returns-then-is_empty-clause-advances
+returns-then-is_empty-clause-advances c others own shared s shares h steady free =
     let p = c.args.program.now in
     let w = c.args.world.now in
     let old = c.args.store.now in
-    let b = work p w old others c.args.number own.current shared c.args.thread.now s c.in-Some.activation shares h c.in-Some.is steady in
-    let executed = c.in-Ok-Returned.ensures.done others own.current shared s b.task b.rest (executes p w old others c.args.number own.current shared c.args.thread.now s c.in-Some.activation shares h c.in-Some.is steady free) in
-    let left = subst (λ (x : Executed). Executes p w old c.execute.new.store others c.args.number c.args.number own.current shared s b.rest c.execute.new.activation c.execute.new.pending (effect_of (sight_of shared s) b.task) x) c.in-Ok-Returned.field-0-is executed in
-    returned p w old others c.args.number own shared c.args.thread.now s h c.execute.new.store c.leave.new.store c.execute.new.pending c.leave.new.thread b.task b.rest steady.alone b.is left.1 left.2 (steady.return left.0.0 (ap (next_effect shared s) b.is ∙ left.0.1)) left.3 c.requires.agrees.6 (left.0.0, left.0.1) c.leave.ensures.call c.leave.ensures.callers c.leave.ensures.pending c.leave.ensures.calls c.leave.ensures.ending c.leave.ensures.monitors
+    let a = (goal.at.returns-then-is_empty-clause-advances c).After-owner_at-owner in
+    let b = it a others own shared s shares h steady c.in-Some.activation c.in-Some.is in
+    let left = does a others own shared s shares h steady c.in-Some.activation c.in-Some.is c.execute.new.store c.execute.new.activation c.execute.new.pending _ (Returned c.in-Ok-Returned.value) free c.in-Ok-Returned.ensures.done c.in-Ok-Returned.field-0-is in
+    let none = no_items c.args.thread.now.callers.items (omega (arith, none_by c.args.thread.now.callers.len (sym c.is_empty.ensures ∙ c.if-is_empty.true), c.args.thread.now.callers.ok.0)) in
+    let alone = none_below p w.classes old.heap old.elements c.args.number shared (reverse c.args.thread.now.callers.items) own.callers s.callers h.callers (ap reverse none) in
+    returned p w old others c.args.number own shared c.args.thread.now s h c.execute.new.store c.leave.new.store c.execute.new.pending c.leave.new.thread b.task b.rest alone b.is left.1 left.2 (steady.return left.0.0 (ap (next_effect shared s) b.is ∙ left.0.1)) left.3 c.requires.agrees.6 (left.0.0, left.0.1) c.leave.ensures.call (ap (λ (v : Vec Activation). v.items) c.leave.ensures.callers ∙ none) c.leave.ensures.pending c.leave.ensures.calls c.leave.ensures.ending c.leave.ensures.monitors
+
+pub returns-else-is_empty-clause-advances : goal.returns-else-is_empty-clause-advances
+returns-else-is_empty-clause-advances c others own shared s shares h steady free =
+    let p = c.args.program.now in
+    let w = c.args.world.now in
+    let old = c.args.store.now in
+    let t = c.args.thread.now in
+    let k = c.args.number in
+    let a = (goal.at.returns-else-is_empty-clause-advances c).After-owner_at-owner in
+    let b = it a others own shared s shares h steady c.in-Some.activation c.in-Some.is in
+    let left = does a others own shared s shares h steady c.in-Some.activation c.in-Some.is c.execute.new.store c.execute.new.activation c.execute.new.pending _ (Returned c.in-Ok-Returned.value) free c.in-Ok-Returned.ensures.done c.in-Ok-Returned.field-0-is in
+    let some : 0 < length t.callers.items = omega (arith, some_by t.callers.len (sym c.is_empty.ensures ∙ c.if-is_empty.false), t.callers.ok.0) in
+    let e = last_of t.callers.items some in
+    let f = first p w old others k own shared t s h e.0 e.1 e.2 in
+    returned_into p w old others k own shared t s h e.0 e.1 e.2 c.requires.lowered shares (steady.callers f.caller f.below f.is) b.task b.rest b.is
+    (steady.return left.0.0 (ap (next_effect shared s) b.is ∙ left.0.1)) c.execute.new.pending (subst (λ (store : Store). ReferenceAgrees store.heap c.execute.new.pending s.pending) left.2 left.3) c.in-Ok-Returned.value left.0.0 left.0.1
+    (subst (λ (store : Store). ReturnAgrees store.heap c.in-Ok-Returned.value left.0.0) left.2 left.0.2) (Some c.execute.new.activation) c.resume.new.thread c.resume.new.store
+    (subst (λ (store : Store). Resumes p c.in-Ok-Returned.value e.1 e.0 store c.resume.new.store (record t { call = Some c.execute.new.activation; pending = c.execute.new.pending }) c.resume.new.thread) left.2 (c.resume.ensures e.0 e.1 e.2))
 
 pub returns-in-Err-clause-hindered : goal.returns-in-Err-clause-hindered
 returns-in-Err-clause-hindered c others own shared s shares h steady free =
     let p = c.args.program.now in
     let w = c.args.world.now in
     let old = c.args.store.now in
-    let b = work p w old others c.args.number own.current shared c.args.thread.now s c.in-Some.activation shares h c.in-Some.is steady in
-    let told = c.in-Err.ensures.hindered others own.current shared s b.task b.rest (executes p w old others c.args.number own.current shared c.args.thread.now s c.in-Some.activation shares h c.in-Some.is steady free) in
-    subst (λ (a : source.Advance). IsHindered (left_of old.heap) (cells_made shared a) c.args.may_refuse c.in-Err.fault) (sym (ap (step_within (unit_tree p.unit) w.classes (in_use_with others s) c.args.number shared s false) b.is)) told
+    let a = (goal.at.returns-in-Err-clause-hindered c).After-owner_at-owner in
+    let b = it a others own shared s shares h steady c.in-Some.activation c.in-Some.is in
+    let told = c.in-Err.ensures.hindered (beside_callers others s) own.current shared s b.task b.rest (stands_as a others own shared s shares h steady c.in-Some.activation c.in-Some.is free) in
+    subst (λ (a : source.Advance). IsHindered (left_of old.heap) (cells_made shared a) c.args.may_refuse c.in-Err.fault) (sym (ap (step_within (unit_tree p.unit) w.classes (in_use_with (beside_callers others s) s) c.args.number shared s false) b.is)) told

@@ -4,6 +4,7 @@ use Rattle.code.specs.declared.instr.Plain.TheVariants as plain
 use Rattle.code_meaning.specs.Slots.{visible_to}
 use Rattle.semantics.specs.declared.event.Event.{Event}
 use Rattle.semantics.specs.declared.event.Event.TheVariants as event
+use Rattle.machine_threads.specs.Callers.{beside_callers, owner_at}
 use Rattle.machine_steps.specs.Moved.{IsSilent, WayIsSeen}
 use Rattle.machine_steps.specs.Waiting.{store_unowned, unowned}
 use Rattle.machine_steps.proofs.Calls.{leads}
@@ -45,13 +46,13 @@ silent (plain.Trap trap line) (event.Printed z) h = absurd (let clash : event.Pr
 pub code_at-code-requires : goal.code_at-code-requires
 code_at-code-requires c =
     let a = c.requires.stands in
-    function_there c.args.program.now a.0 c.args.store.now a.1 a.2 a.3.current a.4 c.args.thread.now a.5 c.in-Some.activation a.6.0 a.6.1 c.in-Some.is a.6.2
+    function_there c.args.program.now a.0 c.args.store.now (beside_callers a.1 a.5) a.2 a.3 a.4 c.args.thread.now a.5 c.in-Some.activation a.6.0 a.6.1 c.in-Some.is a.6.2
 
 pub instr_at-instr-requires : goal.instr_at-instr-requires
 instr_at-instr-requires c =
     let a = c.requires.stands in
     let few : c.args.store.now.heap.cells ≤ 1048576 = omega (arith, c.cells.ensures.cells, c.cells.ensures.limit) in
-    place_there c.args.program.now a.0 c.args.store.now a.1 a.2 a.3.current a.4 c.args.thread.now a.5 c.in-Some.activation a.6.0 a.6.1 c.in-Some.is a.6.2 c.code_at-code.result.now c.requires.lowered c.code_at-code.ensures.code few
+    place_there c.args.program.now a.0 c.args.store.now (beside_callers a.1 a.5) a.2 a.3 a.4 c.args.thread.now a.5 c.in-Some.activation a.6.0 a.6.1 c.in-Some.is a.6.2 c.code_at-code.result.now c.requires.lowered c.code_at-code.ensures.code few
 
 pub run_plain-requires-clause-leads : goal.run_plain-requires-clause-leads
 unfolding fetched_unowned
@@ -63,11 +64,11 @@ run_plain-requires-clause-leads c way stack numbers is =
     let call = c.in-Some.activation in
     let i = c.instr_at-instr.result.now in
     let f = fetched_unowned (goal.at.run_plain-requires-clause-leads c).After-instr_at-instr in
-    let it = work p a.0 store a.1 a.2 a.3.current a.4 t a.5 call a.6.0 a.6.1 c.in-Some.is a.6.2 in
-    let e = would_execute p a.0 store a.1 a.2 a.3.current a.4 t a.5 call a.6.0 a.6.1 c.in-Some.is a.6.2 in
+    let it = work p a.0 store (beside_callers a.1 a.5) a.2 a.3 a.4 t a.5 call a.6.0 a.6.1 c.in-Some.is a.6.2 in
+    let e = would_execute p a.0 store (beside_callers a.1 a.5) a.2 a.3 a.4 t a.5 call a.6.0 a.6.1 c.in-Some.is a.6.2 in
     reachable f.code.instrs call.place way (length stack) c.instr_at-instr.ensures.few
-    (leads p a.0.classes store.heap store.elements a.2 call f.code (visible_to a.3.current a.4 a.5) a.5.frames it.task it.rest
-    (ready_for p a.0 (store_unowned store) call i f t.pending a.1 a.2 a.2 a.3.current (unowned a.4) a.5 it.task it.rest e) i f.at way stack numbers is)
+    (leads p a.0.classes store.heap store.elements (owner_at a.2 (length a.5.callers)) call f.code (visible_to a.3.current a.4 a.5) a.5.frames it.task it.rest
+    (ready_for p a.0 (store_unowned store) call i f t.pending (beside_callers a.1 a.5) a.2 (owner_at a.2 (length a.5.callers)) a.3.current (unowned a.4) a.5 it.task it.rest e) i f.at way stack numbers is)
 
 pub returns-in_default : goal.returns-in_default
 returns-in_default c = record {
@@ -79,13 +80,13 @@ returns-in_default c = record {
       let i = c.instr_at-instr.result.now in
       let at = (goal.at.returns-in_default c).After-instr_at-instr in
       let f = fetched at in
-      let free = goes_on p w store others k own.current shared t s call stands.0 stands.1 c.in-Some.is stands.2 i (fetched_unowned at) (λ x is enters. c.in_default.not-Call x is) in
-      let it = work p w store others k own.current shared t s call stands.0 stands.1 c.in-Some.is stands.2 in
-      let e = executes p w store others k own.current shared t s call stands.0 stands.1 c.in-Some.is stands.2 free in
+      let free = goes_on p w store (beside_callers others s) k own shared t s call stands.0 stands.1 c.in-Some.is stands.2 i (fetched_unowned at) (λ x is enters. c.in_default.not-Call x is) in
+      let it = work p w store (beside_callers others s) k own shared t s call stands.0 stands.1 c.in-Some.is stands.2 in
+      let e = executes p w store (beside_callers others s) k own shared t s call stands.0 stands.1 c.in-Some.is stands.2 free in
       let m = c.run_plain.ensures in (
         free,
-        did p w store others k own shared t s stands.1 store false c.run_plain.result it.task it.rest stands.2.alone it.is c.run_plain.new.activation t.pending
-            (plain_executes p w store others k k own.current shared s e.store_agrees t.pending e.pending_agrees call f.code it.task it.rest (ready_for p w store call i f t.pending others k k own.current shared s it.task it.rest e) e.tasks e.views e.steady i f.at
+        did p w store others k own shared t s stands.1 store false c.run_plain.result it.task it.rest it.is c.run_plain.new.activation t.pending
+            (plain_executes p w store (beside_callers others s) k (owner_at k (length s.callers)) own.current shared s e.store_agrees t.pending e.pending_agrees call f.code it.task it.rest (ready_for p w store call i f t.pending (beside_callers others s) k (owner_at k (length s.callers)) own.current shared s it.task it.rest e) e.tasks e.views e.steady i f.at
             c.run_plain.new.activation c.run_plain.result m.way m.stack m.numbers m.is m.moved m.way_seen),
       );
   none = tt;

@@ -12,7 +12,7 @@ use Rattle.semantics.specs.Effect.{effect_of}
 use Rattle.semantics.specs.Thread.{sight_of}
 use Rattle.code_meaning.specs.Slots.{visible_to}
 use Rattle.code_meaning.specs.Does.{IsReturn}
-use Rattle.machine_answers.specs.declared.answer.Given.{Given}
+use Rattle.machine_steps.specs.declared.execute.ReturnValue.{ReturnValue}
 use Rattle.machine_scenes.specs.declared.activation.Activation.{Activation}
 use Rattle.semantics.specs.declared.event.Event.TheVariants.{Printed}
 use Rattle.machine_steps.specs.declared.execute.Executed.{Executed}
@@ -120,7 +120,6 @@ invoke-requires c =
     let f = fetched (goal.at.invoke-requires c).After-instr_at-instr in
     record {
       at_call = (
-        c.args.program.now,
         s.0,
         s.1,
         s.2,
@@ -171,7 +170,7 @@ pub returns-in-Ok-clause-done : goal.returns-in-Ok-clause-done
 returns-in-Ok-clause-done c others own shared s task rest e =
     let f = fetched (goal.at.returns-in-Ok-clause-done c).After-instr_at-instr in
     subst (λ (done : Executed). Executes c.args.program.now c.args.world.now c.args.store.now c.invoke.new.store others c.args.thread c.args.owner own shared s rest c.invoke.new.activation c.invoke.new.pending (effect_of (sight_of shared s) task) done) (sym c.outcome_of.ensures)
-    (c.in-Ok.ensures.done c.args.program.now others own shared s task rest
+    (c.in-Ok.ensures.done others own shared s task rest
     (at_call c.args.program.now c.args.world.now c.args.store.now c.args.pending.now c.args.activation.now c.instr_at-instr.result.now f c.call-call.result.now (c.in-Call.is ∙ ap (λ (x : Call). instr.Call x) (sym c.call-call.ensures.view)) others c.args.thread c.args.owner own shared s task rest e))
 
 pub returns-in-PutJint-clause-done : goal.returns-in-PutJint-clause-done
@@ -187,11 +186,11 @@ returns-in-PutJint-clause-done c others own shared s task rest e =
 pub returns-in-Return-clause-done : goal.returns-in-Return-clause-done
 returns-in-Return-clause-done c others own shared s task rest e =
     let f = fetched (goal.at.returns-in-Return-clause-done c).After-instr_at-instr in
-    subst (λ (g : Given). Executes c.args.program.now c.args.world.now c.args.store.now c.args.store.now others c.args.thread c.args.owner own shared s rest c.args.activation.now c.args.pending.now (effect_of (sight_of shared s) task) (Returned g)) (sym c.given_by.ensures)
+    subst (λ (g : ReturnValue). Executes c.args.program.now c.args.world.now c.args.store.now c.args.store.now others c.args.thread c.args.owner own shared s rest c.args.activation.now c.args.pending.now (effect_of (sight_of shared s) task) (Returned g)) (sym c.given_by.ensures)
     (return_executes c.args.program.now c.args.world.now c.args.store.now others c.args.thread c.args.owner own shared s e.store_agrees c.args.pending.now e.pending_agrees c.args.activation.now f.code task rest (ready_for c.args.program.now c.args.world.now c.args.store.now c.args.activation.now c.instr_at-instr.result.now f c.args.pending.now others c.args.thread c.args.owner own shared s task rest e) e.tasks e.views e.steady c.instr_at-instr.result.now f.at (returns_is _ c.in-Return.is) c.args.activation.now)
 
 pub returns-in-Err-clause-hindered : goal.returns-in-Err-clause-hindered
 returns-in-Err-clause-hindered c others own shared s task rest e =
     let f = fetched (goal.at.returns-in-Err-clause-hindered c).After-instr_at-instr in
-    c.in-Err.ensures.hindered c.args.program.now others own shared s task rest
+    c.in-Err.ensures.hindered others own shared s task rest
     (at_call c.args.program.now c.args.world.now c.args.store.now c.args.pending.now c.args.activation.now c.instr_at-instr.result.now f c.call-call.result.now (c.in-Call.is ∙ ap (λ (x : Call). instr.Call x) (sym c.call-call.ensures.view)) others c.args.thread c.args.owner own shared s task rest e)

@@ -48,7 +48,7 @@ use Rattle.machine_steps.proofs.CallInstructions.{goes_on}
 use Rattle.machine_steps.proofs.invoke.finish.Goals as goal
 
 -- the machine is at a call that no check stops
-module _ (p : Lowered) (w : World) (store : Store) (pending : Option ℕ) (call : Activation) (function : Call) (others : Acquired) (k owner : ℕ) (own : Owners) (shared : Shared) (s : Thread) (task : Task) (rest : List Task) (h : AtCall p w store pending call function others k owner own shared s task rest) (answer : Answer) (given : IsAnswered w store pending call k function answer) where
+module _ (p : Lowered) (w : World) (store : Store) (pending : Option ℕ) (call : Activation) (function : Call) (others : Acquired) (k owner : ℕ) (own : Owners) (shared : Shared) (s : Thread) (task : Task) (rest : List Task) (h : AtCall p w store pending call function others k owner own shared s task rest) (answer : Answer) (given : IsAnswered p w store pending call k function answer) where
   abbrev effect : CallEffect
   effect = does p w store pending call function others k owner own shared s task rest h answer given
 
@@ -90,14 +90,14 @@ carry_out-requires-clause-possible c =
     let a = c.requires.at_call in
     let w = c.args.world.now in
     let kind = result_value c.args.call.now.result in (
+      c.args.program.now,
+      named c.args.program.now w c.args.store.now c.args.pending.now c.args.activation.now c.args.call.now a.0 c.args.thread c.args.owner a.1 a.2 a.3 a.4 a.5 a.6 c.args.answer c.requires.answered kind c.requires.prepared.result,
       a.0,
-      named a.0 w c.args.store.now c.args.pending.now c.args.activation.now c.args.call.now a.1 c.args.thread c.args.owner a.2 a.3 a.4 a.5 a.6 a.7 c.args.answer c.requires.answered kind c.requires.prepared.result,
-      a.1,
+      a.2,
       a.3,
-      a.4,
-      effect a.0 w c.args.store.now c.args.pending.now c.args.activation.now c.args.call.now a.1 c.args.thread c.args.owner a.2 a.3 a.4 a.5 a.6 a.7 c.args.answer c.requires.answered,
-      can_carry a.0 w c.args.store.now c.args.pending.now c.args.activation.now c.args.call.now a.1 c.args.thread c.args.owner a.2 a.3 a.4 a.5 a.6 a.7 c.args.answer c.requires.answered kind c.requires.prepared.result,
-      answered a.0 w c.args.store.now c.args.pending.now c.args.activation.now c.args.call.now a.1 c.args.thread c.args.owner a.2 a.3 a.4 a.5 a.6 a.7 c.args.answer c.requires.answered kind c.requires.prepared.result,
+      effect c.args.program.now w c.args.store.now c.args.pending.now c.args.activation.now c.args.call.now a.0 c.args.thread c.args.owner a.1 a.2 a.3 a.4 a.5 a.6 c.args.answer c.requires.answered,
+      can_carry c.args.program.now w c.args.store.now c.args.pending.now c.args.activation.now c.args.call.now a.0 c.args.thread c.args.owner a.1 a.2 a.3 a.4 a.5 a.6 c.args.answer c.requires.answered kind c.requires.prepared.result,
+      answered c.args.program.now w c.args.store.now c.args.pending.now c.args.activation.now c.args.call.now a.0 c.args.thread c.args.owner a.1 a.2 a.3 a.4 a.5 a.6 c.args.answer c.requires.answered kind c.requires.prepared.result,
     )
 
 target_left : (target : Target) (numbers references fields buffers numbers' references' fields' buffers' : ℕ) → numbers' ≡ numbers → references' ≡ references → fields' ≡ fields → buffers' ≡ buffers
@@ -115,7 +115,7 @@ receive-requires-clause-target c =
     (ap (λ (t : Activation). length t.slots.references.items) told.stays)
     (ap (λ (t : Activation). length t.slots.fields.items) told.stays)
     (ap length told.buffer_slots ∙ buffers_long c.args.answer activation.slots.buffers.items)
-    (has_target a.0 c.args.world.now c.args.store.now c.args.pending.now activation c.args.call.now a.1 c.args.thread c.args.owner a.2 a.3 a.4 a.5 a.6 a.7)
+    (has_target c.args.program.now c.args.world.now c.args.store.now c.args.pending.now activation c.args.call.now a.0 c.args.thread c.args.owner a.1 a.2 a.3 a.4 a.5 a.6)
 
 pub receive-requires-clause-told : goal.receive-requires-clause-told
 receive-requires-clause-told c =
@@ -124,7 +124,7 @@ receive-requires-clause-told c =
     subst (λ (o : Option ℕ). HasTold o (length c.carry_out.new.activation.slots.numbers.items)) (sym c.told_slot.ensures)
     (subst (HasTold (told_slot (slice_get c.args.call.now.operands.items 1)))
     (sym (ap length c.in-Ok.ensures.slots ∙ numbers_long c.args.store.now.heap c.args.answer activation.slots.numbers.items))
-    (has_told a.0 c.args.world.now c.args.store.now c.args.pending.now activation c.args.call.now a.1 c.args.thread c.args.owner a.2 a.3 a.4 a.5 a.6 a.7))
+    (has_told c.args.program.now c.args.world.now c.args.store.now c.args.pending.now activation c.args.call.now a.0 c.args.thread c.args.owner a.1 a.2 a.3 a.4 a.5 a.6))
 
 pub receive-requires-clause-static_target : goal.receive-requires-clause-static_target
 receive-requires-clause-static_target c =
@@ -132,9 +132,9 @@ receive-requires-clause-static_target c =
     let w = c.args.world.now in
     let kind = result_value c.args.call.now.result in
     let same = c.requires.prepared.result in
-    static_there a.0 w c.args.store.now c.args.pending.now c.args.activation.now c.args.call.now a.1 c.args.thread c.args.owner a.2 a.3 a.4 a.5 a.6 a.7 c.args.answer c.requires.answered kind same c.in-Ok.carried.refused c.carry_out.new.store c.carry_out.new.pending c.carry_out.new.activation.locals c.in-Ok.carried.given
-    (c.in-Ok.ensures.carried a.0 (named a.0 w c.args.store.now c.args.pending.now c.args.activation.now c.args.call.now a.1 c.args.thread c.args.owner a.2 a.3 a.4 a.5 a.6 a.7 c.args.answer c.requires.answered kind same) a.1 a.3 a.4 _ (can_carry a.0 w c.args.store.now c.args.pending.now c.args.activation.now c.args.call.now a.1 c.args.thread c.args.owner a.2 a.3 a.4 a.5 a.6 a.7 c.args.answer c.requires.answered kind same)
-    (answered a.0 w c.args.store.now c.args.pending.now c.args.activation.now c.args.call.now a.1 c.args.thread c.args.owner a.2 a.3 a.4 a.5 a.6 a.7 c.args.answer c.requires.answered kind same))
+    static_there c.args.program.now w c.args.store.now c.args.pending.now c.args.activation.now c.args.call.now a.0 c.args.thread c.args.owner a.1 a.2 a.3 a.4 a.5 a.6 c.args.answer c.requires.answered kind same c.in-Ok.carried.refused c.carry_out.new.store c.carry_out.new.pending c.carry_out.new.activation.locals c.in-Ok.carried.given
+    (c.in-Ok.ensures.carried c.args.program.now (named c.args.program.now w c.args.store.now c.args.pending.now c.args.activation.now c.args.call.now a.0 c.args.thread c.args.owner a.1 a.2 a.3 a.4 a.5 a.6 c.args.answer c.requires.answered kind same) a.0 a.2 a.3 _ (can_carry c.args.program.now w c.args.store.now c.args.pending.now c.args.activation.now c.args.call.now a.0 c.args.thread c.args.owner a.1 a.2 a.3 a.4 a.5 a.6 c.args.answer c.requires.answered kind same)
+    (answered c.args.program.now w c.args.store.now c.args.pending.now c.args.activation.now c.args.call.now a.0 c.args.thread c.args.owner a.1 a.2 a.3 a.4 a.5 a.6 c.args.answer c.requires.answered kind same))
     c.deref_mut.result.now c.deref_mut.ensures.value
 
 pub receive-requires-clause-room : goal.receive-requires-clause-room
@@ -143,9 +143,9 @@ receive-requires-clause-room c =
     let w = c.args.world.now in
     let kind = result_value c.args.call.now.result in
     let same = c.requires.prepared.result in
-    room_there a.0 w c.args.store.now c.args.pending.now c.args.activation.now c.args.call.now a.1 c.args.thread c.args.owner a.2 a.3 a.4 a.5 a.6 a.7 c.args.answer c.requires.answered kind same c.in-Ok.carried.refused c.carry_out.new.store c.carry_out.new.pending c.carry_out.new.activation.locals c.in-Ok.carried.given
-    (c.in-Ok.ensures.carried a.0 (named a.0 w c.args.store.now c.args.pending.now c.args.activation.now c.args.call.now a.1 c.args.thread c.args.owner a.2 a.3 a.4 a.5 a.6 a.7 c.args.answer c.requires.answered kind same) a.1 a.3 a.4 _ (can_carry a.0 w c.args.store.now c.args.pending.now c.args.activation.now c.args.call.now a.1 c.args.thread c.args.owner a.2 a.3 a.4 a.5 a.6 a.7 c.args.answer c.requires.answered kind same)
-    (answered a.0 w c.args.store.now c.args.pending.now c.args.activation.now c.args.call.now a.1 c.args.thread c.args.owner a.2 a.3 a.4 a.5 a.6 a.7 c.args.answer c.requires.answered kind same))
+    room_there c.args.program.now w c.args.store.now c.args.pending.now c.args.activation.now c.args.call.now a.0 c.args.thread c.args.owner a.1 a.2 a.3 a.4 a.5 a.6 c.args.answer c.requires.answered kind same c.in-Ok.carried.refused c.carry_out.new.store c.carry_out.new.pending c.carry_out.new.activation.locals c.in-Ok.carried.given
+    (c.in-Ok.ensures.carried c.args.program.now (named c.args.program.now w c.args.store.now c.args.pending.now c.args.activation.now c.args.call.now a.0 c.args.thread c.args.owner a.1 a.2 a.3 a.4 a.5 a.6 c.args.answer c.requires.answered kind same) a.0 a.2 a.3 _ (can_carry c.args.program.now w c.args.store.now c.args.pending.now c.args.activation.now c.args.call.now a.0 c.args.thread c.args.owner a.1 a.2 a.3 a.4 a.5 a.6 c.args.answer c.requires.answered kind same)
+    (answered c.args.program.now w c.args.store.now c.args.pending.now c.args.activation.now c.args.call.now a.0 c.args.thread c.args.owner a.1 a.2 a.3 a.4 a.5 a.6 c.args.answer c.requires.answered kind same))
 
 -- it was refused
 was_refused : (refused : Bool) (x : Invoked) → x ≡ done_or_refused refused → x ≡ invoked.Refused → refused ≡ true
@@ -159,12 +159,12 @@ returns-in-Ok-clause-refused c is =
     let store = c.args.store.now in
     let kind = result_value c.args.call.now.result in
     let same = c.requires.prepared.result in
-    let does = effect a.0 w store c.args.pending.now c.args.activation.now c.args.call.now a.1 c.args.thread c.args.owner a.2 a.3 a.4 a.5 a.6 a.7 c.args.answer c.requires.answered in
-    let answer = answered a.0 w store c.args.pending.now c.args.activation.now c.args.call.now a.1 c.args.thread c.args.owner a.2 a.3 a.4 a.5 a.6 a.7 c.args.answer c.requires.answered kind same in
-    let carried = c.in-Ok.ensures.carried a.0 (named a.0 w store c.args.pending.now c.args.activation.now c.args.call.now a.1 c.args.thread c.args.owner a.2 a.3 a.4 a.5 a.6 a.7 c.args.answer c.requires.answered kind same) a.1 a.3 a.4 does (can_carry a.0 w store c.args.pending.now c.args.activation.now c.args.call.now a.1 c.args.thread c.args.owner a.2 a.3 a.4 a.5 a.6 a.7 c.args.answer c.requires.answered kind same) answer in
+    let does = effect c.args.program.now w store c.args.pending.now c.args.activation.now c.args.call.now a.0 c.args.thread c.args.owner a.1 a.2 a.3 a.4 a.5 a.6 c.args.answer c.requires.answered in
+    let answer = answered c.args.program.now w store c.args.pending.now c.args.activation.now c.args.call.now a.0 c.args.thread c.args.owner a.1 a.2 a.3 a.4 a.5 a.6 c.args.answer c.requires.answered kind same in
+    let carried = c.in-Ok.ensures.carried c.args.program.now (named c.args.program.now w store c.args.pending.now c.args.activation.now c.args.call.now a.0 c.args.thread c.args.owner a.1 a.2 a.3 a.4 a.5 a.6 c.args.answer c.requires.answered kind same) a.0 a.2 a.3 does (can_carry c.args.program.now w store c.args.pending.now c.args.activation.now c.args.call.now a.0 c.args.thread c.args.owner a.1 a.2 a.3 a.4 a.5 a.6 c.args.answer c.requires.answered kind same) answer in
     let refused = was_refused c.in-Ok.carried.refused c.done_or_refused.result c.done_or_refused.ensures (cc (is)) in
     let short = subst (λ (b : Bool). GoesByRoom b (sizes (made_by w.classes does)) store.heap c.carry_out.new.store.heap) refused carried.room in
-    omega (arith, short.0, cells_made w.classes (brings a.0 w store c.args.pending.now c.args.activation.now c.args.call.now a.1 c.args.thread c.args.owner a.2 a.3 a.4 a.5 a.6 a.7 c.args.answer c.requires.answered) store.heap c.args.activation.now.locals kind a.3 a.4 c.args.answer does answer)
+    omega (arith, short.0, cells_made w.classes (brings c.args.program.now w store c.args.pending.now c.args.activation.now c.args.call.now a.0 c.args.thread c.args.owner a.1 a.2 a.3 a.4 a.5 a.6 c.args.answer c.requires.answered) store.heap c.args.activation.now.locals kind a.2 a.3 c.args.answer does answer)
 
 -- what a call came to, by whether its allocation was refused
 executes : (p : Lowered) (w : World) (old store : Store) (others : Acquired) (k owner : ℕ) (own : Owners) (shared : Shared) (s : Thread) (rest : List Task) (call : Activation) (pending : Option ℕ) (e : Effect) (line : ℕ) (refused : Bool)
@@ -173,7 +173,8 @@ executes p w old store others k owner own shared s rest call pending e line true
 executes p w old store others k owner own shared s rest call pending e line false h = h
 
 pub returns-in-Ok-clause-done : goal.returns-in-Ok-clause-done
-returns-in-Ok-clause-done c p others own shared s task rest h =
+returns-in-Ok-clause-done c others own shared s task rest h =
+    let p = c.args.program.now in
     let w = c.args.world.now in
     let store = c.args.store.now in
     let pending = c.args.pending.now in

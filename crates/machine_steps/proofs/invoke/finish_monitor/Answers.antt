@@ -14,11 +14,11 @@ use Rattle.machine_steps.proofs.invoke.finish_monitor.Goals as goal
 pub receive_number-requires-clause-target : goal.receive_number-requires-clause-target
 receive_number-requires-clause-target c =
     let at = c.requires.at_call in
-    let a = at.3 in
-    has_target a.0 at.0 c.args.store.now at.1 c.args.activation.now c.args.call.now a.1 c.args.thread at.2 a.2 a.3 a.4 a.5 a.6 a.7
+    let a = at.4 in
+    has_target at.0 at.1 c.args.store.now at.2 c.args.activation.now c.args.call.now a.0 c.args.thread at.3 a.1 a.2 a.3 a.4 a.5 a.6
 
 pub returns-clause-done : goal.returns-clause-done
-returns-clause-done c w pending owner told p others own shared s task rest h =
+returns-clause-done c p w pending owner told others own shared s task rest h =
     let store = c.args.store.now in
     let activation = c.args.activation.now in
     let call = c.args.call.now in

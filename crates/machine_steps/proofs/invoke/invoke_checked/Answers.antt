@@ -21,7 +21,8 @@ pub answer_or_trap-requires-clause-at_call : goal.answer_or_trap-requires-clause
 answer_or_trap-requires-clause-at_call c = (c.args.owner, c.requires.at_call)
 
 pub returns-in-Err-clause-done : goal.returns-in-Err-clause-done
-returns-in-Err-clause-done c p others own shared s task rest h =
+returns-in-Err-clause-done c others own shared s task rest h =
+    let p = c.args.program.now in
     let w = c.args.world.now in
     let store = c.args.store.now in
     let pending = c.args.pending.now in
@@ -30,8 +31,8 @@ returns-in-Err-clause-done c p others own shared s task rest h =
     let trap = c.in-Err.trap in
     traps p w store pending activation call others c.args.thread c.args.owner own shared s task rest h trap call.line refl
     (⊎_elim
-    (λ (found : trap_at w store pending activation c.args.thread call ≡ Some (trap_view trap)). found_trap p w store pending activation call others c.args.thread c.args.owner own shared s task rest h trap (sym (trap_is p w store pending activation call others c.args.thread c.args.owner own shared s task rest h) ∙ found))
-    (λ (halted : IsAnswered w store pending activation c.args.thread call (answer.Halts trap)). halts p w store pending activation call others c.args.thread c.args.owner own shared s task rest h trap halted)
+    (λ (found : trap_at p w store pending activation c.args.thread call ≡ Some (trap_view trap)). found_trap p w store pending activation call others c.args.thread c.args.owner own shared s task rest h trap (sym (trap_is p w store pending activation call others c.args.thread c.args.owner own shared s task rest h) ∙ found))
+    (λ (halted : IsAnswered p w store pending activation c.args.thread call (answer.Halts trap)). halts p w store pending activation call others c.args.thread c.args.owner own shared s task rest h trap halted)
     c.in-Err.ensures.trap)
 
 -- what may not be refused is not carried out where it has no room
@@ -40,7 +41,8 @@ held_back goes true table classes texts answer left cells is stays same asked = 
 held_back goes false table classes texts answer left cells is stays same asked = (refl, omega (arith, leb-false (cells_of table texts answer) left (sym is ∙ stays), ap (λ (t : Classes). cells_of t texts answer) same))
 
 pub returns-else-goes_ahead-clause-hindered : goal.returns-else-goes_ahead-clause-hindered
-returns-else-goes_ahead-clause-hindered c p others own shared s task rest h =
+returns-else-goes_ahead-clause-hindered c others own shared s task rest h =
+    let p = c.args.program.now in
     held_back c.goes_ahead.result c.args.may_refuse c.classes.result.now c.args.world.now.classes (texts_in c.deref.result.now) c.in-Ok.answer (left_of c.args.store.now.heap) _ c.goes_ahead.ensures c.if-goes_ahead.false c.classes.ensures.classes
     (cells_asked p c.args.world.now c.args.store.now c.args.pending.now c.args.activation.now c.args.call.now others c.args.thread c.args.owner own shared s task rest h c.in-Ok.answer c.in-Ok.ensures.answer (result_value c.args.call.now.result) c.requires.prepared.result
     ∙ ap (λ (l : List (Vec ℕ)). cells_of c.args.world.now.classes (texts_in l) c.in-Ok.answer) (sym c.deref.ensures.value))
@@ -48,6 +50,6 @@ returns-else-goes_ahead-clause-hindered c p others own shared s task rest h =
 pub returns-in_err-finish-in-Ok-clause-hindered : goal.returns-in_err-finish-in-Ok-clause-hindered
 returns-in_err-finish-in-Ok-clause-hindered c =
     let given = err_from_is_err_and c.from_residual.result c.from_residual.ensures.1 in
-    rw (given.1, given.2) (λ p others own shared s task rest h.
-    cells_asked p c.args.world.now c.args.store.now c.args.pending.now c.args.activation.now c.args.call.now others c.args.thread c.args.owner own shared s task rest h c.in-Ok.answer c.in-Ok.ensures.answer (result_value c.args.call.now.result) c.requires.prepared.result
+    rw (given.1, given.2) (λ others own shared s task rest h.
+    cells_asked c.args.program.now c.args.world.now c.args.store.now c.args.pending.now c.args.activation.now c.args.call.now others c.args.thread c.args.owner own shared s task rest h c.in-Ok.answer c.in-Ok.ensures.answer (result_value c.args.call.now.result) c.requires.prepared.result
     ∙ memory_free c.args.world.now.classes (texts_in c.args.call.now.texts.items) c.in-Ok.answer c.in_err-finish-in-Ok.ensures.memory)

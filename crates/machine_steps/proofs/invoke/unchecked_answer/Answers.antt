@@ -1,3 +1,5 @@
+use Rattle.syntax.specs.Views.{unit_tree}
+use Rattle.syntax.specs.Tree.{SourceUnit}
 use Rattle.std.specs.Prelude.{IfSome}
 use Rattle.std.proofs.Common.{◌≡◌, Bool, Option, Some, None, refl}
 use Rattle.base.specs.Element.{ElementType}
@@ -22,21 +24,21 @@ pub answer_at_once-requires : goal.answer_at_once-requires
 answer_at_once-requires c =
     let at = c.requires.at_call in
     let a = at.1 in
-    record { objects = addresses_seen a.0 c.args.world.now c.args.store.now c.args.pending c.args.activation.now c.args.call.now a.1 c.args.thread at.0 a.2 a.3 a.4 a.5 a.6 a.7 c.args.store.now.monitors (scene_of c.args.world.now.classes c.args.store.now c.args.activation.now c.args.thread c.args.pending) refl }
+    record { objects = addresses_seen c.args.program.now c.args.world.now c.args.store.now c.args.pending c.args.activation.now c.args.call.now a.0 c.args.thread at.0 a.1 a.2 a.3 a.4 a.5 a.6 c.args.store.now.monitors (unit_tree c.args.program.now.unit) (scene_of (unit_tree c.args.program.now.unit) c.args.world.now.classes c.args.store.now c.args.activation.now c.args.thread c.args.pending) refl }
 
 pub returns-clause-answer : goal.returns-clause-answer
 returns-clause-answer c =
     let call = c.args.call.now in
     let w = c.args.world.now in
     known
-    (λ (x : Answer). (classes : Classes) (room : Bool) (wanted : ElementType) → trap_found (scene_of classes c.args.store.now c.args.activation.now c.args.thread c.args.pending) room wanted (function_value call.function) call.operands.items ≡ None)
-    (λ (x : Answer). (classes : Classes) → IsWorkedOut (scene_of classes c.args.store.now c.args.activation.now c.args.thread c.args.pending) (call_view call) (function_value call.function) x)
+    (λ (x : Answer). (unit : SourceUnit) (classes : Classes) (room : Bool) (wanted : ElementType) → trap_found (scene_of unit classes c.args.store.now c.args.activation.now c.args.thread c.args.pending) room wanted (function_value call.function) call.operands.items ≡ None)
+    (λ (x : Answer). (unit : SourceUnit) (classes : Classes) → IsWorkedOut (scene_of unit classes c.args.store.now c.args.activation.now c.args.thread c.args.pending) (call_view call) (function_value call.function) x)
     _ c.answer_at_once.result
     (λ (x : Answer) free works.
     record {
       sound = c.classes.ensures.sound;
-      free = free w.classes (has_room (locals_after (function_value call.function) c.args.activation.now.locals)) (element_wanted call.target);
-      works = works w.classes;
+      free = free (unit_tree c.args.program.now.unit) w.classes (has_room (locals_after (function_value call.function) c.args.activation.now.locals)) (element_wanted call.target);
+      works = works (unit_tree c.args.program.now.unit) w.classes;
     })
     c.answer_at_once.ensures.free
     c.answer_at_once.ensures.works

@@ -1,3 +1,4 @@
+use Rattle.syntax.specs.Views.{unit_tree}
 use Rattle.std.proofs.Common.{◌≡◌, Bool, true, false, not, sym, ap, ◌∙◌}
 use Rattle.std.specs.Prelude.{is_some}
 use Rattle.machine_scenes.specs.Scenes.{Scene, scene_view}
@@ -15,21 +16,21 @@ flipped false x is = sym (ap not is)
 pub argument-requires : goal.argument-requires
 argument-requires c =
     let a = c.requires.may_wait in
-    addresses_seen a.0 c.args.world.now (store_unowned c.args.store.now) c.args.pending c.args.activation.now c.args.call.now a.1 c.args.thread a.2 a.3 (unowned a.4) a.5 a.6 a.7 a.8.at_call c.args.store.now.monitors (scene_view c.scene_of-scene.result) c.scene_of-scene.ensures.scene
+    addresses_seen a.0 c.args.world.now (store_unowned c.args.store.now) c.args.pending c.args.activation.now c.args.call.now a.1 c.args.thread a.2 a.3 (unowned a.4) a.5 a.6 a.7 a.8.at_call c.args.store.now.monitors (unit_tree c.args.program.now.unit) (scene_view c.scene_of-scene.result) c.scene_of-scene.ensures.scene
 
 pub check-requires-clause-objects : goal.check-requires-clause-objects
 check-requires-clause-objects c =
     let a = c.requires.may_wait in
-    addresses_seen a.0 c.args.world.now (store_unowned c.args.store.now) c.args.pending c.args.activation.now c.args.call.now a.1 c.args.thread a.2 a.3 (unowned a.4) a.5 a.6 a.7 a.8.at_call c.args.store.now.monitors (scene_view c.scene_of-scene.result) c.scene_of-scene.ensures.scene
+    addresses_seen a.0 c.args.world.now (store_unowned c.args.store.now) c.args.pending c.args.activation.now c.args.call.now a.1 c.args.thread a.2 a.3 (unowned a.4) a.5 a.6 a.7 a.8.at_call c.args.store.now.monitors (unit_tree c.args.program.now.unit) (scene_view c.scene_of-scene.result) c.scene_of-scene.ensures.scene
 
 pub check-requires-clause-handles : goal.check-requires-clause-handles
 check-requires-clause-handles c =
     let a = c.requires.may_wait in
-    handles_seen a.0 c.args.world.now (store_unowned c.args.store.now) c.args.pending c.args.activation.now c.args.call.now a.1 c.args.thread a.2 a.3 (unowned a.4) a.5 a.6 a.7 a.8.at_call c.args.store.now.monitors (scene_view c.scene_of-scene.result) c.scene_of-scene.ensures.scene
+    handles_seen a.0 c.args.world.now (store_unowned c.args.store.now) c.args.pending c.args.activation.now c.args.call.now a.1 c.args.thread a.2 a.3 (unowned a.4) a.5 a.6 a.7 a.8.at_call c.args.store.now.monitors (unit_tree c.args.program.now.unit) (scene_view c.scene_of-scene.result) c.scene_of-scene.ensures.scene
 
 pub returns-then-is_busy : goal.returns-then-is_busy
 returns-then-is_busy c p others owner own shared s task rest h =
-    let found = trap_seen p c.args.world.now (store_unowned c.args.store.now) c.args.pending c.args.activation.now c.args.call.now others c.args.thread owner own (unowned shared) s task rest h.at_call c.args.store.now.monitors (scene_view c.scene_of-scene.result) c.scene_of-scene.ensures.scene in
+    let found = trap_seen p c.args.world.now (store_unowned c.args.store.now) c.args.pending c.args.activation.now c.args.call.now others c.args.thread owner own (unowned shared) s task rest h.at_call c.args.store.now.monitors (unit_tree c.args.program.now.unit) (scene_view c.scene_of-scene.result) c.scene_of-scene.ensures.scene in
     flipped c.is_none.result (is_some c.check.result) c.is_none.ensures
     ∙ busy p c.args.world.now c.args.store.now c.args.pending c.args.activation.now c.args.call.now others c.args.thread owner own shared s task rest h c.requires.enters c.in-Some.addr c.birth_of.result c.entering.result
     (ap (λ (x : Scene). operand_at x.references (operand_of c.args.call.now.operands.items 0)) (sym c.scene_of-scene.ensures.scene) ∙ sym c.argument.ensures.reference ∙ c.in-Some.is) c.birth_of.ensures c.entering.ensures (sym c.is_busy.ensures ∙ c.if-is_busy.true) c.check.result (sym found ∙ sym c.check.ensures)

@@ -12,6 +12,7 @@ use Rattle.world_values.specs.SoundWorlds.{has_call}
 use Rattle.semantics.specs.World.{Invocation, loaded_objects}
 use Rattle.semantics.specs.Start.{waiting_thread}
 use Rattle.semantics.specs.Load.{refused_calls}
+use Rattle.semantics_safety.specs.Owners.{no_owners}
 use Rattle.machine_threads.specs.declared.thread.Thread.{Thread}
 use Rattle.machine_threads.specs.ThreadAgrees.{ThreadAgrees, ThreadsAgree}
 use Rattle.machine_threads.specs.Loading.{IsFirstOf}
@@ -54,11 +55,11 @@ load_thread-requires-clause-given c =
     subst (λ (cs : List Invocation). list_all (are_arguments made) cs ≡ true) (sym c.deref.ensures.value) (calls_given c.args.world.now k _ c.threads-calls-items.ensures.sound there)
 
 pub returns-clause-agree : goal.returns-clause-agree
-returns-clause-agree c space copies owners k shared =
+returns-clause-agree c space copies k shared =
     let w = c.args.world.now in
     let items = c.threads-calls-items.result.now in
-    subst (λ (cs : List (List Invocation)). ThreadsAgree c.args.program.now w.classes space copies (length (loaded_objects w)) owners k shared c.loop-calls.threads.items (map waiting_thread cs)) c.threads-calls-items.ensures.calls
-    (all_agree c.args.program.now w.classes space copies (length (loaded_objects w)) shared items c.loop-calls.calls-index c.loop-calls.threads.items c.loop-calls-test.false (c.loop-calls.invariant.agree space copies shared) owners k)
+    subst (λ (cs : List (List Invocation)). ThreadsAgree c.args.program.now w.classes space copies (length (loaded_objects w)) (λ j. no_owners) k shared c.loop-calls.threads.items (map waiting_thread cs)) c.threads-calls-items.ensures.calls
+    (all_agree c.args.program.now w.classes space copies (length (loaded_objects w)) shared items c.loop-calls.calls-index c.loop-calls.threads.items c.loop-calls-test.false (c.loop-calls.invariant.agree space copies shared) k)
 
 pub returns-clause-all : goal.returns-clause-all
 returns-clause-all c =
@@ -79,7 +80,7 @@ loop-calls-preserved c =
     record {
       agree = λ space copies shared. subst (λ (ts : List Thread). AgreeSoFar p classes space copies made shared items (k + 1) ts) (sym c.in_ok-push.ensures.items)
           (one_more p classes space copies made shared items k c.calls-item.result c.in_ok-thread.thread c.loop-calls.threads.items at
-          (λ j own. subst (λ (cs : List Invocation). ThreadAgrees p classes space copies made j own shared c.in_ok-thread.thread (waiting_thread cs)) c.deref.ensures.value (c.in_ok-thread.ensures.agrees space copies j own shared))
+          (λ j. subst (λ (cs : List Invocation). ThreadAgrees p classes space copies made j no_owners shared c.in_ok-thread.thread (waiting_thread cs)) c.deref.ensures.value (c.in_ok-thread.ensures.agrees space copies j shared))
           (c.loop-calls.invariant.agree space copies shared));
       all = c.loop-calls.invariant.all ∙ loads_at (unit_tree p.unit) classes items k c.calls-item.result at (ap (refused_calls (unit_tree p.unit) classes) (sym c.deref.ensures.value) ∙ c.in_ok-thread.ensures.all);
     }

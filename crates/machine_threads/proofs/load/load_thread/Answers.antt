@@ -17,9 +17,9 @@ load_call-requires-clause-given c =
     (slice_get_read c.args.calls.now (length c.args.calls.now) c.loop-call.call-index c.call-item.result refl c.loop-call-test.true c.call-item.is)
 
 pub returns-clause-agrees : goal.returns-clause-agrees
-returns-clause-agrees c space copies k own shared =
+returns-clause-agrees c space copies k shared =
     let w = c.args.world.now in
-    before_agrees c.args.program.now w.classes space copies (length (loaded_objects w)) k own shared _ c.args.calls.now
+    before_agrees c.args.program.now w.classes space copies (length (loaded_objects w)) k shared _ c.args.calls.now
     (all_agree c.args.program.now w.classes (length (loaded_objects w)) c.args.calls.now c.loop-call.call-index c.loop-call.nexts.items c.loop-call-test.false c.loop-call.invariant.agree)
     (some_call c.args.calls.now c.requires.some) refl c.new.ensures.items refl refl
 
