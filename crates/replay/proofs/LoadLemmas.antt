@@ -1,12 +1,12 @@
 -- The first call that doesn't fit, and the threads before their first calls.
 use Rattle.std.proofs.Common.{◌≡◌, ℕ, zero, suc, ◌+◌, ◌≤◌, length, Bool, true, false, cond, ◌&&◌, is_some, drop, take, List, [], ◌∷◌, ◌++◌, map, Option, Some, None, refl, sym, ap, ◌∙◌, append_assoc, subst, arith, IsTrue}
-use Rattle.std.specs.Prelude.{slice_get, not, filter}
+use Rattle.std.specs.Prelude.{slice_get, not, filter, if◌then◌else◌}
 use Rattle.std.specs.List.{flat_map, list_all}
 use Rattle.std.specs.Global.{Vec}
 use Rattle.syntax.specs.Tree.{SourceUnit}
 use Rattle.class_rules.specs.Class.{Classes}
-use Rattle.semantics.specs.World.{Invocation}
-use Rattle.semantics.specs.Load.{call_loads, refused_calls}
+use Rattle.semantics.specs.World.{Invocation, World}
+use Rattle.semantics.specs.Load.{call_loads, first_load_fault, methods_load, refused_calls}
 use Rattle.semantics.specs.Start.{waiting_thread}
 use Rattle.semantics.specs.Views.{name_of}
 use Rattle.replay_threads.specs.declared.thread.Thread.{Thread as ThreadInMemory}
@@ -56,6 +56,22 @@ first_of_both (x ∷ xs) ys line e h = e
 pub no_call : (xs : List Invocation) (line : Option ℕ) → line ≡ first_line xs → is_some line ≡ false → xs ≡ []
 no_call [] line e h = refl
 no_call (x ∷ xs) line e h = let bad : true ≡ false = subst (λ (o : Option ℕ). is_some o ≡ false) e h in absurd (cc)
+
+-- where methods are allowed, the first line is that of a call
+pub methods_allowed : (unit : SourceUnit) (w : World) → methods_load unit w ≡ true → first_load_fault unit w ≡ first_line (flat_map (refused_calls unit w.classes) w.threads)
+methods_allowed unit w allowed = ap (λ b. slice_get ((if b then [] else w.heap_line ∷ []) ++ map (λ (c : Invocation). c.line) (flat_map (refused_calls unit w.classes) w.threads)) 0) allowed
+
+-- and else it is that of the heap
+pub methods_missing : (unit : SourceUnit) (w : World) → methods_load unit w ≡ false → first_load_fault unit w ≡ Some w.heap_line
+methods_missing unit w missing = ap (λ b. slice_get ((if b then [] else w.heap_line ∷ []) ++ map (λ (c : Invocation). c.line) (flat_map (refused_calls unit w.classes) w.threads)) 0) missing
+
+-- no line, so methods are allowed, and no call is refused
+pub none_refused : (unit : SourceUnit) (w : World) → first_load_fault unit w ≡ None → flat_map (refused_calls unit w.classes) w.threads ≡ []
+none_refused unit w none = by_test (methods_load unit w) refl
+  where
+    by_test : (b : Bool) → methods_load unit w ≡ b → flat_map (refused_calls unit w.classes) w.threads ≡ []
+    by_test true allowed = no_call (flat_map (refused_calls unit w.classes) w.threads) None (sym none ∙ methods_allowed unit w allowed) refl
+    by_test false missing = let bad : Some w.heap_line ≡ None = sym (methods_missing unit w missing) ∙ none in absurd (cc)
 
 pub not_some : {A : Type 0} (o : Option A) → ((x : A) → o ≡ Some x → ⊥) → is_some o ≡ false
 not_some None h = refl

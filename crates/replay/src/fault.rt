@@ -6,7 +6,7 @@ ghost use Rattle.replay.specs.declared.fault.ReplayError.TheVariants.{DoesNotFit
 use std::alloc::{AllocError, AllocFailed};
 use thiserror::Error;
 
-/// The number of the fault of a call that doesn't go with the program.
+/// The number of the fault of a world that doesn't go with the program.
 const UNFIT: u32 = 82;
 
 /// The number of the fault of an entry of a journal that isn't possible.
@@ -15,8 +15,9 @@ const IMPOSSIBLE: u32 = 91;
 /// Why `replay` did not write a run to its end.
 #[derive(Clone, Copy, Debug, Error)]
 pub enum ReplayError {
-    /// Fault 82: the function of a call or its class is unknown, or the arguments don't fit. The line is the call's
-    /// in the world, counted from 1.
+    /// Fault 82: the function of a call or its class is unknown, or the arguments don't fit, and the line is the call's in
+    /// the world; or the unit asks for methods, which the world doesn't allow, and the line is the heap's. Lines are counted
+    /// from 1.
     #[error("fault {} line {}", UNFIT, .0)]
     DoesNotFit(usize),
     /// Fault 91: an entry isn't possible where the entries before it have led. Entries are counted from 1.

@@ -1,6 +1,6 @@
 //! The state in which a replay begins.
 
-ghost use Rattle.std.specs.Prelude.{◌≡◌, ◌≤◌, IfOk, IfErr, length, map, [], None};
+ghost use Rattle.std.specs.Prelude.{◌≡◌, ◌≤◌, IfOk, IfErr, flat_map, length, map, [], None};
 ghost use Rattle.syntax.specs.Views.{unit_tree, function_tree};
 ghost use Rattle.type_rules.specs.SortRules.{IsSorted};
 ghost use Rattle.world_values.specs.Views.{object_value_view};
@@ -20,7 +20,7 @@ use replay_threads::{State, Thread, class_of};
 use semantics::Ending;
 use std::alloc::{AllocError, Global};
 use syntax::{Function, Item};
-use world_calls::arguments_fit;
+use world_calls::{arguments_fit, methods_load};
 use world_values::{Call, ObjectValue, World};
 
 /// Whether the function can be called with these arguments: its class is there, and they fit.
@@ -71,12 +71,13 @@ fn first_unfit(
 }
 
 /// The line of the first call of a thread that doesn't fit.
-fn first_fault(
+fn first_misfit(
     alloc: Global,
     functions: &Functions<'_>,
     world: &World,
 ) -> Result<Option<usize>, AllocError>
-    ensures { IfOk result (λ line. line ≡ first_load_fault (unit_tree functions.now) world.now) }
+    ensures { IfOk result (λ line. line ≡ first_line
+        (flat_map (refused_calls (unit_tree functions.now) world.now.classes) world.now.threads)) }
 {
     for calls in world.threads() {
         let line = first_unfit(alloc, functions, world, calls)?;
@@ -85,6 +86,21 @@ fn first_fault(
         }
     }
     Ok(None)
+}
+
+/// The line of the heap, where the world doesn't allow the methods that the unit asks for, or else of the first call of a
+/// thread that doesn't fit.
+fn first_fault(
+    alloc: Global,
+    functions: &Functions<'_>,
+    world: &World,
+) -> Result<Option<usize>, AllocError>
+    ensures { IfOk result (λ line. line ≡ first_load_fault (unit_tree functions.now) world.now) }
+{
+    if !methods_load(functions.items(), world) {
+        return Ok(Some(world.heap_line()));
+    }
+    first_misfit(alloc, functions, world)
 }
 
 /// A thread before its first call.
@@ -153,7 +169,7 @@ fn loaded<'a>(alloc: Global, items: &'a [Item], world: &World) -> Result<Shared<
     })
 }
 
-/// The state before the first entry, where each call fits.
+/// The state before the first entry, where the unit and the world go together.
 fn begun<'a>(
     alloc: Global,
     functions: &Functions<'a>,

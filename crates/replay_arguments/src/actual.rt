@@ -189,7 +189,8 @@ fn field_of<'a>(variables: &Variables<'a>, name: &Name) -> Option<FieldId<'a>>
         None => None,
         Some(content) => match content {
             Content::Field(field) => *field,
-            Content::Number(_) | Content::Reference { .. } | Content::Array(_, _) => None,
+            Content::Number(_) | Content::Reference { .. } => None,
+            Content::Method(_) | Content::Array(_, _) => None,
             Content::Buffer(_) | Content::Copy { .. } | Content::View { .. } => None,
         },
     }

@@ -6,6 +6,7 @@ use replay_objects::Frames;
 use replay_terms::{BuffersInUse, Variables};
 use semantics::ObjectId;
 use std::alloc::Global;
+use syntax::Item;
 
 /// The variables of a call in progress, in the order in which they came to be, and its frames of local references.
 pub struct Locals<'a> {
@@ -22,10 +23,12 @@ impl Drop for Locals<'_> {
     }
 }
 
-/// What a step is given: where its memory comes from, the classes, whose step it is, and what there is of buffers before it.
+/// What a step is given: where its memory comes from, the unit, the classes, whose step it is, and what there is of buffers before it.
 #[derive(Clone, Copy)]
 pub struct Turn<'a> {
     pub alloc: Global,
+    /// The items of the unit, in the order of the text.
+    pub unit: &'a [Item],
     pub classes: &'a ClassTable,
     /// The thread's number, from 1.
     pub thread: u8,

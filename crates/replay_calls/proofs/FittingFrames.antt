@@ -2,21 +2,23 @@
 use Rattle.std.proofs.Common.{◌≡◌, ℕ, Bool, true, false, List, ◌∷◌, Option, Some, None, refl}
 use Rattle.std.specs.Prelude.{◌+◌, ◌-◌, ◌==◌, nat_lt, ℤ, pos, negsuc, length, nat_le, if◌then◌else◌}
 use Rattle.base.specs.Bytes.{Identifier, lookup}
+use Rattle.syntax.specs.Tree.{SourceUnit}
 use Rattle.class_rules.specs.BuiltIns.{illegal_monitor_state}
 use Rattle.class_rules.specs.Class.{Classes}
 use Rattle.class_rules.specs.Fields.{FieldId}
 use Rattle.jni.specs.Access.{ElementsCopy}
-use Rattle.jni.specs.JniFunction.{JniFunction, FindClass, NewGlobalRef, DeleteLocalRef, EnsureLocalCapacity, PushLocalFrame, GetFieldID, GetStaticFieldID, NewArray, NewObjectArray, GetObjectArrayElement, SetObjectArrayElement, GetArrayRegion, SetArrayRegion, GetStringRegion, ReleaseBuffer, MonitorEnter, MonitorExit}
+use Rattle.jni.specs.JniFunction.{JniFunction, FindClass, NewGlobalRef, DeleteLocalRef, EnsureLocalCapacity, PushLocalFrame, GetFieldID, GetStaticFieldID, GetStaticMethodID, NewArray, NewObjectArray, GetObjectArrayElement, SetObjectArrayElement, GetArrayRegion, SetArrayRegion, GetStringRegion, ReleaseBuffer, MonitorEnter, MonitorExit}
 use Rattle.semantics.specs.Arguments.{Actual, ReleaseMode, CopyBackAndFree, CopyBack, FreeUncopied, mode_given, variable_given, reference_given, number_given, object_given}
 use Rattle.semantics.specs.CallEffects.{ScalarResult, local_array, with_capacity}
 use Rattle.semantics.specs.Heap.{Heap, values_of}
+use Rattle.semantics.specs.Method.{MethodId}
 use Rattle.semantics.specs.Object.{Reference}
 use Rattle.semantics.specs.Thread.{BuffersInUse, Frame, Monitor, capacities, monitor_of}
 use Rattle.semantics.specs.Value.{Int, Trap, OutOfRange}
 use Rattle.semantics.specs.Variable.{Variables}
 use Rattle.replay_calls.specs.Answers.{Answer, Gives, Raises, Owns, Disowns, Ensures, Pushes, RefusesFrames, Region, GetsRegion, SetsRegion, Halts, FitsArrays, FitsFrames, HasRoom, IsInside, answer_or_trap}
 use Rattle.replay_objects.specs.Frames.{new_frame}
-use Rattle.replay_calls.specs.WorkedOut.{element_given, element_set, ensured, found_class, found_field, if_it_has_room, local_deleted, made_global, monitor_entered, monitor_left, new_array, new_object_array, pushed, region_given, region_got, region_set, region_within, released, worked_out}
+use Rattle.replay_calls.specs.WorkedOut.{element_given, element_set, ensured, found_class, found_field, found_method, if_it_has_room, local_deleted, made_global, monitor_entered, monitor_left, new_array, new_object_array, pushed, region_given, region_got, region_set, region_within, released, worked_out}
 
 module _ (frames : List Frame) where
   class_fits : (c : Option ℕ) → FitsFrames frames (found_class c)
@@ -26,6 +28,10 @@ module _ (frames : List Frame) where
   field_fits : (f : Option FieldId) → FitsFrames frames (found_field f)
   field_fits None = tt
   field_fits (Some f) = tt
+
+  method_fits : (m : Option MethodId) → FitsFrames frames (found_method m)
+  method_fits None = tt
+  method_fits (Some m) = tt
 
   room_fits : (n : ℕ) (b : Bool) → nat_le (capacities (with_capacity n frames)) 1024 ≡ b → FitsFrames frames (if b then Ensures n else RefusesFrames)
   room_fits n true fits = fits
@@ -105,30 +111,31 @@ module _ (frames : List Frame) where
       by_tests true false = tt
       by_tests false c = tt
 
-  answer_fits : (classes : Classes) (in_use : BuffersInUse) (k : ℕ) (monitors : List Monitor) (heap : Heap) (vs : Variables) (pending : Reference) (args : List Actual) (f : JniFunction) → FitsFrames frames (worked_out classes in_use k monitors heap vs frames pending args f)
-  answer_fits classes in_use k monitors heap vs pending args FindClass = class_fits _
-  answer_fits classes in_use k monitors heap vs pending args NewGlobalRef = global_fits (reference_given args 0)
-  answer_fits classes in_use k monitors heap vs pending args DeleteLocalRef = local_fits _ (reference_given args 0)
-  answer_fits classes in_use k monitors heap vs pending args EnsureLocalCapacity = ensured_fits (number_given args 0)
-  answer_fits classes in_use k monitors heap vs pending args PushLocalFrame = pushed_fits (number_given args 0)
-  answer_fits classes in_use k monitors heap vs pending args GetFieldID = field_fits _
-  answer_fits classes in_use k monitors heap vs pending args GetStaticFieldID = field_fits _
-  answer_fits classes in_use k monitors heap vs pending args (NewArray T) = array_fits _ (number_given args 0)
-  answer_fits classes in_use k monitors heap vs pending args NewObjectArray = object_array_fits _ _ (number_given args 0)
-  answer_fits classes in_use k monitors heap vs pending args GetObjectArrayElement = element_fits heap _ _
-  answer_fits classes in_use k monitors heap vs pending args SetObjectArrayElement = set_fits _ _ _ _
-  answer_fits classes in_use k monitors heap vs pending args (GetArrayRegion T) = got_fits _ vs (region_given heap args)
-  answer_fits classes in_use k monitors heap vs pending args (SetArrayRegion T) = set_region_fits vs (region_given heap args)
-  answer_fits classes in_use k monitors heap vs pending args GetStringRegion = got_fits _ vs (region_given heap args)
-  answer_fits classes in_use k monitors heap vs pending args (ReleaseBuffer (ElementsCopy T)) = released_fits _ _ (mode_given args 2)
-  answer_fits classes in_use k monitors heap vs pending args MonitorEnter = enter_fits _ (monitor_of monitors (object_given args 0))
-  answer_fits classes in_use k monitors heap vs pending args MonitorExit = exit_fits k _ (monitor_of monitors (object_given args 0))
-  answer_fits classes in_use k monitors heap vs pending args f = tt
+  answer_fits : (unit : SourceUnit) (classes : Classes) (in_use : BuffersInUse) (k : ℕ) (monitors : List Monitor) (heap : Heap) (vs : Variables) (pending : Reference) (args : List Actual) (f : JniFunction) → FitsFrames frames (worked_out unit classes in_use k monitors heap vs frames pending args f)
+  answer_fits unit classes in_use k monitors heap vs pending args FindClass = class_fits _
+  answer_fits unit classes in_use k monitors heap vs pending args NewGlobalRef = global_fits (reference_given args 0)
+  answer_fits unit classes in_use k monitors heap vs pending args DeleteLocalRef = local_fits _ (reference_given args 0)
+  answer_fits unit classes in_use k monitors heap vs pending args EnsureLocalCapacity = ensured_fits (number_given args 0)
+  answer_fits unit classes in_use k monitors heap vs pending args PushLocalFrame = pushed_fits (number_given args 0)
+  answer_fits unit classes in_use k monitors heap vs pending args GetFieldID = field_fits _
+  answer_fits unit classes in_use k monitors heap vs pending args GetStaticFieldID = field_fits _
+  answer_fits unit classes in_use k monitors heap vs pending args GetStaticMethodID = method_fits _
+  answer_fits unit classes in_use k monitors heap vs pending args (NewArray T) = array_fits _ (number_given args 0)
+  answer_fits unit classes in_use k monitors heap vs pending args NewObjectArray = object_array_fits _ _ (number_given args 0)
+  answer_fits unit classes in_use k monitors heap vs pending args GetObjectArrayElement = element_fits heap _ _
+  answer_fits unit classes in_use k monitors heap vs pending args SetObjectArrayElement = set_fits _ _ _ _
+  answer_fits unit classes in_use k monitors heap vs pending args (GetArrayRegion T) = got_fits _ vs (region_given heap args)
+  answer_fits unit classes in_use k monitors heap vs pending args (SetArrayRegion T) = set_region_fits vs (region_given heap args)
+  answer_fits unit classes in_use k monitors heap vs pending args GetStringRegion = got_fits _ vs (region_given heap args)
+  answer_fits unit classes in_use k monitors heap vs pending args (ReleaseBuffer (ElementsCopy T)) = released_fits _ _ (mode_given args 2)
+  answer_fits unit classes in_use k monitors heap vs pending args MonitorEnter = enter_fits _ (monitor_of monitors (object_given args 0))
+  answer_fits unit classes in_use k monitors heap vs pending args MonitorExit = exit_fits k _ (monitor_of monitors (object_given args 0))
+  answer_fits unit classes in_use k monitors heap vs pending args f = tt
 
   -- so does it with a trap before it
-  pub told_fits : (classes : Classes) (in_use : BuffersInUse) (k : ℕ) (monitors : List Monitor) (heap : Heap) (vs : Variables) (pending : Reference) (args : List Actual) (f : JniFunction) (o : Option Trap) → FitsFrames frames (answer_or_trap o (worked_out classes in_use k monitors heap vs frames pending args f))
-  told_fits classes in_use k monitors heap vs pending args f None = answer_fits classes in_use k monitors heap vs pending args f
-  told_fits classes in_use k monitors heap vs pending args f (Some trap) = tt
+  pub told_fits : (unit : SourceUnit) (classes : Classes) (in_use : BuffersInUse) (k : ℕ) (monitors : List Monitor) (heap : Heap) (vs : Variables) (pending : Reference) (args : List Actual) (f : JniFunction) (o : Option Trap) → FitsFrames frames (answer_or_trap o (worked_out unit classes in_use k monitors heap vs frames pending args f))
+  told_fits unit classes in_use k monitors heap vs pending args f None = answer_fits unit classes in_use k monitors heap vs pending args f
+  told_fits unit classes in_use k monitors heap vs pending args f (Some trap) = tt
 
 -- ---- regions
 
@@ -140,6 +147,10 @@ module _ (heap : Heap) (vs : Variables) where
   field_copies : (f : Option FieldId) → FitsArrays heap vs (found_field f)
   field_copies None = tt
   field_copies (Some f) = tt
+
+  method_copies : (m : Option MethodId) → FitsArrays heap vs (found_method m)
+  method_copies None = tt
+  method_copies (Some m) = tt
 
   frames_copy : (b : Bool) (a : Answer) → FitsArrays heap vs a → FitsArrays heap vs (if b then a else RefusesFrames)
   frames_copy true a fits = fits
@@ -228,26 +239,27 @@ module _ (heap : Heap) (vs : Variables) where
     released_copies n p CopyBack = tt
     released_copies n p FreeUncopied = tt
 
-    answer_copies : (classes : Classes) (in_use : BuffersInUse) (k : ℕ) (monitors : List Monitor) (frames : List Frame) (pending : Reference) (f : JniFunction) → FitsArrays heap vs (worked_out classes in_use k monitors heap vs frames pending args f)
-    answer_copies classes in_use k monitors frames pending FindClass = class_copies _
-    answer_copies classes in_use k monitors frames pending NewGlobalRef = global_copies (reference_given args 0)
-    answer_copies classes in_use k monitors frames pending DeleteLocalRef = local_copies _ (reference_given args 0)
-    answer_copies classes in_use k monitors frames pending EnsureLocalCapacity = ensured_copies frames (number_given args 0)
-    answer_copies classes in_use k monitors frames pending PushLocalFrame = pushed_copies frames (number_given args 0)
-    answer_copies classes in_use k monitors frames pending GetFieldID = field_copies _
-    answer_copies classes in_use k monitors frames pending GetStaticFieldID = field_copies _
-    answer_copies classes in_use k monitors frames pending (NewArray T) = array_copies _ (number_given args 0)
-    answer_copies classes in_use k monitors frames pending NewObjectArray = object_array_copies _ _ (number_given args 0)
-    answer_copies classes in_use k monitors frames pending GetObjectArrayElement = element_copies _ _
-    answer_copies classes in_use k monitors frames pending SetObjectArrayElement = set_copies _ _ _ _
-    answer_copies classes in_use k monitors frames pending (GetArrayRegion T) = got_copies _
-    answer_copies classes in_use k monitors frames pending (SetArrayRegion T) = set_region_copies
-    answer_copies classes in_use k monitors frames pending GetStringRegion = got_copies _
-    answer_copies classes in_use k monitors frames pending (ReleaseBuffer (ElementsCopy T)) = released_copies _ _ (mode_given args 2)
-    answer_copies classes in_use k monitors frames pending MonitorEnter = enter_copies _ (monitor_of monitors (object_given args 0))
-    answer_copies classes in_use k monitors frames pending MonitorExit = exit_copies k _ (monitor_of monitors (object_given args 0))
-    answer_copies classes in_use k monitors frames pending f = tt
+    answer_copies : (unit : SourceUnit) (classes : Classes) (in_use : BuffersInUse) (k : ℕ) (monitors : List Monitor) (frames : List Frame) (pending : Reference) (f : JniFunction) → FitsArrays heap vs (worked_out unit classes in_use k monitors heap vs frames pending args f)
+    answer_copies unit classes in_use k monitors frames pending FindClass = class_copies _
+    answer_copies unit classes in_use k monitors frames pending NewGlobalRef = global_copies (reference_given args 0)
+    answer_copies unit classes in_use k monitors frames pending DeleteLocalRef = local_copies _ (reference_given args 0)
+    answer_copies unit classes in_use k monitors frames pending EnsureLocalCapacity = ensured_copies frames (number_given args 0)
+    answer_copies unit classes in_use k monitors frames pending PushLocalFrame = pushed_copies frames (number_given args 0)
+    answer_copies unit classes in_use k monitors frames pending GetFieldID = field_copies _
+    answer_copies unit classes in_use k monitors frames pending GetStaticFieldID = field_copies _
+    answer_copies unit classes in_use k monitors frames pending GetStaticMethodID = method_copies _
+    answer_copies unit classes in_use k monitors frames pending (NewArray T) = array_copies _ (number_given args 0)
+    answer_copies unit classes in_use k monitors frames pending NewObjectArray = object_array_copies _ _ (number_given args 0)
+    answer_copies unit classes in_use k monitors frames pending GetObjectArrayElement = element_copies _ _
+    answer_copies unit classes in_use k monitors frames pending SetObjectArrayElement = set_copies _ _ _ _
+    answer_copies unit classes in_use k monitors frames pending (GetArrayRegion T) = got_copies _
+    answer_copies unit classes in_use k monitors frames pending (SetArrayRegion T) = set_region_copies
+    answer_copies unit classes in_use k monitors frames pending GetStringRegion = got_copies _
+    answer_copies unit classes in_use k monitors frames pending (ReleaseBuffer (ElementsCopy T)) = released_copies _ _ (mode_given args 2)
+    answer_copies unit classes in_use k monitors frames pending MonitorEnter = enter_copies _ (monitor_of monitors (object_given args 0))
+    answer_copies unit classes in_use k monitors frames pending MonitorExit = exit_copies k _ (monitor_of monitors (object_given args 0))
+    answer_copies unit classes in_use k monitors frames pending f = tt
 
-    pub told_copies : (classes : Classes) (in_use : BuffersInUse) (k : ℕ) (monitors : List Monitor) (frames : List Frame) (pending : Reference) (f : JniFunction) (o : Option Trap) → FitsArrays heap vs (answer_or_trap o (worked_out classes in_use k monitors heap vs frames pending args f))
-    told_copies classes in_use k monitors frames pending f None = answer_copies classes in_use k monitors frames pending f
-    told_copies classes in_use k monitors frames pending f (Some trap) = tt
+    pub told_copies : (unit : SourceUnit) (classes : Classes) (in_use : BuffersInUse) (k : ℕ) (monitors : List Monitor) (frames : List Frame) (pending : Reference) (f : JniFunction) (o : Option Trap) → FitsArrays heap vs (answer_or_trap o (worked_out unit classes in_use k monitors heap vs frames pending args f))
+    told_copies unit classes in_use k monitors frames pending f None = answer_copies unit classes in_use k monitors frames pending f
+    told_copies unit classes in_use k monitors frames pending f (Some trap) = tt

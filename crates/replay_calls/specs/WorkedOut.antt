@@ -2,14 +2,16 @@
 use Rattle.std.specs.Prelude.{◌≡◌, ℕ, ◌+◌, ◌-◌, ◌==◌, nat_le, nat_lt, if◌then◌else◌, Bool, true, false, ℤ, pos, negsuc, List, ◌∷◌, length, Option, Some, None, is_some}
 use Rattle.base.specs.Limits.{most_copied, most_monitor_entries, most_references, most_views}
 use Rattle.base.specs.Bytes.{Identifier, lookup}
-use Rattle.class_rules.specs.BuiltIns.{array_index_out_of_bounds, array_store_exception, illegal_monitor_state, negative_array_size, no_class_def_found_error, no_such_field_error, number_array, string_index_out_of_bounds}
+use Rattle.syntax.specs.Tree.{SourceUnit}
+use Rattle.class_rules.specs.BuiltIns.{array_index_out_of_bounds, array_store_exception, illegal_monitor_state, negative_array_size, no_class_def_found_error, no_such_field_error, no_such_method_error, number_array, string_index_out_of_bounds}
 use Rattle.class_rules.specs.Class.{Classes, class_kind, class_named, element_class, superclass, assignable}
 use Rattle.class_rules.specs.Fields.{FieldId, find_field, find_static}
 use Rattle.jni.specs.Access.{Access, ElementsCopy, ArrayView, CharsCopy, CharsView}
-use Rattle.jni.specs.JniFunction.{JniFunction, FindClass, GetSuperclass, GetObjectClass, IsInstanceOf, IsAssignableFrom, AllocObject, NewLocalRef, NewGlobalRef, NewWeakGlobalRef, DeleteLocalRef, DeleteGlobalRef, DeleteWeakGlobalRef, IsSameObject, EnsureLocalCapacity, PushLocalFrame, PopLocalFrame, GetFieldID, GetStaticFieldID, GetField, SetField, GetStaticField, SetStaticField, GetObjectField, SetObjectField, GetStaticObjectField, SetStaticObjectField, GetArrayLength, NewArray, NewObjectArray, GetObjectArrayElement, SetObjectArrayElement, GetArrayRegion, SetArrayRegion, NewStringUTF, GetStringLength, GetStringRegion, GetBuffer, ReleaseBuffer, Throw, ThrowNew, ExceptionOccurred, ExceptionCheck, ExceptionClear, FatalError, MonitorEnter, MonitorExit}
+use Rattle.jni.specs.JniFunction.{JniFunction, FindClass, GetSuperclass, GetObjectClass, IsInstanceOf, IsAssignableFrom, AllocObject, NewLocalRef, NewGlobalRef, NewWeakGlobalRef, DeleteLocalRef, DeleteGlobalRef, DeleteWeakGlobalRef, IsSameObject, EnsureLocalCapacity, PushLocalFrame, PopLocalFrame, GetFieldID, GetStaticFieldID, GetField, SetField, GetStaticField, SetStaticField, GetObjectField, SetObjectField, GetStaticObjectField, SetStaticObjectField, GetArrayLength, NewArray, NewObjectArray, GetObjectArrayElement, SetObjectArrayElement, GetArrayRegion, SetArrayRegion, NewStringUTF, GetStringLength, GetStringRegion, GetBuffer, ReleaseBuffer, Throw, ThrowNew, ExceptionOccurred, ExceptionCheck, ExceptionClear, FatalError, MonitorEnter, MonitorExit, GetStaticMethodID}
 use Rattle.semantics.specs.Arguments.{Actual, ReleaseMode, CopyBackAndFree, CopyBack, FreeUncopied, reference_given, object_given, mode_given, number_given, text_given, field_given, variable_given}
-use Rattle.semantics.specs.CallEffects.{NoResult, ScalarResult, ReferenceResult, WeakResult, FieldResult, level_of, local_array, same_reference, with_capacity}
+use Rattle.semantics.specs.CallEffects.{NoResult, ScalarResult, ReferenceResult, WeakResult, FieldResult, MethodResult, level_of, local_array, same_reference, with_capacity}
 use Rattle.semantics.specs.Heap.{Heap, class_of, numbers_of, values_of, value_at, number_in, reference_in, field_place, static_place, fits_class}
+use Rattle.semantics.specs.Method.{MethodId, find_method}
 use Rattle.semantics.specs.Object.{Number, Refers, Reference}
 use Rattle.semantics.specs.Thread.{BuffersInUse, Frame, Monitor, capacities, monitor_of}
 use Rattle.semantics.specs.Value.{Int, Flag, Fatal, OutOfRange, convert}
@@ -29,6 +31,11 @@ found_class (Some c) = Gives (ReferenceResult (Some c))
 abbrev pub found_field : Option FieldId → Answer
 found_field None = Raises no_such_field_error
 found_field (Some f) = Gives (FieldResult (Some f))
+
+-- a method that was found, or else an exception
+abbrev pub found_method : Option MethodId → Answer
+found_method None = Raises no_such_method_error
+found_method (Some m) = Gives (MethodResult (Some m))
 
 -- the static or the field of the class of argument 0 with the name and the type of arguments 1 and 2
 abbrev pub field_named : (is_static : Bool) → Classes → List Actual → Option FieldId
@@ -165,7 +172,7 @@ monitor_left k n (Some m) =
     if m.owner == k then (if m.count == 1 then Disowns n else Owns n (m.count - 1)) else Raises illegal_monitor_state
 
 -- thread k calls a function
-module _ (classes : Classes) (in_use : BuffersInUse) (k : ℕ) (monitors : List Monitor) (heap : Heap)
+module _ (unit : SourceUnit) (classes : Classes) (in_use : BuffersInUse) (k : ℕ) (monitors : List Monitor) (heap : Heap)
     (variables : Variables) (frames : List Frame) (pending : Reference) (args : List Actual) where
   abbrev pub reference : ℕ → Option ℕ
   reference i = reference_given args i
@@ -240,42 +247,49 @@ module _ (classes : Classes) (in_use : BuffersInUse) (k : ℕ) (monitors : List 
   worked_out FatalError = Halts Fatal
   worked_out MonitorEnter = monitor_entered (object 0) (monitor_of monitors (object 0))
   worked_out MonitorExit = monitor_left k (object 0) (monitor_of monitors (object 0))
+  worked_out GetStaticMethodID = found_method (find_method unit classes (object 0) (text 1) (text 2))
 
 -- ---- functions by what they work on
 
--- This is what a function does that is given these arguments, by the classes and the objects alone: whatever else there
--- is.
+-- This is what a function does that is given these arguments, by the unit, the classes and the objects alone: whatever
+-- else there is.
+abbrev pub IsByClasses : SourceUnit → Classes → Heap → List Actual → JniFunction → Answer → Type 0
+IsByClasses unit classes heap args f a =
+    (in_use : BuffersInUse) (k : ℕ) (monitors : List Monitor) (variables : Variables) (frames : List Frame)
+    (pending : Reference) → a ≡ worked_out unit classes in_use k monitors heap variables frames pending args f
+
+-- the same by the classes and the objects alone
 abbrev pub IsByObjects : Classes → Heap → List Actual → JniFunction → Answer → Type 0
 IsByObjects classes heap args f a =
-    (in_use : BuffersInUse) (k : ℕ) (monitors : List Monitor) (variables : Variables) (frames : List Frame)
-    (pending : Reference) → a ≡ worked_out classes in_use k monitors heap variables frames pending args f
+    (unit : SourceUnit) (in_use : BuffersInUse) (k : ℕ) (monitors : List Monitor) (variables : Variables) (frames : List Frame)
+    (pending : Reference) → a ≡ worked_out unit classes in_use k monitors heap variables frames pending args f
 
 -- the same by the variables and the frames alone
 abbrev pub IsByFrames : Variables → List Frame → List Actual → JniFunction → Answer → Type 0
 IsByFrames variables frames args f a =
-    (classes : Classes) (in_use : BuffersInUse) (k : ℕ) (monitors : List Monitor) (heap : Heap)
-    (pending : Reference) → a ≡ worked_out classes in_use k monitors heap variables frames pending args f
+    (unit : SourceUnit) (classes : Classes) (in_use : BuffersInUse) (k : ℕ) (monitors : List Monitor) (heap : Heap)
+    (pending : Reference) → a ≡ worked_out unit classes in_use k monitors heap variables frames pending args f
 
 -- the same by the objects and the variables alone
 abbrev pub IsByVariables : Heap → Variables → List Actual → JniFunction → Answer → Type 0
 IsByVariables heap variables args f a =
-    (classes : Classes) (in_use : BuffersInUse) (k : ℕ) (monitors : List Monitor) (frames : List Frame)
-    (pending : Reference) → a ≡ worked_out classes in_use k monitors heap variables frames pending args f
+    (unit : SourceUnit) (classes : Classes) (in_use : BuffersInUse) (k : ℕ) (monitors : List Monitor) (frames : List Frame)
+    (pending : Reference) → a ≡ worked_out unit classes in_use k monitors heap variables frames pending args f
 
 -- the same by the objects and what the buffers of all threads take alone
 abbrev pub IsByBuffers : Heap → BuffersInUse → List Actual → JniFunction → Answer → Type 0
 IsByBuffers heap in_use args f a =
-    (classes : Classes) (k : ℕ) (monitors : List Monitor) (variables : Variables) (frames : List Frame)
-    (pending : Reference) → a ≡ worked_out classes in_use k monitors heap variables frames pending args f
+    (unit : SourceUnit) (classes : Classes) (k : ℕ) (monitors : List Monitor) (variables : Variables) (frames : List Frame)
+    (pending : Reference) → a ≡ worked_out unit classes in_use k monitors heap variables frames pending args f
 
 -- the same by the pending exception alone
 abbrev pub IsByPending : Reference → List Actual → JniFunction → Answer → Type 0
 IsByPending pending args f a =
-    (classes : Classes) (in_use : BuffersInUse) (k : ℕ) (monitors : List Monitor) (heap : Heap) (variables : Variables)
-    (frames : List Frame) → a ≡ worked_out classes in_use k monitors heap variables frames pending args f
+    (unit : SourceUnit) (classes : Classes) (in_use : BuffersInUse) (k : ℕ) (monitors : List Monitor) (heap : Heap) (variables : Variables)
+    (frames : List Frame) → a ≡ worked_out unit classes in_use k monitors heap variables frames pending args f
 
 -- the same by the monitors alone, where thread k calls
 abbrev pub IsByMonitors : List Monitor → (k : ℕ) → List Actual → JniFunction → Answer → Type 0
 IsByMonitors monitors k args f a =
-    (classes : Classes) (in_use : BuffersInUse) (heap : Heap) (variables : Variables) (frames : List Frame)
-    (pending : Reference) → a ≡ worked_out classes in_use k monitors heap variables frames pending args f
+    (unit : SourceUnit) (classes : Classes) (in_use : BuffersInUse) (heap : Heap) (variables : Variables) (frames : List Frame)
+    (pending : Reference) → a ≡ worked_out unit classes in_use k monitors heap variables frames pending args f

@@ -8,13 +8,15 @@ ghost use Rattle.class_rules.specs.ClassIds.{number_of};
 ghost use Rattle.class_rules.specs.Grown.{IsGrown};
 ghost use Rattle.jni.specs.Table.{function_value};
 ghost use Rattle.semantics.specs.CallEffects.{level_of, same_reference};
+ghost use Rattle.semantics.specs.Method.{find_method};
+ghost use Rattle.syntax.specs.Views.{unit_tree};
 ghost use Rattle.semantics.specs.Heap.{field_place, fits_class, number_in, reference_in, static_place};
 ghost use Rattle.semantics.specs.Arguments.{field_given, number_given, object_given, reference_given, text_given, variable_given};
 ghost use Rattle.replay_arguments.specs.Actuals.{actual_view};
 ghost use Rattle.replay_calls.specs.Answers.{answer_or_trap, answer_view, lent_in, trap_in};
 ghost use Rattle.replay_arguments.specs.Checked.{trap_found};
 ghost use Rattle.jni.specs.Subjects.{subject_of};
-ghost use Rattle.replay_calls.specs.WorkedOut.{IsByFrames, IsByObjects, element_given, element_set, ensured, field_named, fits_element, found_class, found_field, index_given, local_deleted, made_global, new_array, new_object_array, pushed, worked_out};
+ghost use Rattle.replay_calls.specs.WorkedOut.{IsByClasses, IsByFrames, IsByObjects, element_given, element_set, ensured, field_named, fits_element, found_class, found_field, found_method, index_given, local_deleted, made_global, new_array, new_object_array, pushed, worked_out};
 ghost use Rattle.jni.specs.declared.subject.Subject.TheVariants as subject;
 ghost use Rattle.semantics.specs.EventViews.{trap_view};
 ghost use Rattle.semantics.specs.Views.{name_of};
@@ -26,11 +28,11 @@ use crate::buffers::buffer_answer;
 use crate::exceptions::exception_answer;
 use crate::monitors::monitor_answer;
 use crate::regions::region_answer;
-use class_queries::element_class;
+use class_queries::{element_class, find_method};
 use class_rules::ClassId;
 use classes::built_ins::{
     ARRAY_INDEX_OUT_OF_BOUNDS_EXCEPTION, ARRAY_STORE_EXCEPTION, NEGATIVE_ARRAY_SIZE_EXCEPTION,
-    NO_CLASS_DEF_FOUND_ERROR, NO_SUCH_FIELD_ERROR, number_array,
+    NO_CLASS_DEF_FOUND_ERROR, NO_SUCH_FIELD_ERROR, NO_SUCH_METHOD_ERROR, number_array,
 };
 use classes::fields::FieldId;
 use classes::table::ClassTable;
@@ -42,9 +44,9 @@ use replay_arguments::actual::{
 use replay_arguments::check::{check, fits_class};
 use replay_arguments::{Scene, field};
 use replay_objects::{Frames, New, Store};
-use replay_terms::{BuffersInUse, Given, Lent, Variables, convert};
+use replay_terms::{BuffersInUse, Given, Lent, MethodId, Variables, convert};
 use semantics::{Level, ObjectId, Trap};
-use syntax::ElementType;
+use syntax::{ElementType, Item};
 use world_values::ObjectValue;
 
 /// What a call does.
@@ -127,9 +129,11 @@ pub struct Region<'a> {
     pub array: &'a [u8],
 }
 
-/// Who calls, and what a call that gives a buffer goes by.
+/// Who calls, and what a call goes by beside what it sees.
 #[derive(Clone, Copy)]
-pub struct Caller {
+pub struct Caller<'a> {
+    /// The items of the unit, in the order of the text.
+    pub unit: &'a [Item],
     /// The thread's number, from 1.
     pub thread: u8,
     /// What the buffers of all threads take before the call.
@@ -142,16 +146,16 @@ pub struct Caller {
 /// its function does.
 pub fn answer_or_trap<'a>(
     scene: Scene<'_, 'a>,
-    caller: Caller,
+    caller: Caller<'a>,
     function: JniFunction,
     actuals: &[Actual<'a>],
 ) -> Answer<'a>
     requires { IsGrown scene.classes.now }
     ensures { answer_view result ≡ answer_or_trap
         (trap_found scene.entry.classes.now scene.entry.shared.now.store scene.entry.locals.now.frames
-        (is_some (name_of scene.entry.pending)) (element_value caller.element) (function_value function)
+        (is_some (name_of scene.entry.pending)) (element_value caller.entry.element) (function_value function)
         (map actual_view actuals.now))
-        (worked_out scene.entry.classes.now (in_use_view caller.in_use) caller.thread
+        (worked_out (unit_tree caller.entry.unit.now) scene.entry.classes.now (in_use_view caller.entry.in_use) caller.entry.thread
         scene.entry.shared.now.monitors scene.entry.shared.now.store
         (variables_view scene.entry.locals.now.variables) scene.entry.locals.now.frames (name_of scene.entry.pending)
         (map actual_view actuals.now) (function_value function)) }
@@ -185,13 +189,13 @@ pub fn lent_in(answer: Answer<'_>) -> Option<Lent>
 /// What a function does, all checks being passed.
 fn work_out<'a>(
     scene: Scene<'_, 'a>,
-    caller: Caller,
+    caller: Caller<'a>,
     function: JniFunction,
     actuals: &[Actual<'a>],
 ) -> Answer<'a>
     requires { IsGrown scene.classes.now }
     ensures { answer_view result
-        ≡ worked_out scene.entry.classes.now (in_use_view caller.in_use) caller.thread
+        ≡ worked_out (unit_tree caller.entry.unit.now) scene.entry.classes.now (in_use_view caller.entry.in_use) caller.entry.thread
         scene.entry.shared.now.monitors scene.entry.shared.now.store
         (variables_view scene.entry.locals.now.variables) scene.entry.locals.now.frames (name_of scene.entry.pending)
         (map actual_view actuals.now) (function_value function) }
@@ -200,7 +204,7 @@ fn work_out<'a>(
     let store = &scene.shared.store;
     let variables = &scene.locals.variables;
     match function.subject() {
-        Subject::Classes => class_answer(classes, store, function, actuals),
+        Subject::Classes => class_answer(caller.unit, classes, store, function, actuals),
         Subject::References => reference_answer(variables, &scene.locals.frames, function, actuals),
         Subject::Fields => field_answer(classes, store, function, actuals),
         Subject::Statics => static_answer(classes, store, function, actuals),
@@ -214,16 +218,17 @@ fn work_out<'a>(
     }
 }
 
-/// What a function does that works on classes.
+/// What a function does that works on classes and methods.
 #[inline]
 fn class_answer<'a>(
+    unit: &'a [Item],
     classes: &'a ClassTable,
     store: &Store,
     function: JniFunction,
     actuals: &[Actual<'a>],
 ) -> Answer<'a>
     requires { subject_of (function_value function) ≡ subject.Classes }
-    ensures { IsByObjects classes.now store.now (map actual_view actuals.now) (function_value function)
+    ensures { IsByClasses (unit_tree unit.now) classes.now store.now (map actual_view actuals.now) (function_value function)
         (answer_view result) }
 {
     let first = class_given(actuals, 0);
@@ -248,6 +253,7 @@ fn class_answer<'a>(
         JniFunction::AllocObject => Answer::Makes(New::Fresh(first)),
         JniFunction::GetFieldID => field_named(classes, actuals, false),
         JniFunction::GetStaticFieldID => field_named(classes, actuals, true),
+        JniFunction::GetStaticMethodID => method_named(unit, classes, actuals),
         _ => unreachable!(),
     }
 }
@@ -398,6 +404,24 @@ fn field_named<'a>(classes: &'a ClassTable, actuals: &[Actual<'a>], is_static: b
 {
     let (name, text) = (text_given(actuals, 1), text_given(actuals, 2));
     found_field(classes.field(class_given(actuals, 0), name, text, is_static))
+}
+
+/// The method of a class with the name and the signature of arguments 1 and 2, or else an exception.
+fn method_named<'a>(unit: &'a [Item], classes: &ClassTable, actuals: &[Actual<'a>]) -> Answer<'a>
+    ensures { answer_view result
+        ≡ found_method
+        (find_method (unit_tree unit.now) classes.now (object_given (map actual_view actuals.now) 0)
+        (text_given (map actual_view actuals.now) 1) (text_given (map actual_view actuals.now) 2)) }
+{
+    let class = class_given(actuals, 0);
+    let (name, text) = (text_given(actuals, 1), text_given(actuals, 2));
+    match find_method(unit, classes, class, name, text) {
+        Some(found) => Answer::Gives(Given::Method(Some(MethodId {
+            class,
+            function: found.function,
+        }))),
+        None => Answer::Raises(NO_SUCH_METHOD_ERROR),
+    }
 }
 
 /// A class that was found, or else an exception.

@@ -311,7 +311,8 @@ fn failed<'a>(kind: ResultKind) -> Given<'a>
 {
     match kind {
         ResultKind::NewLocal | ResultKind::NewGlobal | ResultKind::NewWeak => Given::Null,
-        ResultKind::GivesField | ResultKind::GivesBuffer(_) => Given::Null,
+        ResultKind::GivesField | ResultKind::GivesMethod => Given::Null,
+        ResultKind::GivesBuffer(_) => Given::Null,
         ResultKind::GivesInt => Given::Number(-1),
         ResultKind::GivesFlag => Given::Flag(false),
         ResultKind::GivesNothing => Given::Nothing,

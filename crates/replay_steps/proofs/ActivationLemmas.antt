@@ -86,8 +86,8 @@ begun_range old new first after rest known begun left outer =
 
 -- a step leaves the same before it
 pub begun_after : (refused : Bool) (before : Scene) (old : Work) (took : Outcome) (after : Scene) (left begun : Work) → tasks_left begun ≡ tasks_left left → Advances refused before old took after left → Advances refused before old took after begun
-begun_after refused before old took after left begun same does = λ unit t sees has.
-    does unit t sees has ∙ ap (λ (ts : List Task). advance_by before.thread after.shared (thread_in t ts after) took) (sym same)
+begun_after refused before old took after left begun same does = λ t sees has.
+    does t sees has ∙ ap (λ (ts : List Task). advance_by before.thread after.shared (thread_in t ts after) took) (sym same)
 
 -- the tasks of a body whose statements are to do
 pub body_tasks : (body : Bor Block) (w : Work) → w.task ≡ None → w.rest ≡ statements_in (Some body) → w.outer.items ≡ [] → tasks_left w ≡ tasks_of (block_tree body.now)
@@ -133,9 +133,9 @@ module _ (refused : Bool) (before between : Scene) (statics : Statics) (heap : H
 
   stepped : (took : Outcome) (end : Scene) → Does refused before begun_task took between left
       → ((t : Thread) → left_by before.thread between.shared (within t) rest took left ≡ NoAdvance) → Advances refused before old outcome.Impossible end new
-  stepped took end does none = λ unit t sees has.
-      ap (λ (ts : List Task). step_within unit before.classes before.in_use before.thread before.shared t refused (Some ts)) first
-      ∙ does unit t rest sees (has ∙ ap (λ (ts : List Task). let o : Option (List Task) = Some ts in o) first)
+  stepped took end does none = λ t sees has.
+      ap (λ (ts : List Task). step_within before.unit before.classes before.in_use before.thread before.shared t refused (Some ts)) first
+      ∙ does t rest sees (has ∙ ap (λ (ts : List Task). let o : Option (List Task) = Some ts in o) first)
       ∙ none t
 
   -- a step that isn't possible
@@ -210,9 +210,9 @@ module _ (refused : Bool) (before between : Scene) (statics : Statics) (heap : H
   -- what the task's step does is done to the call
   pub advances : (took : Outcome) → Does refused before begun_task took between left
       → OnVariables took → AreSet stood took new → Advances refused before old took after new
-  advances took does leaves applied = λ unit t sees has.
-      ap (λ (ts : List Task). step_within unit before.classes before.in_use before.thread before.shared t refused (Some ts)) first
-      ∙ does unit t rest sees (has ∙ ap (λ (ts : List Task). let o : Option (List Task) = Some ts in o) first)
+  advances took does leaves applied = λ t sees has.
+      ap (λ (ts : List Task). step_within before.unit before.classes before.in_use before.thread before.shared t refused (Some ts)) first
+      ∙ does t rest sees (has ∙ ap (λ (ts : List Task). let o : Option (List Task) = Some ts in o) first)
       ∙ left_in t took leaves applied
 
 -- ---- what is known of accepted programs
@@ -256,18 +256,18 @@ module _ (unit : SourceUnit) (classes : Classes) (in_use : BuffersInUse) (k : �
   around_refused after (o ∷ os) h = around_refused (end_view o.end ∷ tasks_of_statements o.rest ++ after) os (end_refused o.end (tasks_of_statements o.rest ++ after))
 
 module _ (scene : Scene) (old new : Work) (idle : old.task ≡ None) (done : old.rest ≡ []) where
-  abbrev steps : (unit : SourceUnit) (t : Thread) (refused : Bool) → List Task → Advance
-  steps unit t refused tasks = step_within unit scene.classes scene.in_use scene.thread scene.shared t refused (Some tasks)
+  abbrev steps : (t : Thread) (refused : Bool) → List Task → Advance
+  steps t refused tasks = step_within scene.unit scene.classes scene.in_use scene.thread scene.shared t refused (Some tasks)
 
   -- no task is left
   pub nothing_to_do : old.outer.items ≡ [] → Advances false scene old outcome.Impossible scene new
-  nothing_to_do none = λ unit t sees has. ap (steps unit t false) (left_is old None [] [] idle done none)
+  nothing_to_do none = λ t sees has. ap (steps t false) (left_is old None [] [] idle done none)
 
   -- what has no object can't have it refused
   pub nothing_to_refuse : Advances true scene old outcome.Impossible scene new
-  nothing_to_refuse = λ unit t sees has.
-      ap (steps unit t true) (left_is old None [] old.outer.items idle done refl)
-      ∙ around_refused unit scene.classes scene.in_use scene.thread scene.shared t [] old.outer.items refl
+  nothing_to_refuse = λ t sees has.
+      ap (steps t true) (left_is old None [] old.outer.items idle done refl)
+      ∙ around_refused scene.unit scene.classes scene.in_use scene.thread scene.shared t [] old.outer.items refl
 
   module _ (os : List Outer) (o : Outer) (outer : old.outer.items ≡ os ++ o ∷ []) (rest : new.rest ≡ o.rest) (rest_of : new.outer.items ≡ os) where
     abbrev todo : List Task
@@ -286,14 +286,14 @@ module _ (scene : Scene) (old new : Work) (idle : old.task ≡ None) (done : old
 
     -- after an `if`
     pub if_over : o.end ≡ end.If → new.task ≡ None → Advances false scene old outcome.Ends scene new
-    if_over is none = λ unit t sees has.
-        ap (steps unit t false) (at_end ∙ ap (λ (e : End). end_view e ∷ todo) is)
+    if_over is none = λ t sees has.
+        ap (steps t false) (at_end ∙ ap (λ (e : End). end_view e ∷ todo) is)
         ∙ goes todo t sees (left None none)
 
     -- at a loop's test
     pub turn_over : (line : ℕ) (test : Bor Expr) (body : Bor Block) (u : TaskInMemory) → o.end ≡ end.Turn line test body → new.task ≡ Some u → task_view u ≡ Loop line (expr_tree test.now) (term_of (expr_tree test.now)) (block_tree body.now)
         → Advances false scene old outcome.Stays scene new
-    turn_over line test body u is begun begins = λ unit t sees has.
-        ap (steps unit t false) (at_end ∙ ap (λ (e : End). end_view e ∷ todo) is)
+    turn_over line test body u is begun begins = λ t sees has.
+        ap (steps t false) (at_end ∙ ap (λ (e : End). end_view e ∷ todo) is)
         ∙ ap (λ (v : Task). let ts : List Task = v ∷ todo in thread.Advances scene.shared (with_tasks t ts) Quiet) (sym begins)
         ∙ goes (task_view u ∷ todo) t sees (left (Some u) begun)

@@ -4,14 +4,16 @@ use Rattle.std.specs.Prelude.{◌==◌, ℤ, pos, negsuc, drop, nat_le, nat_lt, 
 use Rattle.std.specs.Option.{option_to_list}
 use Rattle.base.specs.Bytes.{Identifier, lookup}
 use Rattle.base.specs.Element.{ElementType}
-use Rattle.class_rules.specs.BuiltIns.{array_index_out_of_bounds, illegal_monitor_state, no_class_def_found_error, no_such_field_error, number_array, string_index_out_of_bounds}
+use Rattle.syntax.specs.Tree.{SourceUnit}
+use Rattle.class_rules.specs.BuiltIns.{array_index_out_of_bounds, illegal_monitor_state, no_class_def_found_error, no_such_field_error, no_such_method_error, number_array, string_index_out_of_bounds}
 use Rattle.class_rules.specs.Class.{Classes}
 use Rattle.class_rules.specs.Fields.{FieldId}
+use Rattle.semantics.specs.Method.{MethodId}
 use Rattle.jni.specs.Access.{Access, ElementsCopy, ArrayView, CharsCopy, CharsView}
-use Rattle.jni.specs.JniFunction.{JniFunction, FindClass, NewGlobalRef, DeleteLocalRef, DeleteGlobalRef, DeleteWeakGlobalRef, EnsureLocalCapacity, PushLocalFrame, GetFieldID, GetStaticFieldID, prototype, NewArray, NewObjectArray, GetObjectArrayElement, SetObjectArrayElement, GetArrayRegion, SetArrayRegion, GetStringRegion, GetBuffer, ReleaseBuffer, MonitorEnter, MonitorExit}
+use Rattle.jni.specs.JniFunction.{JniFunction, FindClass, NewGlobalRef, DeleteLocalRef, DeleteGlobalRef, DeleteWeakGlobalRef, EnsureLocalCapacity, PushLocalFrame, GetFieldID, GetStaticFieldID, GetStaticMethodID, prototype, NewArray, NewObjectArray, GetObjectArrayElement, SetObjectArrayElement, GetArrayRegion, SetArrayRegion, GetStringRegion, GetBuffer, ReleaseBuffer, MonitorEnter, MonitorExit}
 use Rattle.jni.specs.Prototype.{ResultKind, NewLocal}
 use Rattle.semantics.specs.Arguments.{Actual, ReleaseMode, CopyBackAndFree, CopyBack, FreeUncopied, mode_given, number_given, object_given, reference_given, variable_given, address_given}
-use Rattle.semantics.specs.CallEffects.{CallResult, NoResult, ReferenceResult, ScalarResult, enter_effect, exit_effect, monitor, monitors_effect, BufferResult, CallEffect, copy_effect, freed, release_effect, view_effect, Leaves, Throws, at_index, at_region, delete_global_effect, delete_weak_effect, delete_local_effect, ensure_effect, found_class_effect, found_field_effect, get_region_effect, level_of, local_array, new_array_effect, out_of_memory, push_effect, refuses_frames, set_region_effect, store_effect, with_capacity, without_local}
+use Rattle.semantics.specs.CallEffects.{CallResult, NoResult, ReferenceResult, ScalarResult, enter_effect, exit_effect, monitor, monitors_effect, BufferResult, CallEffect, copy_effect, freed, release_effect, view_effect, Leaves, Throws, at_index, at_region, delete_global_effect, delete_weak_effect, delete_local_effect, ensure_effect, found_class_effect, found_field_effect, found_method_effect, get_region_effect, level_of, local_array, new_array_effect, out_of_memory, push_effect, refuses_frames, set_region_effect, store_effect, with_capacity, without_local}
 use Rattle.semantics.specs.CallEffects as call_effects
 use Rattle.semantics.specs.CallStep.{after_call, after_refusal, call_step, checked, completed, failure, is_zero, makes_objects, put, received, target_element, tell_copy}
 use Rattle.semantics.specs.CallTable.{call_effect, go_together}
@@ -46,7 +48,7 @@ use Rattle.replay_objects.specs.New.{array_class, object_of, thrown}
 use Rattle.replay_tasks.specs.Outcomes.{outcome_for, purpose_view}
 use Rattle.replay_steps.specs.Steps.{Scene, Sees, left_by, scene_with}
 use Rattle.replay_tasks.specs.Tasks.{task_view}
-use Rattle.replay_calls.specs.WorkedOut.{element_given, element_set, ensured, fits_element, found_class, found_field, index_within, local_deleted, made_global, monitor_entered, monitor_left, new_array, new_object_array, pushed, lent_by, region_got, region_set, region_within, released, worked_out}
+use Rattle.replay_calls.specs.WorkedOut.{element_given, element_set, ensured, fits_element, found_class, found_field, found_method, index_within, local_deleted, made_global, monitor_entered, monitor_left, new_array, new_object_array, pushed, lent_by, region_got, region_set, region_within, released, worked_out}
 use Rattle.replay_steps.proofs.AnswerEffects.{effect_as}
 use Rattle.replay_steps.proofs.TaskLemmas.{same_thread}
 
@@ -79,7 +81,7 @@ none_without (m ∷ ms) n none = by_test (m.object == n) none (λ rest. none_wit
     by_test true h rest = absurd (cc)
     by_test false h rest = ap (λ (l : List Monitor). m ∷ l) (rest h)
 
-module _ (classes : Classes) (in_use : BuffersInUse) (k : ℕ) (s : Shared) (t : Thread) (args : List Actual) where
+module _ (unit : SourceUnit) (classes : Classes) (in_use : BuffersInUse) (k : ℕ) (s : Shared) (t : Thread) (args : List Actual) where
   class_found : (o : Option ℕ) → found_class_effect s t no_class_def_found_error o ≡ effect_as classes k s t (found_class o)
   class_found None = refl
   class_found (Some c) = refl
@@ -87,6 +89,10 @@ module _ (classes : Classes) (in_use : BuffersInUse) (k : ℕ) (s : Shared) (t :
   field_found : (o : Option FieldId) → found_field_effect s t no_such_field_error o ≡ effect_as classes k s t (found_field o)
   field_found None = refl
   field_found (Some f) = refl
+
+  method_found : (o : Option MethodId) → found_method_effect s t no_such_method_error o ≡ effect_as classes k s t (found_method o)
+  method_found None = refl
+  method_found (Some m) = refl
 
   fitting : (b : Bool) (a : Answer) → (if b then effect_as classes k s t a else refuses_frames classes s t) ≡ effect_as classes k s t (if b then a else RefusesFrames)
   fitting true a = refl
@@ -241,7 +247,7 @@ module _ (classes : Classes) (in_use : BuffersInUse) (k : ℕ) (s : Shared) (t :
       by_owner false = refl
 
   -- what is worked out is the effect
-  effects : (f : JniFunction) → call_effect classes in_use k s t args f ≡ effect_as classes k s t (worked_out classes in_use k s.monitors s.heap t.variables t.frames t.pending args f)
+  effects : (f : JniFunction) → call_effect unit classes in_use k s t args f ≡ effect_as classes k s t (worked_out unit classes in_use k s.monitors s.heap t.variables t.frames t.pending args f)
   unfolding call_effect
   effects FindClass = class_found _
   effects NewGlobalRef = makes_global _
@@ -252,6 +258,7 @@ module _ (classes : Classes) (in_use : BuffersInUse) (k : ℕ) (s : Shared) (t :
   effects PushLocalFrame = pushes _
   effects GetFieldID = field_found _
   effects GetStaticFieldID = field_found _
+  effects GetStaticMethodID = method_found _
   effects (NewArray T) = new_arrays (number_array T) (number_given args 0)
   effects NewObjectArray = new_object_arrays (object_given args 1) (reference_given args 2) (number_given args 0)
   effects GetObjectArrayElement = gets (number_given args 1)
@@ -288,6 +295,7 @@ not_told (Some x) (given.Flag c) vs = refl
 not_told (Some x) (given.Reference r) vs = refl
 not_told (Some x) (given.Weak r) vs = refl
 not_told (Some x) (given.Field f) vs = refl
+not_told (Some x) (given.Method m) vs = refl
 
 -- a thread with these variables, these frames and this pending exception
 abbrev pub in_locals : Thread → Variables → List Frame → Reference → Thread
@@ -310,6 +318,7 @@ in_received NewLocal (given.Weak r) t vs frames pending = refl
 in_received NewLocal (given.Reference None) t vs frames pending = refl
 in_received NewLocal (given.Reference (Some n)) t vs frames pending = refl
 in_received NewLocal (given.Field f) t vs frames pending = refl
+in_received NewLocal (given.Method m) t vs frames pending = refl
 in_received kind g t vs frames pending = refl
 
 -- a failure leaves the frames alone
@@ -392,7 +401,7 @@ lends_it (Owns n times) b is = absurd (cc)
 lends_it (Disowns n) b is = absurd (cc)
 lends_it (Halts trap) b is = absurd (cc)
 
-module _ (classes : Classes) (in_use : BuffersInUse) (k : ℕ) (s : Shared) (t : Thread) (line : ℕ) (purpose : PurposeInMemory) (f : JniFunction) (args : List Actual) (rest : List Task) (vs : Variables) (frames : List Frame) (pending : Reference) where
+module _ (unit : SourceUnit) (classes : Classes) (in_use : BuffersInUse) (k : ℕ) (s : Shared) (t : Thread) (line : ℕ) (purpose : PurposeInMemory) (f : JniFunction) (args : List Actual) (rest : List Task) (vs : Variables) (frames : List Frame) (pending : Reference) where
   abbrev kind : ResultKind
   kind = (prototype f).result
 
@@ -402,7 +411,7 @@ module _ (classes : Classes) (in_use : BuffersInUse) (k : ℕ) (s : Shared) (t :
 
   -- what goes where it belongs
   abbrev completes : List Object → Shared → Thread → CallResult → Advance
-  completes made s' u c = completed classes in_use k s caller line (purpose_view line purpose) f args rest made s' u c
+  completes made s' u c = completed unit classes in_use k s caller line (purpose_view line purpose) f args rest made s' u c
 
   by_purpose : (p : PurposeInMemory) (s' : Shared) (us : Variables) (fs : List Frame) (r : Reference) (g : Given) (new : TaskInMemory)
       → put (purpose_view line p) (given_view g) s' (with_tasks (in_locals t us fs r) (tasks_after line (purpose_view line p) (is_zero (given_view g)) ++ rest)) ≡ left_by k s' (in_locals t us fs r) rest (outcome_for line p g) new
@@ -437,7 +446,7 @@ module _ (classes : Classes) (in_use : BuffersInUse) (k : ℕ) (s : Shared) (t :
 
   -- a buffer is given, and told
   lent_is : (b : Lent) (new : TaskInMemory)
-      → after_call classes in_use k s caller line (purpose_view line purpose) f args rest (effect_as classes k s caller (Lends b)) ≡ left_by k s (in_locals t (tell_copy (address_given args 1) (BufferResult (lent_view s.heap b)) vs) frames pending) rest (lent_outcome line purpose b) new
+      → after_call unit classes in_use k s caller line (purpose_view line purpose) f args rest (effect_as classes k s caller (Lends b)) ≡ left_by k s (in_locals t (tell_copy (address_given args 1) (BufferResult (lent_view s.heap b)) vs) frames pending) rest (lent_outcome line purpose b) new
   lent_is b new =
       let given = BufferResult (lent_view s.heap b) in
       let us : Variables = tell_copy (address_given args 1) given vs in
@@ -448,7 +457,7 @@ module _ (classes : Classes) (in_use : BuffersInUse) (k : ℕ) (s : Shared) (t :
 
   -- so it is after each other answer that lets the run go on
   answered : (a : Answer) (g : Given) (new : TaskInMemory) → trap_in a ≡ None → lent_in a ≡ None → given_view g ≡ given_after s.heap kind a
-      → after_call classes in_use k s caller line (purpose_view line purpose) f args rest (effect_as classes k s caller a)
+      → after_call unit classes in_use k s caller line (purpose_view line purpose) f args rest (effect_as classes k s caller a)
       ≡ left_by k (shared_after classes k s vs a) (in_locals t (variables_after s.heap vs a) (frames_with kind (given_view g) (frames_after frames a)) (pending_after classes s.heap pending a)) rest (outcome_for line purpose g) new
   answered (Gives c) g new goes unlent same = plain s vs frames pending c g new same
   answered (Writes n i v) g new goes unlent same = plain (shared_after classes k s vs (Writes n i v)) vs frames pending NoResult g new same
@@ -475,22 +484,22 @@ module _ (classes : Classes) (in_use : BuffersInUse) (k : ℕ) (s : Shared) (t :
 
   -- and where its object is refused
   refused_is : (g : Given) (new : TaskInMemory) → given_view g ≡ failure kind
-      → after_refusal classes in_use k s caller line (purpose_view line purpose) f args rest true ≡ left_by k s (in_locals t vs frames (Some (out_of_memory classes))) rest (outcome_for line purpose g) new
+      → after_refusal unit classes in_use k s caller line (purpose_view line purpose) f args rest true ≡ left_by k s (in_locals t vs frames (Some (out_of_memory classes))) rest (outcome_for line purpose g) new
   refused_is g new same =
       plain s vs frames (Some (out_of_memory classes)) (failure kind) g new same
       ∙ ap (λ (fs : List Frame). left_by k s (in_locals t vs fs (Some (out_of_memory classes))) rest (outcome_for line purpose g) new) (ap (λ (c : CallResult). frames_with kind c frames) same ∙ failed_frames kind frames)
 
 -- ---- the call of a function
 
-module _ (classes : Classes) (in_use : BuffersInUse) (k : ℕ) (s : Shared) (vs : Contents) (frames : List Frame) (pending : Reference) (line : ℕ) (purpose : PurposeInMemory) (f : JniFunction) (args : List Actual) where
+module _ (unit : SourceUnit) (classes : Classes) (in_use : BuffersInUse) (k : ℕ) (s : Shared) (vs : Contents) (frames : List Frame) (pending : Reference) (line : ℕ) (purpose : PurposeInMemory) (f : JniFunction) (args : List Actual) where
   abbrev scene : Scene
-  scene = scene_with classes in_use k s vs frames pending
+  scene = scene_with unit classes in_use k s vs frames pending
 
   abbrev trap : Option Trap
   trap = trap_found classes s.heap frames (is_some pending) (wanted_element vs purpose) f args
 
   abbrev untrapped : Variables → Answer
-  untrapped us = worked_out classes in_use k s.monitors s.heap us frames pending args f
+  untrapped us = worked_out unit classes in_use k s.monitors s.heap us frames pending args f
 
   abbrev told : Answer
   told = answer_or_trap trap (untrapped (variables_view vs))
@@ -500,25 +509,25 @@ module _ (classes : Classes) (in_use : BuffersInUse) (k : ℕ) (s : Shared) (vs 
     calls = in_locals t (variables_view vs) frames pending
 
     abbrev by_effect : Bool → CallEffect → Advance
-    by_effect false effect = after_call classes in_use k s calls line (purpose_view line purpose) f args rest effect
-    by_effect true effect = after_refusal classes in_use k s calls line (purpose_view line purpose) f args rest (makes_objects effect)
+    by_effect false effect = after_call unit classes in_use k s calls line (purpose_view line purpose) f args rest effect
+    by_effect true effect = after_refusal unit classes in_use k s calls line (purpose_view line purpose) f args rest (makes_objects effect)
 
     abbrev checks : Option Trap → CallEffect
-    checks o = checked o (call_effect classes in_use k s calls args f)
+    checks o = checked o (call_effect unit classes in_use k s calls args f)
 
-    steps : (refused : Bool) → call_step classes in_use k s calls line (purpose_view line purpose) f args rest refused
+    steps : (refused : Bool) → call_step unit classes in_use k s calls line (purpose_view line purpose) f args rest refused
         ≡ by_effect refused (checks (call_trap classes s.heap calls (target_element (variables_view vs) (purpose_view line purpose)) f args))
     steps false = refl
     steps true = refl
 
     checks_alike : (o : Option Trap) → checks o ≡ effect_as classes k s calls (answer_or_trap o (untrapped (variables_view vs)))
-    checks_alike None = effects classes in_use k s calls args f
+    checks_alike None = effects unit classes in_use k s calls args f
     checks_alike (Some found) = refl
 
     -- the step goes by an answer that is told
-    by_told : (refused : Bool) (a : Answer) → a ≡ told → call_step classes in_use k s t line (purpose_view line purpose) f args rest refused ≡ by_effect refused (effect_as classes k s calls a)
+    by_told : (refused : Bool) (a : Answer) → a ≡ told → call_step unit classes in_use k s t line (purpose_view line purpose) f args rest refused ≡ by_effect refused (effect_as classes k s calls a)
     by_told refused a same =
-        ap (λ (u : Thread). call_step classes in_use k s u line (purpose_view line purpose) f args rest refused) (as_it_is t (variables_view vs) frames pending sees.variables sees.frames sees.pending)
+        ap (λ (u : Thread). call_step unit classes in_use k s u line (purpose_view line purpose) f args rest refused) (as_it_is t (variables_view vs) frames pending sees.variables sees.frames sees.pending)
         ∙ steps refused
         ∙ ap (by_effect refused) (ap checks (trap_is classes s.heap (target_element (variables_view vs) (purpose_view line purpose)) args f calls ∙ ap (λ (T : ElementType). trap_found classes s.heap frames (is_some pending) T f args) (any_line vs line purpose)) ∙ checks_alike trap)
         ∙ ap (λ (b : Answer). by_effect refused (effect_as classes k s calls b)) (sym same)
@@ -534,29 +543,29 @@ module _ (classes : Classes) (in_use : BuffersInUse) (k : ℕ) (s : Shared) (vs 
   -- the call is made
   pub call_made : (a : Answer) (g : Given) (vs' : Contents) → a ≡ told → trap_in a ≡ None → lent_in a ≡ None → given_view g ≡ given_after s.heap (prototype f).result a → variables_view vs' ≡ variables_after s.heap (variables_view vs) a
       → MakesCall false scene line purpose f args (outcome_for line purpose g)
-      (scene_with classes in_use k (shared_after classes k s (variables_view vs) a) vs' (frames_with (prototype f).result (given_view g) (frames_after frames a)) (pending_after classes s.heap pending a))
+      (scene_with unit classes in_use k (shared_after classes k s (variables_view vs) a) vs' (frames_with (prototype f).result (given_view g) (frames_after frames a)) (pending_after classes s.heap pending a))
   call_made a g vs' same goes unlent given varied = λ t rest new sees has.
       let s' = shared_after classes k s (variables_view vs) a in
       by_told t rest sees false a same
-      ∙ answered classes in_use k s t line purpose f args rest (variables_view vs) frames pending a g new goes unlent given
+      ∙ answered unit classes in_use k s t line purpose f args rest (variables_view vs) frames pending a g new goes unlent given
       ∙ ap (λ (us : Variables). left_by k s' (in_locals t us (frames_with (prototype f).result (given_view g) (frames_after frames a)) (pending_after classes s.heap pending a)) rest (outcome_for line purpose g) new) (sym varied)
 
   -- a buffer is given
   pub buffer_lent : (a : Answer) (b : Lent) (vs' : Contents) (frames' : List Frame) (took : Outcome) → a ≡ told → lent_in a ≡ Some b
       → variables_view vs' ≡ tell_copy (address_given args 1) (BufferResult (lent_view s.heap b)) (variables_view vs) → frames' ≡ frames → took ≡ lent_outcome line purpose b
-      → MakesCall false scene line purpose f args took (scene_with classes in_use k s vs' frames' pending)
+      → MakesCall false scene line purpose f args took (scene_with unit classes in_use k s vs' frames' pending)
   buffer_lent a b vs' frames' took same is varied framed is_for = λ t rest new sees has.
       by_told t rest sees false (Lends b) (sym (lends_it a b is) ∙ same)
-      ∙ lent_is classes in_use k s t line purpose f args rest (variables_view vs) frames pending b new
+      ∙ lent_is unit classes in_use k s t line purpose f args rest (variables_view vs) frames pending b new
       ∙ ap (λ (us : Variables). left_by k s (in_locals t us frames pending) rest (lent_outcome line purpose b) new) (sym varied)
       ∙ ap (λ (fs : List Frame). left_by k s (in_locals t (variables_view vs') fs pending) rest (lent_outcome line purpose b) new) (sym framed)
       ∙ ap (λ (o : Outcome). left_by k s (in_locals t (variables_view vs') frames' pending) rest o new) (sym is_for)
 
   by_makes : (a : Answer) (b : Bool) → makes_object a ≡ b → a ≡ told → (t : Thread) (rest : List Task) → Sees scene t
-      → call_step classes in_use k s t line (purpose_view line purpose) f args rest true ≡ after_refusal classes in_use k s (in_locals t (variables_view vs) frames pending) line (purpose_view line purpose) f args rest b
+      → call_step unit classes in_use k s t line (purpose_view line purpose) f args rest true ≡ after_refusal unit classes in_use k s (in_locals t (variables_view vs) frames pending) line (purpose_view line purpose) f args rest b
   by_makes a b makes same = λ t rest sees.
       by_told t rest sees true a same
-      ∙ ap (after_refusal classes in_use k s (in_locals t (variables_view vs) frames pending) line (purpose_view line purpose) f args rest) (makes_alike classes k s (in_locals t (variables_view vs) frames pending) a ∙ makes)
+      ∙ ap (after_refusal unit classes in_use k s (in_locals t (variables_view vs) frames pending) line (purpose_view line purpose) f args rest) (makes_alike classes k s (in_locals t (variables_view vs) frames pending) a ∙ makes)
 
   -- it makes no object that can be refused
   pub none_refused : (a : Answer) → a ≡ told → makes_object a ≡ false → MakesCall true scene line purpose f args outcome.Impossible scene
@@ -564,20 +573,20 @@ module _ (classes : Classes) (in_use : BuffersInUse) (k : ℕ) (s : Shared) (vs 
 
   -- its object is refused
   pub object_refused : (a : Answer) (g : Given) → a ≡ told → makes_object a ≡ true → given_view g ≡ failure (prototype f).result
-      → MakesCall true scene line purpose f args (outcome_for line purpose g) (scene_with classes in_use k s vs frames (Some (out_of_memory classes)))
+      → MakesCall true scene line purpose f args (outcome_for line purpose g) (scene_with unit classes in_use k s vs frames (Some (out_of_memory classes)))
   object_refused a g same makes failed = λ t rest new sees has.
       by_makes a true makes same t rest sees
-      ∙ refused_is classes in_use k s t line purpose f args rest (variables_view vs) frames pending g new failed
+      ∙ refused_is unit classes in_use k s t line purpose f args rest (variables_view vs) frames pending g new failed
 
   -- the same, by what it leaves
   pub call_made_so : (refused : Bool) (a : Answer) (g : Given) (kind : ResultKind) (s' : Shared) (vs' : Contents) (between frames' : List Frame) (pending' : Reference) (took : Outcome) → refused ≡ false → a ≡ told → trap_in a ≡ None → lent_in a ≡ None → kind ≡ (prototype f).result
       → given_view g ≡ given_after s.heap kind a → s' ≡ shared_after classes k s (variables_view vs) a → variables_view vs' ≡ variables_after s.heap (variables_view vs) a
       → between ≡ frames_after frames a → frames' ≡ frames_with kind (given_view g) between → pending' ≡ pending_after classes s.heap pending a → took ≡ outcome_for line purpose g
-      → MakesCall refused scene line purpose f args took (scene_with classes in_use k s' vs' frames' pending')
+      → MakesCall refused scene line purpose f args took (scene_with unit classes in_use k s' vs' frames' pending')
   call_made_so refused a g kind s' vs' between frames' pending' took possible same goes unlent is given left varied changed framed pended is_for =
       rw (possible, left, framed, changed, pended, is, is_for) (call_made a g vs' same goes unlent (given ∙ ap (λ (k : ResultKind). given_after s.heap k a) is) varied)
 
   pub object_refused_so : (refused : Bool) (a : Answer) (g : Given) (kind : ResultKind) (pending' : Reference) (took : Outcome) → refused ≡ true → a ≡ told → makes_object a ≡ true → kind ≡ (prototype f).result
-      → given_view g ≡ failure kind → pending' ≡ Some (out_of_memory classes) → took ≡ outcome_for line purpose g → MakesCall refused scene line purpose f args took (scene_with classes in_use k s vs frames pending')
+      → given_view g ≡ failure kind → pending' ≡ Some (out_of_memory classes) → took ≡ outcome_for line purpose g → MakesCall refused scene line purpose f args took (scene_with unit classes in_use k s vs frames pending')
   object_refused_so refused a g kind pending' took marked same makes is failed pended is_for =
       rw (marked, pended, is_for) (object_refused a g same makes (failed ∙ ap failure is))

@@ -173,11 +173,11 @@ module _ (scene : Scene) where
 
     -- the call's own step is the step of the task
     pub call_does : (refused : Bool) (took : Outcome) → MakesCall refused scene i.line i.purpose (function_value i.function) args took scene' → Does refused scene (task.Invoke i) took scene' (task.Invoke i')
-    call_does false took makes = λ other t rest sees has.
-        ap (after_effect classes scene.in_use scene.thread s t rest) (calls t sees)
+    call_does false took makes = λ t rest sees has.
+        ap (after_effect scene.unit classes scene.in_use scene.thread s t rest) (calls t sees)
         ∙ makes t rest (task.Invoke i') sees (has ∙ ap (λ (u : source.Task). let o : Option (List source.Task) = Some (u ∷ rest) in o) (sym same))
-    call_does true took makes = λ other t rest sees has.
-        ap (after_refused_effect classes scene.in_use scene.thread s t rest) (calls t sees)
+    call_does true took makes = λ t rest sees has.
+        ap (after_refused_effect scene.unit classes scene.in_use scene.thread s t rest) (calls t sees)
         ∙ makes t rest (task.Invoke i') sees (has ∙ ap (λ (u : source.Task). let o : Option (List source.Task) = Some (u ∷ rest) in o) (sym same))
 
   -- an invocation that is made is the step of the task that its numbers were worked out of

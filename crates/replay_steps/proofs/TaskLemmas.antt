@@ -51,10 +51,10 @@ module _ (scene : Scene) (old new : TaskInMemory) where
   unchanged t rest took sees = ap (λ (u : Thread). left_by k shared u rest took new) (same_scene scene t sees)
 
   by_effect : (took : Outcome) → effect_of sight (task_view old) ≡ effect_by took new
-      → ((t : Thread) (rest : List Task) → t.tasks ≡ Some (task_view old ∷ rest) → after_effect scene.classes in_use k shared t rest (effect_by took new) ≡ left_by k shared t rest took new) → Does false scene old took scene new
-  by_effect took h left = λ unit t rest sees has.
-      ap (λ (view : Sight). after_effect scene.classes in_use k shared t rest (effect_of view (task_view old))) (sees_so scene t sees)
-      ∙ ap (after_effect scene.classes in_use k shared t rest) h
+      → ((t : Thread) (rest : List Task) → t.tasks ≡ Some (task_view old ∷ rest) → after_effect scene.unit scene.classes in_use k shared t rest (effect_by took new) ≡ left_by k shared t rest took new) → Does false scene old took scene new
+  by_effect took h left = λ t rest sees has.
+      ap (λ (view : Sight). after_effect scene.unit scene.classes in_use k shared t rest (effect_of view (task_view old))) (sees_so scene t sees)
+      ∙ ap (after_effect scene.unit scene.classes in_use k shared t rest) h
       ∙ left t rest has
       ∙ unchanged t rest took sees
 
@@ -78,10 +78,10 @@ module _ (scene : Scene) (old new : TaskInMemory) where
   does outcome.Impossible h = by_effect outcome.Impossible h (λ t rest has. refl)
 
   by_refusal : (took : Outcome) → effect_of sight (task_view old) ≡ effect_by took new
-      → ((t : Thread) (rest : List Task) → after_refused_effect scene.classes in_use k shared t rest (effect_by took new) ≡ NoAdvance) → Does true scene old outcome.Impossible scene new
-  by_refusal took h none = λ unit t rest sees has.
-      ap (λ (view : Sight). after_refused_effect scene.classes in_use k shared t rest (effect_of view (task_view old))) (sees_so scene t sees)
-      ∙ ap (after_refused_effect scene.classes in_use k shared t rest) h
+      → ((t : Thread) (rest : List Task) → after_refused_effect scene.unit scene.classes in_use k shared t rest (effect_by took new) ≡ NoAdvance) → Does true scene old outcome.Impossible scene new
+  by_refusal took h none = λ t rest sees has.
+      ap (λ (view : Sight). after_refused_effect scene.unit scene.classes in_use k shared t rest (effect_of view (task_view old))) (sees_so scene t sees)
+      ∙ ap (after_refused_effect scene.unit scene.classes in_use k shared t rest) h
       ∙ none t rest
 
   -- a task that is no call has no object that can be refused

@@ -3,7 +3,7 @@ use Rattle.std.proofs.Common.{◌≡◌, ℕ, ℤ, Bool, true, false, cond, List
 use Rattle.std.specs.Prelude.{◌&&◌, is_none}
 use Rattle.base.specs.Bytes.{Identifier}
 use Rattle.syntax.specs.declared.stmt.Stmt.{Stmt as StmtInMemory}
-use Rattle.syntax.specs.Tree.{Expr, Block, True, False, Commit, Abort, Null}
+use Rattle.syntax.specs.Tree.{SourceUnit, Expr, Block, True, False, Commit, Abort, Null}
 use Rattle.class_rules.specs.Class.{Classes}
 use Rattle.jni.specs.JniFunction.{JniFunction, MonitorEnter}
 use Rattle.jni.specs.Table.{function_value}
@@ -218,8 +218,8 @@ module _ (classes : Classes) (k : ℕ) (s : Shared) (vs : Contents) (frames : Li
 
 -- what is told of the task that is begun is told of the thread
 pub waits_so : (classes : Classes) (k : ℕ) (s : Shared) (vs : Contents) (frames : List Frame) (pending : Reference) (w : Work) (answer : Bool) → answer ≡ task_waits classes k s vs frames pending w.task
-    → (in_use : BuffersInUse) → WaitsIn (scene_with classes in_use k s vs frames pending) w answer
-waits_so classes k s vs frames pending w answer is in_use = λ at t sees has.
+    → (unit : SourceUnit) (in_use : BuffersInUse) → WaitsIn (scene_with unit classes in_use k s vs frames pending) w answer
+waits_so classes k s vs frames pending w answer is unit in_use = λ at t sees has.
     let same = as_it_is t (variables_view vs) frames pending sees.variables sees.frames sees.pending in
     let u : Thread = in_locals t (variables_view vs) frames pending in
     is

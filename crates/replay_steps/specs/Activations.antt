@@ -3,7 +3,6 @@ use Rattle.std.specs.Prelude.{◌≡◌, ℕ, Bool, true, false, List, [], ◌�
 use Rattle.syntax.specs.declared.expr.Expr.{Expr as ExprInMemory}
 use Rattle.syntax.specs.declared.stmt.Block.{Block as BlockInMemory}
 use Rattle.syntax.specs.declared.stmt.Stmt.{Stmt as StmtInMemory}
-use Rattle.syntax.specs.Tree.{SourceUnit}
 use Rattle.syntax.specs.Views.{expr_tree, block_tree, stmt_tree}
 use Rattle.semantics.specs.Return.{return_step}
 use Rattle.semantics.specs.Heap.{Heap}
@@ -84,8 +83,8 @@ advance_by k s t took = thread.Advances s t Quiet
 -- its object refused. It leaves the scene after it.
 abbrev pub Advances : (refused : Bool) → Scene → Work → Outcome → Scene → Work → Type 0
 Advances refused before old took after new =
-    (unit : SourceUnit) (t : Thread) → Sees before t → t.tasks ≡ Some (tasks_left old)
-    → step_within unit before.classes before.in_use before.thread before.shared t refused (Some (tasks_left old))
+    (t : Thread) → Sees before t → t.tasks ≡ Some (tasks_left old)
+    → step_within before.unit before.classes before.in_use before.thread before.shared t refused (Some (tasks_left old))
     ≡ advance_by before.thread after.shared (thread_in t (tasks_left new) after) took
 
 -- the same at a turn, by what threads share in memory

@@ -52,7 +52,7 @@ abbrev pub MakesCall : (refused : Bool) → Scene → (line : ℕ) → PurposeIn
     → Scene → Type 0
 MakesCall refused before line purpose f args took after =
     (t : Thread) (rest : List Task) (new : TaskInMemory) → Sees before t → t.tasks ≡ Some (task_view new ∷ rest)
-    → call_step before.classes before.in_use before.thread before.shared t line
+    → call_step before.unit before.classes before.in_use before.thread before.shared t line
     (purpose_view line purpose) f args rest refused
     ≡ left_by before.thread after.shared (in_scene t after) rest took new
 
@@ -84,5 +84,5 @@ HasAnswer scene i args a =
     ≡ answer_or_trap
     (trap_found scene.classes scene.shared.heap scene.frames (is_some scene.pending)
     (wanted_element scene.variables i.purpose) (function_value i.function) args)
-    (worked_out scene.classes scene.in_use scene.thread scene.shared.monitors scene.shared.heap
+    (worked_out scene.unit scene.classes scene.in_use scene.thread scene.shared.monitors scene.shared.heap
     (variables_view scene.variables) scene.frames scene.pending args (function_value i.function))

@@ -1,7 +1,7 @@
 -- What a step of a task does.
 use Rattle.std.specs.Prelude.{◌≡◌, ℕ, Bool, List, [], ◌∷◌, ◌++◌, Option, Some}
 use Rattle.syntax.specs.Tree.{SourceUnit}
-use Rattle.syntax.specs.Views.{block_tree}
+use Rattle.syntax.specs.Views.{block_tree, unit_tree}
 use Rattle.class_rules.specs.Class.{Classes}
 use Rattle.semantics.specs.Return.{return_step}
 use Rattle.semantics.specs.Object.{Reference}
@@ -25,9 +25,10 @@ use Rattle.semantics.specs.Views.{name_of}
 use Rattle.semantics.specs.declared.object_id.ObjectId.{ObjectId}
 use Rattle.replay_terms.specs.Views.{Contents, variables_view}
 
--- what a step of a call in progress depends on, but its tasks: it is this thread's, and the buffers of all threads
+-- what a step of a call in progress depends on, but its tasks: it is this thread's of this unit, and the buffers of all threads
 -- together take what is in use
 pub record Scene : Type 0 where
+  pub unit : SourceUnit
   pub classes : Classes
   pub in_use : BuffersInUse
   pub thread : ℕ
@@ -36,8 +37,9 @@ pub record Scene : Type 0 where
   pub frames : List Frame
   pub pending : Reference
 
-abbrev pub scene_with : Classes → BuffersInUse → (thread : ℕ) → Shared → Contents → List Frame → Reference → Scene
-scene_with classes in_use thread s vs frames pending = record {
+abbrev pub scene_with : SourceUnit → Classes → BuffersInUse → (thread : ℕ) → Shared → Contents → List Frame → Reference → Scene
+scene_with unit classes in_use thread s vs frames pending = record {
+  unit = unit;
   classes = classes;
   in_use = in_use;
   thread = thread;
@@ -50,7 +52,7 @@ scene_with classes in_use thread s vs frames pending = record {
 -- the same at a turn
 abbrev pub scene_of : Turn → Shared → Locals → Option ObjectId → Scene
 scene_of turn s locals pending =
-    scene_with turn.classes.now (in_use_view turn.in_use) turn.thread s locals.variables locals.frames (name_of pending)
+    scene_with (unit_tree turn.unit.now) turn.classes.now (in_use_view turn.in_use) turn.thread s locals.variables locals.frames (name_of pending)
 
 -- the same by what threads share in memory
 abbrev pub scene_at : Turn → SharedInMemory → Locals → Option ObjectId → Scene
@@ -86,6 +88,6 @@ left_by k s t rest took new = variable_step took s (with_tasks t rest)
 -- its object refused.
 abbrev pub Does : (refused : Bool) → Scene → TaskInMemory → Outcome → Scene → TaskInMemory → Type 0
 Does refused before old took after new =
-    (unit : SourceUnit) (t : Thread) (rest : List Task) → Sees before t → t.tasks ≡ Some (task_view old ∷ rest)
-    → step_within unit before.classes before.in_use before.thread before.shared t refused (Some (task_view old ∷ rest))
+    (t : Thread) (rest : List Task) → Sees before t → t.tasks ≡ Some (task_view old ∷ rest)
+    → step_within before.unit before.classes before.in_use before.thread before.shared t refused (Some (task_view old ∷ rest))
     ≡ left_by before.thread after.shared (in_scene t after) rest took new

@@ -29,8 +29,8 @@ fn nothing_of<'a>(kind: ResultKind) -> Given<'a>
         ResultKind::NewLocal => Given::Null,
         ResultKind::GivesInt => Given::Number(0),
         ResultKind::NewGlobal | ResultKind::NewWeak | ResultKind::GivesFlag => Given::Nothing,
-        ResultKind::GivesField | ResultKind::GivesNothing => Given::Nothing,
-        ResultKind::GivesBuffer(_) => Given::Nothing,
+        ResultKind::GivesField | ResultKind::GivesMethod => Given::Nothing,
+        ResultKind::GivesNothing | ResultKind::GivesBuffer(_) => Given::Nothing,
     }
 }
 
@@ -51,8 +51,8 @@ fn fitted<'a>(kind: ResultKind, returned: CallResult) -> Given<'a>
             CallResult::Nothing | CallResult::Reference(_) => Given::Number(0),
         },
         ResultKind::NewGlobal | ResultKind::NewWeak | ResultKind::GivesFlag => Given::Nothing,
-        ResultKind::GivesField | ResultKind::GivesNothing => Given::Nothing,
-        ResultKind::GivesBuffer(_) => Given::Nothing,
+        ResultKind::GivesField | ResultKind::GivesMethod => Given::Nothing,
+        ResultKind::GivesNothing | ResultKind::GivesBuffer(_) => Given::Nothing,
     }
 }
 

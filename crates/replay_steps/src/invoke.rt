@@ -188,6 +188,7 @@ fn call<'a>(
     ensures range { IfOk result OutcomeInRange }
 {
     let caller = Caller {
+        unit: turn.unit,
         thread: turn.thread,
         in_use: turn.in_use,
         element: wanted_element(&locals.variables, i.purpose),

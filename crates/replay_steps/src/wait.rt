@@ -3,6 +3,7 @@
 ghost use Rattle.std.specs.Prelude.{◌≡◌, map};
 ghost use Rattle.std.specs.Option.{option_map};
 ghost use Rattle.jni.specs.Table.{function_value};
+ghost use Rattle.syntax.specs.Tree.{SourceUnit};
 ghost use Rattle.semantics.specs.CallStep.{is_owned_by_other};
 ghost use Rattle.semantics.specs.Effect.{is_given, is_ready};
 ghost use Rattle.semantics.specs.Thread.{BuffersInUse};
@@ -127,8 +128,8 @@ pub fn waits<'a>(
     pending: Option<ObjectId>,
     activation: &Activation<'a>,
 ) -> bool
-    ensures { (in_use : BuffersInUse) → WaitsIn
-        (scene_with classes.now in_use thread (shared_view shared.now)
+    ensures { (unit : SourceUnit) (in_use : BuffersInUse) → WaitsIn
+        (scene_with unit classes.now in_use thread (shared_view shared.now)
         activation.now.locals.variables activation.now.locals.frames (name_of pending))
         activation.now.work result }
 {

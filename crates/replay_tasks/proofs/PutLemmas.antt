@@ -11,7 +11,7 @@ use Rattle.semantics.specs.Task.{VariableKind, Declared, Assigned}
 use Rattle.semantics.specs.Thread.{Thread, Shared, Quiet, Advance, Advances, NoAdvance}
 use Rattle.semantics.specs.ThreadStep.{set_variable, set_element}
 use Rattle.semantics.specs.Value.{convert}
-use Rattle.semantics.specs.Variable.{Variable, Scalar, LocalRef, FieldHandle, Elements, NoBuffer, Copy, View, LocalArray, Variables, Statics, assign}
+use Rattle.semantics.specs.Variable.{Variable, Scalar, LocalRef, FieldHandle, MethodHandle, Elements, NoBuffer, Copy, View, LocalArray, Variables, Statics, assign}
 use Rattle.replay_tasks.specs.declared.outcome.Outcome.TheVariants as outcome
 use Rattle.replay_tasks.specs.Outcomes.{variable_step, Holds, LeavesVariables}
 use Rattle.replay_terms.specs.Views.{Contents, variables_view, written, HasNoElements, IsToWrite, IsWritten}
@@ -54,6 +54,7 @@ module _ (count : ℕ) (ss : Statics) (heap : Heap) (old new : Contents) where
     no_elements (Some (Scalar v)) has s t = refl
     no_elements (Some (LocalRef level r)) has s t = refl
     no_elements (Some (FieldHandle f)) has s t = refl
+    no_elements (Some (MethodHandle m)) has s t = refl
     no_elements (Some (Elements T NoBuffer)) has s t = refl
     no_elements (Some (Elements T (Copy n zs))) has s t = absurd has
     no_elements (Some (Elements T (View n))) has s t = absurd has
@@ -64,6 +65,7 @@ module _ (count : ℕ) (ss : Statics) (heap : Heap) (old new : Contents) where
     written_is (Scalar u) w is s t = absurd (cc)
     written_is (LocalRef level r) w is s t = absurd (cc)
     written_is (FieldHandle f) w is s t = absurd (cc)
+    written_is (MethodHandle m) w is s t = absurd (cc)
     written_is (Elements T NoBuffer) w is s t = absurd (cc)
     written_is (Elements T (View n)) w is s t = absurd (cc)
     written_is (Elements T (Copy n zs)) w is s t = let same : Elements T (Copy n (slice_set zs i (convert T z))) ≡ w = cc in ap (set_variable s t x.now) same

@@ -9,7 +9,7 @@ use Rattle.base.specs.Element.{ElementType, element_value}
 use Rattle.semantics.specs.CallEffects.{CallResult, NoResult, BufferResult, NullResult, ReferenceResult, ScalarResult}
 use Rattle.semantics.specs.CallStep.{put, is_zero}
 use Rattle.semantics.specs.Heap.{Heap}
-use Rattle.semantics.specs.Task.{VariableKind, ScalarKind, ReferenceKind, FieldKind, BufferKind, Target, Declared, Assigned, Tested, Dropped}
+use Rattle.semantics.specs.Task.{VariableKind, ScalarKind, ReferenceKind, FieldKind, MethodKind, BufferKind, Target, Declared, Assigned, Tested, Dropped}
 use Rattle.semantics.specs.Thread.{Thread, Shared, Quiet, Advance, Advances, NoAdvance}
 use Rattle.semantics.specs.ThreadStep.{set_variable, set_element}
 use Rattle.semantics.specs.Views.{name_of}
@@ -31,6 +31,7 @@ abbrev pub kind_view : KindInMemory → VariableKind
 kind_view kind.Number = ScalarKind
 kind_view kind.Reference = ReferenceKind
 kind_view kind.Field = FieldKind
+kind_view kind.Method = MethodKind
 kind_view (kind.Buffer T) = BufferKind (element_value T)
 
 abbrev pub target_view : TargetInMemory → Target

@@ -15,6 +15,7 @@ pub enum VariableKind {
     Number,
     Reference,
     Field,
+    Method,
     Buffer(ElementType),
 }
 
@@ -116,6 +117,7 @@ pub(crate) fn kind_of(t: VariableType) -> VariableKind
         VariableType::Uint32 | VariableType::Jint => VariableKind::Number,
         VariableType::Jsize | VariableType::Jboolean => VariableKind::Number,
         VariableType::JfieldId => VariableKind::Field,
+        VariableType::JmethodId => VariableKind::Method,
         VariableType::Reference(_) => VariableKind::Reference,
     }
 }

@@ -30,6 +30,7 @@ fn blank<'a>(kind: VariableKind, frames: usize) -> Content<'a>
             object: None,
         },
         VariableKind::Field => Content::Field(None),
+        VariableKind::Method => Content::Method(None),
         VariableKind::Buffer(kind) => Content::Buffer(kind),
     }
 }
@@ -60,6 +61,11 @@ fn filled<'a>(content: &Content<'a>, given: Given<'a>) -> Option<Content<'a>>
         Content::Field(_) => match given {
             Given::Null => Some(Content::Field(None)),
             Given::Field(found) => Some(Content::Field(found)),
+            _ => None,
+        },
+        Content::Method(_) => match given {
+            Given::Null => Some(Content::Method(None)),
+            Given::Method(found) => Some(Content::Method(found)),
             _ => None,
         },
         Content::Copy { element: kind, .. } | Content::View { element: kind, .. } => match given {
@@ -150,7 +156,7 @@ fn buffer_type(content: &Content<'_>) -> Option<ElementType>
         | Content::Copy { element: kind, .. }
         | Content::View { element: kind, .. } => Some(*kind),
         Content::Number(_) | Content::Reference { .. } => None,
-        Content::Field(_) | Content::Array(_, _) => None,
+        Content::Field(_) | Content::Method(_) | Content::Array(_, _) => None,
     }
 }
 
@@ -166,9 +172,8 @@ fn declared<'a>(
 {
     match kind {
         VariableKind::Buffer(element) => lent(alloc, store, element, buffer),
-        VariableKind::Number | VariableKind::Reference | VariableKind::Field => {
-            Ok(blank(kind, frames))
-        }
+        VariableKind::Number | VariableKind::Reference => Ok(blank(kind, frames)),
+        VariableKind::Field | VariableKind::Method => Ok(blank(kind, frames)),
     }
 }
 

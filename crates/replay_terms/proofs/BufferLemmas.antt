@@ -7,7 +7,7 @@ use Rattle.std.proofs.lemmas.List.{length-set}
 use Rattle.base.specs.Bytes.{Identifier, lookup}
 use Rattle.semantics.specs.CallEffects.{begun_with, freed}
 use Rattle.semantics.specs.Value.{convert}
-use Rattle.semantics.specs.Variable.{Variable, Scalar, LocalRef, FieldHandle, Elements, LocalArray, NoBuffer, Copy, View, Variables, assign, change, copied_length, viewed}
+use Rattle.semantics.specs.Variable.{Variable, Scalar, LocalRef, FieldHandle, MethodHandle, Elements, LocalArray, NoBuffer, Copy, View, Variables, assign, change, copied_length, viewed}
 use Rattle.replay_terms.specs.declared.buffers.BuffersInUse.{BuffersInUse}
 use Rattle.replay_terms.specs.declared.variable.Content.{Content}
 use Rattle.replay_terms.specs.declared.variable.Written.{Written}
@@ -60,6 +60,7 @@ pub begun_copied : (zs : List ℤ) (w : Variable) → copied_length (begun_with 
 begun_copied zs (Scalar v) = refl
 begun_copied zs (LocalRef l r) = refl
 begun_copied zs (FieldHandle f) = refl
+begun_copied zs (MethodHandle m) = refl
 begun_copied zs (Elements T b) = refl
 begun_copied zs (LocalArray T ys) = refl
 
@@ -67,6 +68,7 @@ pub begun_viewed : (zs : List ℤ) (w : Variable) → count_viewed (begun_with z
 begun_viewed zs (Scalar v) = refl
 begun_viewed zs (LocalRef l r) = refl
 begun_viewed zs (FieldHandle f) = refl
+begun_viewed zs (MethodHandle m) = refl
 begun_viewed zs (Elements T b) = refl
 begun_viewed zs (LocalArray T ys) = refl
 
@@ -74,6 +76,7 @@ pub freed_copied : (w : Variable) → copied_length (freed w) ≡ 0
 freed_copied (Scalar v) = refl
 freed_copied (LocalRef l r) = refl
 freed_copied (FieldHandle f) = refl
+freed_copied (MethodHandle m) = refl
 freed_copied (Elements T b) = refl
 freed_copied (LocalArray T ys) = refl
 
@@ -81,6 +84,7 @@ pub freed_viewed : (w : Variable) → count_viewed (freed w) ≡ 0
 freed_viewed (Scalar v) = refl
 freed_viewed (LocalRef l r) = refl
 freed_viewed (FieldHandle f) = refl
+freed_viewed (MethodHandle m) = refl
 freed_viewed (Elements T b) = refl
 freed_viewed (LocalArray T ys) = refl
 
@@ -93,6 +97,7 @@ pub written_takes : (i : ℕ) (z : ℤ) (w v : Variable) → written i z w ≡ S
 written_takes i z (Scalar u) v is = absurd (cc)
 written_takes i z (LocalRef l r) v is = absurd (cc)
 written_takes i z (FieldHandle f) v is = absurd (cc)
+written_takes i z (MethodHandle m) v is = absurd (cc)
 written_takes i z (Elements T NoBuffer) v is = absurd (cc)
 written_takes i z (Elements T (View n)) v is = absurd (cc)
 written_takes i z (Elements T (Copy n zs)) v is =

@@ -6,18 +6,19 @@ use Rattle.base.specs.Limits.{most_copied, most_views}
 use Rattle.base.specs.Bytes.{Identifier, ByName, lookup}
 use Rattle.base.specs.Element.{ElementType, element_value}
 use Rattle.syntax.specs.Tree.{BinaryOp}
-use Rattle.syntax.specs.Views.{argument_tree, constant_tree, prefix_tree, binary_tree}
+use Rattle.syntax.specs.Views.{argument_tree, constant_tree, function_tree, prefix_tree, binary_tree}
 use Rattle.syntax.specs.Limits.{number_limit}
 use Rattle.classes.specs.FieldViews.{field_id_view}
-use Rattle.semantics.specs.CallEffects.{CallResult, NoResult, NullResult, ScalarResult, ReferenceResult, WeakResult, FieldResult}
+use Rattle.semantics.specs.CallEffects.{CallResult, NoResult, NullResult, ScalarResult, ReferenceResult, WeakResult, FieldResult, MethodResult}
 use Rattle.semantics.specs.EventViews.{trap_view}
 use Rattle.semantics.specs.Heap.{Heap, number_in, numbers_of}
+use Rattle.semantics.specs.Method.{MethodId}
 use Rattle.semantics.specs.Sight.{Sight, in_range}
 use Rattle.semantics.specs.Task.{Operand, NumberOperand}
 use Rattle.semantics.specs.Task as task
 use Rattle.semantics.specs.Term.{Term, Done, Number, Named, Read, Element, IsNull, Prefix, And, Or, Binary, Reduction, binary_term, done, reduce}
 use Rattle.semantics.specs.Value.{Value, Word, Int, Flag, Truth, Outcome, Gives, Traps, Stuck, outcome_then, outcome_map, convert}
-use Rattle.semantics.specs.Variable.{Variable, Scalar, LocalRef, FieldHandle, Elements, LocalArray, Buffer, NoBuffer, Copy, View, StaticReference, Empty, Live, Weakly, Cleared, Deleted, Variables, Statics, assign, copied_length, viewed}
+use Rattle.semantics.specs.Variable.{Variable, Scalar, LocalRef, FieldHandle, MethodHandle, Elements, LocalArray, Buffer, NoBuffer, Copy, View, StaticReference, Empty, Live, Weakly, Cleared, Deleted, Variables, Statics, assign, copied_length, viewed}
 use Rattle.semantics.specs.Thread.{BuffersInUse}
 use Rattle.semantics.specs.Views.{name_of, object_value_view}
 use Rattle.semantics.specs.declared.object_id.ObjectId.{ObjectId}
@@ -27,6 +28,7 @@ use Rattle.replay_terms.specs.declared.given.Given.{Given}
 use Rattle.replay_terms.specs.declared.given.Given.TheVariants as given
 use Rattle.replay_terms.specs.declared.given.Lent.{Lent}
 use Rattle.replay_terms.specs.declared.given.Lent.TheVariants as lent
+use Rattle.replay_terms.specs.declared.method.MethodId.{MethodId as MethodInMemory}
 use Rattle.replay_terms.specs.declared.operand.Operand.{Operand as OperandInMemory}
 use Rattle.replay_terms.specs.declared.operand.Operand.TheVariants as operand
 use Rattle.replay_terms.specs.declared.reduction.Reduction.{Reduction as ReductionInMemory}
@@ -66,10 +68,15 @@ indexed_view indexed.Stuck = Stuck
 
 -- ---- variables
 
+-- a method in memory
+abbrev pub method_view : MethodInMemory → MethodId
+method_view m = record { class = m.class.number; function = function_tree m.function.now }
+
 abbrev pub content_view : Content → Variable
 content_view (content.Number v) = Scalar (value_view v)
 content_view (content.Reference level r) = LocalRef level.number (name_of r)
 content_view (content.Field f) = FieldHandle (option_map field_id_view f)
+content_view (content.Method m) = MethodHandle (option_map method_view m)
 content_view (content.Buffer T) = Elements (element_value T) NoBuffer
 content_view (content.Copy T n numbers) = Elements (element_value T) (Copy n.number numbers.items)
 content_view (content.View T n) = Elements (element_value T) (View n.number)
@@ -300,6 +307,7 @@ given_view (given.Flag b) = ScalarResult (Flag b)
 given_view (given.Reference r) = ReferenceResult (name_of r)
 given_view (given.Weak r) = WeakResult (name_of r)
 given_view (given.Field f) = FieldResult (option_map field_id_view f)
+given_view (given.Method m) = MethodResult (option_map method_view m)
 
 -- the buffer that a call gives, of an object of this heap
 abbrev pub lent_view : Heap → Lent → Buffer

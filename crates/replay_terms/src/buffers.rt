@@ -34,7 +34,8 @@ pub(crate) fn taken(content: &Content<'_>) -> BuffersInUse
             views: 1,
         },
         Content::Number(_) | Content::Reference { .. } => NOTHING,
-        Content::Field(_) | Content::Buffer(_) | Content::Array(_, _) => NOTHING,
+        Content::Field(_) | Content::Method(_) => NOTHING,
+        Content::Buffer(_) | Content::Array(_, _) => NOTHING,
     }
 }
 

@@ -4,6 +4,7 @@ ghost use Rattle.std.specs.Prelude.{◌≡◌};
 ghost use Rattle.semantics.specs.CallStep.{is_zero, static_result};
 ghost use Rattle.replay_terms.specs.Views.{given_view, held_view};
 
+use crate::method::MethodId;
 use crate::statics::StaticReference;
 use classes::fields::FieldId;
 use semantics::ObjectId;
@@ -20,6 +21,7 @@ pub enum Given<'a> {
     /// NULL or a weak global reference, by the name of its object.
     Weak(Option<ObjectId>),
     Field(Option<FieldId<'a>>),
+    Method(Option<MethodId<'a>>),
 }
 
 /// The buffer that a call gives.

@@ -4,6 +4,7 @@
 
 mod buffers;
 mod given;
+mod method;
 mod operand;
 mod reduction;
 mod sight;
@@ -14,6 +15,7 @@ mod variable;
 
 pub use buffers::BuffersInUse;
 pub use given::{Given, Lent, is_zero, static_result};
+pub use method::MethodId;
 pub use operand::Operand;
 pub use reduction::{Reduction, reduce};
 pub use sight::{Indexed, held_reference, number_in, place_in};

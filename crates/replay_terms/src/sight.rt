@@ -27,6 +27,7 @@ pub fn number_in(variables: &Variables<'_>, name: &Name) -> Evaluated
             Content::Number(value) => Evaluated::Gives(*value),
             Content::Reference { .. }
             | Content::Field(_)
+            | Content::Method(_)
             | Content::Buffer(_)
             | Content::Copy { .. }
             | Content::View { .. }
@@ -54,7 +55,8 @@ pub fn held_reference(
                 ..
             } => StaticReference::Live(*object),
             Content::Reference { object: None, .. } | Content::Number(_) => StaticReference::Empty,
-            Content::Field(_) | Content::Array(_, _) => StaticReference::Empty,
+            Content::Field(_) | Content::Method(_) => StaticReference::Empty,
+            Content::Array(_, _) => StaticReference::Empty,
             Content::Buffer(_) | Content::Copy { .. } => StaticReference::Empty,
             Content::View { .. } => StaticReference::Empty,
         },
@@ -68,6 +70,7 @@ fn is_null(content: &Content<'_>) -> Evaluated
     match content {
         Content::Reference { object, .. } => truth(object.is_none()),
         Content::Field(field) => truth(field.is_none()),
+        Content::Method(method) => truth(method.is_none()),
         Content::Buffer(_) => truth(true),
         Content::Copy { .. } | Content::View { .. } => truth(false),
         Content::Number(_) | Content::Array(_, _) => Evaluated::Stuck,
@@ -157,7 +160,7 @@ fn shown_in<'v>(variables: &'v Variables<'_>, name: &Name) -> Option<Shown<'v>>
             }
             Content::View { object, .. } => Some(Shown::Object(*object)),
             Content::Number(_) | Content::Reference { .. } => None,
-            Content::Field(_) | Content::Buffer(_) => None,
+            Content::Field(_) | Content::Method(_) | Content::Buffer(_) => None,
         },
     }
 }

@@ -14,6 +14,7 @@ ghost use Rattle.semantics.specs.Views.{names_of, object_value_view};
 ghost use Rattle.replay_terms.specs.Views.{Takes, WritesContent, WritesElement, content_view, count_viewed, had, held_number, variables_view, viewed_by};
 
 use crate::buffers::{BuffersInUse, NOTHING, exchanged, taken};
+use crate::method::MethodId;
 use crate::value::{Value, convert};
 use classes::fields::FieldId;
 use indexmap::IndexMap;
@@ -33,6 +34,8 @@ pub enum Content<'a> {
     },
     /// A field ID: NULL, or a field or static.
     Field(Option<FieldId<'a>>),
+    /// A method ID: NULL, or a method.
+    Method(Option<MethodId<'a>>),
     /// A buffer that is NULL.
     Buffer(ElementType),
     /// A buffer with a copy of the numbers of an array or a string, and its name.
@@ -70,9 +73,13 @@ impl Drop for Variables<'_> {
 }
 
 impl<'a> Model for Variables<'a> {
+    ghost use Rattle.std.specs.Coded.{codes};
+    ghost use Rattle.syntax.specs.contracts.unit.Function as function;
     ghost use Rattle.replay_terms.specs.Views.{Contents, Takes, by_name};
 
     ghost Value = { Contents };
+
+    ghost coded = { Prim.hlevel (codes, function.the_row.coded) };
 
     ghost view = { λ v. by_name v.contents.entries };
 
@@ -234,7 +241,8 @@ fn array_of<'c>(content: &'c Content<'_>) -> &'c [i32]
 {
     match content {
         Content::Array(_, numbers) => numbers.as_slice(),
-        Content::Number(_) | Content::Reference { .. } | Content::Field(_) => &[],
+        Content::Number(_) | Content::Reference { .. } => &[],
+        Content::Field(_) | Content::Method(_) => &[],
         Content::Buffer(_) | Content::Copy { .. } | Content::View { .. } => &[],
     }
 }
@@ -245,7 +253,8 @@ fn copy_of<'c>(content: &'c Content<'_>) -> &'c [i32]
 {
     match content {
         Content::Copy { numbers, .. } => numbers.as_slice(),
-        Content::Number(_) | Content::Reference { .. } | Content::Field(_) => &[],
+        Content::Number(_) | Content::Reference { .. } => &[],
+        Content::Field(_) | Content::Method(_) => &[],
         Content::Buffer(_) | Content::View { .. } | Content::Array(_, _) => &[],
     }
 }
@@ -267,7 +276,8 @@ fn begin_content(content: &mut Content<'_>, values: &[ObjectValue])
 {
     match content {
         Content::Array(_, numbers) => begin(numbers, values),
-        Content::Number(_) | Content::Reference { .. } | Content::Field(_) => {}
+        Content::Number(_) | Content::Reference { .. } => {}
+        Content::Field(_) | Content::Method(_) => {}
         Content::Buffer(_) | Content::Copy { .. } | Content::View { .. } => {}
     }
 }
@@ -281,7 +291,8 @@ fn push_viewed(names: &mut Vec<ObjectId>, content: &Content<'_>) -> Result<(), A
             names.push(*object)?;
             Ok(())
         }
-        Content::Number(_) | Content::Reference { .. } | Content::Field(_) => Ok(()),
+        Content::Number(_) | Content::Reference { .. } => Ok(()),
+        Content::Field(_) | Content::Method(_) => Ok(()),
         Content::Buffer(_) | Content::Copy { .. } | Content::Array(_, _) => Ok(()),
     }
 }
@@ -353,7 +364,8 @@ fn write_content(content: &mut Content<'_>, index: usize, number: i32) -> Writte
             number: convert(*kind, number),
         },
         Content::Number(_) | Content::Reference { .. } => Written::Nothing,
-        Content::Field(_) | Content::Buffer(_) => Written::Nothing,
+        Content::Field(_) | Content::Method(_) => Written::Nothing,
+        Content::Buffer(_) => Written::Nothing,
     }
 }
 
@@ -367,7 +379,8 @@ fn free_content(content: &mut Content<'_>) -> BuffersInUse
     match content {
         Content::Copy { element: kind, .. } | Content::View { element: kind, .. } => *content =
             Content::Buffer(*kind),
-        Content::Number(_) | Content::Reference { .. } | Content::Field(_) => {}
+        Content::Number(_) | Content::Reference { .. } => {}
+        Content::Field(_) | Content::Method(_) => {}
         Content::Buffer(_) | Content::Array(_, _) => {}
     }
     old

@@ -122,10 +122,10 @@ module _ (unit : SourceUnit) (classes : Classes) (in_use : BuffersInUse) (k : �
   module _ (refused : Bool) (shared after : Shared) (t : ThreadInMemory) (a new : Activation) (pending : Option ObjectId) (s : Thread) (is : t.activation ≡ Some a) (h : ThreadStands unit classes t s) where
     -- the scenes before the step and after it
     abbrev before : Scene
-    before = scene_with classes in_use k shared a.locals.variables a.locals.frames (name_of t.pending)
+    before = scene_with unit classes in_use k shared a.locals.variables a.locals.frames (name_of t.pending)
 
     abbrev end' : Scene
-    end' = scene_with classes in_use k after new.locals.variables new.locals.frames (name_of pending)
+    end' = scene_with unit classes in_use k after new.locals.variables new.locals.frames (name_of pending)
 
     -- the thread in memory after it, and the one that it stands for
     abbrev stepped : ThreadInMemory
@@ -144,7 +144,7 @@ module _ (unit : SourceUnit) (classes : Classes) (in_use : BuffersInUse) (k : �
     sees = record { variables = work.0; frames = work.1; pending = h.pending }
 
     advances_so : (o : Outcome) → Advances refused before a.work o end' new.work → thread_step unit classes in_use k shared s refused ≡ advance_by k after next o
-    advances_so o does = ap (step_within unit classes in_use k shared s refused) has_tasks ∙ does unit s sees has_tasks
+    advances_so o does = ap (step_within unit classes in_use k shared s refused) has_tasks ∙ does s sees has_tasks
 
     -- the call goes on
     on : (event : Event) → thread_step unit classes in_use k shared s refused ≡ AdvancesTo after next event
@@ -284,8 +284,8 @@ module _ (classes : Classes) (k : ℕ) (shared : Shared) (t : ThreadInMemory) wh
   idle_free idle = λ unit s h range. sym (ap (λ (o : Option (List Task)). waits_with classes k shared s (next_effect shared s o)) (h.tasks ∙ ap tasks_in idle))
 
   -- within one it waits as its call does
-  pub waits_as : (a : Activation) (answer : Bool) → t.activation ≡ Some a → ((in_use : BuffersInUse) → WaitsIn (scene_with classes in_use k shared a.locals.variables a.locals.frames (name_of t.pending)) a.work answer)
+  pub waits_as : (a : Activation) (answer : Bool) → t.activation ≡ Some a → ((unit : SourceUnit) (in_use : BuffersInUse) → WaitsIn (scene_with unit classes in_use k shared a.locals.variables a.locals.frames (name_of t.pending)) a.work answer)
       → ThreadWaits classes k shared t answer
   waits_as a answer is tells = λ unit s h range.
       let work : WorkStands (Some a) s = subst (λ (o : Option Activation). WorkStands o s) is h.work in
-      tells (record { copied = 0; views = 0 }) (subst WorkInRange is range) s (record { variables = work.0; frames = work.1; pending = h.pending }) (h.tasks ∙ ap tasks_in is)
+      tells unit (record { copied = 0; views = 0 }) (subst WorkInRange is range) s (record { variables = work.0; frames = work.1; pending = h.pending }) (h.tasks ∙ ap tasks_in is)

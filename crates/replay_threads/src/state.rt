@@ -213,6 +213,7 @@ fn take_turn<'a>(
 {
     let turn = Turn {
         alloc,
+        unit: functions.items(),
         classes: state.world.classes(),
         thread: k,
         in_use: buffers_in_use(&state.threads),

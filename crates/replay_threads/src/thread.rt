@@ -385,6 +385,7 @@ pub(crate) fn take_step<'a>(
 ) -> Result<Option<Event>, AllocError>
     requires tree { IsTree (unit_tree functions.now) }
     requires sorted { IsSorted (unit_tree functions.now) }
+    requires unit { turn.unit.now ≡ functions.now }
     requires classes { turn.classes.now ≡ world.now.classes }
     requires grown { IsGrown turn.classes.now }
     requires range { ThreadInRange thread.old }

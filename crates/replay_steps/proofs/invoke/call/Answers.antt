@@ -2,6 +2,8 @@ use Rattle.std.proofs.Common.{◌≡◌, ℕ, Result, Ok, Err, List, IfOk, is_so
 use Rattle.std.specs.Option.{option_map}
 use Rattle.jni.specs.Table.{function_value}
 use Rattle.replay_arguments.specs.Actuals.{actual_view}
+use Rattle.syntax.specs.Tree.{SourceUnit}
+use Rattle.syntax.specs.Views.{unit_tree}
 use Rattle.base.specs.Element.{ElementType, element_value}
 use Rattle.class_rules.specs.Class.{Classes}
 use Rattle.jni.specs.JniFunction.{JniFunction}
@@ -24,10 +26,10 @@ use Rattle.replay_steps.proofs.CallLemmas.{buffer_lent, call_stopped}
 use Rattle.replay_steps.proofs.invoke.call.Goals as goal
 
 -- the answer, by the element type that is wanted
-answer_for : (a : Answer) (classes : Classes) (in_use : BuffersInUse) (k : ℕ) (monitors : List Monitor) (heap : Heap) (vs : Variables) (frames : List Frame) (pending : Reference) (f : JniFunction) (args : List Actual) (T U : ElementType) → T ≡ U
-    → a ≡ answer_or_trap (trap_found classes heap frames (is_some pending) T f args) (worked_out classes in_use k monitors heap vs frames pending args f)
-    → a ≡ answer_or_trap (trap_found classes heap frames (is_some pending) U f args) (worked_out classes in_use k monitors heap vs frames pending args f)
-answer_for a classes in_use k monitors heap vs frames pending f args T U same is = is ∙ ap (λ (V : ElementType). answer_or_trap (trap_found classes heap frames (is_some pending) V f args) (worked_out classes in_use k monitors heap vs frames pending args f)) same
+answer_for : (a : Answer) (unit : SourceUnit) (classes : Classes) (in_use : BuffersInUse) (k : ℕ) (monitors : List Monitor) (heap : Heap) (vs : Variables) (frames : List Frame) (pending : Reference) (f : JniFunction) (args : List Actual) (T U : ElementType) → T ≡ U
+    → a ≡ answer_or_trap (trap_found classes heap frames (is_some pending) T f args) (worked_out unit classes in_use k monitors heap vs frames pending args f)
+    → a ≡ answer_or_trap (trap_found classes heap frames (is_some pending) U f args) (worked_out unit classes in_use k monitors heap vs frames pending args f)
+answer_for a unit classes in_use k monitors heap vs frames pending f args T U same is = is ∙ ap (λ (V : ElementType). answer_or_trap (trap_found classes heap frames (is_some pending) V f args) (worked_out unit classes in_use k monitors heap vs frames pending args f)) same
 
 -- what holds of an answer, by two things that do
 both_ok : {A E : Type 0} {P Q R : A → Type 0} → (r : Result A E) → ((a : A) → P a → Q a → R a) → IfOk r P → IfOk r Q → IfOk r R
@@ -38,25 +40,27 @@ pub complete-requires-clause-fits : goal.complete-requires-clause-fits
 complete-requires-clause-fits c =
     let f = function_value c.args.i.now.function in
     let args = map actual_view c.args.actuals.now in
+    let unit = unit_tree c.args.turn.unit.now in
     let classes = c.args.turn.classes.now in
     let store = c.args.shared.now.store in
     let locals = c.args.locals.now in
     let pending = name_of c.args.pending.now in
     let in_use = in_use_view c.args.turn.in_use in
     let element = element_value c.wanted_element.result in
-    subst (FitsFrames locals.frames) (sym c.answer_or_trap-answer.ensures) (told_fits locals.frames classes in_use c.args.turn.thread c.args.shared.now.monitors store (variables_view locals.variables) pending args f (trap_found classes store locals.frames (is_some pending) element f args))
+    subst (FitsFrames locals.frames) (sym c.answer_or_trap-answer.ensures) (told_fits locals.frames unit classes in_use c.args.turn.thread c.args.shared.now.monitors store (variables_view locals.variables) pending args f (trap_found classes store locals.frames (is_some pending) element f args))
 
 pub complete-requires-clause-arrays : goal.complete-requires-clause-arrays
 complete-requires-clause-arrays c =
     let f = function_value c.args.i.now.function in
     let args = map actual_view c.args.actuals.now in
+    let unit = unit_tree c.args.turn.unit.now in
     let classes = c.args.turn.classes.now in
     let store = c.args.shared.now.store in
     let locals = c.args.locals.now in
     let pending = name_of c.args.pending.now in
     let in_use = in_use_view c.args.turn.in_use in
     let element = element_value c.wanted_element.result in
-    subst (FitsArrays store (variables_view locals.variables)) (sym c.answer_or_trap-answer.ensures) (told_copies store (variables_view locals.variables) args classes in_use c.args.turn.thread c.args.shared.now.monitors locals.frames pending f (trap_found classes store locals.frames (is_some pending) element f args))
+    subst (FitsArrays store (variables_view locals.variables)) (sym c.answer_or_trap-answer.ensures) (told_copies store (variables_view locals.variables) args unit classes in_use c.args.turn.thread c.args.shared.now.monitors locals.frames pending f (trap_found classes store locals.frames (is_some pending) element f args))
 
 pub complete-requires-clause-goes : goal.complete-requires-clause-goes
 complete-requires-clause-goes c = sym c.trap_in.ensures ∙ ap (option_map trap_view) c.in_default.is
@@ -71,8 +75,8 @@ returns-in-Some-clause-step c =
     let args = map actual_view c.args.actuals.now in
     let scene : Scene = scene_of turn s locals c.args.pending.now in
     subst (λ took. MakesCall turn.refused scene i.line i.purpose f args took scene) (sym c.unless_refused.ensures.step)
-    (call_stopped turn.classes.now (in_use_view turn.in_use) turn.thread s locals.variables locals.frames (name_of c.args.pending.now) i.line i.purpose f args turn.refused
-    (answer_view c.answer_or_trap-answer.result) c.in-Some.trap (answer_for (answer_view c.answer_or_trap-answer.result) turn.classes.now (in_use_view turn.in_use) turn.thread s.monitors s.heap (variables_view locals.variables) locals.frames (name_of c.args.pending.now) f args (element_value c.wanted_element.result) (wanted_element locals.variables i.purpose) c.wanted_element.ensures c.answer_or_trap-answer.ensures) (sym c.trap_in.ensures ∙ ap (option_map trap_view) c.in-Some.is))
+    (call_stopped (unit_tree turn.unit.now) turn.classes.now (in_use_view turn.in_use) turn.thread s locals.variables locals.frames (name_of c.args.pending.now) i.line i.purpose f args turn.refused
+    (answer_view c.answer_or_trap-answer.result) c.in-Some.trap (answer_for (answer_view c.answer_or_trap-answer.result) (unit_tree turn.unit.now) turn.classes.now (in_use_view turn.in_use) turn.thread s.monitors s.heap (variables_view locals.variables) locals.frames (name_of c.args.pending.now) f args (element_value c.wanted_element.result) (wanted_element locals.variables i.purpose) c.wanted_element.ensures c.answer_or_trap-answer.ensures) (sym c.trap_in.ensures ∙ ap (option_map trap_view) c.in-Some.is))
 
 pub returns-then-turn-clause-step : goal.returns-then-turn-clause-step
 returns-then-turn-clause-step c =
@@ -85,7 +89,7 @@ returns-then-turn-clause-step c =
     let before : Scene = scene_of turn s locals c.args.pending.now in
     let after : Scene = scene_of turn s locals c.refuse_object.new.pending in
     subst (λ b. MakesCall b before i.line i.purpose f args c.refuse_object.result after) (sym c.if-turn.true)
-    (c.refuse_object.ensures.step s locals args (answer_for (answer_view c.answer_or_trap-answer.result) turn.classes.now (in_use_view turn.in_use) turn.thread s.monitors s.heap (variables_view locals.variables) locals.frames (name_of c.args.pending.now) f args (element_value c.wanted_element.result) (wanted_element locals.variables i.purpose) c.wanted_element.ensures c.answer_or_trap-answer.ensures))
+    (c.refuse_object.ensures.step s locals args (answer_for (answer_view c.answer_or_trap-answer.result) (unit_tree turn.unit.now) turn.classes.now (in_use_view turn.in_use) turn.thread s.monitors s.heap (variables_view locals.variables) locals.frames (name_of c.args.pending.now) f args (element_value c.wanted_element.result) (wanted_element locals.variables i.purpose) c.wanted_element.ensures c.answer_or_trap-answer.ensures))
 
 pub returns-in-Some-lent_in-clause-step : goal.returns-in-Some-lent_in-clause-step
 returns-in-Some-lent_in-clause-step c =
@@ -98,10 +102,10 @@ returns-in-Some-lent_in-clause-step c =
     let a = answer_view c.answer_or_trap-answer.result in
     let before : Scene = scene_of turn s locals c.args.pending.now in
     let after : Scene = scene_of turn s c.lend.new.locals c.args.pending.now in
-    let has = answer_for a turn.classes.now (in_use_view turn.in_use) turn.thread s.monitors s.heap (variables_view locals.variables) locals.frames (name_of c.args.pending.now) f args (element_value c.wanted_element.result) (wanted_element locals.variables i.purpose) c.wanted_element.ensures c.answer_or_trap-answer.ensures in
+    let has = answer_for a (unit_tree turn.unit.now) turn.classes.now (in_use_view turn.in_use) turn.thread s.monitors s.heap (variables_view locals.variables) locals.frames (name_of c.args.pending.now) f args (element_value c.wanted_element.result) (wanted_element locals.variables i.purpose) c.wanted_element.ensures c.answer_or_trap-answer.ensures in
     subst (λ b. IfOk c.lend.result (λ o. MakesCall b before i.line i.purpose f args o after)) (sym c.if-turn.false)
     (both_ok c.lend.result (λ o varied is_for.
-    buffer_lent turn.classes.now (in_use_view turn.in_use) turn.thread s locals.variables locals.frames (name_of c.args.pending.now) i.line i.purpose f args
+    buffer_lent (unit_tree turn.unit.now) turn.classes.now (in_use_view turn.in_use) turn.thread s locals.variables locals.frames (name_of c.args.pending.now) i.line i.purpose f args
     a c.in-Some-lent_in.buffer c.lend.new.locals.variables c.lend.new.locals.frames o has (sym c.lent_in.ensures ∙ c.in-Some-lent_in.is) (varied s.heap) c.lend.ensures.frames is_for)
     c.lend.ensures.variables c.lend.ensures.outcome)
 
@@ -116,7 +120,7 @@ returns-clause-step c =
     let before : Scene = scene_of turn s locals c.args.pending.now in
     let after : Scene = scene_of turn (shared_view c.complete.new.shared) c.complete.new.locals c.complete.new.pending in
     subst (λ b. IfOk c.complete.result (λ o. MakesCall b before i.line i.purpose f args o after)) (sym c.if-turn.false)
-    (c.complete.ensures.step args (answer_for (answer_view c.answer_or_trap-answer.result) turn.classes.now (in_use_view turn.in_use) turn.thread s.monitors s.heap (variables_view locals.variables) locals.frames (name_of c.args.pending.now) f args (element_value c.wanted_element.result) (wanted_element locals.variables i.purpose) c.wanted_element.ensures c.answer_or_trap-answer.ensures))
+    (c.complete.ensures.step args (answer_for (answer_view c.answer_or_trap-answer.result) (unit_tree turn.unit.now) turn.classes.now (in_use_view turn.in_use) turn.thread s.monitors s.heap (variables_view locals.variables) locals.frames (name_of c.args.pending.now) f args (element_value c.wanted_element.result) (wanted_element locals.variables i.purpose) c.wanted_element.ensures c.answer_or_trap-answer.ensures))
 
 pub answer_or_trap-answer-requires : goal.answer_or_trap-answer-requires
 answer_or_trap-answer-requires c = c.requires.grown

@@ -3,7 +3,7 @@ use Rattle.std.specs.List.{flat_map}
 use Rattle.syntax.specs.Views.{unit_tree}
 use Rattle.semantics.specs.Load.{refused_calls}
 use Rattle.replay.proofs.LoadLemmas.{calls_of}
-use Rattle.replay.proofs.load.first_fault.Given as goal
+use Rattle.replay.proofs.load.first_misfit.Given as goal
 
 abbrev pub invariant-loop-calls : goal.invariant-loop-calls
 invariant-loop-calls l =
