@@ -42,13 +42,16 @@ fn threads_of(alloc: Global, text: &[u8]) -> Option<u8> {
     }
 }
 
-/// What was found where a world is refused: its own fault, or a call on this line that doesn't go with the program.
+/// What was found where a world is refused: its own fault, or what doesn't go with the program on this line, a call or else
+/// the line of the heap.
 fn detail_of_world(alloc: Global, texts: &Texts, line: usize) -> Detail {
     let Ok(world) = read_world(alloc, &texts.world) else {
         return world_detail(alloc, &texts.world);
     };
     let Some(call) = call_on(&world, line) else {
-        return Detail::none();
+        return Detail::of(
+            b"found no methods, wanted heap N methods: the program calls GetStaticMethodID",
+        );
     };
     match read_program(alloc, &texts.program) {
         Ok(checked) => detail_of_call(&checked, call),
