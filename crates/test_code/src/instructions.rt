@@ -133,6 +133,39 @@ fn arrays_lie_in_the_slots(rt: HostRuntime) -> Result<(), Fail> {
     Ok(())
 }
 
+/// jmethodID m = GetStaticMethodID(c, "g", "()V");, in line 3, with m in this slot and c in the first one of references.
+fn method_call(alloc: Global, slot: u32) -> Result<BoxedCall, Fail> {
+    let operands = vec![in alloc; Operand::Local(0), Operand::Text, Operand::Text]?;
+    let mut texts = Vec::new(alloc);
+    texts.push(Vec::from_slice(alloc, b"g")?)?;
+    texts.push(Vec::from_slice(alloc, b"()V")?)?;
+    let call = Call::new(
+        3,
+        Target::MethodId(slot),
+        JniFunction::GetStaticMethodID,
+        operands,
+        texts,
+    );
+    Ok(BoxedCall::of(alloc, call)?)
+}
+
+// Two slots of field IDs and method IDs, which share them.
+#[test]
+fn method_ids_lie_in_the_slots(rt: HostRuntime) -> Result<(), Fail> {
+    let slots = SlotCounts {
+        references: 1,
+        field_ids: 2,
+        ..NO_SLOTS
+    };
+    for (slot, want) in [(1, true), (2, false)] {
+        let call = method_call(rt.alloc(), slot)?;
+        let null = Instr::StoreNull(NullableVariable::FieldId(slot));
+        let instrs = vec![in rt.alloc(); Instr::Call(call), null, Instr::Return]?;
+        assert!(rt; Code::of(instrs, slots)?.is_some() == want, "{slot}");
+    }
+    Ok(())
+}
+
 // -2 and 5: each operator at `uint32_t`, and the comparisons at `jint` too.
 #[test]
 fn operates_on_the_two_topmost_words(rt: HostRuntime) {

@@ -23,6 +23,8 @@ after unit w n f = option_map_or f (replay unit w (entries 1 n)) 0
 abbrev plain : World
 plain =
     record {
+      heap_line = 1;
+      methods = false;
       cells = 512;
       classes = fold with_class built_ins
           (record { name = codes "A"; superclass = Some 1; kind = Plain; fields = []; statics = [] } ∷ []);
@@ -51,6 +53,8 @@ wants_more = refl
 abbrev with_array : World
 with_array =
     record {
+      heap_line = 1;
+      methods = false;
       cells = 512;
       classes = fold with_class built_ins
           (record { name = codes "A"; superclass = Some 1; kind = Plain; fields = []; statics = [] } ∷ []);
@@ -65,6 +69,8 @@ with_array =
 abbrev with_number : World
 with_number =
     record {
+      heap_line = 1;
+      methods = false;
       cells = 512;
       classes = fold with_class built_ins
           (record { name = codes "A"; superclass = Some 1; kind = Plain; fields = []; statics = [] } ∷ []);
@@ -86,7 +92,7 @@ account_begun = refl
 
 loads_array : Loads the_length_of_an_array with_array
 unfolding opened
-loads_array = refl
+loads_array = (refl, refl)
 
 loads_no_number : load_faults the_length_of_an_array with_number ≡ 4 ∷ []
 unfolding opened
@@ -103,6 +109,8 @@ no_function = refl
 abbrev full : World
 full =
     record {
+      heap_line = 1;
+      methods = false;
       cells = 512;
       classes = fold with_class built_ins
           (record { name = codes "A"; superclass = Some 1; kind = Plain; fields = []; statics = [] } ∷ []);
@@ -113,6 +121,8 @@ full =
 abbrev over_full : World
 over_full =
     record {
+      heap_line = 1;
+      methods = false;
       cells = 512;
       classes = fold with_class built_ins
           (record { name = codes "A"; superclass = Some 1; kind = Plain; fields = []; statics = [] } ∷ []);

@@ -1,5 +1,5 @@
 -- The cases of texts/arguments.cases, as gate/worked_equations writes them.
-use Rattle.std.specs.Prelude.{◌∷◌, pos, [], Some, None, codes, refl}
+use Rattle.std.specs.Prelude.{◌∷◌, pos, false, [], Some, None, codes, refl}
 use Rattle.base.specs.Element.{JInt}
 use Rattle.syntax.specs.Tree.{Declare, FromCall, JIntArray, JIntVariable, JObject, PutJint, Return, SourceUnit, Variable, Void}
 use Rattle.semantics.specs.declared.schedule.ScheduleWord.TheVariants.{Turn}
@@ -30,11 +30,11 @@ a_thread_that_has_not_begun-lines =
     ∷ []
 
 abbrev a_thread_that_has_not_begun-world : World
-a_thread_that_has_not_begun-world = world_of 512 a_thread_that_has_not_begun-lines
+a_thread_that_has_not_begun-world = world_of 1 512 a_thread_that_has_not_begun-lines
 
 a_thread_that_has_not_begun-means : IsWorldText (codes "heap 512\nclass A\narray @a I 7 8\nthread Java_A_f @a\n") a_thread_that_has_not_begun-world
 unfolding opened
-a_thread_that_has_not_begun-means = world-text (codes "heap 512\nclass A\narray @a I 7 8\nthread Java_A_f @a\n") 512 a_thread_that_has_not_begun-lines 1 refl refl refl refl
+a_thread_that_has_not_begun-means = world-text (codes "heap 512\nclass A\narray @a I 7 8\nthread Java_A_f @a\n") 512 false a_thread_that_has_not_begun-lines 1 refl refl refl refl refl
 
 a_thread_that_has_not_begun-accepted : IsAccepted a_thread_that_has_not_begun
 unfolding opened
@@ -69,11 +69,11 @@ the_length_of_an_array-lines =
     ∷ []
 
 abbrev the_length_of_an_array-world : World
-the_length_of_an_array-world = world_of 512 the_length_of_an_array-lines
+the_length_of_an_array-world = world_of 1 512 the_length_of_an_array-lines
 
 the_length_of_an_array-means : IsWorldText (codes "heap 512\nclass A\narray @a I 7 8 9\nthread Java_A_f @a\n") the_length_of_an_array-world
 unfolding opened
-the_length_of_an_array-means = world-text (codes "heap 512\nclass A\narray @a I 7 8 9\nthread Java_A_f @a\n") 512 the_length_of_an_array-lines 1 refl refl refl refl
+the_length_of_an_array-means = world-text (codes "heap 512\nclass A\narray @a I 7 8 9\nthread Java_A_f @a\n") 512 false the_length_of_an_array-lines 1 refl refl refl refl refl
 
 the_length_of_an_array-accepted : IsAccepted the_length_of_an_array
 unfolding opened
@@ -93,11 +93,11 @@ the_length_of_a_class_object-lines =
     ∷ []
 
 abbrev the_length_of_a_class_object-world : World
-the_length_of_a_class_object-world = world_of 512 the_length_of_a_class_object-lines
+the_length_of_a_class_object-world = world_of 1 512 the_length_of_a_class_object-lines
 
 the_length_of_a_class_object-means : IsWorldText (codes "heap 512\nclass A\narray @a I 7 8 9\nthread Java_A_f class:A\n") the_length_of_a_class_object-world
 unfolding opened
-the_length_of_a_class_object-means = world-text (codes "heap 512\nclass A\narray @a I 7 8 9\nthread Java_A_f class:A\n") 512 the_length_of_a_class_object-lines 1 refl refl refl refl
+the_length_of_a_class_object-means = world-text (codes "heap 512\nclass A\narray @a I 7 8 9\nthread Java_A_f class:A\n") 512 false the_length_of_a_class_object-lines 1 refl refl refl refl refl
 
 the_length_of_a_class_object-run : IsWorkedRun the_length_of_an_array (codes "heap 512\nclass A\narray @a I 7 8 9\nthread Java_A_f class:A\n") (codes "1*9\n")
     (codes "T1 trap 6 line 2\n#46 [I 7 8 9\njournal 1 1\n")
@@ -113,11 +113,11 @@ the_length_of_null-lines =
     ∷ []
 
 abbrev the_length_of_null-world : World
-the_length_of_null-world = world_of 512 the_length_of_null-lines
+the_length_of_null-world = world_of 1 512 the_length_of_null-lines
 
 the_length_of_null-means : IsWorldText (codes "heap 512\nclass A\narray @a I 7 8 9\nthread Java_A_f null\n") the_length_of_null-world
 unfolding opened
-the_length_of_null-means = world-text (codes "heap 512\nclass A\narray @a I 7 8 9\nthread Java_A_f null\n") 512 the_length_of_null-lines 1 refl refl refl refl
+the_length_of_null-means = world-text (codes "heap 512\nclass A\narray @a I 7 8 9\nthread Java_A_f null\n") 512 false the_length_of_null-lines 1 refl refl refl refl refl
 
 the_length_of_null-run : IsWorkedRun the_length_of_an_array (codes "heap 512\nclass A\narray @a I 7 8 9\nthread Java_A_f null\n") (codes "1*9\n")
     (codes "T1 trap 4 line 2\n#46 [I 7 8 9\njournal 1 1\n")
@@ -133,11 +133,11 @@ a_number_for_a_reference-lines =
     ∷ []
 
 abbrev a_number_for_a_reference-world : World
-a_number_for_a_reference-world = world_of 512 a_number_for_a_reference-lines
+a_number_for_a_reference-world = world_of 1 512 a_number_for_a_reference-lines
 
 a_number_for_a_reference-means : IsWorldText (codes "heap 512\nclass A\narray @a I 7 8 9\nthread Java_A_f 5\n") a_number_for_a_reference-world
 unfolding opened
-a_number_for_a_reference-means = world-text (codes "heap 512\nclass A\narray @a I 7 8 9\nthread Java_A_f 5\n") 512 a_number_for_a_reference-lines 1 refl refl refl refl
+a_number_for_a_reference-means = world-text (codes "heap 512\nclass A\narray @a I 7 8 9\nthread Java_A_f 5\n") 512 false a_number_for_a_reference-lines 1 refl refl refl refl refl
 
 a_number_for_a_reference-unloaded : IsUnloaded the_length_of_an_array (codes "heap 512\nclass A\narray @a I 7 8 9\nthread Java_A_f 5\n") 4
 unfolding opened
@@ -154,11 +154,11 @@ a_program_without_functions-lines =
     ∷ []
 
 abbrev a_program_without_functions-world : World
-a_program_without_functions-world = world_of 512 a_program_without_functions-lines
+a_program_without_functions-world = world_of 1 512 a_program_without_functions-lines
 
 a_program_without_functions-means : IsWorldText (codes "heap 512\nclass A\nthread Java_A_f\n") a_program_without_functions-world
 unfolding opened
-a_program_without_functions-means = world-text (codes "heap 512\nclass A\nthread Java_A_f\n") 512 a_program_without_functions-lines 1 refl refl refl refl
+a_program_without_functions-means = world-text (codes "heap 512\nclass A\nthread Java_A_f\n") 512 false a_program_without_functions-lines 1 refl refl refl refl refl
 
 a_program_without_functions-unloaded : IsUnloaded a_program_without_functions (codes "heap 512\nclass A\nthread Java_A_f\n") 3
 unfolding opened

@@ -28,11 +28,11 @@ a_function_that_returns_at_once-lines =
     ∷ []
 
 abbrev a_function_that_returns_at_once-world : World
-a_function_that_returns_at_once-world = world_of 512 a_function_that_returns_at_once-lines
+a_function_that_returns_at_once-world = world_of 1 512 a_function_that_returns_at_once-lines
 
 a_function_that_returns_at_once-means : IsWorldText (codes "heap 512\nclass A\nthread Java_A_f\n") a_function_that_returns_at_once-world
 unfolding opened
-a_function_that_returns_at_once-means = world-text (codes "heap 512\nclass A\nthread Java_A_f\n") 512 a_function_that_returns_at_once-lines 1 refl refl refl refl
+a_function_that_returns_at_once-means = world-text (codes "heap 512\nclass A\nthread Java_A_f\n") 512 false a_function_that_returns_at_once-lines 1 refl refl refl refl refl
 
 a_function_that_returns_at_once-accepted : IsAccepted a_function_that_returns_at_once
 unfolding opened
@@ -95,11 +95,11 @@ two_threads_that_print_in_turn-lines =
     ∷ []
 
 abbrev two_threads_that_print_in_turn-world : World
-two_threads_that_print_in_turn-world = world_of 512 two_threads_that_print_in_turn-lines
+two_threads_that_print_in_turn-world = world_of 1 512 two_threads_that_print_in_turn-lines
 
 two_threads_that_print_in_turn-means : IsWorldText (codes "heap 512\nclass A\nthread Java_A_f\nthread Java_A_f\n") two_threads_that_print_in_turn-world
 unfolding opened
-two_threads_that_print_in_turn-means = world-text (codes "heap 512\nclass A\nthread Java_A_f\nthread Java_A_f\n") 512 two_threads_that_print_in_turn-lines 1 refl refl refl refl
+two_threads_that_print_in_turn-means = world-text (codes "heap 512\nclass A\nthread Java_A_f\nthread Java_A_f\n") 512 false two_threads_that_print_in_turn-lines 1 refl refl refl refl refl
 
 two_threads_that_print_in_turn-run : IsWorkedRun sums_and_conversions_wrap (codes "heap 512\nclass A\nthread Java_A_f\nthread Java_A_f\n") (codes "1 2 1 2 1 2 1 2 1 2 1 2 1 2 1 2 1 2 1 2\n")
     (codes "T1 0\nT2 0\nT1 -2147483648\nT2 -2147483648\nT1 ended\nT2 ended\njournal 1 2 1 2 1 2 1 2 1 2 1 2 1 2 1 2 1 2 1 2\n")

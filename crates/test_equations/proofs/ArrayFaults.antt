@@ -41,11 +41,11 @@ an_array_of_numbers_of_negative_length-lines =
     ∷ []
 
 abbrev an_array_of_numbers_of_negative_length-world : World
-an_array_of_numbers_of_negative_length-world = world_of 512 an_array_of_numbers_of_negative_length-lines
+an_array_of_numbers_of_negative_length-world = world_of 1 512 an_array_of_numbers_of_negative_length-lines
 
 an_array_of_numbers_of_negative_length-means : IsWorldText (codes "heap 512\nclass A\nthread Java_A_f\n") an_array_of_numbers_of_negative_length-world
 unfolding opened
-an_array_of_numbers_of_negative_length-means = world-text (codes "heap 512\nclass A\nthread Java_A_f\n") 512 an_array_of_numbers_of_negative_length-lines 1 refl refl refl refl
+an_array_of_numbers_of_negative_length-means = world-text (codes "heap 512\nclass A\nthread Java_A_f\n") 512 false an_array_of_numbers_of_negative_length-lines 1 refl refl refl refl refl
 
 an_array_of_numbers_of_negative_length-accepted : IsAccepted an_array_of_numbers_of_negative_length
 unfolding opened
@@ -81,11 +81,11 @@ a_region_before_the_beginning-lines =
     ∷ []
 
 abbrev a_region_before_the_beginning-world : World
-a_region_before_the_beginning-world = world_of 512 a_region_before_the_beginning-lines
+a_region_before_the_beginning-world = world_of 1 512 a_region_before_the_beginning-lines
 
 a_region_before_the_beginning-means : IsWorldText (codes "heap 512\nclass A\narray @a S 1 2\nthread Java_A_f @a\n") a_region_before_the_beginning-world
 unfolding opened
-a_region_before_the_beginning-means = world-text (codes "heap 512\nclass A\narray @a S 1 2\nthread Java_A_f @a\n") 512 a_region_before_the_beginning-lines 1 refl refl refl refl
+a_region_before_the_beginning-means = world-text (codes "heap 512\nclass A\narray @a S 1 2\nthread Java_A_f @a\n") 512 false a_region_before_the_beginning-lines 1 refl refl refl refl refl
 
 a_region_before_the_beginning-accepted : IsAccepted a_region_before_the_beginning
 unfolding opened
@@ -149,11 +149,11 @@ a_region_of_no_length_at_the_end-lines =
     ∷ []
 
 abbrev a_region_of_no_length_at_the_end-world : World
-a_region_of_no_length_at_the_end-world = world_of 512 a_region_of_no_length_at_the_end-lines
+a_region_of_no_length_at_the_end-world = world_of 1 512 a_region_of_no_length_at_the_end-lines
 
 a_region_of_no_length_at_the_end-means : IsWorldText (codes "heap 512\nclass A\narray @a C 1 2\nthread Java_A_f @a\n") a_region_of_no_length_at_the_end-world
 unfolding opened
-a_region_of_no_length_at_the_end-means = world-text (codes "heap 512\nclass A\narray @a C 1 2\nthread Java_A_f @a\n") 512 a_region_of_no_length_at_the_end-lines 1 refl refl refl refl
+a_region_of_no_length_at_the_end-means = world-text (codes "heap 512\nclass A\narray @a C 1 2\nthread Java_A_f @a\n") 512 false a_region_of_no_length_at_the_end-lines 1 refl refl refl refl refl
 
 a_region_of_no_length_at_the_end-accepted : IsAccepted a_region_of_no_length_at_the_end
 unfolding opened
@@ -189,11 +189,11 @@ a_region_longer_than_the_array_of_c-lines =
     ∷ []
 
 abbrev a_region_longer_than_the_array_of_c-world : World
-a_region_longer_than_the_array_of_c-world = world_of 512 a_region_longer_than_the_array_of_c-lines
+a_region_longer_than_the_array_of_c-world = world_of 1 512 a_region_longer_than_the_array_of_c-lines
 
 a_region_longer_than_the_array_of_c-means : IsWorldText (codes "heap 512\nclass A\narray @a B 1 2\nthread Java_A_f @a\n") a_region_longer_than_the_array_of_c-world
 unfolding opened
-a_region_longer_than_the_array_of_c-means = world-text (codes "heap 512\nclass A\narray @a B 1 2\nthread Java_A_f @a\n") 512 a_region_longer_than_the_array_of_c-lines 1 refl refl refl refl
+a_region_longer_than_the_array_of_c-means = world-text (codes "heap 512\nclass A\narray @a B 1 2\nthread Java_A_f @a\n") 512 false a_region_longer_than_the_array_of_c-lines 1 refl refl refl refl refl
 
 a_region_longer_than_the_array_of_c-accepted : IsAccepted a_region_longer_than_the_array_of_c
 unfolding opened

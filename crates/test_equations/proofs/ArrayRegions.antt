@@ -44,11 +44,11 @@ a_part_of_an_array_is_read_turned_round_and_written_back-lines =
     ∷ []
 
 abbrev a_part_of_an_array_is_read_turned_round_and_written_back-world : World
-a_part_of_an_array_is_read_turned_round_and_written_back-world = world_of 512 a_part_of_an_array_is_read_turned_round_and_written_back-lines
+a_part_of_an_array_is_read_turned_round_and_written_back-world = world_of 1 512 a_part_of_an_array_is_read_turned_round_and_written_back-lines
 
 a_part_of_an_array_is_read_turned_round_and_written_back-means : IsWorldText (codes "heap 512\nclass A\narray @a I 1 2 3 4\nthread Java_A_f @a\n") a_part_of_an_array_is_read_turned_round_and_written_back-world
 unfolding opened
-a_part_of_an_array_is_read_turned_round_and_written_back-means = world-text (codes "heap 512\nclass A\narray @a I 1 2 3 4\nthread Java_A_f @a\n") 512 a_part_of_an_array_is_read_turned_round_and_written_back-lines 1 refl refl refl refl
+a_part_of_an_array_is_read_turned_round_and_written_back-means = world-text (codes "heap 512\nclass A\narray @a I 1 2 3 4\nthread Java_A_f @a\n") 512 false a_part_of_an_array_is_read_turned_round_and_written_back-lines 1 refl refl refl refl refl
 
 a_part_of_an_array_is_read_turned_round_and_written_back-accepted : IsAccepted a_part_of_an_array_is_read_turned_round_and_written_back
 unfolding opened
@@ -98,11 +98,11 @@ no_region_of_an_array_begins_before_it_has_a_negative_length_or_goes_past_its_en
     ∷ []
 
 abbrev no_region_of_an_array_begins_before_it_has_a_negative_length_or_goes_past_its_end-world : World
-no_region_of_an_array_begins_before_it_has_a_negative_length_or_goes_past_its_end-world = world_of 512 no_region_of_an_array_begins_before_it_has_a_negative_length_or_goes_past_its_end-lines
+no_region_of_an_array_begins_before_it_has_a_negative_length_or_goes_past_its_end-world = world_of 1 512 no_region_of_an_array_begins_before_it_has_a_negative_length_or_goes_past_its_end-lines
 
 no_region_of_an_array_begins_before_it_has_a_negative_length_or_goes_past_its_end-means : IsWorldText (codes "heap 512\nclass A\narray @a I 5 6\nthread Java_A_f @a\n") no_region_of_an_array_begins_before_it_has_a_negative_length_or_goes_past_its_end-world
 unfolding opened
-no_region_of_an_array_begins_before_it_has_a_negative_length_or_goes_past_its_end-means = world-text (codes "heap 512\nclass A\narray @a I 5 6\nthread Java_A_f @a\n") 512 no_region_of_an_array_begins_before_it_has_a_negative_length_or_goes_past_its_end-lines 1 refl refl refl refl
+no_region_of_an_array_begins_before_it_has_a_negative_length_or_goes_past_its_end-means = world-text (codes "heap 512\nclass A\narray @a I 5 6\nthread Java_A_f @a\n") 512 false no_region_of_an_array_begins_before_it_has_a_negative_length_or_goes_past_its_end-lines 1 refl refl refl refl refl
 
 no_region_of_an_array_begins_before_it_has_a_negative_length_or_goes_past_its_end-accepted : IsAccepted no_region_of_an_array_begins_before_it_has_a_negative_length_or_goes_past_its_end
 unfolding opened
@@ -206,11 +206,11 @@ both_regions_of_an_array_of_jshort_look_at_its_end_before_they_look_at_the_array
     ∷ []
 
 abbrev both_regions_of_an_array_of_jshort_look_at_its_end_before_they_look_at_the_array_of_c-world : World
-both_regions_of_an_array_of_jshort_look_at_its_end_before_they_look_at_the_array_of_c-world = world_of 512 both_regions_of_an_array_of_jshort_look_at_its_end_before_they_look_at_the_array_of_c-lines
+both_regions_of_an_array_of_jshort_look_at_its_end_before_they_look_at_the_array_of_c-world = world_of 1 512 both_regions_of_an_array_of_jshort_look_at_its_end_before_they_look_at_the_array_of_c-lines
 
 both_regions_of_an_array_of_jshort_look_at_its_end_before_they_look_at_the_array_of_c-means : IsWorldText (codes "heap 512\nclass A\narray @a S 5 6\nthread Java_A_f @a\n") both_regions_of_an_array_of_jshort_look_at_its_end_before_they_look_at_the_array_of_c-world
 unfolding opened
-both_regions_of_an_array_of_jshort_look_at_its_end_before_they_look_at_the_array_of_c-means = world-text (codes "heap 512\nclass A\narray @a S 5 6\nthread Java_A_f @a\n") 512 both_regions_of_an_array_of_jshort_look_at_its_end_before_they_look_at_the_array_of_c-lines 1 refl refl refl refl
+both_regions_of_an_array_of_jshort_look_at_its_end_before_they_look_at_the_array_of_c-means = world-text (codes "heap 512\nclass A\narray @a S 5 6\nthread Java_A_f @a\n") 512 false both_regions_of_an_array_of_jshort_look_at_its_end_before_they_look_at_the_array_of_c-lines 1 refl refl refl refl refl
 
 both_regions_of_an_array_of_jshort_look_at_its_end_before_they_look_at_the_array_of_c-accepted : IsAccepted both_regions_of_an_array_of_jshort_look_at_its_end_before_they_look_at_the_array_of_c
 unfolding opened
@@ -250,11 +250,11 @@ both_regions_of_an_array_of_jbyte_look_at_its_end_before_they_look_at_the_array_
     ∷ []
 
 abbrev both_regions_of_an_array_of_jbyte_look_at_its_end_before_they_look_at_the_array_of_c-world : World
-both_regions_of_an_array_of_jbyte_look_at_its_end_before_they_look_at_the_array_of_c-world = world_of 512 both_regions_of_an_array_of_jbyte_look_at_its_end_before_they_look_at_the_array_of_c-lines
+both_regions_of_an_array_of_jbyte_look_at_its_end_before_they_look_at_the_array_of_c-world = world_of 1 512 both_regions_of_an_array_of_jbyte_look_at_its_end_before_they_look_at_the_array_of_c-lines
 
 both_regions_of_an_array_of_jbyte_look_at_its_end_before_they_look_at_the_array_of_c-means : IsWorldText (codes "heap 512\nclass A\narray @a B 5 6\nthread Java_A_f @a\n") both_regions_of_an_array_of_jbyte_look_at_its_end_before_they_look_at_the_array_of_c-world
 unfolding opened
-both_regions_of_an_array_of_jbyte_look_at_its_end_before_they_look_at_the_array_of_c-means = world-text (codes "heap 512\nclass A\narray @a B 5 6\nthread Java_A_f @a\n") 512 both_regions_of_an_array_of_jbyte_look_at_its_end_before_they_look_at_the_array_of_c-lines 1 refl refl refl refl
+both_regions_of_an_array_of_jbyte_look_at_its_end_before_they_look_at_the_array_of_c-means = world-text (codes "heap 512\nclass A\narray @a B 5 6\nthread Java_A_f @a\n") 512 false both_regions_of_an_array_of_jbyte_look_at_its_end_before_they_look_at_the_array_of_c-lines 1 refl refl refl refl refl
 
 both_regions_of_an_array_of_jbyte_look_at_its_end_before_they_look_at_the_array_of_c-accepted : IsAccepted both_regions_of_an_array_of_jbyte_look_at_its_end_before_they_look_at_the_array_of_c
 unfolding opened
@@ -294,11 +294,11 @@ both_regions_of_an_array_of_jchar_look_at_its_end_before_they_look_at_the_array_
     ∷ []
 
 abbrev both_regions_of_an_array_of_jchar_look_at_its_end_before_they_look_at_the_array_of_c-world : World
-both_regions_of_an_array_of_jchar_look_at_its_end_before_they_look_at_the_array_of_c-world = world_of 512 both_regions_of_an_array_of_jchar_look_at_its_end_before_they_look_at_the_array_of_c-lines
+both_regions_of_an_array_of_jchar_look_at_its_end_before_they_look_at_the_array_of_c-world = world_of 1 512 both_regions_of_an_array_of_jchar_look_at_its_end_before_they_look_at_the_array_of_c-lines
 
 both_regions_of_an_array_of_jchar_look_at_its_end_before_they_look_at_the_array_of_c-means : IsWorldText (codes "heap 512\nclass A\narray @a C 5 6\nthread Java_A_f @a\n") both_regions_of_an_array_of_jchar_look_at_its_end_before_they_look_at_the_array_of_c-world
 unfolding opened
-both_regions_of_an_array_of_jchar_look_at_its_end_before_they_look_at_the_array_of_c-means = world-text (codes "heap 512\nclass A\narray @a C 5 6\nthread Java_A_f @a\n") 512 both_regions_of_an_array_of_jchar_look_at_its_end_before_they_look_at_the_array_of_c-lines 1 refl refl refl refl
+both_regions_of_an_array_of_jchar_look_at_its_end_before_they_look_at_the_array_of_c-means = world-text (codes "heap 512\nclass A\narray @a C 5 6\nthread Java_A_f @a\n") 512 false both_regions_of_an_array_of_jchar_look_at_its_end_before_they_look_at_the_array_of_c-lines 1 refl refl refl refl refl
 
 both_regions_of_an_array_of_jchar_look_at_its_end_before_they_look_at_the_array_of_c-accepted : IsAccepted both_regions_of_an_array_of_jchar_look_at_its_end_before_they_look_at_the_array_of_c
 unfolding opened
@@ -348,11 +348,11 @@ no_region_of_a_string_begins_before_it_has_a_negative_length_or_goes_past_its_en
     ∷ []
 
 abbrev no_region_of_a_string_begins_before_it_has_a_negative_length_or_goes_past_its_end-world : World
-no_region_of_a_string_begins_before_it_has_a_negative_length_or_goes_past_its_end-world = world_of 512 no_region_of_a_string_begins_before_it_has_a_negative_length_or_goes_past_its_end-lines
+no_region_of_a_string_begins_before_it_has_a_negative_length_or_goes_past_its_end-world = world_of 1 512 no_region_of_a_string_begins_before_it_has_a_negative_length_or_goes_past_its_end-lines
 
 no_region_of_a_string_begins_before_it_has_a_negative_length_or_goes_past_its_end-means : IsWorldText (codes "heap 512\nclass A\nstring @s hi\nthread Java_A_f @s\n") no_region_of_a_string_begins_before_it_has_a_negative_length_or_goes_past_its_end-world
 unfolding opened
-no_region_of_a_string_begins_before_it_has_a_negative_length_or_goes_past_its_end-means = world-text (codes "heap 512\nclass A\nstring @s hi\nthread Java_A_f @s\n") 512 no_region_of_a_string_begins_before_it_has_a_negative_length_or_goes_past_its_end-lines 1 refl refl refl refl
+no_region_of_a_string_begins_before_it_has_a_negative_length_or_goes_past_its_end-means = world-text (codes "heap 512\nclass A\nstring @s hi\nthread Java_A_f @s\n") 512 false no_region_of_a_string_begins_before_it_has_a_negative_length_or_goes_past_its_end-lines 1 refl refl refl refl refl
 
 no_region_of_a_string_begins_before_it_has_a_negative_length_or_goes_past_its_end-accepted : IsAccepted no_region_of_a_string_begins_before_it_has_a_negative_length_or_goes_past_its_end
 unfolding opened

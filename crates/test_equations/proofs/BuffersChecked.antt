@@ -43,11 +43,11 @@ getintarrayelements_of_an_array_of_another_kind-lines =
     ∷ []
 
 abbrev getintarrayelements_of_an_array_of_another_kind-world : World
-getintarrayelements_of_an_array_of_another_kind-world = world_of 512 getintarrayelements_of_an_array_of_another_kind-lines
+getintarrayelements_of_an_array_of_another_kind-world = world_of 1 512 getintarrayelements_of_an_array_of_another_kind-lines
 
 getintarrayelements_of_an_array_of_another_kind-means : IsWorldText (codes "heap 512\nclass A\narray @a S 1 2\nthread Java_A_f @a\n") getintarrayelements_of_an_array_of_another_kind-world
 unfolding opened
-getintarrayelements_of_an_array_of_another_kind-means = world-text (codes "heap 512\nclass A\narray @a S 1 2\nthread Java_A_f @a\n") 512 getintarrayelements_of_an_array_of_another_kind-lines 1 refl refl refl refl
+getintarrayelements_of_an_array_of_another_kind-means = world-text (codes "heap 512\nclass A\narray @a S 1 2\nthread Java_A_f @a\n") 512 false getintarrayelements_of_an_array_of_another_kind-lines 1 refl refl refl refl refl
 
 getintarrayelements_of_an_array_of_another_kind-accepted : IsAccepted getintarrayelements_of_an_array_of_another_kind
 unfolding opened
@@ -88,11 +88,11 @@ getprimitivearraycritical_of_null-lines =
     ∷ []
 
 abbrev getprimitivearraycritical_of_null-world : World
-getprimitivearraycritical_of_null-world = world_of 512 getprimitivearraycritical_of_null-lines
+getprimitivearraycritical_of_null-world = world_of 1 512 getprimitivearraycritical_of_null-lines
 
 getprimitivearraycritical_of_null-means : IsWorldText (codes "heap 512\nclass A\nthread Java_A_f null\n") getprimitivearraycritical_of_null-world
 unfolding opened
-getprimitivearraycritical_of_null-means = world-text (codes "heap 512\nclass A\nthread Java_A_f null\n") 512 getprimitivearraycritical_of_null-lines 1 refl refl refl refl
+getprimitivearraycritical_of_null-means = world-text (codes "heap 512\nclass A\nthread Java_A_f null\n") 512 false getprimitivearraycritical_of_null-lines 1 refl refl refl refl refl
 
 getprimitivearraycritical_of_null-accepted : IsAccepted getprimitivearraycritical_of_null
 unfolding opened
@@ -234,11 +234,11 @@ getstringcritical_of_an_array_of_another_kind-lines =
     ∷ []
 
 abbrev getstringcritical_of_an_array_of_another_kind-world : World
-getstringcritical_of_an_array_of_another_kind-world = world_of 512 getstringcritical_of_an_array_of_another_kind-lines
+getstringcritical_of_an_array_of_another_kind-world = world_of 1 512 getstringcritical_of_an_array_of_another_kind-lines
 
 getstringcritical_of_an_array_of_another_kind-means : IsWorldText (codes "heap 512\nclass A\narray @a C 1 2\nthread Java_A_f @a\n") getstringcritical_of_an_array_of_another_kind-world
 unfolding opened
-getstringcritical_of_an_array_of_another_kind-means = world-text (codes "heap 512\nclass A\narray @a C 1 2\nthread Java_A_f @a\n") 512 getstringcritical_of_an_array_of_another_kind-lines 1 refl refl refl refl
+getstringcritical_of_an_array_of_another_kind-means = world-text (codes "heap 512\nclass A\narray @a C 1 2\nthread Java_A_f @a\n") 512 false getstringcritical_of_an_array_of_another_kind-lines 1 refl refl refl refl refl
 
 getstringcritical_of_an_array_of_another_kind-accepted : IsAccepted getstringcritical_of_an_array_of_another_kind
 unfolding opened

@@ -49,11 +49,11 @@ a_copy_is_written_back-lines =
     ∷ []
 
 abbrev a_copy_is_written_back-world : World
-a_copy_is_written_back-world = world_of 512 a_copy_is_written_back-lines
+a_copy_is_written_back-world = world_of 1 512 a_copy_is_written_back-lines
 
 a_copy_is_written_back-means : IsWorldText (codes "heap 512\nclass A\narray @a I 1 2\nthread Java_A_f @a\nthread Java_A_g @a\n") a_copy_is_written_back-world
 unfolding opened
-a_copy_is_written_back-means = world-text (codes "heap 512\nclass A\narray @a I 1 2\nthread Java_A_f @a\nthread Java_A_g @a\n") 512 a_copy_is_written_back-lines 1 refl refl refl refl
+a_copy_is_written_back-means = world-text (codes "heap 512\nclass A\narray @a I 1 2\nthread Java_A_f @a\nthread Java_A_g @a\n") 512 false a_copy_is_written_back-lines 1 refl refl refl refl refl
 
 a_copy_is_written_back-accepted : IsAccepted a_copy_is_written_back
 unfolding opened
@@ -173,11 +173,11 @@ a_copy_is_kept_after_a_commit-lines =
     ∷ []
 
 abbrev a_copy_is_kept_after_a_commit-world : World
-a_copy_is_kept_after_a_commit-world = world_of 512 a_copy_is_kept_after_a_commit-lines
+a_copy_is_kept_after_a_commit-world = world_of 1 512 a_copy_is_kept_after_a_commit-lines
 
 a_copy_is_kept_after_a_commit-means : IsWorldText (codes "heap 512\nclass A\narray @a I 1 2\nthread Java_A_f @a\n") a_copy_is_kept_after_a_commit-world
 unfolding opened
-a_copy_is_kept_after_a_commit-means = world-text (codes "heap 512\nclass A\narray @a I 1 2\nthread Java_A_f @a\n") 512 a_copy_is_kept_after_a_commit-lines 1 refl refl refl refl
+a_copy_is_kept_after_a_commit-means = world-text (codes "heap 512\nclass A\narray @a I 1 2\nthread Java_A_f @a\n") 512 false a_copy_is_kept_after_a_commit-lines 1 refl refl refl refl refl
 
 a_copy_is_kept_after_a_commit-accepted : IsAccepted a_copy_is_kept_after_a_commit
 unfolding opened

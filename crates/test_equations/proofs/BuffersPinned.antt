@@ -52,11 +52,11 @@ a_pinned_array_between_dropped_ones-lines =
     ∷ []
 
 abbrev a_pinned_array_between_dropped_ones-world : World
-a_pinned_array_between_dropped_ones-world = world_of 512 a_pinned_array_between_dropped_ones-lines
+a_pinned_array_between_dropped_ones-world = world_of 1 512 a_pinned_array_between_dropped_ones-lines
 
 a_pinned_array_between_dropped_ones-means : IsWorldText (codes "heap 512\nclass A\nthread Java_A_f\n") a_pinned_array_between_dropped_ones-world
 unfolding opened
-a_pinned_array_between_dropped_ones-means = world-text (codes "heap 512\nclass A\nthread Java_A_f\n") 512 a_pinned_array_between_dropped_ones-lines 1 refl refl refl refl
+a_pinned_array_between_dropped_ones-means = world-text (codes "heap 512\nclass A\nthread Java_A_f\n") 512 false a_pinned_array_between_dropped_ones-lines 1 refl refl refl refl refl
 
 a_pinned_array_between_dropped_ones-accepted : IsAccepted a_pinned_array_between_dropped_ones
 unfolding opened
@@ -107,11 +107,11 @@ a_pinned_array_is_written_by_another_thread-lines =
     ∷ []
 
 abbrev a_pinned_array_is_written_by_another_thread-world : World
-a_pinned_array_is_written_by_another_thread-world = world_of 512 a_pinned_array_is_written_by_another_thread-lines
+a_pinned_array_is_written_by_another_thread-world = world_of 1 512 a_pinned_array_is_written_by_another_thread-lines
 
 a_pinned_array_is_written_by_another_thread-means : IsWorldText (codes "heap 512\nclass A\narray @a I 1 2\nthread Java_A_f @a\nthread Java_A_g @a\n") a_pinned_array_is_written_by_another_thread-world
 unfolding opened
-a_pinned_array_is_written_by_another_thread-means = world-text (codes "heap 512\nclass A\narray @a I 1 2\nthread Java_A_f @a\nthread Java_A_g @a\n") 512 a_pinned_array_is_written_by_another_thread-lines 1 refl refl refl refl
+a_pinned_array_is_written_by_another_thread-means = world-text (codes "heap 512\nclass A\narray @a I 1 2\nthread Java_A_f @a\nthread Java_A_g @a\n") 512 false a_pinned_array_is_written_by_another_thread-lines 1 refl refl refl refl refl
 
 a_pinned_array_is_written_by_another_thread-accepted : IsAccepted a_pinned_array_is_written_by_another_thread
 unfolding opened

@@ -62,11 +62,11 @@ a_copy_that_is_committed_twice_overwrites_twice_and_is_the_same_copy_then-lines 
     ∷ []
 
 abbrev a_copy_that_is_committed_twice_overwrites_twice_and_is_the_same_copy_then-world : World
-a_copy_that_is_committed_twice_overwrites_twice_and_is_the_same_copy_then-world = world_of 512 a_copy_that_is_committed_twice_overwrites_twice_and_is_the_same_copy_then-lines
+a_copy_that_is_committed_twice_overwrites_twice_and_is_the_same_copy_then-world = world_of 1 512 a_copy_that_is_committed_twice_overwrites_twice_and_is_the_same_copy_then-lines
 
 a_copy_that_is_committed_twice_overwrites_twice_and_is_the_same_copy_then-means : IsWorldText (codes "heap 512\nclass A\narray @a I 1 2\nthread Java_A_f @a\n") a_copy_that_is_committed_twice_overwrites_twice_and_is_the_same_copy_then-world
 unfolding opened
-a_copy_that_is_committed_twice_overwrites_twice_and_is_the_same_copy_then-means = world-text (codes "heap 512\nclass A\narray @a I 1 2\nthread Java_A_f @a\n") 512 a_copy_that_is_committed_twice_overwrites_twice_and_is_the_same_copy_then-lines 1 refl refl refl refl
+a_copy_that_is_committed_twice_overwrites_twice_and_is_the_same_copy_then-means = world-text (codes "heap 512\nclass A\narray @a I 1 2\nthread Java_A_f @a\n") 512 false a_copy_that_is_committed_twice_overwrites_twice_and_is_the_same_copy_then-lines 1 refl refl refl refl refl
 
 a_copy_that_is_committed_twice_overwrites_twice_and_is_the_same_copy_then-accepted : IsAccepted a_copy_that_is_committed_twice_overwrites_twice_and_is_the_same_copy_then
 unfolding opened
@@ -162,11 +162,11 @@ a_copy_of_an_array_without_elements_is_a_copy_and_has_none-lines =
     ∷ []
 
 abbrev a_copy_of_an_array_without_elements_is_a_copy_and_has_none-world : World
-a_copy_of_an_array_without_elements_is_a_copy_and_has_none-world = world_of 512 a_copy_of_an_array_without_elements_is_a_copy_and_has_none-lines
+a_copy_of_an_array_without_elements_is_a_copy_and_has_none-world = world_of 1 512 a_copy_of_an_array_without_elements_is_a_copy_and_has_none-lines
 
 a_copy_of_an_array_without_elements_is_a_copy_and_has_none-means : IsWorldText (codes "heap 512\nclass A\narray @a I\nthread Java_A_f @a\n") a_copy_of_an_array_without_elements_is_a_copy_and_has_none-world
 unfolding opened
-a_copy_of_an_array_without_elements_is_a_copy_and_has_none-means = world-text (codes "heap 512\nclass A\narray @a I\nthread Java_A_f @a\n") 512 a_copy_of_an_array_without_elements_is_a_copy_and_has_none-lines 1 refl refl refl refl
+a_copy_of_an_array_without_elements_is_a_copy_and_has_none-means = world-text (codes "heap 512\nclass A\narray @a I\nthread Java_A_f @a\n") 512 false a_copy_of_an_array_without_elements_is_a_copy_and_has_none-lines 1 refl refl refl refl refl
 
 a_copy_of_an_array_without_elements_is_a_copy_and_has_none-accepted : IsAccepted a_copy_of_an_array_without_elements_is_a_copy_and_has_none
 unfolding opened
@@ -248,11 +248,11 @@ a_character_past_the_end_of_a_view-lines =
     ∷ []
 
 abbrev a_character_past_the_end_of_a_view-world : World
-a_character_past_the_end_of_a_view-world = world_of 512 a_character_past_the_end_of_a_view-lines
+a_character_past_the_end_of_a_view-world = world_of 1 512 a_character_past_the_end_of_a_view-lines
 
 a_character_past_the_end_of_a_view-means : IsWorldText (codes "heap 512\nclass A\nstring @s hi\nthread Java_A_f @s\n") a_character_past_the_end_of_a_view-world
 unfolding opened
-a_character_past_the_end_of_a_view-means = world-text (codes "heap 512\nclass A\nstring @s hi\nthread Java_A_f @s\n") 512 a_character_past_the_end_of_a_view-lines 1 refl refl refl refl
+a_character_past_the_end_of_a_view-means = world-text (codes "heap 512\nclass A\nstring @s hi\nthread Java_A_f @s\n") 512 false a_character_past_the_end_of_a_view-lines 1 refl refl refl refl refl
 
 a_character_past_the_end_of_a_view-accepted : IsAccepted a_character_past_the_end_of_a_view
 unfolding opened
@@ -309,11 +309,11 @@ a_view_of_an_array_and_one_of_a_string_both_at_once-lines =
     ∷ []
 
 abbrev a_view_of_an_array_and_one_of_a_string_both_at_once-world : World
-a_view_of_an_array_and_one_of_a_string_both_at_once-world = world_of 512 a_view_of_an_array_and_one_of_a_string_both_at_once-lines
+a_view_of_an_array_and_one_of_a_string_both_at_once-world = world_of 1 512 a_view_of_an_array_and_one_of_a_string_both_at_once-lines
 
 a_view_of_an_array_and_one_of_a_string_both_at_once-means : IsWorldText (codes "heap 512\nclass A\narray @a I 1 2\nstring @s hi\nthread Java_A_f @a @s\n") a_view_of_an_array_and_one_of_a_string_both_at_once-world
 unfolding opened
-a_view_of_an_array_and_one_of_a_string_both_at_once-means = world-text (codes "heap 512\nclass A\narray @a I 1 2\nstring @s hi\nthread Java_A_f @a @s\n") 512 a_view_of_an_array_and_one_of_a_string_both_at_once-lines 1 refl refl refl refl
+a_view_of_an_array_and_one_of_a_string_both_at_once-means = world-text (codes "heap 512\nclass A\narray @a I 1 2\nstring @s hi\nthread Java_A_f @a @s\n") 512 false a_view_of_an_array_and_one_of_a_string_both_at_once-lines 1 refl refl refl refl refl
 
 a_view_of_an_array_and_one_of_a_string_both_at_once-accepted : IsAccepted a_view_of_an_array_and_one_of_a_string_both_at_once
 unfolding opened
@@ -416,11 +416,11 @@ what_is_written_to_a_view_is_converted_to_the_type_of_its_elements-lines =
     ∷ []
 
 abbrev what_is_written_to_a_view_is_converted_to_the_type_of_its_elements-world : World
-what_is_written_to_a_view_is_converted_to_the_type_of_its_elements-world = world_of 512 what_is_written_to_a_view_is_converted_to_the_type_of_its_elements-lines
+what_is_written_to_a_view_is_converted_to_the_type_of_its_elements-world = world_of 1 512 what_is_written_to_a_view_is_converted_to_the_type_of_its_elements-lines
 
 what_is_written_to_a_view_is_converted_to_the_type_of_its_elements-means : IsWorldText (codes "heap 512\nclass A\narray @c C 1 2\narray @b B 3\nthread Java_A_f @c @b\n") what_is_written_to_a_view_is_converted_to_the_type_of_its_elements-world
 unfolding opened
-what_is_written_to_a_view_is_converted_to_the_type_of_its_elements-means = world-text (codes "heap 512\nclass A\narray @c C 1 2\narray @b B 3\nthread Java_A_f @c @b\n") 512 what_is_written_to_a_view_is_converted_to_the_type_of_its_elements-lines 1 refl refl refl refl
+what_is_written_to_a_view_is_converted_to_the_type_of_its_elements-means = world-text (codes "heap 512\nclass A\narray @c C 1 2\narray @b B 3\nthread Java_A_f @c @b\n") 512 false what_is_written_to_a_view_is_converted_to_the_type_of_its_elements-lines 1 refl refl refl refl refl
 
 what_is_written_to_a_view_is_converted_to_the_type_of_its_elements-accepted : IsAccepted what_is_written_to_a_view_is_converted_to_the_type_of_its_elements
 unfolding opened

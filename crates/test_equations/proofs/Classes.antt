@@ -59,11 +59,11 @@ classes_and_their_superclasses-lines =
     ∷ []
 
 abbrev classes_and_their_superclasses-world : World
-classes_and_their_superclasses-world = world_of 512 classes_and_their_superclasses-lines
+classes_and_their_superclasses-world = world_of 1 512 classes_and_their_superclasses-lines
 
 classes_and_their_superclasses-means : IsWorldText (codes "heap 512\nclass A\nclass B extends A\nthread Java_A_f\n") classes_and_their_superclasses-world
 unfolding opened
-classes_and_their_superclasses-means = world-text (codes "heap 512\nclass A\nclass B extends A\nthread Java_A_f\n") 512 classes_and_their_superclasses-lines 1 refl refl refl refl
+classes_and_their_superclasses-means = world-text (codes "heap 512\nclass A\nclass B extends A\nthread Java_A_f\n") 512 false classes_and_their_superclasses-lines 1 refl refl refl refl refl
 
 classes_and_their_superclasses-accepted : IsAccepted classes_and_their_superclasses
 unfolding opened
@@ -123,11 +123,11 @@ which_class_is_assignable_to_which-lines =
     ∷ []
 
 abbrev which_class_is_assignable_to_which-world : World
-which_class_is_assignable_to_which-world = world_of 512 which_class_is_assignable_to_which-lines
+which_class_is_assignable_to_which-world = world_of 1 512 which_class_is_assignable_to_which-lines
 
 which_class_is_assignable_to_which-means : IsWorldText (codes "heap 512\nclass A\nclass B extends A\nthread Java_A_f class:B\n") which_class_is_assignable_to_which-world
 unfolding opened
-which_class_is_assignable_to_which-means = world-text (codes "heap 512\nclass A\nclass B extends A\nthread Java_A_f class:B\n") 512 which_class_is_assignable_to_which-lines 1 refl refl refl refl
+which_class_is_assignable_to_which-means = world-text (codes "heap 512\nclass A\nclass B extends A\nthread Java_A_f class:B\n") 512 false which_class_is_assignable_to_which-lines 1 refl refl refl refl refl
 
 which_class_is_assignable_to_which-accepted : IsAccepted which_class_is_assignable_to_which
 unfolding opened
@@ -178,11 +178,11 @@ which_object_is_an_instance_of_which_class-lines =
     ∷ []
 
 abbrev which_object_is_an_instance_of_which_class-world : World
-which_object_is_an_instance_of_which_class-world = world_of 512 which_object_is_an_instance_of_which_class-lines
+which_object_is_an_instance_of_which_class-world = world_of 1 512 which_object_is_an_instance_of_which_class-lines
 
 which_object_is_an_instance_of_which_class-means : IsWorldText (codes "heap 512\nclass A\nclass B extends A\nobject @o A\nthread Java_A_f @o class:B\n") which_object_is_an_instance_of_which_class-world
 unfolding opened
-which_object_is_an_instance_of_which_class-means = world-text (codes "heap 512\nclass A\nclass B extends A\nobject @o A\nthread Java_A_f @o class:B\n") 512 which_object_is_an_instance_of_which_class-lines 1 refl refl refl refl
+which_object_is_an_instance_of_which_class-means = world-text (codes "heap 512\nclass A\nclass B extends A\nobject @o A\nthread Java_A_f @o class:B\n") 512 false which_object_is_an_instance_of_which_class-lines 1 refl refl refl refl refl
 
 which_object_is_an_instance_of_which_class-accepted : IsAccepted which_object_is_an_instance_of_which_class
 unfolding opened
@@ -221,11 +221,11 @@ a_class_that_is_not_there-lines =
     ∷ []
 
 abbrev a_class_that_is_not_there-world : World
-a_class_that_is_not_there-world = world_of 512 a_class_that_is_not_there-lines
+a_class_that_is_not_there-world = world_of 1 512 a_class_that_is_not_there-lines
 
 a_class_that_is_not_there-means : IsWorldText (codes "heap 512\nclass A\nthread Java_A_f\n") a_class_that_is_not_there-world
 unfolding opened
-a_class_that_is_not_there-means = world-text (codes "heap 512\nclass A\nthread Java_A_f\n") 512 a_class_that_is_not_there-lines 1 refl refl refl refl
+a_class_that_is_not_there-means = world-text (codes "heap 512\nclass A\nthread Java_A_f\n") 512 false a_class_that_is_not_there-lines 1 refl refl refl refl refl
 
 a_class_that_is_not_there-accepted : IsAccepted a_class_that_is_not_there
 unfolding opened
@@ -259,11 +259,11 @@ an_object_that_is_no_class-lines =
     ∷ []
 
 abbrev an_object_that_is_no_class-world : World
-an_object_that_is_no_class-world = world_of 512 an_object_that_is_no_class-lines
+an_object_that_is_no_class-world = world_of 1 512 an_object_that_is_no_class-lines
 
 an_object_that_is_no_class-means : IsWorldText (codes "heap 512\nclass A\nobject @o A\nthread Java_A_f @o\n") an_object_that_is_no_class-world
 unfolding opened
-an_object_that_is_no_class-means = world-text (codes "heap 512\nclass A\nobject @o A\nthread Java_A_f @o\n") 512 an_object_that_is_no_class-lines 1 refl refl refl refl
+an_object_that_is_no_class-means = world-text (codes "heap 512\nclass A\nobject @o A\nthread Java_A_f @o\n") 512 false an_object_that_is_no_class-lines 1 refl refl refl refl refl
 
 an_object_that_is_no_class-accepted : IsAccepted an_object_that_is_no_class
 unfolding opened

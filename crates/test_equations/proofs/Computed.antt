@@ -1,5 +1,5 @@
 -- How the claims are computed.
-use Rattle.std.proofs.Common.{◌≡◌, ◌≢◌, ℕ, ◌+◌, ◌≤◌, nat_le, nat_lt, Bool, true, false, ◌&&◌, inl, inr, List, [], ◌∷◌, ◌++◌, map, length, flat_map, refl, sym, ◌∙◌, ap, subst, Option, Some, None, decimal, codes, is_none, if◌then◌else◌}
+use Rattle.std.proofs.Common.{◌≡◌, ◌≢◌, ℕ, ◌+◌, ◌≤◌, nat_le, nat_lt, Bool, true, false, ◌&&◌, inl, inr, List, [], ◌∷◌, ◌++◌, map, length, flat_map, refl, sym, ◌∙◌, ap, subst, Option, Some, None, is_none, if◌then◌else◌}
 use Rattle.std.specs.Prelude.{IsTrue}
 use Rattle.std.specs.Fmt.{digits}
 use Rattle.std.specs.List.{list_all, list_any, AllZip}
@@ -30,8 +30,8 @@ use Rattle.world_schedules.specs.Words.{words_of}
 use Rattle.semantics.specs.WeakReferences.{lost}
 use Rattle.semantics.specs.World.{World}
 use Rattle.world_values.specs.WorldLines.{WorldLine, Lines, has_words, line_text, spaced, text_lines}
-use Rattle.world_values.specs.WorldMeaning.{world_of}
-use Rattle.world_values.specs.WorldRules.{IsWorldText, IsNumberedLine, broken_after, is_thread_line}
+use Rattle.world_values.specs.WorldMeaning.{has_methods, world_of}
+use Rattle.world_values.specs.WorldRules.{IsWorldText, IsNumberedLine, broken_after, first_lines, heap_words, is_thread_line}
 use Rattle.std.proofs.lemmas.Slice.Eq.{bytes_eq-Decides}
 use Rattle.semantics.specs.CallTable.{call_effect, go_together}
 use Rattle.semantics.specs.Checks.{call_trap}
@@ -129,25 +129,25 @@ lines-spelled : (lines : Lines) → IsTrue (list_all (λ l. has_words l.1) lines
 lines-spelled [] words = tt
 lines-spelled (l ∷ lines) words = let parts = both (has_words l.1) (list_all (λ l. has_words l.1) lines) words in ((refl, (parts.0, inl refl)), lines-spelled lines parts.1)
 
-pub world-text : (text : List ℕ) (cells : ℕ) (lines : Lines) (heap_line : ℕ)
-    → text_lines text ≡ (heap_line, spaced (codes "heap" ∷ decimal cells ∷ [])) ∷ map written_line lines
+pub world-text : (text : List ℕ) (cells : ℕ) (methods : Bool) (lines : Lines) (heap_line : ℕ)
+    → text_lines text ≡ (heap_line, spaced (heap_words cells methods)) ∷ map written_line lines
     → IsTrue (nat_le 512 cells && nat_le cells 1048576)
-    → broken_after cells [] lines ≡ []
+    → broken_after cells (first_lines heap_line methods) lines ≡ []
     → IsTrue (list_any (λ (l : ℕ × WorldLine). is_thread_line l.1) lines && list_all (λ (l : ℕ × WorldLine). has_words l.1) lines)
-    → IsWorldText text (world_of cells lines)
-world-text text cells lines heap_line spelled size rules formed =
+    → has_methods (first_lines heap_line methods ++ lines) ≡ methods
+    → IsWorldText text (world_of heap_line cells (first_lines heap_line methods ++ lines))
+world-text text cells methods lines heap_line spelled size rules formed same =
     let sizes = both (nat_le 512 cells) (nat_le cells 1048576) size in
     let parts = both (list_any (λ (l : ℕ × WorldLine). is_thread_line l.1) lines) (list_all (λ (l : ℕ × WorldLine). has_words l.1) lines) formed in
     record {
-      heap_line = heap_line;
       written = map written_line lines;
       lines = lines;
-      spelled = spelled;
+      spelled = spelled ∙ ap (λ m. (heap_line, spaced (heap_words cells m)) ∷ map written_line lines) (sym same);
       lines_spelled = lines-spelled lines parts.1;
       size = (leb-true _ _ sizes.0, leb-true _ _ sizes.1);
-      rules = rules;
+      rules = ap (λ m. broken_after cells (first_lines heap_line m) lines) same ∙ rules;
       threads = parts.0;
-      meant = refl;
+      meant = ap (λ m. world_of heap_line cells (first_lines heap_line m ++ lines)) (sym same);
     }
 
 -- the words of a schedule are turns and collections, and not too many
@@ -506,7 +506,7 @@ module _ (unit : SourceUnit) (w : World) where
 
 -- the same world, with its parts worked out, so that each step of a computation finds them so
 abbrev pub worked_out : World → World
-worked_out w = record { cells = w.cells; classes = w.classes; objects = w.objects; threads = w.threads }
+worked_out w = record { heap_line = w.heap_line; methods = w.methods; cells = w.cells; classes = w.classes; objects = w.objects; threads = w.threads }
 
 pub worked-run : {world schedule text : List ℕ} (unit : SourceUnit) (w : World) (words : List (ScheduleWord × Option ℕ)) (marks : List Mark)
     → IsAccepted unit

@@ -38,11 +38,11 @@ a_right_side_that_does_not_decide_is_left_alone-lines =
     ∷ []
 
 abbrev a_right_side_that_does_not_decide_is_left_alone-world : World
-a_right_side_that_does_not_decide_is_left_alone-world = world_of 512 a_right_side_that_does_not_decide_is_left_alone-lines
+a_right_side_that_does_not_decide_is_left_alone-world = world_of 1 512 a_right_side_that_does_not_decide_is_left_alone-lines
 
 a_right_side_that_does_not_decide_is_left_alone-means : IsWorldText (codes "heap 512\nclass A\nthread Java_A_f\n") a_right_side_that_does_not_decide_is_left_alone-world
 unfolding opened
-a_right_side_that_does_not_decide_is_left_alone-means = world-text (codes "heap 512\nclass A\nthread Java_A_f\n") 512 a_right_side_that_does_not_decide_is_left_alone-lines 1 refl refl refl refl
+a_right_side_that_does_not_decide_is_left_alone-means = world-text (codes "heap 512\nclass A\nthread Java_A_f\n") 512 false a_right_side_that_does_not_decide_is_left_alone-lines 1 refl refl refl refl refl
 
 a_right_side_that_does_not_decide_is_left_alone-accepted : IsAccepted a_right_side_that_does_not_decide_is_left_alone
 unfolding opened
@@ -91,11 +91,11 @@ a_trap_stops_the_other_thread-lines =
     ∷ []
 
 abbrev a_trap_stops_the_other_thread-world : World
-a_trap_stops_the_other_thread-world = world_of 512 a_trap_stops_the_other_thread-lines
+a_trap_stops_the_other_thread-world = world_of 1 512 a_trap_stops_the_other_thread-lines
 
 a_trap_stops_the_other_thread-means : IsWorldText (codes "heap 512\nclass A\nthread Java_A_f\nthread Java_A_f\n") a_trap_stops_the_other_thread-world
 unfolding opened
-a_trap_stops_the_other_thread-means = world-text (codes "heap 512\nclass A\nthread Java_A_f\nthread Java_A_f\n") 512 a_trap_stops_the_other_thread-lines 1 refl refl refl refl
+a_trap_stops_the_other_thread-means = world-text (codes "heap 512\nclass A\nthread Java_A_f\nthread Java_A_f\n") 512 false a_trap_stops_the_other_thread-lines 1 refl refl refl refl refl
 
 a_trap_stops_the_other_thread-run : IsWorkedRun a_right_side_that_decides_is_worked_out (codes "heap 512\nclass A\nthread Java_A_f\nthread Java_A_f\n") (codes "1*8 2 1\n")
     (codes "T1 trap 1 line 2\nT2 running\njournal 1 1 1 1 1 1 1 1\n")

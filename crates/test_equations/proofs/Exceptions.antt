@@ -1,5 +1,5 @@
 -- The cases of texts/exceptions.cases, as gate/worked_equations writes them.
-use Rattle.std.specs.Prelude.{◌∷◌, [], Some, None, codes, refl}
+use Rattle.std.specs.Prelude.{◌∷◌, false, [], Some, None, codes, refl}
 use Rattle.syntax.specs.Tree.{Binary, Declare, FromCall, If, JClass, JIntVariable, Named, NotEqual, Null, ReferenceVariable, Return, SourceUnit, TestExpr, Text, Variable, Void}
 use Rattle.semantics.specs.declared.schedule.ScheduleWord.TheVariants.{Turn}
 use Rattle.semantics.specs.World.{World}
@@ -37,11 +37,11 @@ an_exception_with_a_message-lines =
     ∷ []
 
 abbrev an_exception_with_a_message-world : World
-an_exception_with_a_message-world = world_of 512 an_exception_with_a_message-lines
+an_exception_with_a_message-world = world_of 1 512 an_exception_with_a_message-lines
 
 an_exception_with_a_message-means : IsWorldText (codes "heap 512\nclass A\nthread Java_A_f\n") an_exception_with_a_message-world
 unfolding opened
-an_exception_with_a_message-means = world-text (codes "heap 512\nclass A\nthread Java_A_f\n") 512 an_exception_with_a_message-lines 1 refl refl refl refl
+an_exception_with_a_message-means = world-text (codes "heap 512\nclass A\nthread Java_A_f\n") 512 false an_exception_with_a_message-lines 1 refl refl refl refl refl
 
 an_exception_with_a_message-accepted : IsAccepted an_exception_with_a_message
 unfolding opened

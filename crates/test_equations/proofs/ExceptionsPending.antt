@@ -63,11 +63,11 @@ an_exception_is_thrown_and_cleared-lines =
     ∷ []
 
 abbrev an_exception_is_thrown_and_cleared-world : World
-an_exception_is_thrown_and_cleared-world = world_of 512 an_exception_is_thrown_and_cleared-lines
+an_exception_is_thrown_and_cleared-world = world_of 1 512 an_exception_is_thrown_and_cleared-lines
 
 an_exception_is_thrown_and_cleared-means : IsWorldText (codes "heap 512\nclass A\nthread Java_A_f\n") an_exception_is_thrown_and_cleared-world
 unfolding opened
-an_exception_is_thrown_and_cleared-means = world-text (codes "heap 512\nclass A\nthread Java_A_f\n") 512 an_exception_is_thrown_and_cleared-lines 1 refl refl refl refl
+an_exception_is_thrown_and_cleared-means = world-text (codes "heap 512\nclass A\nthread Java_A_f\n") 512 false an_exception_is_thrown_and_cleared-lines 1 refl refl refl refl refl
 
 an_exception_is_thrown_and_cleared-accepted : IsAccepted an_exception_is_thrown_and_cleared
 unfolding opened
@@ -133,11 +133,11 @@ what_may_be_called_while_an_exception_is_pending-lines =
     ∷ []
 
 abbrev what_may_be_called_while_an_exception_is_pending-world : World
-what_may_be_called_while_an_exception_is_pending-world = world_of 512 what_may_be_called_while_an_exception_is_pending-lines
+what_may_be_called_while_an_exception_is_pending-world = world_of 1 512 what_may_be_called_while_an_exception_is_pending-lines
 
 what_may_be_called_while_an_exception_is_pending-means : IsWorldText (codes "heap 512\nclass A\narray @a I 1\nthread Java_A_f @a\n") what_may_be_called_while_an_exception_is_pending-world
 unfolding opened
-what_may_be_called_while_an_exception_is_pending-means = world-text (codes "heap 512\nclass A\narray @a I 1\nthread Java_A_f @a\n") 512 what_may_be_called_while_an_exception_is_pending-lines 1 refl refl refl refl
+what_may_be_called_while_an_exception_is_pending-means = world-text (codes "heap 512\nclass A\narray @a I 1\nthread Java_A_f @a\n") 512 false what_may_be_called_while_an_exception_is_pending-lines 1 refl refl refl refl refl
 
 what_may_be_called_while_an_exception_is_pending-accepted : IsAccepted what_may_be_called_while_an_exception_is_pending
 unfolding opened
@@ -171,11 +171,11 @@ an_uncaught_exception_ends_all_calls_of_its_thread-lines =
     ∷ []
 
 abbrev an_uncaught_exception_ends_all_calls_of_its_thread-world : World
-an_uncaught_exception_ends_all_calls_of_its_thread-world = world_of 512 an_uncaught_exception_ends_all_calls_of_its_thread-lines
+an_uncaught_exception_ends_all_calls_of_its_thread-world = world_of 1 512 an_uncaught_exception_ends_all_calls_of_its_thread-lines
 
 an_uncaught_exception_ends_all_calls_of_its_thread-means : IsWorldText (codes "heap 512\nclass A\nthread Java_A_f\ncall Java_A_f\n") an_uncaught_exception_ends_all_calls_of_its_thread-world
 unfolding opened
-an_uncaught_exception_ends_all_calls_of_its_thread-means = world-text (codes "heap 512\nclass A\nthread Java_A_f\ncall Java_A_f\n") 512 an_uncaught_exception_ends_all_calls_of_its_thread-lines 1 refl refl refl refl
+an_uncaught_exception_ends_all_calls_of_its_thread-means = world-text (codes "heap 512\nclass A\nthread Java_A_f\ncall Java_A_f\n") 512 false an_uncaught_exception_ends_all_calls_of_its_thread-lines 1 refl refl refl refl refl
 
 an_uncaught_exception_ends_all_calls_of_its_thread-accepted : IsAccepted an_uncaught_exception_ends_all_calls_of_its_thread
 unfolding opened
@@ -209,11 +209,11 @@ an_object_that_cannot_be_thrown-lines =
     ∷ []
 
 abbrev an_object_that_cannot_be_thrown-world : World
-an_object_that_cannot_be_thrown-world = world_of 512 an_object_that_cannot_be_thrown-lines
+an_object_that_cannot_be_thrown-world = world_of 1 512 an_object_that_cannot_be_thrown-lines
 
 an_object_that_cannot_be_thrown-means : IsWorldText (codes "heap 512\nclass A\nobject @o A\nthread Java_A_f @o\n") an_object_that_cannot_be_thrown-world
 unfolding opened
-an_object_that_cannot_be_thrown-means = world-text (codes "heap 512\nclass A\nobject @o A\nthread Java_A_f @o\n") 512 an_object_that_cannot_be_thrown-lines 1 refl refl refl refl
+an_object_that_cannot_be_thrown-means = world-text (codes "heap 512\nclass A\nobject @o A\nthread Java_A_f @o\n") 512 false an_object_that_cannot_be_thrown-lines 1 refl refl refl refl refl
 
 an_object_that_cannot_be_thrown-accepted : IsAccepted an_object_that_cannot_be_thrown
 unfolding opened
@@ -272,11 +272,11 @@ a_class_of_the_program_that_can_be_thrown-lines =
     ∷ []
 
 abbrev a_class_of_the_program_that_can_be_thrown-world : World
-a_class_of_the_program_that_can_be_thrown-world = world_of 512 a_class_of_the_program_that_can_be_thrown-lines
+a_class_of_the_program_that_can_be_thrown-world = world_of 1 512 a_class_of_the_program_that_can_be_thrown-lines
 
 a_class_of_the_program_that_can_be_thrown-means : IsWorldText (codes "heap 512\nclass A\nclass B extends java/lang/Throwable\nfield B n I\nthread Java_A_f class:B\n") a_class_of_the_program_that_can_be_thrown-world
 unfolding opened
-a_class_of_the_program_that_can_be_thrown-means = world-text (codes "heap 512\nclass A\nclass B extends java/lang/Throwable\nfield B n I\nthread Java_A_f class:B\n") 512 a_class_of_the_program_that_can_be_thrown-lines 1 refl refl refl refl
+a_class_of_the_program_that_can_be_thrown-means = world-text (codes "heap 512\nclass A\nclass B extends java/lang/Throwable\nfield B n I\nthread Java_A_f class:B\n") 512 false a_class_of_the_program_that_can_be_thrown-lines 1 refl refl refl refl refl
 
 a_class_of_the_program_that_can_be_thrown-accepted : IsAccepted a_class_of_the_program_that_can_be_thrown
 unfolding opened

@@ -67,11 +67,11 @@ fields_of_each_number_type-lines =
     ∷ []
 
 abbrev fields_of_each_number_type-world : World
-fields_of_each_number_type-world = world_of 512 fields_of_each_number_type-lines
+fields_of_each_number_type-world = world_of 1 512 fields_of_each_number_type-lines
 
 fields_of_each_number_type-means : IsWorldText (codes "heap 512\nclass A\nfield A i I\nfield A s S\nfield A b B\nfield A c C\nobject @o A 1 2 3 4\nthread Java_A_f @o\n") fields_of_each_number_type-world
 unfolding opened
-fields_of_each_number_type-means = world-text (codes "heap 512\nclass A\nfield A i I\nfield A s S\nfield A b B\nfield A c C\nobject @o A 1 2 3 4\nthread Java_A_f @o\n") 512 fields_of_each_number_type-lines 1 refl refl refl refl
+fields_of_each_number_type-means = world-text (codes "heap 512\nclass A\nfield A i I\nfield A s S\nfield A b B\nfield A c C\nobject @o A 1 2 3 4\nthread Java_A_f @o\n") 512 false fields_of_each_number_type-lines 1 refl refl refl refl refl
 
 fields_of_each_number_type-accepted : IsAccepted fields_of_each_number_type
 unfolding opened
@@ -138,11 +138,11 @@ static_fields_of_each_number_type-lines =
     ∷ []
 
 abbrev static_fields_of_each_number_type-world : World
-static_fields_of_each_number_type-world = world_of 512 static_fields_of_each_number_type-lines
+static_fields_of_each_number_type-world = world_of 1 512 static_fields_of_each_number_type-lines
 
 static_fields_of_each_number_type-means : IsWorldText (codes "heap 512\nclass A\nstatic A i I\nstatic A s S\nstatic A b B\nstatic A c C\nthread Java_A_f\n") static_fields_of_each_number_type-world
 unfolding opened
-static_fields_of_each_number_type-means = world-text (codes "heap 512\nclass A\nstatic A i I\nstatic A s S\nstatic A b B\nstatic A c C\nthread Java_A_f\n") 512 static_fields_of_each_number_type-lines 1 refl refl refl refl
+static_fields_of_each_number_type-means = world-text (codes "heap 512\nclass A\nstatic A i I\nstatic A s S\nstatic A b B\nstatic A c C\nthread Java_A_f\n") 512 false static_fields_of_each_number_type-lines 1 refl refl refl refl refl
 
 static_fields_of_each_number_type-accepted : IsAccepted static_fields_of_each_number_type
 unfolding opened
@@ -204,11 +204,11 @@ fields_of_references-lines =
     ∷ []
 
 abbrev fields_of_references-world : World
-fields_of_references-world = world_of 512 fields_of_references-lines
+fields_of_references-world = world_of 1 512 fields_of_references-lines
 
 fields_of_references-means : IsWorldText (codes "heap 512\nclass A\nfield A next LA;\nstatic A last LA;\nobject @o A null\nthread Java_A_f @o\n") fields_of_references-world
 unfolding opened
-fields_of_references-means = world-text (codes "heap 512\nclass A\nfield A next LA;\nstatic A last LA;\nobject @o A null\nthread Java_A_f @o\n") 512 fields_of_references-lines 1 refl refl refl refl
+fields_of_references-means = world-text (codes "heap 512\nclass A\nfield A next LA;\nstatic A last LA;\nobject @o A null\nthread Java_A_f @o\n") 512 false fields_of_references-lines 1 refl refl refl refl refl
 
 fields_of_references-accepted : IsAccepted fields_of_references
 unfolding opened
@@ -258,11 +258,11 @@ a_field_of_the_superclass_under_one_of_the_same_name-lines =
     ∷ []
 
 abbrev a_field_of_the_superclass_under_one_of_the_same_name-world : World
-a_field_of_the_superclass_under_one_of_the_same_name-world = world_of 512 a_field_of_the_superclass_under_one_of_the_same_name-lines
+a_field_of_the_superclass_under_one_of_the_same_name-world = world_of 1 512 a_field_of_the_superclass_under_one_of_the_same_name-lines
 
 a_field_of_the_superclass_under_one_of_the_same_name-means : IsWorldText (codes "heap 512\nclass A\nfield A n I\nfield A m S\nclass B extends A\nfield B n I\nobject @o B 1 2 3\nthread Java_A_f @o\n") a_field_of_the_superclass_under_one_of_the_same_name-world
 unfolding opened
-a_field_of_the_superclass_under_one_of_the_same_name-means = world-text (codes "heap 512\nclass A\nfield A n I\nfield A m S\nclass B extends A\nfield B n I\nobject @o B 1 2 3\nthread Java_A_f @o\n") 512 a_field_of_the_superclass_under_one_of_the_same_name-lines 1 refl refl refl refl
+a_field_of_the_superclass_under_one_of_the_same_name-means = world-text (codes "heap 512\nclass A\nfield A n I\nfield A m S\nclass B extends A\nfield B n I\nobject @o B 1 2 3\nthread Java_A_f @o\n") 512 false a_field_of_the_superclass_under_one_of_the_same_name-lines 1 refl refl refl refl refl
 
 a_field_of_the_superclass_under_one_of_the_same_name-accepted : IsAccepted a_field_of_the_superclass_under_one_of_the_same_name
 unfolding opened
@@ -303,11 +303,11 @@ a_static_of_the_superclass-lines =
     ∷ []
 
 abbrev a_static_of_the_superclass-world : World
-a_static_of_the_superclass-world = world_of 512 a_static_of_the_superclass-lines
+a_static_of_the_superclass-world = world_of 1 512 a_static_of_the_superclass-lines
 
 a_static_of_the_superclass-means : IsWorldText (codes "heap 512\nclass A\nstatic A s I\nclass B extends A\nthread Java_A_f class:B\n") a_static_of_the_superclass-world
 unfolding opened
-a_static_of_the_superclass-means = world-text (codes "heap 512\nclass A\nstatic A s I\nclass B extends A\nthread Java_A_f class:B\n") 512 a_static_of_the_superclass-lines 1 refl refl refl refl
+a_static_of_the_superclass-means = world-text (codes "heap 512\nclass A\nstatic A s I\nclass B extends A\nthread Java_A_f class:B\n") 512 false a_static_of_the_superclass-lines 1 refl refl refl refl refl
 
 a_static_of_the_superclass-accepted : IsAccepted a_static_of_the_superclass
 unfolding opened
@@ -351,11 +351,11 @@ a_field_of_another_signature_is_not_found-lines =
     ∷ []
 
 abbrev a_field_of_another_signature_is_not_found-world : World
-a_field_of_another_signature_is_not_found-world = world_of 512 a_field_of_another_signature_is_not_found-lines
+a_field_of_another_signature_is_not_found-world = world_of 1 512 a_field_of_another_signature_is_not_found-lines
 
 a_field_of_another_signature_is_not_found-means : IsWorldText (codes "heap 512\nclass A\nfield A n I\nthread Java_A_f\n") a_field_of_another_signature_is_not_found-world
 unfolding opened
-a_field_of_another_signature_is_not_found-means = world-text (codes "heap 512\nclass A\nfield A n I\nthread Java_A_f\n") 512 a_field_of_another_signature_is_not_found-lines 1 refl refl refl refl
+a_field_of_another_signature_is_not_found-means = world-text (codes "heap 512\nclass A\nfield A n I\nthread Java_A_f\n") 512 false a_field_of_another_signature_is_not_found-lines 1 refl refl refl refl refl
 
 a_field_of_another_signature_is_not_found-accepted : IsAccepted a_field_of_another_signature_is_not_found
 unfolding opened
@@ -416,11 +416,11 @@ a_field_id_of_null-lines =
     ∷ []
 
 abbrev a_field_id_of_null-world : World
-a_field_id_of_null-world = world_of 512 a_field_id_of_null-lines
+a_field_id_of_null-world = world_of 1 512 a_field_id_of_null-lines
 
 a_field_id_of_null-means : IsWorldText (codes "heap 512\nclass A\nfield A n I\nobject @o A 1\nthread Java_A_f @o\n") a_field_id_of_null-world
 unfolding opened
-a_field_id_of_null-means = world-text (codes "heap 512\nclass A\nfield A n I\nobject @o A 1\nthread Java_A_f @o\n") 512 a_field_id_of_null-lines 1 refl refl refl refl
+a_field_id_of_null-means = world-text (codes "heap 512\nclass A\nfield A n I\nobject @o A 1\nthread Java_A_f @o\n") 512 false a_field_id_of_null-lines 1 refl refl refl refl refl
 
 a_field_id_of_null-accepted : IsAccepted a_field_id_of_null
 unfolding opened
@@ -507,11 +507,11 @@ a_static_id_for_a_field-lines =
     ∷ []
 
 abbrev a_static_id_for_a_field-world : World
-a_static_id_for_a_field-world = world_of 512 a_static_id_for_a_field-lines
+a_static_id_for_a_field-world = world_of 1 512 a_static_id_for_a_field-lines
 
 a_static_id_for_a_field-means : IsWorldText (codes "heap 512\nclass A\nstatic A n I\nobject @o A\nthread Java_A_f @o\n") a_static_id_for_a_field-world
 unfolding opened
-a_static_id_for_a_field-means = world-text (codes "heap 512\nclass A\nstatic A n I\nobject @o A\nthread Java_A_f @o\n") 512 a_static_id_for_a_field-lines 1 refl refl refl refl
+a_static_id_for_a_field-means = world-text (codes "heap 512\nclass A\nstatic A n I\nobject @o A\nthread Java_A_f @o\n") 512 false a_static_id_for_a_field-lines 1 refl refl refl refl refl
 
 a_static_id_for_a_field-accepted : IsAccepted a_static_id_for_a_field
 unfolding opened
@@ -574,11 +574,11 @@ a_value_that_does_not_fit_a_field-lines =
     ∷ []
 
 abbrev a_value_that_does_not_fit_a_field-world : World
-a_value_that_does_not_fit_a_field-world = world_of 512 a_value_that_does_not_fit_a_field-lines
+a_value_that_does_not_fit_a_field-world = world_of 1 512 a_value_that_does_not_fit_a_field-lines
 
 a_value_that_does_not_fit_a_field-means : IsWorldText (codes "heap 512\nclass A\nfield A next LA;\nobject @o A null\nthread Java_A_f @o\n") a_value_that_does_not_fit_a_field-world
 unfolding opened
-a_value_that_does_not_fit_a_field-means = world-text (codes "heap 512\nclass A\nfield A next LA;\nobject @o A null\nthread Java_A_f @o\n") 512 a_value_that_does_not_fit_a_field-lines 1 refl refl refl refl
+a_value_that_does_not_fit_a_field-means = world-text (codes "heap 512\nclass A\nfield A next LA;\nobject @o A null\nthread Java_A_f @o\n") 512 false a_value_that_does_not_fit_a_field-lines 1 refl refl refl refl refl
 
 a_value_that_does_not_fit_a_field-accepted : IsAccepted a_value_that_does_not_fit_a_field
 unfolding opened
@@ -615,11 +615,11 @@ a_class_that_has_not_the_static-lines =
     ∷ []
 
 abbrev a_class_that_has_not_the_static-world : World
-a_class_that_has_not_the_static-world = world_of 512 a_class_that_has_not_the_static-lines
+a_class_that_has_not_the_static-world = world_of 1 512 a_class_that_has_not_the_static-lines
 
 a_class_that_has_not_the_static-means : IsWorldText (codes "heap 512\nclass A\nstatic A n I\nclass B\nthread Java_A_f class:B\n") a_class_that_has_not_the_static-world
 unfolding opened
-a_class_that_has_not_the_static-means = world-text (codes "heap 512\nclass A\nstatic A n I\nclass B\nthread Java_A_f class:B\n") 512 a_class_that_has_not_the_static-lines 1 refl refl refl refl
+a_class_that_has_not_the_static-means = world-text (codes "heap 512\nclass A\nstatic A n I\nclass B\nthread Java_A_f class:B\n") 512 false a_class_that_has_not_the_static-lines 1 refl refl refl refl refl
 
 a_class_that_has_not_the_static-accepted : IsAccepted a_class_that_has_not_the_static
 unfolding opened
@@ -656,11 +656,11 @@ a_value_that_does_not_fit_a_static-lines =
     ∷ []
 
 abbrev a_value_that_does_not_fit_a_static-world : World
-a_value_that_does_not_fit_a_static-world = world_of 512 a_value_that_does_not_fit_a_static-lines
+a_value_that_does_not_fit_a_static-world = world_of 1 512 a_value_that_does_not_fit_a_static-lines
 
 a_value_that_does_not_fit_a_static-means : IsWorldText (codes "heap 512\nclass A\nstatic A t Ljava/lang/Throwable;\nobject @o A\nthread Java_A_f @o\n") a_value_that_does_not_fit_a_static-world
 unfolding opened
-a_value_that_does_not_fit_a_static-means = world-text (codes "heap 512\nclass A\nstatic A t Ljava/lang/Throwable;\nobject @o A\nthread Java_A_f @o\n") 512 a_value_that_does_not_fit_a_static-lines 1 refl refl refl refl
+a_value_that_does_not_fit_a_static-means = world-text (codes "heap 512\nclass A\nstatic A t Ljava/lang/Throwable;\nobject @o A\nthread Java_A_f @o\n") 512 false a_value_that_does_not_fit_a_static-lines 1 refl refl refl refl refl
 
 a_value_that_does_not_fit_a_static-accepted : IsAccepted a_value_that_does_not_fit_a_static
 unfolding opened

@@ -39,11 +39,11 @@ a_field_is_set_and_an_object_made-lines =
     ∷ []
 
 abbrev a_field_is_set_and_an_object_made-world : World
-a_field_is_set_and_an_object_made-world = world_of 512 a_field_is_set_and_an_object_made-lines
+a_field_is_set_and_an_object_made-world = world_of 1 512 a_field_is_set_and_an_object_made-lines
 
 a_field_is_set_and_an_object_made-means : IsWorldText (codes "heap 512\nclass A\nfield A n I\nobject @o A 3\nthread Java_A_f @o\n") a_field_is_set_and_an_object_made-world
 unfolding opened
-a_field_is_set_and_an_object_made-means = world-text (codes "heap 512\nclass A\nfield A n I\nobject @o A 3\nthread Java_A_f @o\n") 512 a_field_is_set_and_an_object_made-lines 1 refl refl refl refl
+a_field_is_set_and_an_object_made-means = world-text (codes "heap 512\nclass A\nfield A n I\nobject @o A 3\nthread Java_A_f @o\n") 512 false a_field_is_set_and_an_object_made-lines 1 refl refl refl refl refl
 
 a_field_is_set_and_an_object_made-accepted : IsAccepted a_field_is_set_and_an_object_made
 unfolding opened
@@ -73,11 +73,11 @@ a_field_that_is_not_there-lines =
     ∷ []
 
 abbrev a_field_that_is_not_there-world : World
-a_field_that_is_not_there-world = world_of 512 a_field_that_is_not_there-lines
+a_field_that_is_not_there-world = world_of 1 512 a_field_that_is_not_there-lines
 
 a_field_that_is_not_there-means : IsWorldText (codes "heap 512\nclass A\nthread Java_A_f\n") a_field_that_is_not_there-world
 unfolding opened
-a_field_that_is_not_there-means = world-text (codes "heap 512\nclass A\nthread Java_A_f\n") 512 a_field_that_is_not_there-lines 1 refl refl refl refl
+a_field_that_is_not_there-means = world-text (codes "heap 512\nclass A\nthread Java_A_f\n") 512 false a_field_that_is_not_there-lines 1 refl refl refl refl refl
 
 a_field_that_is_not_there-accepted : IsAccepted a_field_that_is_not_there
 unfolding opened

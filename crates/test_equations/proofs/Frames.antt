@@ -43,11 +43,11 @@ a_frame_is_popped-lines =
     ∷ []
 
 abbrev a_frame_is_popped-world : World
-a_frame_is_popped-world = world_of 512 a_frame_is_popped-lines
+a_frame_is_popped-world = world_of 1 512 a_frame_is_popped-lines
 
 a_frame_is_popped-means : IsWorldText (codes "heap 512\nclass A\nthread Java_A_f\n") a_frame_is_popped-world
 unfolding opened
-a_frame_is_popped-means = world-text (codes "heap 512\nclass A\nthread Java_A_f\n") 512 a_frame_is_popped-lines 1 refl refl refl refl
+a_frame_is_popped-means = world-text (codes "heap 512\nclass A\nthread Java_A_f\n") 512 false a_frame_is_popped-lines 1 refl refl refl refl refl
 
 a_frame_is_popped-accepted : IsAccepted a_frame_is_popped
 unfolding opened

@@ -1,5 +1,5 @@
 -- The cases of texts/globals.cases, as gate/worked_equations writes them.
-use Rattle.std.specs.Prelude.{◌∷◌, true, [], Some, None, codes, refl}
+use Rattle.std.specs.Prelude.{◌∷◌, true, false, [], Some, None, codes, refl}
 use Rattle.syntax.specs.Tree.{Assign, Declare, FromCall, JIntVariable, JObject, Number, Perform, Prefix, ReferenceVariable, Return, SourceUnit, ToInt, Value, Void}
 use Rattle.semantics.specs.declared.schedule.ScheduleWord.TheVariants.{Turn}
 use Rattle.semantics.specs.World.{World}
@@ -45,11 +45,11 @@ a_global_reference_that_another_thread_deletes-lines =
     ∷ []
 
 abbrev a_global_reference_that_another_thread_deletes-world : World
-a_global_reference_that_another_thread_deletes-world = world_of 512 a_global_reference_that_another_thread_deletes-lines
+a_global_reference_that_another_thread_deletes-world = world_of 1 512 a_global_reference_that_another_thread_deletes-lines
 
 a_global_reference_that_another_thread_deletes-means : IsWorldText (codes "heap 512\nclass A\nobject @o A\nthread Java_A_f @o\nthread Java_A_h\n") a_global_reference_that_another_thread_deletes-world
 unfolding opened
-a_global_reference_that_another_thread_deletes-means = world-text (codes "heap 512\nclass A\nobject @o A\nthread Java_A_f @o\nthread Java_A_h\n") 512 a_global_reference_that_another_thread_deletes-lines 1 refl refl refl refl
+a_global_reference_that_another_thread_deletes-means = world-text (codes "heap 512\nclass A\nobject @o A\nthread Java_A_f @o\nthread Java_A_h\n") 512 false a_global_reference_that_another_thread_deletes-lines 1 refl refl refl refl refl
 
 a_global_reference_that_another_thread_deletes-accepted : IsAccepted a_global_reference_that_another_thread_deletes
 unfolding opened
@@ -89,11 +89,11 @@ an_exception_is_checked_before_a_deleted_global_reference-lines =
     ∷ []
 
 abbrev an_exception_is_checked_before_a_deleted_global_reference-world : World
-an_exception_is_checked_before_a_deleted_global_reference-world = world_of 512 an_exception_is_checked_before_a_deleted_global_reference-lines
+an_exception_is_checked_before_a_deleted_global_reference-world = world_of 1 512 an_exception_is_checked_before_a_deleted_global_reference-lines
 
 an_exception_is_checked_before_a_deleted_global_reference-means : IsWorldText (codes "heap 512\nclass A\nthread Java_A_f\n") an_exception_is_checked_before_a_deleted_global_reference-world
 unfolding opened
-an_exception_is_checked_before_a_deleted_global_reference-means = world-text (codes "heap 512\nclass A\nthread Java_A_f\n") 512 an_exception_is_checked_before_a_deleted_global_reference-lines 1 refl refl refl refl
+an_exception_is_checked_before_a_deleted_global_reference-means = world-text (codes "heap 512\nclass A\nthread Java_A_f\n") 512 false an_exception_is_checked_before_a_deleted_global_reference-lines 1 refl refl refl refl refl
 
 an_exception_is_checked_before_a_deleted_global_reference-accepted : IsAccepted an_exception_is_checked_before_a_deleted_global_reference
 unfolding opened

@@ -34,11 +34,11 @@ eight_threads-lines =
     ∷ []
 
 abbrev eight_threads-world : World
-eight_threads-world = world_of 512 eight_threads-lines
+eight_threads-world = world_of 1 512 eight_threads-lines
 
 eight_threads-means : IsWorldText (codes "heap 512\nclass A\nthread Java_A_f\nthread Java_A_f\nthread Java_A_f\nthread Java_A_f\nthread Java_A_f\nthread Java_A_f\nthread Java_A_f\nthread Java_A_f\n") eight_threads-world
 unfolding opened
-eight_threads-means = world-text (codes "heap 512\nclass A\nthread Java_A_f\nthread Java_A_f\nthread Java_A_f\nthread Java_A_f\nthread Java_A_f\nthread Java_A_f\nthread Java_A_f\nthread Java_A_f\n") 512 eight_threads-lines 1 refl refl refl refl
+eight_threads-means = world-text (codes "heap 512\nclass A\nthread Java_A_f\nthread Java_A_f\nthread Java_A_f\nthread Java_A_f\nthread Java_A_f\nthread Java_A_f\nthread Java_A_f\nthread Java_A_f\n") 512 false eight_threads-lines 1 refl refl refl refl refl
 
 eight_threads-accepted : IsAccepted eight_threads
 unfolding opened
@@ -56,11 +56,11 @@ an_entry_that_refuses_nothing-lines =
     ∷ []
 
 abbrev an_entry_that_refuses_nothing-world : World
-an_entry_that_refuses_nothing-world = world_of 512 an_entry_that_refuses_nothing-lines
+an_entry_that_refuses_nothing-world = world_of 1 512 an_entry_that_refuses_nothing-lines
 
 an_entry_that_refuses_nothing-means : IsWorldText (codes "heap 512\nclass A\nthread Java_A_f\n") an_entry_that_refuses_nothing-world
 unfolding opened
-an_entry_that_refuses_nothing-means = world-text (codes "heap 512\nclass A\nthread Java_A_f\n") 512 an_entry_that_refuses_nothing-lines 1 refl refl refl refl
+an_entry_that_refuses_nothing-means = world-text (codes "heap 512\nclass A\nthread Java_A_f\n") 512 false an_entry_that_refuses_nothing-lines 1 refl refl refl refl refl
 
 an_entry_that_refuses_nothing-stopped : IsStoppedReplay eight_threads (codes "heap 512\nclass A\nthread Java_A_f\n") (codes "1!\n") 1
 unfolding opened

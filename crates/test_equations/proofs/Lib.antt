@@ -30,6 +30,7 @@ mod Exceptions
 mod ExceptionsPending
 mod Fields
 mod FieldsFound
+mod Methods
 mod Frames
 mod Globals
 mod Journals

@@ -1,6 +1,6 @@
 -- Runs that meet a limit, by what they print.
 use Rattle.std.specs.Option.{option_map}
-use Rattle.std.specs.Prelude.{Option, ◌≡◌, ◌∷◌, pos, negsuc, [], Some, codes, refl, fold, map, List, ℕ, ℤ}
+use Rattle.std.specs.Prelude.{Option, ◌≡◌, ◌∷◌, pos, negsuc, false, [], Some, codes, refl, fold, map, List, ℕ, ℤ}
 use Rattle.syntax.specs.Tree.{SourceUnit}
 use Rattle.class_rules.specs.Additions.{with_class}
 use Rattle.class_rules.specs.BuiltIns.{built_ins}
@@ -21,6 +21,8 @@ prints unit w n = option_map (λ (s : State). map (λ (p : Printed). p.number) s
 abbrev object_world : World
 object_world =
     record {
+      heap_line = 1;
+      methods = false;
       cells = 1048576;
       classes = fold with_class built_ins
           (record { name = codes "A"; superclass = Some 1; kind = Plain; fields = []; statics = [] } ∷ []);
@@ -31,6 +33,8 @@ object_world =
 abbrev array_world : World
 array_world =
     record {
+      heap_line = 1;
+      methods = false;
       cells = 1048576;
       classes = fold with_class built_ins
           (record { name = codes "A"; superclass = Some 1; kind = Plain; fields = []; statics = [] } ∷ []);
@@ -41,6 +45,8 @@ array_world =
 abbrev plain_world : World
 plain_world =
     record {
+      heap_line = 1;
+      methods = false;
       cells = 1048576;
       classes = fold with_class built_ins
           (record { name = codes "A"; superclass = Some 1; kind = Plain; fields = []; statics = [] } ∷ []);

@@ -42,11 +42,11 @@ an_exception_object_that_has_no_room-lines =
     ∷ []
 
 abbrev an_exception_object_that_has_no_room-world : World
-an_exception_object_that_has_no_room-world = world_of 512 an_exception_object_that_has_no_room-lines
+an_exception_object_that_has_no_room-world = world_of 1 512 an_exception_object_that_has_no_room-lines
 
 an_exception_object_that_has_no_room-means : IsWorldText (codes "heap 512\nclass A\nthread Java_A_f\n") an_exception_object_that_has_no_room-world
 unfolding opened
-an_exception_object_that_has_no_room-means = world-text (codes "heap 512\nclass A\nthread Java_A_f\n") 512 an_exception_object_that_has_no_room-lines 1 refl refl refl refl
+an_exception_object_that_has_no_room-means = world-text (codes "heap 512\nclass A\nthread Java_A_f\n") 512 false an_exception_object_that_has_no_room-lines 1 refl refl refl refl refl
 
 an_exception_object_that_has_no_room-accepted : IsAccepted an_exception_object_that_has_no_room
 unfolding opened

@@ -1,5 +1,5 @@
 -- The cases of texts/monitors.cases, as gate/worked_equations writes them.
-use Rattle.std.specs.Prelude.{◌∷◌, [], Some, None, codes, refl}
+use Rattle.std.specs.Prelude.{◌∷◌, false, [], Some, None, codes, refl}
 use Rattle.syntax.specs.Tree.{JObject, Perform, Return, SourceUnit, Void}
 use Rattle.semantics.specs.declared.schedule.ScheduleWord.TheVariants.{Turn}
 use Rattle.semantics.specs.World.{World}
@@ -39,11 +39,11 @@ a_monitor_that_is_entered_twice-lines =
     ∷ []
 
 abbrev a_monitor_that_is_entered_twice-world : World
-a_monitor_that_is_entered_twice-world = world_of 512 a_monitor_that_is_entered_twice-lines
+a_monitor_that_is_entered_twice-world = world_of 1 512 a_monitor_that_is_entered_twice-lines
 
 a_monitor_that_is_entered_twice-means : IsWorldText (codes "heap 512\nclass A\nobject @o A\nthread Java_A_f @o\nthread Java_A_f @o\n") a_monitor_that_is_entered_twice-world
 unfolding opened
-a_monitor_that_is_entered_twice-means = world-text (codes "heap 512\nclass A\nobject @o A\nthread Java_A_f @o\nthread Java_A_f @o\n") 512 a_monitor_that_is_entered_twice-lines 1 refl refl refl refl
+a_monitor_that_is_entered_twice-means = world-text (codes "heap 512\nclass A\nobject @o A\nthread Java_A_f @o\nthread Java_A_f @o\n") 512 false a_monitor_that_is_entered_twice-lines 1 refl refl refl refl refl
 
 a_monitor_that_is_entered_twice-accepted : IsAccepted a_monitor_that_is_entered_twice
 unfolding opened
@@ -74,11 +74,11 @@ a_monitor_that_is_not_owned-lines =
     ∷ []
 
 abbrev a_monitor_that_is_not_owned-world : World
-a_monitor_that_is_not_owned-world = world_of 512 a_monitor_that_is_not_owned-lines
+a_monitor_that_is_not_owned-world = world_of 1 512 a_monitor_that_is_not_owned-lines
 
 a_monitor_that_is_not_owned-means : IsWorldText (codes "heap 512\nclass A\nobject @o A\nthread Java_A_f @o\n") a_monitor_that_is_not_owned-world
 unfolding opened
-a_monitor_that_is_not_owned-means = world-text (codes "heap 512\nclass A\nobject @o A\nthread Java_A_f @o\n") 512 a_monitor_that_is_not_owned-lines 1 refl refl refl refl
+a_monitor_that_is_not_owned-means = world-text (codes "heap 512\nclass A\nobject @o A\nthread Java_A_f @o\n") 512 false a_monitor_that_is_not_owned-lines 1 refl refl refl refl refl
 
 a_monitor_that_is_not_owned-accepted : IsAccepted a_monitor_that_is_not_owned
 unfolding opened
@@ -119,11 +119,11 @@ two_threads_that_wait_for_each_other-lines =
     ∷ []
 
 abbrev two_threads_that_wait_for_each_other-world : World
-two_threads_that_wait_for_each_other-world = world_of 512 two_threads_that_wait_for_each_other-lines
+two_threads_that_wait_for_each_other-world = world_of 1 512 two_threads_that_wait_for_each_other-lines
 
 two_threads_that_wait_for_each_other-means : IsWorldText (codes "heap 512\nclass A\nobject @o A\nobject @p A\nthread Java_A_f @o @p\nthread Java_A_f @p @o\n") two_threads_that_wait_for_each_other-world
 unfolding opened
-two_threads_that_wait_for_each_other-means = world-text (codes "heap 512\nclass A\nobject @o A\nobject @p A\nthread Java_A_f @o @p\nthread Java_A_f @p @o\n") 512 two_threads_that_wait_for_each_other-lines 1 refl refl refl refl
+two_threads_that_wait_for_each_other-means = world-text (codes "heap 512\nclass A\nobject @o A\nobject @p A\nthread Java_A_f @o @p\nthread Java_A_f @p @o\n") 512 false two_threads_that_wait_for_each_other-lines 1 refl refl refl refl refl
 
 two_threads_that_wait_for_each_other-accepted : IsAccepted two_threads_that_wait_for_each_other
 unfolding opened

@@ -46,11 +46,11 @@ both_calls_give_zero_and_nothing_is_pending-lines =
     ∷ []
 
 abbrev both_calls_give_zero_and_nothing_is_pending-world : World
-both_calls_give_zero_and_nothing_is_pending-world = world_of 512 both_calls_give_zero_and_nothing_is_pending-lines
+both_calls_give_zero_and_nothing_is_pending-world = world_of 1 512 both_calls_give_zero_and_nothing_is_pending-lines
 
 both_calls_give_zero_and_nothing_is_pending-means : IsWorldText (codes "heap 512\nclass A\nobject @o A\nthread Java_A_f @o\n") both_calls_give_zero_and_nothing_is_pending-world
 unfolding opened
-both_calls_give_zero_and_nothing_is_pending-means = world-text (codes "heap 512\nclass A\nobject @o A\nthread Java_A_f @o\n") 512 both_calls_give_zero_and_nothing_is_pending-lines 1 refl refl refl refl
+both_calls_give_zero_and_nothing_is_pending-means = world-text (codes "heap 512\nclass A\nobject @o A\nthread Java_A_f @o\n") 512 false both_calls_give_zero_and_nothing_is_pending-lines 1 refl refl refl refl refl
 
 both_calls_give_zero_and_nothing_is_pending-accepted : IsAccepted both_calls_give_zero_and_nothing_is_pending
 unfolding opened
@@ -130,11 +130,11 @@ a_monitor_is_left_while_an_exception_is_pending-lines =
     ∷ []
 
 abbrev a_monitor_is_left_while_an_exception_is_pending-world : World
-a_monitor_is_left_while_an_exception_is_pending-world = world_of 512 a_monitor_is_left_while_an_exception_is_pending-lines
+a_monitor_is_left_while_an_exception_is_pending-world = world_of 1 512 a_monitor_is_left_while_an_exception_is_pending-lines
 
 a_monitor_is_left_while_an_exception_is_pending-means : IsWorldText (codes "heap 512\nclass A\nobject @o A\nthread Java_A_f @o\nthread Java_A_g @o\n") a_monitor_is_left_while_an_exception_is_pending-world
 unfolding opened
-a_monitor_is_left_while_an_exception_is_pending-means = world-text (codes "heap 512\nclass A\nobject @o A\nthread Java_A_f @o\nthread Java_A_g @o\n") 512 a_monitor_is_left_while_an_exception_is_pending-lines 1 refl refl refl refl
+a_monitor_is_left_while_an_exception_is_pending-means = world-text (codes "heap 512\nclass A\nobject @o A\nthread Java_A_f @o\nthread Java_A_g @o\n") 512 false a_monitor_is_left_while_an_exception_is_pending-lines 1 refl refl refl refl refl
 
 a_monitor_is_left_while_an_exception_is_pending-accepted : IsAccepted a_monitor_is_left_while_an_exception_is_pending
 unfolding opened
@@ -236,11 +236,11 @@ a_thread_that_waits_has_no_entry_in_a_journal-lines =
     ∷ []
 
 abbrev a_thread_that_waits_has_no_entry_in_a_journal-world : World
-a_thread_that_waits_has_no_entry_in_a_journal-world = world_of 512 a_thread_that_waits_has_no_entry_in_a_journal-lines
+a_thread_that_waits_has_no_entry_in_a_journal-world = world_of 1 512 a_thread_that_waits_has_no_entry_in_a_journal-lines
 
 a_thread_that_waits_has_no_entry_in_a_journal-means : IsWorldText (codes "heap 512\nclass A\nobject @o A\nthread Java_A_f @o\nthread Java_A_f @o\n") a_thread_that_waits_has_no_entry_in_a_journal-world
 unfolding opened
-a_thread_that_waits_has_no_entry_in_a_journal-means = world-text (codes "heap 512\nclass A\nobject @o A\nthread Java_A_f @o\nthread Java_A_f @o\n") 512 a_thread_that_waits_has_no_entry_in_a_journal-lines 1 refl refl refl refl
+a_thread_that_waits_has_no_entry_in_a_journal-means = world-text (codes "heap 512\nclass A\nobject @o A\nthread Java_A_f @o\nthread Java_A_f @o\n") 512 false a_thread_that_waits_has_no_entry_in_a_journal-lines 1 refl refl refl refl refl
 
 a_thread_that_waits_has_no_entry_in_a_journal-stopped : IsStoppedReplay an_exit_that_throws_nothing_has_nothing_to_refuse (codes "heap 512\nclass A\nobject @o A\nthread Java_A_f @o\nthread Java_A_f @o\n") (codes "1 1 2 2 1\n") 4
 unfolding opened
@@ -273,11 +273,11 @@ a_monitor_of_null_is_left-lines =
     ∷ []
 
 abbrev a_monitor_of_null_is_left-world : World
-a_monitor_of_null_is_left-world = world_of 512 a_monitor_of_null_is_left-lines
+a_monitor_of_null_is_left-world = world_of 1 512 a_monitor_of_null_is_left-lines
 
 a_monitor_of_null_is_left-means : IsWorldText (codes "heap 512\nclass A\nthread Java_A_f null\n") a_monitor_of_null_is_left-world
 unfolding opened
-a_monitor_of_null_is_left-means = world-text (codes "heap 512\nclass A\nthread Java_A_f null\n") 512 a_monitor_of_null_is_left-lines 1 refl refl refl refl
+a_monitor_of_null_is_left-means = world-text (codes "heap 512\nclass A\nthread Java_A_f null\n") 512 false a_monitor_of_null_is_left-lines 1 refl refl refl refl refl
 
 a_monitor_of_null_is_left-accepted : IsAccepted a_monitor_of_null_is_left
 unfolding opened
@@ -310,11 +310,11 @@ a_monitor_of_the_constant_null_is_entered-lines =
     ∷ []
 
 abbrev a_monitor_of_the_constant_null_is_entered-world : World
-a_monitor_of_the_constant_null_is_entered-world = world_of 512 a_monitor_of_the_constant_null_is_entered-lines
+a_monitor_of_the_constant_null_is_entered-world = world_of 1 512 a_monitor_of_the_constant_null_is_entered-lines
 
 a_monitor_of_the_constant_null_is_entered-means : IsWorldText (codes "heap 512\nclass A\nthread Java_A_f\n") a_monitor_of_the_constant_null_is_entered-world
 unfolding opened
-a_monitor_of_the_constant_null_is_entered-means = world-text (codes "heap 512\nclass A\nthread Java_A_f\n") 512 a_monitor_of_the_constant_null_is_entered-lines 1 refl refl refl refl
+a_monitor_of_the_constant_null_is_entered-means = world-text (codes "heap 512\nclass A\nthread Java_A_f\n") 512 false a_monitor_of_the_constant_null_is_entered-lines 1 refl refl refl refl refl
 
 a_monitor_of_the_constant_null_is_entered-accepted : IsAccepted a_monitor_of_the_constant_null_is_entered
 unfolding opened

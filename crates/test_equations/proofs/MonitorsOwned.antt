@@ -1,5 +1,5 @@
 -- The cases of texts/monitors_owned.cases, as gate/worked_equations writes them.
-use Rattle.std.specs.Prelude.{◌∷◌, pos, [], Some, None, codes, refl}
+use Rattle.std.specs.Prelude.{◌∷◌, pos, false, [], Some, None, codes, refl}
 use Rattle.syntax.specs.Tree.{Assign, Declare, FromCall, JClass, JFieldId, JObject, Perform, PutJint, ReferenceVariable, Return, SourceUnit, Text, Variable, Void}
 use Rattle.semantics.specs.declared.schedule.ScheduleWord.TheVariants.{Turn, Collect}
 use Rattle.semantics.specs.World.{World}
@@ -36,11 +36,11 @@ an_owned_object_to_which_no_reference_is_left-lines =
     ∷ []
 
 abbrev an_owned_object_to_which_no_reference_is_left-world : World
-an_owned_object_to_which_no_reference_is_left-world = world_of 512 an_owned_object_to_which_no_reference_is_left-lines
+an_owned_object_to_which_no_reference_is_left-world = world_of 1 512 an_owned_object_to_which_no_reference_is_left-lines
 
 an_owned_object_to_which_no_reference_is_left-means : IsWorldText (codes "heap 512\nclass A\nthread Java_A_f\n") an_owned_object_to_which_no_reference_is_left-world
 unfolding opened
-an_owned_object_to_which_no_reference_is_left-means = world-text (codes "heap 512\nclass A\nthread Java_A_f\n") 512 an_owned_object_to_which_no_reference_is_left-lines 1 refl refl refl refl
+an_owned_object_to_which_no_reference_is_left-means = world-text (codes "heap 512\nclass A\nthread Java_A_f\n") 512 false an_owned_object_to_which_no_reference_is_left-lines 1 refl refl refl refl refl
 
 an_owned_object_to_which_no_reference_is_left-accepted : IsAccepted an_owned_object_to_which_no_reference_is_left
 unfolding opened
@@ -122,11 +122,11 @@ what_an_owned_object_refers_to-lines =
     ∷ []
 
 abbrev what_an_owned_object_refers_to-world : World
-what_an_owned_object_refers_to-world = world_of 512 what_an_owned_object_refers_to-lines
+what_an_owned_object_refers_to-world = world_of 1 512 what_an_owned_object_refers_to-lines
 
 what_an_owned_object_refers_to-means : IsWorldText (codes "heap 512\nclass A\nfield A next LA;\nthread Java_A_f\n") what_an_owned_object_refers_to-world
 unfolding opened
-what_an_owned_object_refers_to-means = world-text (codes "heap 512\nclass A\nfield A next LA;\nthread Java_A_f\n") 512 what_an_owned_object_refers_to-lines 1 refl refl refl refl
+what_an_owned_object_refers_to-means = world-text (codes "heap 512\nclass A\nfield A next LA;\nthread Java_A_f\n") 512 false what_an_owned_object_refers_to-lines 1 refl refl refl refl refl
 
 what_an_owned_object_refers_to-accepted : IsAccepted what_an_owned_object_refers_to
 unfolding opened
@@ -164,11 +164,11 @@ the_objects_of_a_call_after_its_return-lines =
     ∷ []
 
 abbrev the_objects_of_a_call_after_its_return-world : World
-the_objects_of_a_call_after_its_return-world = world_of 512 the_objects_of_a_call_after_its_return-lines
+the_objects_of_a_call_after_its_return-world = world_of 1 512 the_objects_of_a_call_after_its_return-lines
 
 the_objects_of_a_call_after_its_return-means : IsWorldText (codes "heap 512\nclass A\nthread Java_A_f\ncall Java_A_f\n") the_objects_of_a_call_after_its_return-world
 unfolding opened
-the_objects_of_a_call_after_its_return-means = world-text (codes "heap 512\nclass A\nthread Java_A_f\ncall Java_A_f\n") 512 the_objects_of_a_call_after_its_return-lines 1 refl refl refl refl
+the_objects_of_a_call_after_its_return-means = world-text (codes "heap 512\nclass A\nthread Java_A_f\ncall Java_A_f\n") 512 false the_objects_of_a_call_after_its_return-lines 1 refl refl refl refl refl
 
 the_objects_of_a_call_after_its_return-accepted : IsAccepted the_objects_of_a_call_after_its_return
 unfolding opened
@@ -210,11 +210,11 @@ monitors_that_are_left_in_the_order_in_which_they_were_entered-lines =
     ∷ []
 
 abbrev monitors_that_are_left_in_the_order_in_which_they_were_entered-world : World
-monitors_that_are_left_in_the_order_in_which_they_were_entered-world = world_of 512 monitors_that_are_left_in_the_order_in_which_they_were_entered-lines
+monitors_that_are_left_in_the_order_in_which_they_were_entered-world = world_of 1 512 monitors_that_are_left_in_the_order_in_which_they_were_entered-lines
 
 monitors_that_are_left_in_the_order_in_which_they_were_entered-means : IsWorldText (codes "heap 512\nclass A\nobject @o A\nobject @p A\nthread Java_A_f @o @p\nthread Java_A_f @o @p\n") monitors_that_are_left_in_the_order_in_which_they_were_entered-world
 unfolding opened
-monitors_that_are_left_in_the_order_in_which_they_were_entered-means = world-text (codes "heap 512\nclass A\nobject @o A\nobject @p A\nthread Java_A_f @o @p\nthread Java_A_f @o @p\n") 512 monitors_that_are_left_in_the_order_in_which_they_were_entered-lines 1 refl refl refl refl
+monitors_that_are_left_in_the_order_in_which_they_were_entered-means = world-text (codes "heap 512\nclass A\nobject @o A\nobject @p A\nthread Java_A_f @o @p\nthread Java_A_f @o @p\n") 512 false monitors_that_are_left_in_the_order_in_which_they_were_entered-lines 1 refl refl refl refl refl
 
 monitors_that_are_left_in_the_order_in_which_they_were_entered-accepted : IsAccepted monitors_that_are_left_in_the_order_in_which_they_were_entered
 unfolding opened
@@ -269,11 +269,11 @@ all_monitors_of_a_thread_are_given_up_with_it_and_no_others-lines =
     ∷ []
 
 abbrev all_monitors_of_a_thread_are_given_up_with_it_and_no_others-world : World
-all_monitors_of_a_thread_are_given_up_with_it_and_no_others-world = world_of 512 all_monitors_of_a_thread_are_given_up_with_it_and_no_others-lines
+all_monitors_of_a_thread_are_given_up_with_it_and_no_others-world = world_of 1 512 all_monitors_of_a_thread_are_given_up_with_it_and_no_others-lines
 
 all_monitors_of_a_thread_are_given_up_with_it_and_no_others-means : IsWorldText (codes "heap 512\nclass A\nobject @o A\nobject @p A\nobject @q A\nthread Java_A_f @o @p\nthread Java_A_f @q @q\nthread Java_A_g @o @p @q\n") all_monitors_of_a_thread_are_given_up_with_it_and_no_others-world
 unfolding opened
-all_monitors_of_a_thread_are_given_up_with_it_and_no_others-means = world-text (codes "heap 512\nclass A\nobject @o A\nobject @p A\nobject @q A\nthread Java_A_f @o @p\nthread Java_A_f @q @q\nthread Java_A_g @o @p @q\n") 512 all_monitors_of_a_thread_are_given_up_with_it_and_no_others-lines 1 refl refl refl refl
+all_monitors_of_a_thread_are_given_up_with_it_and_no_others-means = world-text (codes "heap 512\nclass A\nobject @o A\nobject @p A\nobject @q A\nthread Java_A_f @o @p\nthread Java_A_f @q @q\nthread Java_A_g @o @p @q\n") 512 false all_monitors_of_a_thread_are_given_up_with_it_and_no_others-lines 1 refl refl refl refl refl
 
 all_monitors_of_a_thread_are_given_up_with_it_and_no_others-accepted : IsAccepted all_monitors_of_a_thread_are_given_up_with_it_and_no_others
 unfolding opened
@@ -315,11 +315,11 @@ two_references_to_one_object-lines =
     ∷ []
 
 abbrev two_references_to_one_object-world : World
-two_references_to_one_object-world = world_of 512 two_references_to_one_object-lines
+two_references_to_one_object-world = world_of 1 512 two_references_to_one_object-lines
 
 two_references_to_one_object-means : IsWorldText (codes "heap 512\nclass A\nobject @o A\nthread Java_A_f @o\n") two_references_to_one_object-world
 unfolding opened
-two_references_to_one_object-means = world-text (codes "heap 512\nclass A\nobject @o A\nthread Java_A_f @o\n") 512 two_references_to_one_object-lines 1 refl refl refl refl
+two_references_to_one_object-means = world-text (codes "heap 512\nclass A\nobject @o A\nthread Java_A_f @o\n") 512 false two_references_to_one_object-lines 1 refl refl refl refl refl
 
 two_references_to_one_object-accepted : IsAccepted two_references_to_one_object
 unfolding opened
@@ -364,11 +364,11 @@ the_monitor_of_a_class-lines =
     ∷ []
 
 abbrev the_monitor_of_a_class-world : World
-the_monitor_of_a_class-world = world_of 512 the_monitor_of_a_class-lines
+the_monitor_of_a_class-world = world_of 1 512 the_monitor_of_a_class-lines
 
 the_monitor_of_a_class-means : IsWorldText (codes "heap 512\nclass A\nclass B\nthread Java_A_f\nthread Java_B_f\nthread Java_A_f\n") the_monitor_of_a_class-world
 unfolding opened
-the_monitor_of_a_class-means = world-text (codes "heap 512\nclass A\nclass B\nthread Java_A_f\nthread Java_B_f\nthread Java_A_f\n") 512 the_monitor_of_a_class-lines 1 refl refl refl refl
+the_monitor_of_a_class-means = world-text (codes "heap 512\nclass A\nclass B\nthread Java_A_f\nthread Java_B_f\nthread Java_A_f\n") 512 false the_monitor_of_a_class-lines 1 refl refl refl refl refl
 
 the_monitor_of_a_class-accepted : IsAccepted the_monitor_of_a_class
 unfolding opened
@@ -408,11 +408,11 @@ of_two_threads_that_wait_the_later_one_enters_first-lines =
     ∷ []
 
 abbrev of_two_threads_that_wait_the_later_one_enters_first-world : World
-of_two_threads_that_wait_the_later_one_enters_first-world = world_of 512 of_two_threads_that_wait_the_later_one_enters_first-lines
+of_two_threads_that_wait_the_later_one_enters_first-world = world_of 1 512 of_two_threads_that_wait_the_later_one_enters_first-lines
 
 of_two_threads_that_wait_the_later_one_enters_first-means : IsWorldText (codes "heap 512\nclass A\nobject @o A\nthread Java_A_f @o 1\nthread Java_A_f @o 2\nthread Java_A_f @o 3\n") of_two_threads_that_wait_the_later_one_enters_first-world
 unfolding opened
-of_two_threads_that_wait_the_later_one_enters_first-means = world-text (codes "heap 512\nclass A\nobject @o A\nthread Java_A_f @o 1\nthread Java_A_f @o 2\nthread Java_A_f @o 3\n") 512 of_two_threads_that_wait_the_later_one_enters_first-lines 1 refl refl refl refl
+of_two_threads_that_wait_the_later_one_enters_first-means = world-text (codes "heap 512\nclass A\nobject @o A\nthread Java_A_f @o 1\nthread Java_A_f @o 2\nthread Java_A_f @o 3\n") 512 false of_two_threads_that_wait_the_later_one_enters_first-lines 1 refl refl refl refl refl
 
 of_two_threads_that_wait_the_later_one_enters_first-accepted : IsAccepted of_two_threads_that_wait_the_later_one_enters_first
 unfolding opened
@@ -457,11 +457,11 @@ a_call_leaves_what_the_call_before_it_has_entered-lines =
     ∷ []
 
 abbrev a_call_leaves_what_the_call_before_it_has_entered-world : World
-a_call_leaves_what_the_call_before_it_has_entered-world = world_of 512 a_call_leaves_what_the_call_before_it_has_entered-lines
+a_call_leaves_what_the_call_before_it_has_entered-world = world_of 1 512 a_call_leaves_what_the_call_before_it_has_entered-lines
 
 a_call_leaves_what_the_call_before_it_has_entered-means : IsWorldText (codes "heap 512\nclass A\nobject @o A\nthread Java_A_f @o\ncall Java_A_g @o\nthread Java_A_f @o\n") a_call_leaves_what_the_call_before_it_has_entered-world
 unfolding opened
-a_call_leaves_what_the_call_before_it_has_entered-means = world-text (codes "heap 512\nclass A\nobject @o A\nthread Java_A_f @o\ncall Java_A_g @o\nthread Java_A_f @o\n") 512 a_call_leaves_what_the_call_before_it_has_entered-lines 1 refl refl refl refl
+a_call_leaves_what_the_call_before_it_has_entered-means = world-text (codes "heap 512\nclass A\nobject @o A\nthread Java_A_f @o\ncall Java_A_g @o\nthread Java_A_f @o\n") 512 false a_call_leaves_what_the_call_before_it_has_entered-lines 1 refl refl refl refl refl
 
 a_call_leaves_what_the_call_before_it_has_entered-accepted : IsAccepted a_call_leaves_what_the_call_before_it_has_entered
 unfolding opened
@@ -508,11 +508,11 @@ an_uncaught_exception_drops_the_calls_to_come_and_the_monitors-lines =
     ∷ []
 
 abbrev an_uncaught_exception_drops_the_calls_to_come_and_the_monitors-world : World
-an_uncaught_exception_drops_the_calls_to_come_and_the_monitors-world = world_of 512 an_uncaught_exception_drops_the_calls_to_come_and_the_monitors-lines
+an_uncaught_exception_drops_the_calls_to_come_and_the_monitors-world = world_of 1 512 an_uncaught_exception_drops_the_calls_to_come_and_the_monitors-lines
 
 an_uncaught_exception_drops_the_calls_to_come_and_the_monitors-means : IsWorldText (codes "heap 512\nclass A\nobject @o A\nthread Java_A_f @o\ncall Java_A_g @o\nthread Java_A_g @o\n") an_uncaught_exception_drops_the_calls_to_come_and_the_monitors-world
 unfolding opened
-an_uncaught_exception_drops_the_calls_to_come_and_the_monitors-means = world-text (codes "heap 512\nclass A\nobject @o A\nthread Java_A_f @o\ncall Java_A_g @o\nthread Java_A_g @o\n") 512 an_uncaught_exception_drops_the_calls_to_come_and_the_monitors-lines 1 refl refl refl refl
+an_uncaught_exception_drops_the_calls_to_come_and_the_monitors-means = world-text (codes "heap 512\nclass A\nobject @o A\nthread Java_A_f @o\ncall Java_A_g @o\nthread Java_A_g @o\n") 512 false an_uncaught_exception_drops_the_calls_to_come_and_the_monitors-lines 1 refl refl refl refl refl
 
 an_uncaught_exception_drops_the_calls_to_come_and_the_monitors-accepted : IsAccepted an_uncaught_exception_drops_the_calls_to_come_and_the_monitors
 unfolding opened
@@ -550,11 +550,11 @@ a_thread_that_trapped_keeps_its_monitors-lines =
     ∷ []
 
 abbrev a_thread_that_trapped_keeps_its_monitors-world : World
-a_thread_that_trapped_keeps_its_monitors-world = world_of 512 a_thread_that_trapped_keeps_its_monitors-lines
+a_thread_that_trapped_keeps_its_monitors-world = world_of 1 512 a_thread_that_trapped_keeps_its_monitors-lines
 
 a_thread_that_trapped_keeps_its_monitors-means : IsWorldText (codes "heap 512\nclass A\nobject @o A\nthread Java_A_f @o null\nthread Java_A_f @o null\nthread Java_A_f null null\n") a_thread_that_trapped_keeps_its_monitors-world
 unfolding opened
-a_thread_that_trapped_keeps_its_monitors-means = world-text (codes "heap 512\nclass A\nobject @o A\nthread Java_A_f @o null\nthread Java_A_f @o null\nthread Java_A_f null null\n") 512 a_thread_that_trapped_keeps_its_monitors-lines 1 refl refl refl refl
+a_thread_that_trapped_keeps_its_monitors-means = world-text (codes "heap 512\nclass A\nobject @o A\nthread Java_A_f @o null\nthread Java_A_f @o null\nthread Java_A_f null null\n") 512 false a_thread_that_trapped_keeps_its_monitors-lines 1 refl refl refl refl refl
 
 a_thread_that_trapped_keeps_its_monitors-accepted : IsAccepted a_thread_that_trapped_keeps_its_monitors
 unfolding opened
@@ -594,11 +594,11 @@ three_threads_in_a_ring-lines =
     ∷ []
 
 abbrev three_threads_in_a_ring-world : World
-three_threads_in_a_ring-world = world_of 512 three_threads_in_a_ring-lines
+three_threads_in_a_ring-world = world_of 1 512 three_threads_in_a_ring-lines
 
 three_threads_in_a_ring-means : IsWorldText (codes "heap 512\nclass A\nobject @o A\nobject @p A\nobject @q A\nthread Java_A_f @o @p\nthread Java_A_f @p @q\nthread Java_A_f @q @o\n") three_threads_in_a_ring-world
 unfolding opened
-three_threads_in_a_ring-means = world-text (codes "heap 512\nclass A\nobject @o A\nobject @p A\nobject @q A\nthread Java_A_f @o @p\nthread Java_A_f @p @q\nthread Java_A_f @q @o\n") 512 three_threads_in_a_ring-lines 1 refl refl refl refl
+three_threads_in_a_ring-means = world-text (codes "heap 512\nclass A\nobject @o A\nobject @p A\nobject @q A\nthread Java_A_f @o @p\nthread Java_A_f @p @q\nthread Java_A_f @q @o\n") 512 false three_threads_in_a_ring-lines 1 refl refl refl refl refl
 
 three_threads_in_a_ring-accepted : IsAccepted three_threads_in_a_ring
 unfolding opened

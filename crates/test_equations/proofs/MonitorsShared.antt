@@ -1,5 +1,5 @@
 -- The cases of texts/monitors_shared.cases, as gate/worked_equations writes them.
-use Rattle.std.specs.Prelude.{◌∷◌, pos, true, [], Some, None, codes, refl}
+use Rattle.std.specs.Prelude.{◌∷◌, pos, true, false, [], Some, None, codes, refl}
 use Rattle.syntax.specs.Tree.{Binary, Declare, Divide, FromCall, FromExpr, JClass, JIntVariable, JObject, Number, Perform, Prefix, PutJint, ReferenceVariable, Return, SourceUnit, Text, ToWord, UInt32, Variable, Void}
 use Rattle.semantics.specs.declared.schedule.ScheduleWord.TheVariants.{Turn}
 use Rattle.semantics.specs.World.{World}
@@ -49,11 +49,11 @@ a_monitor_that_another_thread_owns-lines =
     ∷ []
 
 abbrev a_monitor_that_another_thread_owns-world : World
-a_monitor_that_another_thread_owns-world = world_of 512 a_monitor_that_another_thread_owns-lines
+a_monitor_that_another_thread_owns-world = world_of 1 512 a_monitor_that_another_thread_owns-lines
 
 a_monitor_that_another_thread_owns-means : IsWorldText (codes "heap 512\nclass A\nobject @o A\nthread Java_A_f @o\nthread Java_A_g @o\n") a_monitor_that_another_thread_owns-world
 unfolding opened
-a_monitor_that_another_thread_owns-means = world-text (codes "heap 512\nclass A\nobject @o A\nthread Java_A_f @o\nthread Java_A_g @o\n") 512 a_monitor_that_another_thread_owns-lines 1 refl refl refl refl
+a_monitor_that_another_thread_owns-means = world-text (codes "heap 512\nclass A\nobject @o A\nthread Java_A_f @o\nthread Java_A_g @o\n") 512 false a_monitor_that_another_thread_owns-lines 1 refl refl refl refl refl
 
 a_monitor_that_another_thread_owns-accepted : IsAccepted a_monitor_that_another_thread_owns
 unfolding opened
@@ -88,11 +88,11 @@ a_thread_that_ends_gives_up_its_monitors-lines =
     ∷ []
 
 abbrev a_thread_that_ends_gives_up_its_monitors-world : World
-a_thread_that_ends_gives_up_its_monitors-world = world_of 512 a_thread_that_ends_gives_up_its_monitors-lines
+a_thread_that_ends_gives_up_its_monitors-world = world_of 1 512 a_thread_that_ends_gives_up_its_monitors-lines
 
 a_thread_that_ends_gives_up_its_monitors-means : IsWorldText (codes "heap 512\nclass A\nobject @o A\nthread Java_A_f @o\nthread Java_A_f @o\n") a_thread_that_ends_gives_up_its_monitors-world
 unfolding opened
-a_thread_that_ends_gives_up_its_monitors-means = world-text (codes "heap 512\nclass A\nobject @o A\nthread Java_A_f @o\nthread Java_A_f @o\n") 512 a_thread_that_ends_gives_up_its_monitors-lines 1 refl refl refl refl
+a_thread_that_ends_gives_up_its_monitors-means = world-text (codes "heap 512\nclass A\nobject @o A\nthread Java_A_f @o\nthread Java_A_f @o\n") 512 false a_thread_that_ends_gives_up_its_monitors-lines 1 refl refl refl refl refl
 
 a_thread_that_ends_gives_up_its_monitors-accepted : IsAccepted a_thread_that_ends_gives_up_its_monitors
 unfolding opened
@@ -114,11 +114,11 @@ a_monitor_is_kept_between_the_calls_of_a_thread-lines =
     ∷ []
 
 abbrev a_monitor_is_kept_between_the_calls_of_a_thread-world : World
-a_monitor_is_kept_between_the_calls_of_a_thread-world = world_of 512 a_monitor_is_kept_between_the_calls_of_a_thread-lines
+a_monitor_is_kept_between_the_calls_of_a_thread-world = world_of 1 512 a_monitor_is_kept_between_the_calls_of_a_thread-lines
 
 a_monitor_is_kept_between_the_calls_of_a_thread-means : IsWorldText (codes "heap 512\nclass A\nobject @o A\nthread Java_A_f @o\ncall Java_A_f @o\nthread Java_A_f @o\n") a_monitor_is_kept_between_the_calls_of_a_thread-world
 unfolding opened
-a_monitor_is_kept_between_the_calls_of_a_thread-means = world-text (codes "heap 512\nclass A\nobject @o A\nthread Java_A_f @o\ncall Java_A_f @o\nthread Java_A_f @o\n") 512 a_monitor_is_kept_between_the_calls_of_a_thread-lines 1 refl refl refl refl
+a_monitor_is_kept_between_the_calls_of_a_thread-means = world-text (codes "heap 512\nclass A\nobject @o A\nthread Java_A_f @o\ncall Java_A_f @o\nthread Java_A_f @o\n") 512 false a_monitor_is_kept_between_the_calls_of_a_thread-lines 1 refl refl refl refl refl
 
 a_monitor_is_kept_between_the_calls_of_a_thread-run : IsWorkedRun a_thread_that_ends_gives_up_its_monitors (codes "heap 512\nclass A\nobject @o A\nthread Java_A_f @o\ncall Java_A_f @o\nthread Java_A_f @o\n") (codes "1*3 2*3\n")
     (codes "T1 running\nT2 blocked\n#46 A\njournal 1 1 1 2\n")
@@ -176,11 +176,11 @@ a_monitor_of_null_does_not_wait-lines =
     ∷ []
 
 abbrev a_monitor_of_null_does_not_wait-world : World
-a_monitor_of_null_does_not_wait-world = world_of 512 a_monitor_of_null_does_not_wait-lines
+a_monitor_of_null_does_not_wait-world = world_of 1 512 a_monitor_of_null_does_not_wait-lines
 
 a_monitor_of_null_does_not_wait-means : IsWorldText (codes "heap 512\nclass A\nthread Java_A_f null\nthread Java_A_f null\n") a_monitor_of_null_does_not_wait-world
 unfolding opened
-a_monitor_of_null_does_not_wait-means = world-text (codes "heap 512\nclass A\nthread Java_A_f null\nthread Java_A_f null\n") 512 a_monitor_of_null_does_not_wait-lines 1 refl refl refl refl
+a_monitor_of_null_does_not_wait-means = world-text (codes "heap 512\nclass A\nthread Java_A_f null\nthread Java_A_f null\n") 512 false a_monitor_of_null_does_not_wait-lines 1 refl refl refl refl refl
 
 a_monitor_of_null_does_not_wait-accepted : IsAccepted a_monitor_of_null_does_not_wait
 unfolding opened
@@ -217,11 +217,11 @@ threads_are_blocked_while_another_traps-lines =
     ∷ []
 
 abbrev threads_are_blocked_while_another_traps-world : World
-threads_are_blocked_while_another_traps-world = world_of 512 threads_are_blocked_while_another_traps-lines
+threads_are_blocked_while_another_traps-world = world_of 1 512 threads_are_blocked_while_another_traps-lines
 
 threads_are_blocked_while_another_traps-means : IsWorldText (codes "heap 512\nclass A\nthread Java_A_f 0\nthread Java_A_f 1\nthread Java_A_f 2\n") threads_are_blocked_while_another_traps-world
 unfolding opened
-threads_are_blocked_while_another_traps-means = world-text (codes "heap 512\nclass A\nthread Java_A_f 0\nthread Java_A_f 1\nthread Java_A_f 2\n") 512 threads_are_blocked_while_another_traps-lines 1 refl refl refl refl
+threads_are_blocked_while_another_traps-means = world-text (codes "heap 512\nclass A\nthread Java_A_f 0\nthread Java_A_f 1\nthread Java_A_f 2\n") 512 false threads_are_blocked_while_another_traps-lines 1 refl refl refl refl refl
 
 threads_are_blocked_while_another_traps-accepted : IsAccepted threads_are_blocked_while_another_traps
 unfolding opened

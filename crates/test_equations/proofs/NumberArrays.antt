@@ -49,11 +49,11 @@ an_array_of_jshort_by_regions-lines =
     ∷ []
 
 abbrev an_array_of_jshort_by_regions-world : World
-an_array_of_jshort_by_regions-world = world_of 512 an_array_of_jshort_by_regions-lines
+an_array_of_jshort_by_regions-world = world_of 1 512 an_array_of_jshort_by_regions-lines
 
 an_array_of_jshort_by_regions-means : IsWorldText (codes "heap 512\nclass A\nthread Java_A_f\n") an_array_of_jshort_by_regions-world
 unfolding opened
-an_array_of_jshort_by_regions-means = world-text (codes "heap 512\nclass A\nthread Java_A_f\n") 512 an_array_of_jshort_by_regions-lines 1 refl refl refl refl
+an_array_of_jshort_by_regions-means = world-text (codes "heap 512\nclass A\nthread Java_A_f\n") 512 false an_array_of_jshort_by_regions-lines 1 refl refl refl refl refl
 
 an_array_of_jshort_by_regions-accepted : IsAccepted an_array_of_jshort_by_regions
 unfolding opened
@@ -116,11 +116,11 @@ an_array_of_jshort_by_its_elements-lines =
     ∷ []
 
 abbrev an_array_of_jshort_by_its_elements-world : World
-an_array_of_jshort_by_its_elements-world = world_of 512 an_array_of_jshort_by_its_elements-lines
+an_array_of_jshort_by_its_elements-world = world_of 1 512 an_array_of_jshort_by_its_elements-lines
 
 an_array_of_jshort_by_its_elements-means : IsWorldText (codes "heap 512\nclass A\narray @a S 1 2\nthread Java_A_f @a\n") an_array_of_jshort_by_its_elements-world
 unfolding opened
-an_array_of_jshort_by_its_elements-means = world-text (codes "heap 512\nclass A\narray @a S 1 2\nthread Java_A_f @a\n") 512 an_array_of_jshort_by_its_elements-lines 1 refl refl refl refl
+an_array_of_jshort_by_its_elements-means = world-text (codes "heap 512\nclass A\narray @a S 1 2\nthread Java_A_f @a\n") 512 false an_array_of_jshort_by_its_elements-lines 1 refl refl refl refl refl
 
 an_array_of_jshort_by_its_elements-accepted : IsAccepted an_array_of_jshort_by_its_elements
 unfolding opened
@@ -265,11 +265,11 @@ an_array_of_jbyte_by_its_elements-lines =
     ∷ []
 
 abbrev an_array_of_jbyte_by_its_elements-world : World
-an_array_of_jbyte_by_its_elements-world = world_of 512 an_array_of_jbyte_by_its_elements-lines
+an_array_of_jbyte_by_its_elements-world = world_of 1 512 an_array_of_jbyte_by_its_elements-lines
 
 an_array_of_jbyte_by_its_elements-means : IsWorldText (codes "heap 512\nclass A\narray @a B 1 2\nthread Java_A_f @a\n") an_array_of_jbyte_by_its_elements-world
 unfolding opened
-an_array_of_jbyte_by_its_elements-means = world-text (codes "heap 512\nclass A\narray @a B 1 2\nthread Java_A_f @a\n") 512 an_array_of_jbyte_by_its_elements-lines 1 refl refl refl refl
+an_array_of_jbyte_by_its_elements-means = world-text (codes "heap 512\nclass A\narray @a B 1 2\nthread Java_A_f @a\n") 512 false an_array_of_jbyte_by_its_elements-lines 1 refl refl refl refl refl
 
 an_array_of_jbyte_by_its_elements-accepted : IsAccepted an_array_of_jbyte_by_its_elements
 unfolding opened
@@ -414,11 +414,11 @@ an_array_of_jchar_by_its_elements-lines =
     ∷ []
 
 abbrev an_array_of_jchar_by_its_elements-world : World
-an_array_of_jchar_by_its_elements-world = world_of 512 an_array_of_jchar_by_its_elements-lines
+an_array_of_jchar_by_its_elements-world = world_of 1 512 an_array_of_jchar_by_its_elements-lines
 
 an_array_of_jchar_by_its_elements-means : IsWorldText (codes "heap 512\nclass A\narray @a C 1 2\nthread Java_A_f @a\n") an_array_of_jchar_by_its_elements-world
 unfolding opened
-an_array_of_jchar_by_its_elements-means = world-text (codes "heap 512\nclass A\narray @a C 1 2\nthread Java_A_f @a\n") 512 an_array_of_jchar_by_its_elements-lines 1 refl refl refl refl
+an_array_of_jchar_by_its_elements-means = world-text (codes "heap 512\nclass A\narray @a C 1 2\nthread Java_A_f @a\n") 512 false an_array_of_jchar_by_its_elements-lines 1 refl refl refl refl refl
 
 an_array_of_jchar_by_its_elements-accepted : IsAccepted an_array_of_jchar_by_its_elements
 unfolding opened
@@ -563,11 +563,11 @@ an_array_of_jint_by_its_elements-lines =
     ∷ []
 
 abbrev an_array_of_jint_by_its_elements-world : World
-an_array_of_jint_by_its_elements-world = world_of 512 an_array_of_jint_by_its_elements-lines
+an_array_of_jint_by_its_elements-world = world_of 1 512 an_array_of_jint_by_its_elements-lines
 
 an_array_of_jint_by_its_elements-means : IsWorldText (codes "heap 512\nclass A\narray @a I 1 2\nthread Java_A_f @a\n") an_array_of_jint_by_its_elements-world
 unfolding opened
-an_array_of_jint_by_its_elements-means = world-text (codes "heap 512\nclass A\narray @a I 1 2\nthread Java_A_f @a\n") 512 an_array_of_jint_by_its_elements-lines 1 refl refl refl refl
+an_array_of_jint_by_its_elements-means = world-text (codes "heap 512\nclass A\narray @a I 1 2\nthread Java_A_f @a\n") 512 false an_array_of_jint_by_its_elements-lines 1 refl refl refl refl refl
 
 an_array_of_jint_by_its_elements-accepted : IsAccepted an_array_of_jint_by_its_elements
 unfolding opened

@@ -50,11 +50,11 @@ an_array_of_objects-lines =
     ∷ []
 
 abbrev an_array_of_objects-world : World
-an_array_of_objects-world = world_of 512 an_array_of_objects-lines
+an_array_of_objects-world = world_of 1 512 an_array_of_objects-lines
 
 an_array_of_objects-means : IsWorldText (codes "heap 512\nclass A\nobject @o A\nthread Java_A_f @o\n") an_array_of_objects-world
 unfolding opened
-an_array_of_objects-means = world-text (codes "heap 512\nclass A\nobject @o A\nthread Java_A_f @o\n") 512 an_array_of_objects-lines 1 refl refl refl refl
+an_array_of_objects-means = world-text (codes "heap 512\nclass A\nobject @o A\nthread Java_A_f @o\n") 512 false an_array_of_objects-lines 1 refl refl refl refl refl
 
 an_array_of_objects-accepted : IsAccepted an_array_of_objects
 unfolding opened
@@ -97,11 +97,11 @@ an_index_past_the_end_of_an_array_of_objects-lines =
     ∷ []
 
 abbrev an_index_past_the_end_of_an_array_of_objects-world : World
-an_index_past_the_end_of_an_array_of_objects-world = world_of 512 an_index_past_the_end_of_an_array_of_objects-lines
+an_index_past_the_end_of_an_array_of_objects-world = world_of 1 512 an_index_past_the_end_of_an_array_of_objects-lines
 
 an_index_past_the_end_of_an_array_of_objects-means : IsWorldText (codes "heap 512\nclass A\nobject @o A\nobjects @a A @o null\nthread Java_A_f @a\n") an_index_past_the_end_of_an_array_of_objects-world
 unfolding opened
-an_index_past_the_end_of_an_array_of_objects-means = world-text (codes "heap 512\nclass A\nobject @o A\nobjects @a A @o null\nthread Java_A_f @a\n") 512 an_index_past_the_end_of_an_array_of_objects-lines 1 refl refl refl refl
+an_index_past_the_end_of_an_array_of_objects-means = world-text (codes "heap 512\nclass A\nobject @o A\nobjects @a A @o null\nthread Java_A_f @a\n") 512 false an_index_past_the_end_of_an_array_of_objects-lines 1 refl refl refl refl refl
 
 an_index_past_the_end_of_an_array_of_objects-accepted : IsAccepted an_index_past_the_end_of_an_array_of_objects
 unfolding opened
@@ -135,11 +135,11 @@ an_element_of_another_class-lines =
     ∷ []
 
 abbrev an_element_of_another_class-world : World
-an_element_of_another_class-world = world_of 512 an_element_of_another_class-lines
+an_element_of_another_class-world = world_of 1 512 an_element_of_another_class-lines
 
 an_element_of_another_class-means : IsWorldText (codes "heap 512\nclass A\nobjects @a A null\nthread Java_A_f @a\n") an_element_of_another_class-world
 unfolding opened
-an_element_of_another_class-means = world-text (codes "heap 512\nclass A\nobjects @a A null\nthread Java_A_f @a\n") 512 an_element_of_another_class-lines 1 refl refl refl refl
+an_element_of_another_class-means = world-text (codes "heap 512\nclass A\nobjects @a A null\nthread Java_A_f @a\n") 512 false an_element_of_another_class-lines 1 refl refl refl refl refl
 
 an_element_of_another_class-accepted : IsAccepted an_element_of_another_class
 unfolding opened
@@ -199,11 +199,11 @@ an_element_of_a_subclass-lines =
     ∷ []
 
 abbrev an_element_of_a_subclass-world : World
-an_element_of_a_subclass-world = world_of 512 an_element_of_a_subclass-lines
+an_element_of_a_subclass-world = world_of 1 512 an_element_of_a_subclass-lines
 
 an_element_of_a_subclass-means : IsWorldText (codes "heap 512\nclass A\nclass B extends A\nobject @b B\nobjects @a A null\nthread Java_A_f @a @b\n") an_element_of_a_subclass-world
 unfolding opened
-an_element_of_a_subclass-means = world-text (codes "heap 512\nclass A\nclass B extends A\nobject @b B\nobjects @a A null\nthread Java_A_f @a @b\n") 512 an_element_of_a_subclass-lines 1 refl refl refl refl
+an_element_of_a_subclass-means = world-text (codes "heap 512\nclass A\nclass B extends A\nobject @b B\nobjects @a A null\nthread Java_A_f @a @b\n") 512 false an_element_of_a_subclass-lines 1 refl refl refl refl refl
 
 an_element_of_a_subclass-accepted : IsAccepted an_element_of_a_subclass
 unfolding opened
@@ -236,11 +236,11 @@ an_array_of_objects_of_negative_length-lines =
     ∷ []
 
 abbrev an_array_of_objects_of_negative_length-world : World
-an_array_of_objects_of_negative_length-world = world_of 512 an_array_of_objects_of_negative_length-lines
+an_array_of_objects_of_negative_length-world = world_of 1 512 an_array_of_objects_of_negative_length-lines
 
 an_array_of_objects_of_negative_length-means : IsWorldText (codes "heap 512\nclass A\nthread Java_A_f\n") an_array_of_objects_of_negative_length-world
 unfolding opened
-an_array_of_objects_of_negative_length-means = world-text (codes "heap 512\nclass A\nthread Java_A_f\n") 512 an_array_of_objects_of_negative_length-lines 1 refl refl refl refl
+an_array_of_objects_of_negative_length-means = world-text (codes "heap 512\nclass A\nthread Java_A_f\n") 512 false an_array_of_objects_of_negative_length-lines 1 refl refl refl refl refl
 
 an_array_of_objects_of_negative_length-accepted : IsAccepted an_array_of_objects_of_negative_length
 unfolding opened
@@ -324,11 +324,11 @@ an_array_of_numbers_for_an_array_of_objects-lines =
     ∷ []
 
 abbrev an_array_of_numbers_for_an_array_of_objects-world : World
-an_array_of_numbers_for_an_array_of_objects-world = world_of 512 an_array_of_numbers_for_an_array_of_objects-lines
+an_array_of_numbers_for_an_array_of_objects-world = world_of 1 512 an_array_of_numbers_for_an_array_of_objects-lines
 
 an_array_of_numbers_for_an_array_of_objects-means : IsWorldText (codes "heap 512\nclass A\narray @a I 1\nthread Java_A_f @a\n") an_array_of_numbers_for_an_array_of_objects-world
 unfolding opened
-an_array_of_numbers_for_an_array_of_objects-means = world-text (codes "heap 512\nclass A\narray @a I 1\nthread Java_A_f @a\n") 512 an_array_of_numbers_for_an_array_of_objects-lines 1 refl refl refl refl
+an_array_of_numbers_for_an_array_of_objects-means = world-text (codes "heap 512\nclass A\narray @a I 1\nthread Java_A_f @a\n") 512 false an_array_of_numbers_for_an_array_of_objects-lines 1 refl refl refl refl refl
 
 an_array_of_numbers_for_an_array_of_objects-accepted : IsAccepted an_array_of_numbers_for_an_array_of_objects
 unfolding opened

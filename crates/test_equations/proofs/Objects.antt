@@ -42,11 +42,11 @@ each_kind_of_object_in_a_row_each-lines =
     ∷ []
 
 abbrev each_kind_of_object_in_a_row_each-world : World
-each_kind_of_object_in_a_row_each-world = world_of 512 each_kind_of_object_in_a_row_each-lines
+each_kind_of_object_in_a_row_each-world = world_of 1 512 each_kind_of_object_in_a_row_each-lines
 
 each_kind_of_object_in_a_row_each-means : IsWorldText (codes "heap 512\nclass B\nclass A extends B\nfield B n I\nfield A next LB;\nfield A names [Ljava/lang/String;\nstatic A count I\narray @a I 7 -8\nstring @s ab c\nobjects @o java/lang/String @s null\nobject @b B 5\nobject @x A -6 @b @o\nobjects @p java/lang/Object @x class:A null @a\nthread Java_A_f @x\ncall Java_A_f class:B\n") each_kind_of_object_in_a_row_each-world
 unfolding opened
-each_kind_of_object_in_a_row_each-means = world-text (codes "heap 512\nclass B\nclass A extends B\nfield B n I\nfield A next LB;\nfield A names [Ljava/lang/String;\nstatic A count I\narray @a I 7 -8\nstring @s ab c\nobjects @o java/lang/String @s null\nobject @b B 5\nobject @x A -6 @b @o\nobjects @p java/lang/Object @x class:A null @a\nthread Java_A_f @x\ncall Java_A_f class:B\n") 512 each_kind_of_object_in_a_row_each-lines 1 refl refl refl refl
+each_kind_of_object_in_a_row_each-means = world-text (codes "heap 512\nclass B\nclass A extends B\nfield B n I\nfield A next LB;\nfield A names [Ljava/lang/String;\nstatic A count I\narray @a I 7 -8\nstring @s ab c\nobjects @o java/lang/String @s null\nobject @b B 5\nobject @x A -6 @b @o\nobjects @p java/lang/Object @x class:A null @a\nthread Java_A_f @x\ncall Java_A_f class:B\n") 512 false each_kind_of_object_in_a_row_each-lines 1 refl refl refl refl refl
 
 each_kind_of_object_in_a_row_each-accepted : IsAccepted each_kind_of_object_in_a_row_each
 unfolding opened
@@ -80,11 +80,11 @@ the_fields_of_a_superclass_come_first_also_where_they_are_declared_later-lines =
     ∷ []
 
 abbrev the_fields_of_a_superclass_come_first_also_where_they_are_declared_later-world : World
-the_fields_of_a_superclass_come_first_also_where_they_are_declared_later-world = world_of 512 the_fields_of_a_superclass_come_first_also_where_they_are_declared_later-lines
+the_fields_of_a_superclass_come_first_also_where_they_are_declared_later-world = world_of 1 512 the_fields_of_a_superclass_come_first_also_where_they_are_declared_later-lines
 
 the_fields_of_a_superclass_come_first_also_where_they_are_declared_later-means : IsWorldText (codes "heap 512\nclass B\nclass A extends B\nfield A own B\nfield B first I\nfield B second I\nobject @x A 70000 80000 3\nthread Java_A_f\n") the_fields_of_a_superclass_come_first_also_where_they_are_declared_later-world
 unfolding opened
-the_fields_of_a_superclass_come_first_also_where_they_are_declared_later-means = world-text (codes "heap 512\nclass B\nclass A extends B\nfield A own B\nfield B first I\nfield B second I\nobject @x A 70000 80000 3\nthread Java_A_f\n") 512 the_fields_of_a_superclass_come_first_also_where_they_are_declared_later-lines 1 refl refl refl refl
+the_fields_of_a_superclass_come_first_also_where_they_are_declared_later-means = world-text (codes "heap 512\nclass B\nclass A extends B\nfield A own B\nfield B first I\nfield B second I\nobject @x A 70000 80000 3\nthread Java_A_f\n") 512 false the_fields_of_a_superclass_come_first_also_where_they_are_declared_later-lines 1 refl refl refl refl refl
 
 the_fields_of_a_superclass_come_first_also_where_they_are_declared_later-accepted : IsAccepted the_fields_of_a_superclass_come_first_also_where_they_are_declared_later
 unfolding opened
@@ -121,11 +121,11 @@ calls_of_a_thread_one_after_another_each_with_its_arguments-lines =
     ∷ []
 
 abbrev calls_of_a_thread_one_after_another_each_with_its_arguments-world : World
-calls_of_a_thread_one_after_another_each_with_its_arguments-world = world_of 512 calls_of_a_thread_one_after_another_each_with_its_arguments-lines
+calls_of_a_thread_one_after_another_each_with_its_arguments-world = world_of 1 512 calls_of_a_thread_one_after_another_each_with_its_arguments-lines
 
 calls_of_a_thread_one_after_another_each_with_its_arguments-means : IsWorldText (codes "heap 512\nclass A\nthread Java_A_f 1\ncall Java_A_g\ncall Java_A_f 2\n") calls_of_a_thread_one_after_another_each_with_its_arguments-world
 unfolding opened
-calls_of_a_thread_one_after_another_each_with_its_arguments-means = world-text (codes "heap 512\nclass A\nthread Java_A_f 1\ncall Java_A_g\ncall Java_A_f 2\n") 512 calls_of_a_thread_one_after_another_each_with_its_arguments-lines 1 refl refl refl refl
+calls_of_a_thread_one_after_another_each_with_its_arguments-means = world-text (codes "heap 512\nclass A\nthread Java_A_f 1\ncall Java_A_g\ncall Java_A_f 2\n") 512 false calls_of_a_thread_one_after_another_each_with_its_arguments-lines 1 refl refl refl refl refl
 
 calls_of_a_thread_one_after_another_each_with_its_arguments-accepted : IsAccepted calls_of_a_thread_one_after_another_each_with_its_arguments
 unfolding opened
@@ -146,11 +146,11 @@ the_second_call_s_function_isn_t_there-lines =
     ∷ []
 
 abbrev the_second_call_s_function_isn_t_there-world : World
-the_second_call_s_function_isn_t_there-world = world_of 512 the_second_call_s_function_isn_t_there-lines
+the_second_call_s_function_isn_t_there-world = world_of 1 512 the_second_call_s_function_isn_t_there-lines
 
 the_second_call_s_function_isn_t_there-means : IsWorldText (codes "heap 512\nclass A\nthread Java_A_f\ncall Java_A_g\ncall Java_A_h\n") the_second_call_s_function_isn_t_there-world
 unfolding opened
-the_second_call_s_function_isn_t_there-means = world-text (codes "heap 512\nclass A\nthread Java_A_f\ncall Java_A_g\ncall Java_A_h\n") 512 the_second_call_s_function_isn_t_there-lines 1 refl refl refl refl
+the_second_call_s_function_isn_t_there-means = world-text (codes "heap 512\nclass A\nthread Java_A_f\ncall Java_A_g\ncall Java_A_h\n") 512 false the_second_call_s_function_isn_t_there-lines 1 refl refl refl refl refl
 
 the_second_call_s_function_isn_t_there-unloaded : IsUnloaded the_fields_of_a_superclass_come_first_also_where_they_are_declared_later (codes "heap 512\nclass A\nthread Java_A_f\ncall Java_A_g\ncall Java_A_h\n") 4
 unfolding opened

@@ -35,11 +35,11 @@ a_pending_exception_is_checked_before_null-lines =
     ∷ []
 
 abbrev a_pending_exception_is_checked_before_null-world : World
-a_pending_exception_is_checked_before_null-world = world_of 512 a_pending_exception_is_checked_before_null-lines
+a_pending_exception_is_checked_before_null-world = world_of 1 512 a_pending_exception_is_checked_before_null-lines
 
 a_pending_exception_is_checked_before_null-means : IsWorldText (codes "heap 512\nclass A\nthread Java_A_f null\n") a_pending_exception_is_checked_before_null-world
 unfolding opened
-a_pending_exception_is_checked_before_null-means = world-text (codes "heap 512\nclass A\nthread Java_A_f null\n") 512 a_pending_exception_is_checked_before_null-lines 1 refl refl refl refl
+a_pending_exception_is_checked_before_null-means = world-text (codes "heap 512\nclass A\nthread Java_A_f null\n") 512 false a_pending_exception_is_checked_before_null-lines 1 refl refl refl refl refl
 
 a_pending_exception_is_checked_before_null-accepted : IsAccepted a_pending_exception_is_checked_before_null
 unfolding opened
@@ -103,11 +103,11 @@ null_is_checked_before_the_kind_of_an_object-lines =
     ∷ []
 
 abbrev null_is_checked_before_the_kind_of_an_object-world : World
-null_is_checked_before_the_kind_of_an_object-world = world_of 512 null_is_checked_before_the_kind_of_an_object-lines
+null_is_checked_before_the_kind_of_an_object-world = world_of 1 512 null_is_checked_before_the_kind_of_an_object-lines
 
 null_is_checked_before_the_kind_of_an_object-means : IsWorldText (codes "heap 512\nclass A\narray @a I\nthread Java_A_f @a null\n") null_is_checked_before_the_kind_of_an_object-world
 unfolding opened
-null_is_checked_before_the_kind_of_an_object-means = world-text (codes "heap 512\nclass A\narray @a I\nthread Java_A_f @a null\n") 512 null_is_checked_before_the_kind_of_an_object-lines 1 refl refl refl refl
+null_is_checked_before_the_kind_of_an_object-means = world-text (codes "heap 512\nclass A\narray @a I\nthread Java_A_f @a null\n") 512 false null_is_checked_before_the_kind_of_an_object-lines 1 refl refl refl refl refl
 
 null_is_checked_before_the_kind_of_an_object-accepted : IsAccepted null_is_checked_before_the_kind_of_an_object
 unfolding opened
@@ -149,11 +149,11 @@ the_kind_of_an_object_is_checked_before_the_capacity-lines =
     ∷ []
 
 abbrev the_kind_of_an_object_is_checked_before_the_capacity-world : World
-the_kind_of_an_object_is_checked_before_the_capacity-world = world_of 512 the_kind_of_an_object_is_checked_before_the_capacity-lines
+the_kind_of_an_object_is_checked_before_the_capacity-world = world_of 1 512 the_kind_of_an_object_is_checked_before_the_capacity-lines
 
 the_kind_of_an_object_is_checked_before_the_capacity-means : IsWorldText (codes "heap 512\nclass A\narray @a I\nthread Java_A_f @a\n") the_kind_of_an_object_is_checked_before_the_capacity-world
 unfolding opened
-the_kind_of_an_object_is_checked_before_the_capacity-means = world-text (codes "heap 512\nclass A\narray @a I\nthread Java_A_f @a\n") 512 the_kind_of_an_object_is_checked_before_the_capacity-lines 1 refl refl refl refl
+the_kind_of_an_object_is_checked_before_the_capacity-means = world-text (codes "heap 512\nclass A\narray @a I\nthread Java_A_f @a\n") 512 false the_kind_of_an_object_is_checked_before_the_capacity-lines 1 refl refl refl refl refl
 
 the_kind_of_an_object_is_checked_before_the_capacity-accepted : IsAccepted the_kind_of_an_object_is_checked_before_the_capacity
 unfolding opened
@@ -194,11 +194,11 @@ the_capacity_is_checked_before_an_exception-lines =
     ∷ []
 
 abbrev the_capacity_is_checked_before_an_exception-world : World
-the_capacity_is_checked_before_an_exception-world = world_of 512 the_capacity_is_checked_before_an_exception-lines
+the_capacity_is_checked_before_an_exception-world = world_of 1 512 the_capacity_is_checked_before_an_exception-lines
 
 the_capacity_is_checked_before_an_exception-means : IsWorldText (codes "heap 512\nclass A\nthread Java_A_f\n") the_capacity_is_checked_before_an_exception-world
 unfolding opened
-the_capacity_is_checked_before_an_exception-means = world-text (codes "heap 512\nclass A\nthread Java_A_f\n") 512 the_capacity_is_checked_before_an_exception-lines 1 refl refl refl refl
+the_capacity_is_checked_before_an_exception-means = world-text (codes "heap 512\nclass A\nthread Java_A_f\n") 512 false the_capacity_is_checked_before_an_exception-lines 1 refl refl refl refl refl
 
 the_capacity_is_checked_before_an_exception-accepted : IsAccepted the_capacity_is_checked_before_an_exception
 unfolding opened

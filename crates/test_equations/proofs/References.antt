@@ -50,11 +50,11 @@ references_to_null-lines =
     ∷ []
 
 abbrev references_to_null-world : World
-references_to_null-world = world_of 512 references_to_null-lines
+references_to_null-world = world_of 1 512 references_to_null-lines
 
 references_to_null-means : IsWorldText (codes "heap 512\nclass A\nthread Java_A_f\n") references_to_null-world
 unfolding opened
-references_to_null-means = world-text (codes "heap 512\nclass A\nthread Java_A_f\n") 512 references_to_null-lines 1 refl refl refl refl
+references_to_null-means = world-text (codes "heap 512\nclass A\nthread Java_A_f\n") 512 false references_to_null-lines 1 refl refl refl refl refl
 
 references_to_null-accepted : IsAccepted references_to_null
 unfolding opened
@@ -145,11 +145,11 @@ a_global_reference_keeps_an_object_between_calls-lines =
     ∷ []
 
 abbrev a_global_reference_keeps_an_object_between_calls-world : World
-a_global_reference_keeps_an_object_between_calls-world = world_of 512 a_global_reference_keeps_an_object_between_calls-lines
+a_global_reference_keeps_an_object_between_calls-world = world_of 1 512 a_global_reference_keeps_an_object_between_calls-lines
 
 a_global_reference_keeps_an_object_between_calls-means : IsWorldText (codes "heap 512\nclass A\nthread Java_A_f\ncall Java_A_g\n") a_global_reference_keeps_an_object_between_calls-world
 unfolding opened
-a_global_reference_keeps_an_object_between_calls-means = world-text (codes "heap 512\nclass A\nthread Java_A_f\ncall Java_A_g\n") 512 a_global_reference_keeps_an_object_between_calls-lines 1 refl refl refl refl
+a_global_reference_keeps_an_object_between_calls-means = world-text (codes "heap 512\nclass A\nthread Java_A_f\ncall Java_A_g\n") 512 false a_global_reference_keeps_an_object_between_calls-lines 1 refl refl refl refl refl
 
 a_global_reference_keeps_an_object_between_calls-accepted : IsAccepted a_global_reference_keeps_an_object_between_calls
 unfolding opened
@@ -203,11 +203,11 @@ a_static_holds_null_until_it_is_set-lines =
     ∷ []
 
 abbrev a_static_holds_null_until_it_is_set-world : World
-a_static_holds_null_until_it_is_set-world = world_of 512 a_static_holds_null_until_it_is_set-lines
+a_static_holds_null_until_it_is_set-world = world_of 1 512 a_static_holds_null_until_it_is_set-lines
 
 a_static_holds_null_until_it_is_set-means : IsWorldText (codes "heap 512\nclass A\nthread Java_A_f\ncall Java_A_f\nthread Java_A_g\n") a_static_holds_null_until_it_is_set-world
 unfolding opened
-a_static_holds_null_until_it_is_set-means = world-text (codes "heap 512\nclass A\nthread Java_A_f\ncall Java_A_f\nthread Java_A_g\n") 512 a_static_holds_null_until_it_is_set-lines 1 refl refl refl refl
+a_static_holds_null_until_it_is_set-means = world-text (codes "heap 512\nclass A\nthread Java_A_f\ncall Java_A_f\nthread Java_A_g\n") 512 false a_static_holds_null_until_it_is_set-lines 1 refl refl refl refl refl
 
 a_static_holds_null_until_it_is_set-accepted : IsAccepted a_static_holds_null_until_it_is_set
 unfolding opened

@@ -36,11 +36,11 @@ getintarrayregion_of_more_elements_than_the_array_of_c_has-lines =
     ∷ []
 
 abbrev getintarrayregion_of_more_elements_than_the_array_of_c_has-world : World
-getintarrayregion_of_more_elements_than_the_array_of_c_has-world = world_of 512 getintarrayregion_of_more_elements_than_the_array_of_c_has-lines
+getintarrayregion_of_more_elements_than_the_array_of_c_has-world = world_of 1 512 getintarrayregion_of_more_elements_than_the_array_of_c_has-lines
 
 getintarrayregion_of_more_elements_than_the_array_of_c_has-means : IsWorldText (codes "heap 512\nclass A\narray @a I 5 6\nthread Java_A_f @a\n") getintarrayregion_of_more_elements_than_the_array_of_c_has-world
 unfolding opened
-getintarrayregion_of_more_elements_than_the_array_of_c_has-means = world-text (codes "heap 512\nclass A\narray @a I 5 6\nthread Java_A_f @a\n") 512 getintarrayregion_of_more_elements_than_the_array_of_c_has-lines 1 refl refl refl refl
+getintarrayregion_of_more_elements_than_the_array_of_c_has-means = world-text (codes "heap 512\nclass A\narray @a I 5 6\nthread Java_A_f @a\n") 512 false getintarrayregion_of_more_elements_than_the_array_of_c_has-lines 1 refl refl refl refl refl
 
 getintarrayregion_of_more_elements_than_the_array_of_c_has-accepted : IsAccepted getintarrayregion_of_more_elements_than_the_array_of_c_has
 unfolding opened
@@ -102,11 +102,11 @@ getshortarrayregion_of_more_elements_than_the_array_of_c_has-lines =
     ∷ []
 
 abbrev getshortarrayregion_of_more_elements_than_the_array_of_c_has-world : World
-getshortarrayregion_of_more_elements_than_the_array_of_c_has-world = world_of 512 getshortarrayregion_of_more_elements_than_the_array_of_c_has-lines
+getshortarrayregion_of_more_elements_than_the_array_of_c_has-world = world_of 1 512 getshortarrayregion_of_more_elements_than_the_array_of_c_has-lines
 
 getshortarrayregion_of_more_elements_than_the_array_of_c_has-means : IsWorldText (codes "heap 512\nclass A\narray @a S 5 6\nthread Java_A_f @a\n") getshortarrayregion_of_more_elements_than_the_array_of_c_has-world
 unfolding opened
-getshortarrayregion_of_more_elements_than_the_array_of_c_has-means = world-text (codes "heap 512\nclass A\narray @a S 5 6\nthread Java_A_f @a\n") 512 getshortarrayregion_of_more_elements_than_the_array_of_c_has-lines 1 refl refl refl refl
+getshortarrayregion_of_more_elements_than_the_array_of_c_has-means = world-text (codes "heap 512\nclass A\narray @a S 5 6\nthread Java_A_f @a\n") 512 false getshortarrayregion_of_more_elements_than_the_array_of_c_has-lines 1 refl refl refl refl refl
 
 getshortarrayregion_of_more_elements_than_the_array_of_c_has-accepted : IsAccepted getshortarrayregion_of_more_elements_than_the_array_of_c_has
 unfolding opened
@@ -168,11 +168,11 @@ setbytearrayregion_of_more_elements_than_the_array_of_c_has-lines =
     ∷ []
 
 abbrev setbytearrayregion_of_more_elements_than_the_array_of_c_has-world : World
-setbytearrayregion_of_more_elements_than_the_array_of_c_has-world = world_of 512 setbytearrayregion_of_more_elements_than_the_array_of_c_has-lines
+setbytearrayregion_of_more_elements_than_the_array_of_c_has-world = world_of 1 512 setbytearrayregion_of_more_elements_than_the_array_of_c_has-lines
 
 setbytearrayregion_of_more_elements_than_the_array_of_c_has-means : IsWorldText (codes "heap 512\nclass A\narray @a B 5 6\nthread Java_A_f @a\n") setbytearrayregion_of_more_elements_than_the_array_of_c_has-world
 unfolding opened
-setbytearrayregion_of_more_elements_than_the_array_of_c_has-means = world-text (codes "heap 512\nclass A\narray @a B 5 6\nthread Java_A_f @a\n") 512 setbytearrayregion_of_more_elements_than_the_array_of_c_has-lines 1 refl refl refl refl
+setbytearrayregion_of_more_elements_than_the_array_of_c_has-means = world-text (codes "heap 512\nclass A\narray @a B 5 6\nthread Java_A_f @a\n") 512 false setbytearrayregion_of_more_elements_than_the_array_of_c_has-lines 1 refl refl refl refl refl
 
 setbytearrayregion_of_more_elements_than_the_array_of_c_has-accepted : IsAccepted setbytearrayregion_of_more_elements_than_the_array_of_c_has
 unfolding opened
@@ -208,11 +208,11 @@ getchararrayregion_of_more_elements_than_the_array_of_c_has-lines =
     ∷ []
 
 abbrev getchararrayregion_of_more_elements_than_the_array_of_c_has-world : World
-getchararrayregion_of_more_elements_than_the_array_of_c_has-world = world_of 512 getchararrayregion_of_more_elements_than_the_array_of_c_has-lines
+getchararrayregion_of_more_elements_than_the_array_of_c_has-world = world_of 1 512 getchararrayregion_of_more_elements_than_the_array_of_c_has-lines
 
 getchararrayregion_of_more_elements_than_the_array_of_c_has-means : IsWorldText (codes "heap 512\nclass A\narray @a C 5 6\nthread Java_A_f @a\n") getchararrayregion_of_more_elements_than_the_array_of_c_has-world
 unfolding opened
-getchararrayregion_of_more_elements_than_the_array_of_c_has-means = world-text (codes "heap 512\nclass A\narray @a C 5 6\nthread Java_A_f @a\n") 512 getchararrayregion_of_more_elements_than_the_array_of_c_has-lines 1 refl refl refl refl
+getchararrayregion_of_more_elements_than_the_array_of_c_has-means = world-text (codes "heap 512\nclass A\narray @a C 5 6\nthread Java_A_f @a\n") 512 false getchararrayregion_of_more_elements_than_the_array_of_c_has-lines 1 refl refl refl refl refl
 
 getchararrayregion_of_more_elements_than_the_array_of_c_has-accepted : IsAccepted getchararrayregion_of_more_elements_than_the_array_of_c_has
 unfolding opened
@@ -274,11 +274,11 @@ getstringregion_of_more_characters_than_the_array_of_c_has-lines =
     ∷ []
 
 abbrev getstringregion_of_more_characters_than_the_array_of_c_has-world : World
-getstringregion_of_more_characters_than_the_array_of_c_has-world = world_of 512 getstringregion_of_more_characters_than_the_array_of_c_has-lines
+getstringregion_of_more_characters_than_the_array_of_c_has-world = world_of 1 512 getstringregion_of_more_characters_than_the_array_of_c_has-lines
 
 getstringregion_of_more_characters_than_the_array_of_c_has-means : IsWorldText (codes "heap 512\nclass A\nstring @s hi\nthread Java_A_f @s\n") getstringregion_of_more_characters_than_the_array_of_c_has-world
 unfolding opened
-getstringregion_of_more_characters_than_the_array_of_c_has-means = world-text (codes "heap 512\nclass A\nstring @s hi\nthread Java_A_f @s\n") 512 getstringregion_of_more_characters_than_the_array_of_c_has-lines 1 refl refl refl refl
+getstringregion_of_more_characters_than_the_array_of_c_has-means = world-text (codes "heap 512\nclass A\nstring @s hi\nthread Java_A_f @s\n") 512 false getstringregion_of_more_characters_than_the_array_of_c_has-lines 1 refl refl refl refl refl
 
 getstringregion_of_more_characters_than_the_array_of_c_has-accepted : IsAccepted getstringregion_of_more_characters_than_the_array_of_c_has
 unfolding opened
@@ -321,11 +321,11 @@ a_pending_exception_is_told_before_a_deleted_static-lines =
     ∷ []
 
 abbrev a_pending_exception_is_told_before_a_deleted_static-world : World
-a_pending_exception_is_told_before_a_deleted_static-world = world_of 512 a_pending_exception_is_told_before_a_deleted_static-lines
+a_pending_exception_is_told_before_a_deleted_static-world = world_of 1 512 a_pending_exception_is_told_before_a_deleted_static-lines
 
 a_pending_exception_is_told_before_a_deleted_static-means : IsWorldText (codes "heap 512\nclass A\nthread Java_A_f\n") a_pending_exception_is_told_before_a_deleted_static-world
 unfolding opened
-a_pending_exception_is_told_before_a_deleted_static-means = world-text (codes "heap 512\nclass A\nthread Java_A_f\n") 512 a_pending_exception_is_told_before_a_deleted_static-lines 1 refl refl refl refl
+a_pending_exception_is_told_before_a_deleted_static-means = world-text (codes "heap 512\nclass A\nthread Java_A_f\n") 512 false a_pending_exception_is_told_before_a_deleted_static-lines 1 refl refl refl refl refl
 
 a_pending_exception_is_told_before_a_deleted_static-accepted : IsAccepted a_pending_exception_is_told_before_a_deleted_static
 unfolding opened
@@ -392,11 +392,11 @@ an_array_that_is_null_is_told_before_an_index_below_zero-lines =
     ∷ []
 
 abbrev an_array_that_is_null_is_told_before_an_index_below_zero-world : World
-an_array_that_is_null_is_told_before_an_index_below_zero-world = world_of 512 an_array_that_is_null_is_told_before_an_index_below_zero-lines
+an_array_that_is_null_is_told_before_an_index_below_zero-world = world_of 1 512 an_array_that_is_null_is_told_before_an_index_below_zero-lines
 
 an_array_that_is_null_is_told_before_an_index_below_zero-means : IsWorldText (codes "heap 512\nclass A\nthread Java_A_f null\n") an_array_that_is_null_is_told_before_an_index_below_zero-world
 unfolding opened
-an_array_that_is_null_is_told_before_an_index_below_zero-means = world-text (codes "heap 512\nclass A\nthread Java_A_f null\n") 512 an_array_that_is_null_is_told_before_an_index_below_zero-lines 1 refl refl refl refl
+an_array_that_is_null_is_told_before_an_index_below_zero-means = world-text (codes "heap 512\nclass A\nthread Java_A_f null\n") 512 false an_array_that_is_null_is_told_before_an_index_below_zero-lines 1 refl refl refl refl refl
 
 an_array_that_is_null_is_told_before_an_index_below_zero-accepted : IsAccepted an_array_that_is_null_is_told_before_an_index_below_zero
 unfolding opened

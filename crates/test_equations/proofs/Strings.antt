@@ -47,11 +47,11 @@ a_string_and_its_characters-lines =
     ∷ []
 
 abbrev a_string_and_its_characters-world : World
-a_string_and_its_characters-world = world_of 512 a_string_and_its_characters-lines
+a_string_and_its_characters-world = world_of 1 512 a_string_and_its_characters-lines
 
 a_string_and_its_characters-means : IsWorldText (codes "heap 512\nclass A\nthread Java_A_f\n") a_string_and_its_characters-world
 unfolding opened
-a_string_and_its_characters-means = world-text (codes "heap 512\nclass A\nthread Java_A_f\n") 512 a_string_and_its_characters-lines 1 refl refl refl refl
+a_string_and_its_characters-means = world-text (codes "heap 512\nclass A\nthread Java_A_f\n") 512 false a_string_and_its_characters-lines 1 refl refl refl refl refl
 
 a_string_and_its_characters-accepted : IsAccepted a_string_and_its_characters
 unfolding opened
@@ -99,11 +99,11 @@ a_copy_of_the_characters-lines =
     ∷ []
 
 abbrev a_copy_of_the_characters-world : World
-a_copy_of_the_characters-world = world_of 512 a_copy_of_the_characters-lines
+a_copy_of_the_characters-world = world_of 1 512 a_copy_of_the_characters-lines
 
 a_copy_of_the_characters-means : IsWorldText (codes "heap 512\nclass A\nstring @s hi\nthread Java_A_f @s\n") a_copy_of_the_characters-world
 unfolding opened
-a_copy_of_the_characters-means = world-text (codes "heap 512\nclass A\nstring @s hi\nthread Java_A_f @s\n") 512 a_copy_of_the_characters-lines 1 refl refl refl refl
+a_copy_of_the_characters-means = world-text (codes "heap 512\nclass A\nstring @s hi\nthread Java_A_f @s\n") 512 false a_copy_of_the_characters-lines 1 refl refl refl refl refl
 
 a_copy_of_the_characters-accepted : IsAccepted a_copy_of_the_characters
 unfolding opened
@@ -203,11 +203,11 @@ an_object_that_is_no_string-lines =
     ∷ []
 
 abbrev an_object_that_is_no_string-world : World
-an_object_that_is_no_string-world = world_of 512 an_object_that_is_no_string-lines
+an_object_that_is_no_string-world = world_of 1 512 an_object_that_is_no_string-lines
 
 an_object_that_is_no_string-means : IsWorldText (codes "heap 512\nclass A\narray @a C 1 2\nthread Java_A_f @a\n") an_object_that_is_no_string-world
 unfolding opened
-an_object_that_is_no_string-means = world-text (codes "heap 512\nclass A\narray @a C 1 2\nthread Java_A_f @a\n") 512 an_object_that_is_no_string-lines 1 refl refl refl refl
+an_object_that_is_no_string-means = world-text (codes "heap 512\nclass A\narray @a C 1 2\nthread Java_A_f @a\n") 512 false an_object_that_is_no_string-lines 1 refl refl refl refl refl
 
 an_object_that_is_no_string-accepted : IsAccepted an_object_that_is_no_string
 unfolding opened

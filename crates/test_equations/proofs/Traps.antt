@@ -1,5 +1,5 @@
 -- The cases of texts/traps.cases, as gate/worked_equations writes them.
-use Rattle.std.specs.Prelude.{◌∷◌, pos, negsuc, true, [], Some, None, codes, refl}
+use Rattle.std.specs.Prelude.{◌∷◌, pos, negsuc, true, false, [], Some, None, codes, refl}
 use Rattle.base.specs.Element.{JInt}
 use Rattle.syntax.specs.Tree.{Binary, Complement, Declare, DeclareArray, Divide, Element, FromCall, FromExpr, JBoolean, JClass, JObject, Number, Paren, Perform, Prefix, PutJint, ReferenceVariable, Remainder, Return, ShiftLeft, ShiftRight, SourceUnit, Text, ToInt, ToWord, UInt32, Variable, Void}
 use Rattle.semantics.specs.declared.schedule.ScheduleWord.TheVariants.{Turn}
@@ -33,11 +33,11 @@ a_division_by_zero-lines =
     ∷ []
 
 abbrev a_division_by_zero-world : World
-a_division_by_zero-world = world_of 512 a_division_by_zero-lines
+a_division_by_zero-world = world_of 1 512 a_division_by_zero-lines
 
 a_division_by_zero-means : IsWorldText (codes "heap 512\nclass A\nthread Java_A_f 0\n") a_division_by_zero-world
 unfolding opened
-a_division_by_zero-means = world-text (codes "heap 512\nclass A\nthread Java_A_f 0\n") 512 a_division_by_zero-lines 1 refl refl refl refl
+a_division_by_zero-means = world-text (codes "heap 512\nclass A\nthread Java_A_f 0\n") 512 false a_division_by_zero-lines 1 refl refl refl refl refl
 
 a_division_by_zero-accepted : IsAccepted a_division_by_zero
 unfolding opened
@@ -96,11 +96,11 @@ a_shift_to_the_left_by_31_and_by_32-lines =
     ∷ []
 
 abbrev a_shift_to_the_left_by_31_and_by_32-world : World
-a_shift_to_the_left_by_31_and_by_32-world = world_of 512 a_shift_to_the_left_by_31_and_by_32-lines
+a_shift_to_the_left_by_31_and_by_32-world = world_of 1 512 a_shift_to_the_left_by_31_and_by_32-lines
 
 a_shift_to_the_left_by_31_and_by_32-means : IsWorldText (codes "heap 512\nclass A\nthread Java_A_f 32\n") a_shift_to_the_left_by_31_and_by_32-world
 unfolding opened
-a_shift_to_the_left_by_31_and_by_32-means = world-text (codes "heap 512\nclass A\nthread Java_A_f 32\n") 512 a_shift_to_the_left_by_31_and_by_32-lines 1 refl refl refl refl
+a_shift_to_the_left_by_31_and_by_32-means = world-text (codes "heap 512\nclass A\nthread Java_A_f 32\n") 512 false a_shift_to_the_left_by_31_and_by_32-lines 1 refl refl refl refl refl
 
 a_shift_to_the_left_by_31_and_by_32-accepted : IsAccepted a_shift_to_the_left_by_31_and_by_32
 unfolding opened
@@ -135,11 +135,11 @@ a_shift_to_the_right_by_31_and_by_33-lines =
     ∷ []
 
 abbrev a_shift_to_the_right_by_31_and_by_33-world : World
-a_shift_to_the_right_by_31_and_by_33-world = world_of 512 a_shift_to_the_right_by_31_and_by_33-lines
+a_shift_to_the_right_by_31_and_by_33-world = world_of 1 512 a_shift_to_the_right_by_31_and_by_33-lines
 
 a_shift_to_the_right_by_31_and_by_33-means : IsWorldText (codes "heap 512\nclass A\nthread Java_A_f 33\n") a_shift_to_the_right_by_31_and_by_33-world
 unfolding opened
-a_shift_to_the_right_by_31_and_by_33-means = world-text (codes "heap 512\nclass A\nthread Java_A_f 33\n") 512 a_shift_to_the_right_by_31_and_by_33-lines 1 refl refl refl refl
+a_shift_to_the_right_by_31_and_by_33-means = world-text (codes "heap 512\nclass A\nthread Java_A_f 33\n") 512 false a_shift_to_the_right_by_31_and_by_33-lines 1 refl refl refl refl refl
 
 a_shift_to_the_right_by_31_and_by_33-accepted : IsAccepted a_shift_to_the_right_by_31_and_by_33
 unfolding opened
@@ -174,11 +174,11 @@ an_index_of_minus_one-lines =
     ∷ []
 
 abbrev an_index_of_minus_one-world : World
-an_index_of_minus_one-world = world_of 512 an_index_of_minus_one-lines
+an_index_of_minus_one-world = world_of 1 512 an_index_of_minus_one-lines
 
 an_index_of_minus_one-means : IsWorldText (codes "heap 512\nclass A\nthread Java_A_f -1\n") an_index_of_minus_one-world
 unfolding opened
-an_index_of_minus_one-means = world-text (codes "heap 512\nclass A\nthread Java_A_f -1\n") 512 an_index_of_minus_one-lines 1 refl refl refl refl
+an_index_of_minus_one-means = world-text (codes "heap 512\nclass A\nthread Java_A_f -1\n") 512 false an_index_of_minus_one-lines 1 refl refl refl refl refl
 
 an_index_of_minus_one-accepted : IsAccepted an_index_of_minus_one
 unfolding opened
@@ -211,11 +211,11 @@ null_where_an_object_is_wanted-lines =
     ∷ []
 
 abbrev null_where_an_object_is_wanted-world : World
-null_where_an_object_is_wanted-world = world_of 512 null_where_an_object_is_wanted-lines
+null_where_an_object_is_wanted-world = world_of 1 512 null_where_an_object_is_wanted-lines
 
 null_where_an_object_is_wanted-means : IsWorldText (codes "heap 512\nclass A\nthread Java_A_f null\n") null_where_an_object_is_wanted-world
 unfolding opened
-null_where_an_object_is_wanted-means = world-text (codes "heap 512\nclass A\nthread Java_A_f null\n") 512 null_where_an_object_is_wanted-lines 1 refl refl refl refl
+null_where_an_object_is_wanted-means = world-text (codes "heap 512\nclass A\nthread Java_A_f null\n") 512 false null_where_an_object_is_wanted-lines 1 refl refl refl refl refl
 
 null_where_an_object_is_wanted-accepted : IsAccepted null_where_an_object_is_wanted
 unfolding opened
@@ -250,11 +250,11 @@ a_call_with_an_exception_pending-lines =
     ∷ []
 
 abbrev a_call_with_an_exception_pending-world : World
-a_call_with_an_exception_pending-world = world_of 512 a_call_with_an_exception_pending-lines
+a_call_with_an_exception_pending-world = world_of 1 512 a_call_with_an_exception_pending-lines
 
 a_call_with_an_exception_pending-means : IsWorldText (codes "heap 512\nclass A\nthread Java_A_f\n") a_call_with_an_exception_pending-world
 unfolding opened
-a_call_with_an_exception_pending-means = world-text (codes "heap 512\nclass A\nthread Java_A_f\n") 512 a_call_with_an_exception_pending-lines 1 refl refl refl refl
+a_call_with_an_exception_pending-means = world-text (codes "heap 512\nclass A\nthread Java_A_f\n") 512 false a_call_with_an_exception_pending-lines 1 refl refl refl refl refl
 
 a_call_with_an_exception_pending-accepted : IsAccepted a_call_with_an_exception_pending
 unfolding opened
@@ -288,11 +288,11 @@ an_array_where_a_class_is_wanted-lines =
     ∷ []
 
 abbrev an_array_where_a_class_is_wanted-world : World
-an_array_where_a_class_is_wanted-world = world_of 512 an_array_where_a_class_is_wanted-lines
+an_array_where_a_class_is_wanted-world = world_of 1 512 an_array_where_a_class_is_wanted-lines
 
 an_array_where_a_class_is_wanted-means : IsWorldText (codes "heap 512\nclass A\narray @a I\nthread Java_A_f @a\n") an_array_where_a_class_is_wanted-world
 unfolding opened
-an_array_where_a_class_is_wanted-means = world-text (codes "heap 512\nclass A\narray @a I\nthread Java_A_f @a\n") 512 an_array_where_a_class_is_wanted-lines 1 refl refl refl refl
+an_array_where_a_class_is_wanted-means = world-text (codes "heap 512\nclass A\narray @a I\nthread Java_A_f @a\n") 512 false an_array_where_a_class_is_wanted-lines 1 refl refl refl refl refl
 
 an_array_where_a_class_is_wanted-accepted : IsAccepted an_array_where_a_class_is_wanted
 unfolding opened

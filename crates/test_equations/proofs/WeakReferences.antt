@@ -51,11 +51,11 @@ an_object_that_a_weak_reference_alone_is_left_of-lines =
     ∷ []
 
 abbrev an_object_that_a_weak_reference_alone_is_left_of-world : World
-an_object_that_a_weak_reference_alone_is_left_of-world = world_of 512 an_object_that_a_weak_reference_alone_is_left_of-lines
+an_object_that_a_weak_reference_alone_is_left_of-world = world_of 1 512 an_object_that_a_weak_reference_alone_is_left_of-lines
 
 an_object_that_a_weak_reference_alone_is_left_of-means : IsWorldText (codes "heap 512\nclass A\nthread Java_A_f\n") an_object_that_a_weak_reference_alone_is_left_of-world
 unfolding opened
-an_object_that_a_weak_reference_alone_is_left_of-means = world-text (codes "heap 512\nclass A\nthread Java_A_f\n") 512 an_object_that_a_weak_reference_alone_is_left_of-lines 1 refl refl refl refl
+an_object_that_a_weak_reference_alone_is_left_of-means = world-text (codes "heap 512\nclass A\nthread Java_A_f\n") 512 false an_object_that_a_weak_reference_alone_is_left_of-lines 1 refl refl refl refl refl
 
 an_object_that_a_weak_reference_alone_is_left_of-accepted : IsAccepted an_object_that_a_weak_reference_alone_is_left_of
 unfolding opened

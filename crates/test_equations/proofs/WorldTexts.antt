@@ -21,10 +21,9 @@ abbrev small_lines : Lines
 small_lines = (2, ClassLine (codes "A") None) ∷ (4, ArrayLine (codes "a") JInt (NumberValue (pos 7) ∷ NumberValue (negsuc 7) ∷ [])) ∷ (5, StringLine (codes "s") []) ∷ (6, StringLine (codes "t") []) ∷ (7, ThreadLine (codes "Java_A_f") (NamedObject (codes "a") ∷ [])) ∷ []
 
 -- an empty string with and without a space after its name
-small_world-text : IsWorldText (codes "heap 512\nclass A\n\narray @a I 7 -8\nstring @s \nstring @t\nthread Java_A_f @a") (world_of 512 small_lines)
+small_world-text : IsWorldText (codes "heap 512\nclass A\n\narray @a I 7 -8\nstring @s \nstring @t\nthread Java_A_f @a") (world_of 1 512 small_lines)
 unfolding digits built_ins
 small_world-text = record {
-  heap_line = 1;
   written = (2, codes "class A") ∷ (4, codes "array @a I 7 -8") ∷ (5, codes "string @s ") ∷ (6, codes "string @t") ∷ (7, codes "thread Java_A_f @a") ∷ [];
   lines = small_lines;
   spelled = refl;
@@ -36,13 +35,13 @@ small_world-text = record {
 }
 
 -- and what is read of the text is the same world
-small_world-read : world_of_text (codes "heap 512\nclass A\n\narray @a I 7 -8\nstring @s \nstring @t\nthread Java_A_f @a") ≡ Ok (world_of 512 small_lines)
+small_world-read : world_of_text (codes "heap 512\nclass A\n\narray @a I 7 -8\nstring @s \nstring @t\nthread Java_A_f @a") ≡ Ok (world_of 1 512 small_lines)
 unfolding read
 small_world-read = refl
 
-small_world-loads : Loads a_thread_that_has_not_begun (world_of 512 small_lines)
+small_world-loads : Loads a_thread_that_has_not_begun (world_of 1 512 small_lines)
 unfolding unmangle built_ins
-small_world-loads = refl
+small_world-loads = (refl, refl)
 
 -- ArrayStoreException is a Throwable, and not the other way round
 assignable-up : assignable built_ins 17 4 ≡ true

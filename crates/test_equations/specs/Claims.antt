@@ -70,7 +70,7 @@ pub record IsStoppedReplay (unit : SourceUnit) (world journal : List ℕ) (numbe
   pub replays : replay unit beginning.w done ≡ Some before
   pub impossible : world_step unit beginning.w before entry ≡ None
 
--- a call of this line of the world is the first that the unit doesn't have, or not with such arguments
+-- this line of the world is the first that doesn't go with the unit: that of the heap, or of a call that the unit doesn't have, or not with such arguments
 pub record IsUnloaded (unit : SourceUnit) (world : List ℕ) (line : ℕ) : Type 0 where
   pub w : World
   pub of_world : IsWorldText world w

@@ -1,7 +1,7 @@
 -- The cases of texts/spelled.cases, as gate/worked_equations writes them.
 use Rattle.std.specs.Prelude.{◌∷◌, true, false, [], codes, refl}
 use Rattle.base.specs.Element.{JInt}
-use Rattle.syntax.specs.Tree.{Abort, Add, AddressOf, Assign, AssignElement, Binary, BitAnd, BitOr, Complement, Declare, DeclareArray, DeclareBuffer, Element, Equal, False, FromCall, FromExpr, If, IfElse, IntResult, JBoolean, JIntArray, JObject, JString, Less, LogicalAnd, LogicalNot, Named, NotEqual, Null, Number, Paren, Perform, Prefix, PutJint, ReferenceResult, ReferenceVariable, Return, ReturnValue, ShiftLeft, SourceUnit, TestCall, TestExpr, Text, ToInt, ToWord, UInt32, Value, Variable, Void, While}
+use Rattle.syntax.specs.Tree.{Abort, Add, AddressOf, Assign, AssignElement, Binary, BitAnd, BitOr, Complement, Declare, DeclareArray, DeclareBuffer, Element, Equal, False, FromCall, FromExpr, If, IfElse, IntResult, JBoolean, JIntArray, JMethodId, JObject, JString, Less, LogicalAnd, LogicalNot, Named, NotEqual, Null, Number, Paren, Perform, Prefix, PutJint, ReferenceResult, ReferenceVariable, Return, ReturnValue, ShiftLeft, SourceUnit, TestCall, TestExpr, Text, ToInt, ToWord, UInt32, Value, Variable, Void, While}
 use Rattle.test_equations.proofs.Programs.{unit_of, native, block, static_reference, reference_parameter, int_parameter, call, given}
 use Rattle.parse.specs.Spelling.{SpellsUnit}
 use Rattle.test_equations.proofs.Computed.{a_tree}
@@ -107,3 +107,37 @@ a_buffer_in_a_loop =
 a_buffer_in_a_loop-spelled : SpellsUnit (codes "JNIEXPORT void JNICALL Java_A_f(JNIEnv *env, jclass cls, jintArray a) {\n    jint b[2] = {0};\n    jboolean copied = JNI_FALSE;\n    uint32_t i = 0u;\n    jint *p = (*env)->GetIntArrayElements(env, a, &copied);\n    if (p != NULL) {\n        while (i < 2u && !(copied == JNI_FALSE)) {\n            b[i] = p[i];\n            i = i + 1u;\n        }\n        (*env)->ReleaseIntArrayElements(env, a, p, JNI_ABORT);\n    }\n    put_jint(b[1]);\n    return;\n}\n") a_buffer_in_a_loop
 unfolding opened
 a_buffer_in_a_loop-spelled = spelled (codes "JNIEXPORT void JNICALL Java_A_f(JNIEnv *env, jclass cls, jintArray a) {\n    jint b[2] = {0};\n    jboolean copied = JNI_FALSE;\n    uint32_t i = 0u;\n    jint *p = (*env)->GetIntArrayElements(env, a, &copied);\n    if (p != NULL) {\n        while (i < 2u && !(copied == JNI_FALSE)) {\n            b[i] = p[i];\n            i = i + 1u;\n        }\n        (*env)->ReleaseIntArrayElements(env, a, p, JNI_ABORT);\n    }\n    put_jint(b[1]);\n    return;\n}\n") a_buffer_in_a_loop (a_tree a_buffer_in_a_loop refl) refl
+
+-- a method ID that is declared, set and tested
+-- JNIEXPORT void JNICALL Java_A_f(JNIEnv *env, jclass cls, jint n)
+-- {
+--     jmethodID m = NULL;
+--     jmethodID own = (*env)->GetStaticMethodID(env, cls, "f", "(I)V");
+--     if (own != NULL) { m = (*env)->GetStaticMethodID(env, cls, "g", "()I"); }
+--     if (m == NULL) { m = NULL; }
+--     return;
+-- }
+abbrev pub a_method_id_that_is_declared_set_and_tested : SourceUnit
+a_method_id_that_is_declared_set_and_tested =
+    unit_of
+    (native 1 Void (codes "Java_A_f") (int_parameter (codes "n") ∷ [])
+    (Declare 3 JMethodId (codes "m") (FromExpr (Named Null))
+    ∷ Declare 4 JMethodId (codes "own") (FromCall (call (codes "GetStaticMethodID") (given (codes "cls") ∷ Text (codes "f") ∷ Text (codes "(I)V") ∷ [])))
+    ∷ If 5 (TestExpr (Binary NotEqual (Variable (codes "own")) (Named Null)))
+    (block
+    (Assign 5 (codes "m") (FromCall (call (codes "GetStaticMethodID") (given (codes "cls") ∷ Text (codes "g") ∷ Text (codes "()I") ∷ [])))
+    ∷ [])
+    5)
+    ∷ If 6 (TestExpr (Binary Equal (Variable (codes "m")) (Named Null)))
+    (block
+    (Assign 6 (codes "m") (FromExpr (Named Null))
+    ∷ [])
+    6)
+    ∷ Return 7
+    ∷ [])
+    8
+    ∷ [])
+
+a_method_id_that_is_declared_set_and_tested-spelled : SpellsUnit (codes "JNIEXPORT void JNICALL Java_A_f(JNIEnv *env, jclass cls, jint n)\n{\n    jmethodID m = NULL;\n    jmethodID own = (*env)->GetStaticMethodID(env, cls, \"f\", \"(I)V\");\n    if (own != NULL) { m = (*env)->GetStaticMethodID(env, cls, \"g\", \"()I\"); }\n    if (m == NULL) { m = NULL; }\n    return;\n}\n") a_method_id_that_is_declared_set_and_tested
+unfolding opened
+a_method_id_that_is_declared_set_and_tested-spelled = spelled (codes "JNIEXPORT void JNICALL Java_A_f(JNIEnv *env, jclass cls, jint n)\n{\n    jmethodID m = NULL;\n    jmethodID own = (*env)->GetStaticMethodID(env, cls, \"f\", \"(I)V\");\n    if (own != NULL) { m = (*env)->GetStaticMethodID(env, cls, \"g\", \"()I\"); }\n    if (m == NULL) { m = NULL; }\n    return;\n}\n") a_method_id_that_is_declared_set_and_tested (a_tree a_method_id_that_is_declared_set_and_tested refl) refl

@@ -172,8 +172,13 @@ fn classes_of_arrays(rt: HostRuntime) -> Result<(), Fail> {
 
 #[test]
 fn numbers_of_classes(rt: HostRuntime) {
-    let got = [is_after_built_ins(id(43)), is_after_built_ins(id(42))];
-    assert!(rt; number_array(ElementType::Int) == id(23) && got == [true, false]);
+    let got = [
+        is_after_built_ins(id(43), false),
+        is_after_built_ins(id(42), false),
+        is_after_built_ins(id(45), true),
+        is_after_built_ins(id(44), true),
+    ];
+    assert!(rt; number_array(ElementType::Int) == id(23) && got == [true, false, true, false]);
 }
 
 // The superclass's fields come first.

@@ -5,6 +5,7 @@
 #[cfg(test)]
 mod class_tables;
 #[cfg(test)]
+mod methods;
 mod reading;
 #[cfg(test)]
 mod writing;
