@@ -1,7 +1,8 @@
 """The Java classes of a program and a world, as class files (The Java Virtual Machine Specification, chapter 4).
 
 They are written as bytes and not as Java, which has no words for some of them: a field may be called `new`, and a class in a package may be below one that is
-in none. A reference that a native method takes or gives is an Object here, as any object may be given there. The version is that of Java 5."""
+in none. A reference that a native method takes or gives is an Object here, as any object may be given there; where a program looks for methods, it is of the
+Java type of its C type, as their signatures are compared (JNI Specification, chapter 3, "Type Signatures"). The version is that of Java 5."""
 import re
 import struct
 
@@ -21,6 +22,13 @@ LIBRARY = THROWABLES + lang("Object Class String")
 NUMBER_ARRAYS = ["[I", "[S", "[B", "[C"]
 ABSTRACT = "java/lang/VirtualMachineError"
 OBJECT = "Ljava/lang/Object;"
+# A world of methods has one class more than each, with that of its arrays; functions of the JNI throw it too.
+METHOD_ERROR = "java/lang/NoSuchMethodError"
+# The Java types of references, where a program looks for methods.
+TYPES = {
+    "jobject": OBJECT, "jarray": OBJECT, "jclass": "Ljava/lang/Class;", "jstring": "Ljava/lang/String;", "jthrowable": "Ljava/lang/Throwable;",
+    "jintArray": "[I", "jshortArray": "[S", "jbyteArray": "[B", "jcharArray": "[C", "jobjectArray": "[Ljava/lang/Object;",
+}
 MESSAGE = "(Ljava/lang/String;)V"
 FUNCTION = re.compile(r"JNIEXPORT (\w+) JNICALL (\w+) \( JNIEnv \* \w+ , jclass \w+ ((?:, \w+ \w+ )*)\)")
 CLASS_NAME = re.compile(r"[A-Za-z]\w*(?:/[A-Za-z]\w*)*", re.A)
@@ -43,9 +51,11 @@ class Class:
 def natives_of(program):
     """The functions of a program, each with the type of its native method."""
     plain = " ".join(re.findall(r"\w+|[^\w\s]", NOT_CODE.sub(" ", program)))
+    references = TYPES if re.search(r"\bGetStaticMethodID\b", plain) else {}
+    types = {"void": "V", "jint": "I", **references}
     for result, name, parameters in FUNCTION.findall(plain):
-        types = ("I" if it == "jint" else OBJECT for it in re.findall(r", (\w+) \w+", parameters))
-        yield name, f"({''.join(types)}){'V' if result == 'void' else 'I' if result == 'jint' else OBJECT}"
+        given = (types.get(it, OBJECT) for it in re.findall(r", (\w+) \w+", parameters))
+        yield name, f"({''.join(given)}){types.get(result, OBJECT)}"
 
 
 def method_of(function):
@@ -90,35 +100,40 @@ def classes_of(program, world):
 
 def throwables_of(classes):
     """The names of all classes below java/lang/Throwable, and its own."""
-    found = set(THROWABLES)
+    found = {*THROWABLES, METHOD_ERROR}
     for name, it in classes.items():
         if it.superclass in found:
             found.add(name)
     return found
 
 
-def asked_of(program, classes):
+def library_of(world):
+    """The classes of the library that a world has."""
+    return LIBRARY + [METHOD_ERROR] if re.match(r"\n*heap \d+ methods$", world, re.M) else LIBRARY
+
+
+def asked_of(program, world, classes):
     """The classes that a program may ask for, and that its world doesn't have."""
-    plain = {*LIBRARY, *classes}
+    plain = {*library_of(world), *classes}
     known = {*plain, *(f"[L{it};" for it in plain), *NUMBER_ARRAYS}
     return [text for text in dict.fromkeys(TEXT.findall(program)) if text not in known and re.fullmatch(r"\[*[\w/$]+;?", text)]
 
 
-def first_number(classes):
+def first_number(world, classes):
     """The number of a world's first object: before it are the class objects, with those of arrays, and an OutOfMemoryError object."""
-    return 2 * (len(LIBRARY) + len(classes)) + len(NUMBER_ARRAYS) + 2
+    return 2 * (len(library_of(world)) + len(classes)) + len(NUMBER_ARRAYS) + 2
 
 
 def lines_of(program, world, classes):
     """A world's lines for World.java: a class and a method stand for a function, and beside them are the first number and the classes that are asked for."""
-    yield f"first {first_number(classes)}"
+    yield f"first {first_number(world, classes)}"
     for line in world.split("\n"):
         word, _, rest = line.partition(" ")
         if word in ("thread", "call"):
             function, *arguments = rest.split(" ")
             line = " ".join([word, *method_of(function), *arguments])
         yield line
-    for name in asked_of(program, classes):
+    for name in asked_of(program, world, classes):
         yield f"asks {name}"
 
 

@@ -88,7 +88,7 @@ def lawful_names(program, ours, theirs):
 
 def given_numbers(world):
     """The numbers of a world's objects."""
-    first = classes.first_number(re.findall(rb"^class ", world, re.M))
+    first = classes.first_number(world.decode("latin-1"), re.findall(rb"^class ", world, re.M))
     return [f"#{first + at}" for at in range(len(re.findall(rb"^(?:objects?|array|string) ", world, re.M)))]
 
 

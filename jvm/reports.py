@@ -43,7 +43,7 @@ class Matching:
 
     def is_message(self, number, place, value, other):
         """Whether that is the message of an exception that a function of the JNI has thrown, which jnirun leaves NULL."""
-        of_exception = place == 1 and self.ours[number][0] in classes.THROWN and number not in self.given
+        of_exception = place == 1 and self.ours[number][0] in [*classes.THROWN, classes.METHOD_ERROR] and number not in self.given
         return of_exception and value == "null" and other.startswith("#")
 
     def are_alike(self, number, other):
