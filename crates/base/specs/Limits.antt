@@ -74,3 +74,11 @@ most_views = 64
 -- how often a thread can have entered a monitor that it owns
 abbrev pub most_monitor_entries : ℕ
 most_monitor_entries = 255
+
+-- the calls of a thread that are made from one another: the one in progress with its callers
+abbrev pub most_activations : ℕ
+most_activations = 64
+
+-- the arguments of a call of a method, after its class and its method ID
+abbrev pub most_further : ℕ
+most_further = 16

@@ -14,7 +14,7 @@ use Rattle.jni.specs.Table.{Facts, facts, facts_of, all_rows, has_name}
 
 -- ---- the rows
 
-pub number_is_below : (n : ℕ) (f : JniFunction) → slice_get all_functions n ≡ Some f → n < 80
+pub number_is_below : (n : ℕ) (f : JniFunction) → slice_get all_functions n ≡ Some f → n < 83
 number_is_below n f at = slice_get_within all_functions n f at
 
 pub row_is : (n : ℕ) (f : JniFunction) (r : Facts) → slice_get all_functions n ≡ Some f → slice_get all_rows n ≡ Some r → r ≡ facts_of f

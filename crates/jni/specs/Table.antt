@@ -4,8 +4,8 @@ use Rattle.std.specs.Borrow.{Bor}
 use Rattle.base.specs.Bytes.{Identifier}
 use Rattle.base.specs.Element.{element_value}
 use Rattle.jni.specs.Access.{Access, ElementsCopy, ArrayView, CharsCopy, CharsView}
-use Rattle.jni.specs.JniFunction.{JniFunction, FindClass, GetSuperclass, GetObjectClass, IsInstanceOf, IsAssignableFrom, AllocObject, NewLocalRef, NewGlobalRef, NewWeakGlobalRef, DeleteLocalRef, DeleteGlobalRef, DeleteWeakGlobalRef, IsSameObject, EnsureLocalCapacity, PushLocalFrame, PopLocalFrame, GetFieldID, GetStaticFieldID, GetField, SetField, GetStaticField, SetStaticField, GetObjectField, SetObjectField, GetStaticObjectField, SetStaticObjectField, GetArrayLength, NewObjectArray, GetObjectArrayElement, SetObjectArrayElement, NewArray, GetArrayRegion, SetArrayRegion, GetBuffer, ReleaseBuffer, NewStringUTF, GetStringLength, GetStringRegion, Throw, ThrowNew, ExceptionOccurred, ExceptionCheck, ExceptionClear, FatalError, MonitorEnter, MonitorExit, GetStaticMethodID, is_allowed_pending, prototype, all_functions}
-use Rattle.jni.specs.Prototype.{Prototype, ParameterKind, Nullable, NonNull, AnyReference, ClassObject, AnyArray, ObjectArray, StringObject, NumberArray, LocalVariable, StaticVariable, WeakVariable, FieldID, IntNumber, TextBytes, ArrayVariable, BufferVariable, Mode, IsCopy, ResultKind, NewLocal, NewGlobal, NewWeak, GivesFlag, GivesInt, GivesField, GivesMethod, GivesNothing, GivesBuffer}
+use Rattle.jni.specs.JniFunction.{JniFunction, FindClass, GetSuperclass, GetObjectClass, IsInstanceOf, IsAssignableFrom, AllocObject, NewLocalRef, NewGlobalRef, NewWeakGlobalRef, DeleteLocalRef, DeleteGlobalRef, DeleteWeakGlobalRef, IsSameObject, EnsureLocalCapacity, PushLocalFrame, PopLocalFrame, GetFieldID, GetStaticFieldID, GetField, SetField, GetStaticField, SetStaticField, GetObjectField, SetObjectField, GetStaticObjectField, SetStaticObjectField, GetArrayLength, NewObjectArray, GetObjectArrayElement, SetObjectArrayElement, NewArray, GetArrayRegion, SetArrayRegion, GetBuffer, ReleaseBuffer, NewStringUTF, GetStringLength, GetStringRegion, Throw, ThrowNew, ExceptionOccurred, ExceptionCheck, ExceptionClear, FatalError, MonitorEnter, MonitorExit, GetStaticMethodID, is_allowed_pending, prototype, all_functions, CallStaticVoidMethod, CallStaticIntMethod, CallStaticObjectMethod}
+use Rattle.jni.specs.Prototype.{Prototype, ParameterKind, Nullable, NonNull, AnyReference, ClassObject, AnyArray, ObjectArray, StringObject, NumberArray, LocalVariable, StaticVariable, WeakVariable, FieldID, IntNumber, TextBytes, ArrayVariable, BufferVariable, Mode, IsCopy, ResultKind, NewLocal, NewGlobal, NewWeak, GivesFlag, GivesInt, GivesField, GivesMethod, GivesNothing, GivesBuffer, MethodID, Passed}
 use Rattle.jni.specs.StateEffect.{StateEffect, Gets, Releases, Deletes, Pops, Other, state_effect}
 use Rattle.jni.specs.declared.access.Access.{Access as AccessInMemory}
 use Rattle.jni.specs.declared.access.Access.TheVariants as access
@@ -75,6 +75,9 @@ function_value function.FatalError = FatalError
 function_value function.MonitorEnter = MonitorEnter
 function_value function.MonitorExit = MonitorExit
 function_value function.GetStaticMethodID = GetStaticMethodID
+function_value function.CallStaticVoidMethod = CallStaticVoidMethod
+function_value function.CallStaticIntMethod = CallStaticIntMethod
+function_value function.CallStaticObjectMethod = CallStaticObjectMethod
 
 -- the parameter of the definitions
 abbrev pub parameter_value : ParameterInMemory → ParameterKind
@@ -90,12 +93,14 @@ parameter_value parameter.LocalVariable = LocalVariable
 parameter_value parameter.StaticVariable = StaticVariable
 parameter_value parameter.WeakVariable = WeakVariable
 parameter_value parameter.FieldID = FieldID
+parameter_value parameter.MethodID = MethodID
 parameter_value parameter.IntNumber = IntNumber
 parameter_value parameter.TextBytes = TextBytes
 parameter_value (parameter.ArrayVariable t) = ArrayVariable (element_value t)
 parameter_value (parameter.BufferVariable a) = BufferVariable (access_value a)
 parameter_value parameter.Mode = Mode
 parameter_value parameter.IsCopy = IsCopy
+parameter_value parameter.Passed = Passed
 
 -- the result of the definitions
 abbrev pub result_value : ResultInMemory → ResultKind

@@ -75,6 +75,9 @@ pub enum JniFunction {
     MonitorEnter,
     MonitorExit,
     GetStaticMethodID,
+    CallStaticVoidMethod,
+    CallStaticIntMethod,
+    CallStaticObjectMethod,
 }
 
 const INTS: Access = ElementsCopy(Int);
@@ -212,8 +215,11 @@ static VIEW_ROWS: [Prototype; 6] = rows! {
 };
 
 /// Those of methods.
-static METHOD_ROWS: [Prototype; 1] = rows! {
-    b"GetStaticMethodID" [ClassObject, TextBytes, TextBytes] => GivesMethod, Other, false;
+static METHOD_ROWS: [Prototype; 4] = rows! {
+    b"GetStaticMethodID"      [ClassObject, TextBytes, TextBytes] => GivesMethod,  Other, false;
+    b"CallStaticVoidMethod"   [ClassObject, MethodID]             => GivesNothing, Other, false;
+    b"CallStaticIntMethod"    [ClassObject, MethodID]             => GivesInt,     Other, false;
+    b"CallStaticObjectMethod" [ClassObject, MethodID]             => NewLocal,     Other, false;
 };
 
 /// The number of the first function of an element type in the table, each of which has nine.
@@ -323,7 +329,7 @@ fn view_row(number: usize) -> &'static Prototype
 /// The row of a number of methods.
 fn method_row(number: usize) -> &'static Prototype
     requires begun { 79 ≤ number }
-    requires inside { number < 80 }
+    requires inside { number < 83 }
     ensures { slice_get all_rows number ≡ Some (facts result.now) }
 {
     row_at(&METHOD_ROWS, 79, number)
@@ -331,7 +337,7 @@ fn method_row(number: usize) -> &'static Prototype
 
 /// The row of a number.
 fn row(number: usize) -> &'static Prototype
-    requires { number < 80 }
+    requires { number < 83 }
     ensures { slice_get all_rows number ≡ Some (facts result.now) }
 {
     match number {
@@ -400,6 +406,9 @@ impl JniFunction {
             JniFunction::GetBuffer(access) => buffer_number(access),
             JniFunction::ReleaseBuffer(access) => buffer_number(access) + 1,
             JniFunction::GetStaticMethodID => 79,
+            JniFunction::CallStaticVoidMethod => 80,
+            JniFunction::CallStaticIntMethod => 81,
+            JniFunction::CallStaticObjectMethod => 82,
         }
     }
 
@@ -501,12 +510,14 @@ static BY_LENGTH: [&[JniFunction]; 32] = [
         SetStaticField(Short),
         GetArrayRegion(Short),
         SetArrayRegion(Short),
+        CallStaticIntMethod,
     ],
     &[
         GetStaticObjectField,
         SetStaticObjectField,
         GetBuffer(BYTES),
         GetBuffer(CHARS),
+        CallStaticVoidMethod,
     ],
     &[
         GetObjectArrayElement,
@@ -514,7 +525,7 @@ static BY_LENGTH: [&[JniFunction]; 32] = [
         GetBuffer(SHORTS),
         ReleaseBuffer(CharsView),
     ],
-    &[],
+    &[CallStaticObjectMethod],
     &[ReleaseBuffer(INTS)],
     &[ReleaseBuffer(BYTES), ReleaseBuffer(CHARS)],
     &[ReleaseBuffer(SHORTS), GetBuffer(ArrayView)],

@@ -30,6 +30,8 @@ pub enum ParameterKind {
     WeakVariable,
     /// A field ID.
     FieldID,
+    /// A method ID.
+    MethodID,
     /// A `jint` or a `jsize`.
     IntNumber,
     /// A text in modified UTF-8.
@@ -42,6 +44,8 @@ pub enum ParameterKind {
     Mode,
     /// Where to tell whether a buffer is a copy, or NULL.
     IsCopy,
+    /// What a method is given: a number, or a reference that may be NULL.
+    Passed,
 }
 
 /// What a call gives.
