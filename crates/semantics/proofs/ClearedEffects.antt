@@ -5,10 +5,10 @@ use Rattle.std.specs.Option.{option_map}
 use Rattle.std.specs.Str.{bytes_eq}
 use Rattle.std.proofs.Common.{ap, ◌∙◌}
 use Rattle.base.specs.Bytes.{Identifier, lookup}
-use Rattle.semantics.specs.Effect.{Effect, Sets, SetsElement, effect_of, reduce_first, with_value, element_effect, goes_on, at_line, print_effect, branch_effect, loop_effect, return_effect}
+use Rattle.semantics.specs.Effect.{Effect, Sets, SetsElement, effect_of, reduce_first, with_value, element_effect, goes_on, at_line, is_given, is_no_number, is_ready, print_effect, branch_effect, loop_effect, return_effect, reduce_name}
 use Rattle.semantics.specs.Heap.{Heap}
 use Rattle.semantics.specs.Sight.{Sight, seen, holds_null, held_reference, static_is_null}
-use Rattle.semantics.specs.Task.{Task, SetScalar, SetElement, SetNull, MakeArray, Invoke, Print, Branch, EndIf, Loop, EndTurn, Return, ReturnValue, Impossible, Operand, NumberOperand, Given}
+use Rattle.semantics.specs.Task.{Task, SetScalar, SetElement, SetNull, MakeArray, Invoke, Print, Branch, EndIf, Loop, EndTurn, Return, ReturnValue, Impossible, Operand, NumberOperand, Given, PassedName}
 use Rattle.semantics.specs.Arguments.{actuals}
 use Rattle.syntax.specs.Tree.{Null, True, False, Commit, Abort}
 use Rattle.semantics.specs.Term.{Term, Done, Number, Named, Read, Element, IsNull, Prefix, And, Or, Binary, reduce, done, with_part, and_then, or_else, index_of}
@@ -114,9 +114,28 @@ module _ (a b : Sight) (number : (x : Identifier) → a.number x ≡ b.number x)
   element_same line x i (Flag z) = refl
   element_same line x i (Truth z) = refl
 
+  given_same : (o : Operand) → is_given a.number o ≡ is_given b.number o
+  given_same (NumberOperand (Done v)) = refl
+  given_same (NumberOperand (Number n q)) = refl
+  given_same (NumberOperand (Named c)) = refl
+  given_same (NumberOperand (Read x)) = refl
+  given_same (NumberOperand (Element x e)) = refl
+  given_same (NumberOperand (IsNull q x)) = refl
+  given_same (NumberOperand (Prefix op e)) = refl
+  given_same (NumberOperand (And e f)) = refl
+  given_same (NumberOperand (Or e f)) = refl
+  given_same (NumberOperand (Binary op e f)) = refl
+  given_same (PassedName x) = ap is_no_number (number x)
+  given_same (Given g) = refl
+
+  ready_same : (operands : List Operand) → is_ready a.number operands ≡ is_ready b.number operands
+  ready_same [] = refl
+  ready_same (o ∷ rest) = rw (given_same o, ready_same rest) refl
+
   first_same : (operands : List Operand) → reduce_first a operands ≡ reduce_first b operands
   first_same [] = refl
   first_same (NumberOperand e ∷ rest) = rw (reduced e, first_same rest) refl
+  first_same (PassedName x ∷ rest) = rw (number x, first_same rest) refl
   first_same (Given g ∷ rest) = ap (outcome_map (λ operands. Given g ∷ operands)) (first_same rest)
 
   returned_same : (line : ℕ) (e : Term) → ReturnsSame a b e → return_effect a line e ≡ return_effect b line e
@@ -143,7 +162,7 @@ module _ (a b : Sight) (number : (x : Identifier) → a.number x ≡ b.number x)
       (λ u. SetElement line x u e) i (λ v. valued line (element_effect a line x v) (element_effect b line x v) (SetElement line x (Done v)) e (element_same line x v))
   effect_same (SetNull target) h = refl
   effect_same (MakeArray T x n) h = refl
-  effect_same (Invoke line target f operands) h = rw (h, first_same operands) refl
+  effect_same (Invoke line target f operands) h = rw (h, ready_same operands, first_same operands) refl
   effect_same (Print line e) h = valued line print_effect print_effect (Print line) e (λ v. refl)
   effect_same (Branch line e then' else') h = valued line (branch_effect then' else') (branch_effect then' else') (λ u. Branch line u then' else') e (λ v. refl)
   effect_same EndIf h = refl

@@ -9,11 +9,11 @@ use Rattle.class_rules.specs.Class.{Classes, class_named}
 use Rattle.class_rules.specs.Fields.{FieldId, find_field, find_static}
 use Rattle.jni.specs.Access.{ElementsCopy}
 use Rattle.jni.specs.JniFunction as jni
-use Rattle.jni.specs.JniFunction.{JniFunction, prototype}
+use Rattle.jni.specs.JniFunction.{JniFunction, parameters_for}
 use Rattle.syntax.specs.Tree.{SourceUnit}
 use Rattle.semantics.specs.Activation.{enter, entry_advance}
-use Rattle.semantics.specs.Arguments.{Actual, actuals, ReleaseMode, CopyBackAndFree, CopyBack, FreeUncopied, number_given, reference_given, object_given, text_given, variable_given, mode_given}
-use Rattle.semantics.specs.CallEffects.{CallEffect, CallResult, Throws, Halts, Leaves, at_index, at_region, ensure_effect, push_effect, frames_effect, delete_local_effect, delete_global_effect, delete_weak_effect, found_class_effect, found_field_effect, found_method_effect, new_array_effect, get_region_effect, set_region_effect, store_effect, release_effect, enter_effect, exit_effect, local_array, with_capacity}
+use Rattle.semantics.specs.Arguments.{Actual, actuals, ReleaseMode, CopyBackAndFree, CopyBack, FreeUncopied, number_given, reference_given, object_given, text_given, variable_given, mode_given, method_given}
+use Rattle.semantics.specs.CallEffects.{CallEffect, CallResult, Throws, Halts, Leaves, at_index, at_region, ensure_effect, push_effect, frames_effect, delete_local_effect, delete_global_effect, delete_weak_effect, found_class_effect, found_field_effect, found_method_effect, new_array_effect, get_region_effect, set_region_effect, store_effect, release_effect, enter_effect, exit_effect, local_array, with_capacity, Enters, method_effect}
 use Rattle.semantics.specs.CallStep.{put, put_assigned, checked, after_call, trap_of_call, waits_with}
 use Rattle.semantics.specs.CallTable.{call_effect}
 use Rattle.semantics.specs.Effect.{Effect, Becomes, Sets, SetsNull, SetsElement, MakesArray, Prints, Calls, Returns, TrapsAt, NoEffect, effect_of, goes_on, is_ready, reduce_first, returned_name}
@@ -48,6 +48,7 @@ heap_after NoAdvance = None
 abbrev heap_left : Classes → Heap → CallEffect → Heap
 heap_left classes heap (Throws c) = heap ++ fresh_object classes c ∷ []
 heap_left classes heap (Halts trap) = heap
+heap_left classes heap (Enters function arguments) = heap
 heap_left classes heap (Leaves made s t given) = s.heap ++ made
 
 -- where a result goes is no part of the heap
@@ -198,6 +199,7 @@ module _ (classes : Classes) (s : Shared) (statics : Statics) where
         → heap_after (after_call unit classes in_use k given t line target f args rest e) ≡ Some (heap_left classes given.heap e)
     after_left given line target f args rest (Throws c) = put_heap target _ _ _
     after_left given line target f args rest (Halts trap) = refl
+    after_left given line target f args rest (Enters function arguments) = refl
     after_left given line target f args rest (Leaves made s' t' result) = put_heap target result _ _
 
     -- ---- steps with other statics
@@ -335,7 +337,7 @@ module _ (classes : Classes) (k : ℕ) (s : Shared) (t : Thread) where
   invoke_waits : (sight : Sight) (line : ℕ) (target : Target) (f : JniFunction) (operands : List Operand) → takes_weak f ≡ true
       → waits_with classes k s t (effect_of sight (Invoke line target f operands)) ≡ false
   invoke_waits sight line target f operands h =
-      called_or_moved (is_ready operands) (Calls line target f (actuals sight f operands)) (goes_on line (Invoke line target f) (reduce_first sight operands))
+      called_or_moved (is_ready sight.number operands) (Calls line target f (actuals sight f operands)) (goes_on line (Invoke line target f) (reduce_first sight operands))
       (called line target f (actuals sight f operands) h) (moved_on line target f (reduce_first sight operands))
 
   -- nor does the return of a bare name
@@ -374,7 +376,7 @@ module _ (classes : Classes) (s : State) (k : ℕ) (t : Thread) (names : List �
       invoke_waits classes k (with_cleared names s).shared t (sight_of (with_cleared names s).shared t) line target f operands takes
       ∙ sym (invoke_waits classes k s.shared t (sight_of s.shared t) line target f operands takes)
   by_task (Invoke line target f operands) (inr free) =
-      by_arguments (Invoke line target f operands) (all_looked names t.variables s.shared.statics s.shared.heap (prototype f).parameters operands free)
+      by_arguments (Invoke line target f operands) (all_looked names t.variables s.shared.statics s.shared.heap (parameters_for f (length operands)) operands free)
   by_task (ReturnValue line e) h = by_result line e
   by_task task h = by_arguments task tt
 

@@ -8,12 +8,12 @@ use Rattle.std.proofs.lemmas.List.{append-nil}
 use Rattle.base.specs.Bytes.{Identifier, lookup}
 use Rattle.class_rules.specs.Class.{Classes}
 use Rattle.jni.specs.JniFunction as jni
-use Rattle.jni.specs.JniFunction.{JniFunction, prototype}
-use Rattle.jni.specs.Prototype.{ParameterKind, FieldID, ArrayVariable, BufferVariable, Mode, IsCopy}
+use Rattle.jni.specs.JniFunction.{JniFunction, parameters_for}
+use Rattle.jni.specs.Prototype.{ParameterKind, FieldID, MethodID, ArrayVariable, BufferVariable, Mode, IsCopy}
 use Rattle.syntax.specs.Tree as tree
 use Rattle.syntax.specs.Tree.{SourceUnit, AddressOf}
 use Rattle.semantics.specs.Arguments.{Actual, ReferenceActual, look_up, actuals, variable_given}
-use Rattle.semantics.specs.CallEffects.{CallEffect, CallResult, ReferenceResult, Throws, Halts, Leaves, delete_weak_effect}
+use Rattle.semantics.specs.CallEffects.{CallEffect, CallResult, ReferenceResult, Throws, Halts, Leaves, delete_weak_effect, Enters}
 use Rattle.semantics.specs.CallStep.{put, put_assigned, received, checked, after_call, trap_of_call}
 use Rattle.semantics.specs.CallTable.{call_effect}
 use Rattle.semantics.specs.Effect.{Effect, Calls, effect_of, goes_on, is_ready, reduce_first, returned_name}
@@ -24,7 +24,7 @@ use Rattle.semantics.specs.Run.{made, made_between}
 use Rattle.semantics.specs.Sight.{Sight, seen}
 use Rattle.semantics.specs.State.{State, thread_at, in_use, advanced}
 use Rattle.semantics.specs.Step.{turn_step, step_of, can_step}
-use Rattle.semantics.specs.Task.{Task, Invoke, ReturnValue, Target, Declared, Assigned, Tested, Dropped, Operand, NumberOperand, Given}
+use Rattle.semantics.specs.Task.{Task, Invoke, ReturnValue, Target, Declared, Assigned, Tested, Dropped, Operand, NumberOperand, Given, PassedName}
 use Rattle.semantics.specs.Term.{Term, Done, Read}
 use Rattle.semantics.specs.Thread.{Caller, Thread, Shared, BuffersInUse, Quiet, Trapped, PrintedNumber, Advance, Advances, NoAdvance, sight_of}
 use Rattle.semantics.specs.ThreadStep.{next_effect, after_effect, step_within}
@@ -41,9 +41,11 @@ module _ (names : List ℕ) (vs : Variables) (ss : Statics) (heap : Heap) where
   looked : (p : ParameterKind) (o : Operand) → NamesNoWeak vs ss o → look_up (seen vs (cleared_statics names ss) heap) (p, o) ≡ look_up (seen vs ss heap) (p, o)
   looked p (NumberOperand (Done (Int z))) h = refl
   looked p (NumberOperand e) h = refl
+  looked p (PassedName x) h = ap (ReferenceActual x) (reference_stays names vs ss heap x h)
   looked p (Given (tree.Text bytes)) h = refl
   looked p (Given (AddressOf x)) h = refl
   looked FieldID (Given (tree.Value (tree.Variable x))) h = refl
+  looked MethodID (Given (tree.Value (tree.Variable x))) h = refl
   looked (ArrayVariable T) (Given (tree.Value (tree.Variable x))) h = refl
   looked (BufferVariable T) (Given (tree.Value (tree.Variable x))) h = refl
   looked Mode (Given (tree.Value (tree.Variable x))) h = refl
@@ -69,6 +71,7 @@ KeepsHeap heap NoAdvance = Unit {0}
 abbrev MakesNone : Heap → CallEffect → Type 0
 MakesNone heap (Leaves made s t given) = (made ≡ []) × (s.heap ≡ heap)
 MakesNone heap (Halts trap) = Unit {0}
+MakesNone heap (Enters function arguments) = Unit {0}
 MakesNone heap (Throws c) = ⊥
 
 weak_none : (s : Shared) (t : Thread) (x : Identifier) (r : Option StaticReference) → MakesNone s.heap (delete_weak_effect s t x r)
@@ -106,6 +109,7 @@ module _ (unit : SourceUnit) (classes : Classes) (in_use : BuffersInUse) (k : �
       → MakesNone s.heap e → KeepsHeap s.heap (after_call unit classes in_use k s t line target f args rest e)
   after_none line target f args rest (Throws c) h = absurd h
   after_none line target f args rest (Halts trap) h = refl
+  after_none line target f args rest (Enters function arguments) h = refl
   after_none line target f args rest (Leaves made s' t' given) h =
       put_none target given _ _ s.heap (ap (λ (l : List Object). s'.heap ++ l) h.0 ∙ append-nil s'.heap ∙ h.1)
 
@@ -125,7 +129,7 @@ module _ (unit : SourceUnit) (classes : Classes) (in_use : BuffersInUse) (k : �
       → KeepsHeap s.heap (after_effect unit classes in_use k s t rest (effect_of sight (Invoke line target f operands)))
   invoke_none sight line target f operands rest h =
       let args : List Actual = actuals sight f operands in
-      either_none (is_ready operands) (Calls line target f args) (goes_on line (Invoke line target f) (reduce_first sight operands)) rest
+      either_none (is_ready sight.number operands) (Calls line target f args) (goes_on line (Invoke line target f) (reduce_first sight operands)) rest
       (after_none line target f args rest _ (checked_none (trap_of_call classes s t target f args) _ (call_none f args h)))
       (gone_none line target f rest (reduce_first sight operands))
 
@@ -192,7 +196,7 @@ module _ (unit : SourceUnit) (w : World) (s : State) (names : List ℕ) (k : ℕ
   same_arguments : (task : Task) → t.tasks ≡ Some (task ∷ rest) → WeakAreTaken t.variables s.shared.statics task → made unit w s k ≢ []
       → HasSameArguments (sight_of (with_cleared names s).shared t) (sight_of s.shared t) task
   same_arguments (Invoke line target f operands) tasks (inl takes) some = absurd (some (invoke_makes_none line target f operands tasks takes))
-  same_arguments (Invoke line target f operands) tasks (inr free) some = all_looked names t.variables s.shared.statics s.shared.heap (prototype f).parameters operands free
+  same_arguments (Invoke line target f operands) tasks (inr free) some = all_looked names t.variables s.shared.statics s.shared.heap (parameters_for f (length operands)) operands free
   same_arguments (ReturnValue line e) tasks h some = same_result line e tasks some
   same_arguments task tasks h some = tt
 

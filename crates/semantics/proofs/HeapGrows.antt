@@ -5,14 +5,15 @@ use lib.ListN.{length-set}
 use Rattle.jni.specs.Access.{ElementsCopy}
 use Rattle.jni.specs.JniFunction as jni
 use Rattle.base.specs.Bytes.{Identifier, lookup}
+use Rattle.syntax.specs.Tree.{SourceUnit}
 use Rattle.class_rules.specs.Class.{Classes, class_named}
 use Rattle.class_rules.specs.Fields.{FieldId, find_field, find_static}
 use Rattle.jni.specs.JniFunction.{JniFunction}
 use Rattle.semantics.specs.Method.{MethodId, find_method}
 use Rattle.semantics.specs.Object.{ObjectValue, Reference}
-use Rattle.semantics.specs.Arguments.{Actual, ReleaseMode, CopyBackAndFree, CopyBack, FreeUncopied, number_given, reference_given, object_given, text_given, variable_given, mode_given}
+use Rattle.semantics.specs.Arguments.{Actual, ReleaseMode, CopyBackAndFree, CopyBack, FreeUncopied, number_given, reference_given, object_given, text_given, method_given, variable_given, mode_given}
 use Rattle.semantics.specs.CallTable.{call_effect}
-use Rattle.semantics.specs.CallEffects.{CallEffect, Throws, Halts, Leaves, at_index, at_region, ensure_effect, push_effect, frames_effect, refuses_frames, delete_local_effect, delete_global_effect, delete_weak_effect, found_class_effect, found_field_effect, found_method_effect, new_array_effect, get_region_effect, set_region_effect, store_effect, release_effect, enter_effect, exit_effect, local_array, with_capacity}
+use Rattle.semantics.specs.CallEffects.{CallEffect, Throws, Halts, Leaves, at_index, at_region, ensure_effect, push_effect, frames_effect, refuses_frames, delete_local_effect, delete_global_effect, delete_weak_effect, found_class_effect, found_field_effect, found_method_effect, new_array_effect, get_region_effect, set_region_effect, store_effect, release_effect, enter_effect, exit_effect, local_array, with_capacity, Enters, method_effect}
 use Rattle.semantics.specs.Heap.{Heap, class_of, with_values}
 use Rattle.semantics.specs.Thread.{Shared, Thread, BuffersInUse, Frame, Monitor, capacities, monitor_of}
 use Rattle.semantics.specs.Variable.{Variable, StaticReference, Empty, Live, Weakly, Cleared, Deleted}
@@ -22,6 +23,7 @@ use Rattle.syntax.specs.Tree.{SourceUnit}
 abbrev Keeps : Shared → CallEffect → Type 0
 Keeps s (Throws c) = Unit {0}
 Keeps s (Halts trap) = Unit {0}
+Keeps s (Enters function arguments) = Unit {0}
 Keeps s (Leaves made s' t' r) = length s'.heap ≡ length s.heap
 
 with_values_keeps : (heap : Heap) (n : ℕ) (vs : List ObjectValue) → length (with_values heap n vs) ≡ length heap
@@ -79,6 +81,10 @@ found_method_keeps : (s : Shared) (t : Thread) (c : ℕ) (o : Option MethodId) �
 found_method_keeps s t c None = tt
 found_method_keeps s t c (Some m) = refl
 
+method_keeps : (s : Shared) (o : Option MethodId) (arguments : List ObjectValue) → Keeps s (method_effect o arguments)
+method_keeps s None arguments = tt
+method_keeps s (Some m) arguments = tt
+
 new_array_keeps : (s : Shared) (t : Thread) (c : ℕ) (z : ℤ) (v : ObjectValue) → Keeps s (new_array_effect s t c z v)
 new_array_keeps s t c (pos n) v = refl
 new_array_keeps s t c (negsuc n) v = tt
@@ -134,4 +140,7 @@ module _ (unit : SourceUnit) (classes : Classes) (in_use : BuffersInUse) (k : �
   effect_keeps (jni.SetArrayRegion T) = region_keeps s _ _ (number_given args 1) (number_given args 2) _ (λ i n. set_region_keeps s t _ _ i n)
   effect_keeps (jni.ReleaseBuffer (ElementsCopy T)) = release_keeps s t _ _ (mode_given args 2)
   effect_keeps (jni.GetBuffer (ElementsCopy T)) = refl
+  effect_keeps jni.CallStaticVoidMethod = method_keeps s (method_given args 1) _
+  effect_keeps jni.CallStaticIntMethod = method_keeps s (method_given args 1) _
+  effect_keeps jni.CallStaticObjectMethod = method_keeps s (method_given args 1) _
   effect_keeps f = refl

@@ -12,9 +12,9 @@ use Rattle.class_rules.specs.Fields.{FieldId, find_field, find_static}
 use Rattle.jni.specs.JniFunction.{JniFunction}
 use Rattle.semantics.specs.Method.{MethodId, find_method}
 use Rattle.semantics.specs.Object.{ObjectValue, Reference}
-use Rattle.semantics.specs.Arguments.{Actual, ReleaseMode, CopyBackAndFree, CopyBack, FreeUncopied, number_given, reference_given, object_given, text_given, variable_given, mode_given}
+use Rattle.semantics.specs.Arguments.{Actual, ReleaseMode, CopyBackAndFree, CopyBack, FreeUncopied, number_given, reference_given, object_given, text_given, variable_given, mode_given, method_given}
 use Rattle.semantics.specs.CallTable.{call_effect}
-use Rattle.semantics.specs.CallEffects.{CallEffect, Throws, Halts, Leaves, at_index, at_region, ensure_effect, push_effect, frames_effect, refuses_frames, delete_local_effect, delete_global_effect, delete_weak_effect, found_class_effect, found_field_effect, found_method_effect, new_array_effect, get_region_effect, set_region_effect, store_effect, release_effect, enter_effect, exit_effect, local_array, with_capacity}
+use Rattle.semantics.specs.CallEffects.{CallEffect, Throws, Halts, Leaves, at_index, at_region, ensure_effect, push_effect, frames_effect, refuses_frames, delete_local_effect, delete_global_effect, delete_weak_effect, found_class_effect, found_field_effect, found_method_effect, new_array_effect, get_region_effect, set_region_effect, store_effect, release_effect, enter_effect, exit_effect, local_array, with_capacity, Enters, method_effect}
 use Rattle.semantics.specs.Thread.{Shared, Thread, BuffersInUse, Frame, Monitor, capacities, monitor_of}
 use Rattle.semantics.specs.Activation.{entry_advance, enter}
 use Rattle.semantics.specs.CallEffects.{CallResult}
@@ -87,6 +87,7 @@ least n = omega arith
 abbrev Keeps : Shared → CallEffect → Type 0
 Keeps s (Throws c) = Unit {0}
 Keeps s (Halts trap) = Unit {0}
+Keeps s (Enters function arguments) = Unit {0}
 Keeps s (Leaves made s' t' r) = held s'.statics ≤ held s.statics
 
 index_keeps : (s : Shared) (c n : ℕ) (z : ℤ) (go : ℕ → CallEffect) → ((i : ℕ) → Keeps s (go i)) → Keeps s (at_index c n z go)
@@ -141,6 +142,10 @@ found_method_keeps : (s : Shared) (t : Thread) (c : ℕ) (o : Option MethodId) �
 found_method_keeps s t c None = tt
 found_method_keeps s t c (Some m) = least (held s.statics)
 
+method_keeps : (s : Shared) (o : Option MethodId) (arguments : List ObjectValue) → Keeps s (method_effect o arguments)
+method_keeps s None arguments = tt
+method_keeps s (Some m) arguments = tt
+
 new_array_keeps : (s : Shared) (t : Thread) (c : ℕ) (z : ℤ) (v : ObjectValue) → Keeps s (new_array_effect s t c z v)
 new_array_keeps s t c (pos n) v = least (held s.statics)
 new_array_keeps s t c (negsuc n) v = tt
@@ -180,6 +185,9 @@ module _ (unit : SourceUnit) (classes : Classes) (in_use : BuffersInUse) (k : �
   effect_keeps jni.GetFieldID = found_field_keeps s t _ (find_field classes (object_given args 0) (text_given args 1) (text_given args 2))
   effect_keeps jni.GetStaticFieldID = found_field_keeps s t _ (find_static classes (object_given args 0) (text_given args 1) (text_given args 2))
   effect_keeps jni.GetStaticMethodID = found_method_keeps s t _ (find_method unit classes (object_given args 0) (text_given args 1) (text_given args 2))
+  effect_keeps jni.CallStaticVoidMethod = method_keeps s (method_given args 1) _
+  effect_keeps jni.CallStaticIntMethod = method_keeps s (method_given args 1) _
+  effect_keeps jni.CallStaticObjectMethod = method_keeps s (method_given args 1) _
   effect_keeps jni.SetObjectField = least (held s.statics)
   effect_keeps jni.SetStaticObjectField = least (held s.statics)
   effect_keeps jni.NewObjectArray = new_array_keeps s t _ (number_given args 0) _
@@ -248,6 +256,7 @@ module _ (unit : SourceUnit) (classes : Classes) (in_use : BuffersInUse) (k : �
     call_adds : (e : CallEffect) → Keeps s e → AddsOne s (after_call unit classes in_use k s t line target f args rest e)
     call_adds (Throws c) h = completed_adds _ s _ _ (least (held s.statics))
     call_adds (Halts trap) h = same (held s.statics)
+    call_adds (Enters function arguments) h = same (held s.statics)
     call_adds (Leaves made s' t' given) h = completed_adds made s' t' given h
 
     refusal_adds : (b : Bool) → AddsOne s (after_refusal unit classes in_use k s t line target f args rest b)

@@ -1,19 +1,20 @@
 -- The arguments of a call, looked up in its own step, and what each function finds at their places.
-use Rattle.std.specs.Prelude.{ℕ, false, ℤ, pos, List, [], map, zip, slice_get, Option, Some, None}
+use Rattle.std.specs.Prelude.{ℕ, false, ℤ, pos, List, [], length, map, zip, slice_get, Option, Some, None}
 use Rattle.syntax.specs.Tree as tree
 use Rattle.base.specs.Bytes.{Identifier}
 use Rattle.base.specs.Element.{JInt}
 use Rattle.syntax.specs.Tree.{Commit, Abort, Expr, Argument, AddressOf}
 use Rattle.class_rules.specs.Class.{NumberField}
 use Rattle.class_rules.specs.Fields.{FieldId}
-use Rattle.jni.specs.JniFunction.{JniFunction, prototype}
-use Rattle.jni.specs.Prototype.{FieldID, ArrayVariable, BufferVariable, Mode, IsCopy, ParameterKind}
-use Rattle.semantics.specs.Object.{Reference}
+use Rattle.jni.specs.JniFunction.{JniFunction, parameters_for}
+use Rattle.jni.specs.Prototype.{FieldID, MethodID, ArrayVariable, BufferVariable, Mode, IsCopy, ParameterKind}
+use Rattle.semantics.specs.Method.{MethodId}
+use Rattle.semantics.specs.Object.{ObjectValue, Number, Refers, Reference}
 use Rattle.semantics.specs.Sight.{Sight}
-use Rattle.semantics.specs.Task.{Operand, NumberOperand, Given}
+use Rattle.semantics.specs.Task.{Operand, NumberOperand, PassedName, Given}
 use Rattle.semantics.specs.Term.{Done}
 use Rattle.semantics.specs.Value.{Int}
-use Rattle.semantics.specs.Variable.{StaticReference, Empty, Live}
+use Rattle.semantics.specs.Variable.{StaticReference, Empty, Live, as_reference}
 
 -- how a buffer of copied elements is released
 pub data ReleaseMode : Type 0 where
@@ -23,6 +24,7 @@ pub data ReleaseMode : Type 0 where
 pub data Actual : Type 0 where
   ReferenceActual : Identifier → StaticReference → Actual
   FieldActual : Option FieldId → Actual
+  MethodActual : Option MethodId → Actual
   NumberActual : ℤ → Actual
   TextActual : List ℕ → Actual
   VariableActual : Identifier → Actual
@@ -50,9 +52,15 @@ abbrev pub field_argument : Sight → Expr → Actual
 field_argument sight (tree.Variable x) = FieldActual (sight.field x)
 field_argument sight e = FieldActual None
 
+-- a name or NULL where a method ID is asked for
+abbrev pub method_argument : Sight → Expr → Actual
+method_argument sight (tree.Variable x) = MethodActual (sight.method x)
+method_argument sight e = MethodActual None
+
 -- an argument that is neither number nor text
 abbrev pub look_up_expression : Sight → ParameterKind → Expr → Actual
 look_up_expression sight FieldID e = field_argument sight e
+look_up_expression sight MethodID e = method_argument sight e
 look_up_expression sight (ArrayVariable T) e = VariableActual (named_variable e)
 look_up_expression sight (BufferVariable access) e = VariableActual (named_variable e)
 look_up_expression sight Mode e = ModeActual (mode_of e)
@@ -63,13 +71,14 @@ look_up_expression sight p e = reference_argument sight e
 abbrev pub look_up : Sight → ParameterKind × Operand → Actual
 look_up sight (p, NumberOperand (Done (Int z))) = NumberActual z
 look_up sight (p, NumberOperand e) = NothingActual
+look_up sight (p, PassedName x) = ReferenceActual x (sight.reference x)
 look_up sight (p, Given (tree.Text bytes)) = TextActual bytes
 look_up sight (p, Given (AddressOf x)) = VariableActual x
 look_up sight (p, Given (Argument.Value e)) = look_up_expression sight p e
 
 -- the arguments of a call, its numbers being worked out
 abbrev pub actuals : Sight → JniFunction → List Operand → List Actual
-actuals sight f operands = map (look_up sight) (zip (prototype f).parameters operands)
+actuals sight f operands = map (look_up sight) (zip (parameters_for f (length operands)) operands)
 
 -- ---- an argument by its place after `env`, from 0
 
@@ -119,6 +128,21 @@ field_in_actual a = record { class = 0; is_static = false; field = record { name
 -- the field at this place
 abbrev pub field_given : List Actual → ℕ → FieldId
 field_given args i = field_in_actual (slice_get args i)
+
+-- the method of a method ID that isn't NULL
+abbrev pub method_in_actual : Option Actual → Option MethodId
+method_in_actual (Some (MethodActual m)) = m
+method_in_actual a = None
+
+-- the method at this place
+abbrev pub method_given : List Actual → ℕ → Option MethodId
+method_given args i = method_in_actual (slice_get args i)
+
+-- what a method is given
+abbrev pub passed_value : Actual → ObjectValue
+passed_value (NumberActual z) = Number z
+passed_value (ReferenceActual x r) = Refers (as_reference r)
+passed_value a = Refers None
 
 -- the variable of an argument, and none for NULL
 abbrev pub variable_in_actual : Option Actual → Identifier

@@ -11,7 +11,7 @@ use Rattle.semantics.specs.World.{fresh_object}
 use Rattle.semantics.specs.Arguments.{ReleaseMode, CopyBackAndFree, CopyBack, FreeUncopied}
 use Rattle.semantics.specs.Heap.{Heap, next_name, numbers_of, with_numbers, with_value_at}
 use Rattle.semantics.specs.Thread.{Shared, Thread, Frame, Monitor, BuffersInUse, capacities, without_monitor}
-use Rattle.semantics.specs.Value.{Value, Int, Trap, OutOfRange}
+use Rattle.semantics.specs.Value.{Value, Int, Trap, OutOfRange, NullReference}
 use Rattle.semantics.specs.Variable.{Variable, LocalRef, Elements, LocalArray, Buffer, NoBuffer, Copy, View, assign, change, StaticReference, Live, Weakly, Cleared, Deleted}
 
 -- what a call gives
@@ -26,11 +26,12 @@ pub data CallResult : Type 0 where
   MethodResult : Option MethodId → CallResult
   BufferResult : Buffer → CallResult
 
--- what a call does: a Java exception of this class, a trap, or new objects in their order, what it leaves of the shared
--- state and the thread, and what it gives
+-- what a call does: a Java exception of this class, a trap, a call of the function of this name, or new objects in their
+-- order, what it leaves of the shared state and the thread, and what it gives
 pub data CallEffect : Type 0 where
   Throws : (class : ℕ) → CallEffect
   Halts : Trap → CallEffect
+  Enters : (function : Identifier) (arguments : List ObjectValue) → CallEffect
   Leaves : (made : List Object) → Shared → Thread → CallResult → CallEffect
 
 -- the name of the one OutOfMemoryError object, which is made right after the class objects
@@ -134,6 +135,11 @@ found_field_effect s t exception (Some f) = Leaves [] s t (FieldResult (Some f))
 abbrev pub found_method_effect : Shared → Thread → (exception : ℕ) → Option MethodId → CallEffect
 found_method_effect s t exception None = Throws exception
 found_method_effect s t exception (Some m) = Leaves [] s t (MethodResult (Some m))
+
+-- the method is called; without one no effect is asked for
+abbrev pub method_effect : Option MethodId → List ObjectValue → CallEffect
+method_effect None arguments = Halts NullReference
+method_effect (Some m) arguments = Enters m.function.name arguments
 
 -- ---- arrays and strings
 

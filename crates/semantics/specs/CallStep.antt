@@ -8,9 +8,9 @@ use Rattle.class_rules.specs.Class.{Classes}
 use Rattle.jni.specs.JniFunction.{JniFunction, MonitorEnter, prototype}
 use Rattle.jni.specs.Prototype.{ResultKind, NewLocal, NewGlobal, NewWeak, GivesFlag, GivesInt, GivesField, GivesMethod, GivesBuffer, GivesNothing}
 use Rattle.semantics.specs.Object.{Object}
-use Rattle.semantics.specs.World.{fresh_object}
+use Rattle.semantics.specs.World.{Invocation, fresh_object}
 use Rattle.semantics.specs.Arguments.{Actual, address_given, object_given}
-use Rattle.semantics.specs.CallEffects.{CallResult, NoResult, NullResult, ScalarResult, ReferenceResult, WeakResult, FieldResult, MethodResult, BufferResult, CallEffect, Throws, Leaves, out_of_memory, with_local, Halts}
+use Rattle.semantics.specs.CallEffects.{CallResult, NoResult, NullResult, ScalarResult, ReferenceResult, WeakResult, FieldResult, MethodResult, BufferResult, CallEffect, Throws, Leaves, out_of_memory, with_local, Halts, Enters}
 use Rattle.semantics.specs.CallTable.{call_effect}
 use Rattle.semantics.specs.Checks.{call_trap}
 use Rattle.semantics.specs.Effect.{Effect, Calls, tasks_after}
@@ -135,10 +135,21 @@ module _ (unit : SourceUnit) (classes : Classes) (in_use : BuffersInUse) (k : �
   abbrev pub completed : List Object → Shared → Thread → CallResult → Advance
   completed made s' t' given = put target given (record s' { heap = s'.heap ++ made }) (resumed t' given)
 
+  -- the thread waits in this call for that of a function, which is its next one
+  abbrev pub calling : Invocation → Thread
+  calling call = record t {
+    calls = call ∷ t.calls;
+    callers = record { target = target; result = (prototype f).result; tasks = rest; variables = t.variables; frames = t.frames } ∷ t.callers;
+    tasks = None;
+    variables = [];
+    frames = [];
+  }
+
   -- what an effect leaves; an exception object that the call makes is pending
   abbrev pub after_call : CallEffect → Advance
   after_call (Throws c) = completed (fresh_object classes c ∷ []) s (record t { pending = Some (next_name s.heap) }) (failure (prototype f).result)
   after_call (Halts trap) = Advances s t (Trapped trap line)
+  after_call (Enters function arguments) = Advances s (calling (record { line = line; function = function; arguments = arguments })) Quiet
   after_call (Leaves made s' t' given) = completed made s' t' given
 
   -- the call made no object, since the allocation was refused

@@ -1,22 +1,35 @@
 -- What each JNI function asks of its arguments together, and what it does, all checks being passed (JNI Specification, chapter 4).
-use Rattle.std.specs.Prelude.{ℕ, Bool, true, not, ◌&&◌, ◌==◌, ℤ, pos, List, [], ◌++◌, drop, length, is_some, Some, None}
+use Rattle.std.specs.Prelude.{ℕ, Bool, true, false, not, ◌&&◌, ◌==◌, ℤ, pos, List, [], ◌∷◌, ◌++◌, drop, length, map, is_some, Option, Some, None}
 use Rattle.std.specs.Option.{option_to_list, option_map_or}
 use Rattle.base.specs.Bytes.{lookup}
 use Rattle.base.specs.Element.{ElementType}
-use Rattle.syntax.specs.Tree.{SourceUnit}
+use Rattle.syntax.specs.Tree.{SourceUnit, ResultType, Void, IntResult, ReferenceResult, ParameterType, IntParameter, ReferenceParameter, Parameter}
 use Rattle.class_rules.specs.BuiltIns.{has_own_making, throwable_class, number_array, no_class_def_found_error, no_such_field_error, no_such_method_error, array_index_out_of_bounds, string_index_out_of_bounds}
 use Rattle.class_rules.specs.Class.{Classes, class_named, class_kind, is_plain, superclass, assignable, array_class_of, element_class}
 use Rattle.class_rules.specs.Fields.{FieldId, find_field, find_static}
 use Rattle.jni.specs.Access.{ElementsCopy, ArrayView, CharsCopy, CharsView}
-use Rattle.jni.specs.JniFunction.{JniFunction, FindClass, GetSuperclass, GetObjectClass, IsInstanceOf, IsAssignableFrom, AllocObject, NewLocalRef, NewGlobalRef, NewWeakGlobalRef, DeleteLocalRef, DeleteGlobalRef, DeleteWeakGlobalRef, IsSameObject, EnsureLocalCapacity, PushLocalFrame, PopLocalFrame, GetFieldID, GetStaticFieldID, GetField, SetField, GetStaticField, SetStaticField, GetObjectField, SetObjectField, GetStaticObjectField, SetStaticObjectField, GetArrayLength, NewObjectArray, GetObjectArrayElement, SetObjectArrayElement, NewArray, GetArrayRegion, SetArrayRegion, NewStringUTF, GetStringLength, GetStringRegion, Throw, ThrowNew, ExceptionOccurred, ExceptionCheck, ExceptionClear, FatalError, MonitorEnter, MonitorExit, GetBuffer, ReleaseBuffer, GetStaticMethodID}
-use Rattle.semantics.specs.Method.{find_method}
+use Rattle.jni.specs.JniFunction.{JniFunction, FindClass, GetSuperclass, GetObjectClass, IsInstanceOf, IsAssignableFrom, AllocObject, NewLocalRef, NewGlobalRef, NewWeakGlobalRef, DeleteLocalRef, DeleteGlobalRef, DeleteWeakGlobalRef, IsSameObject, EnsureLocalCapacity, PushLocalFrame, PopLocalFrame, GetFieldID, GetStaticFieldID, GetField, SetField, GetStaticField, SetStaticField, GetObjectField, SetObjectField, GetStaticObjectField, SetStaticObjectField, GetArrayLength, NewObjectArray, GetObjectArrayElement, SetObjectArrayElement, NewArray, GetArrayRegion, SetArrayRegion, NewStringUTF, GetStringLength, GetStringRegion, Throw, ThrowNew, ExceptionOccurred, ExceptionCheck, ExceptionClear, FatalError, MonitorEnter, MonitorExit, GetBuffer, ReleaseBuffer, GetStaticMethodID, CallStaticVoidMethod, CallStaticIntMethod, CallStaticObjectMethod}
+use Rattle.semantics.specs.Method.{find_method, MethodId}
 use Rattle.semantics.specs.Object.{Number, Refers, Reference}
 use Rattle.semantics.specs.World.{fresh_object}
-use Rattle.semantics.specs.Arguments.{Actual, reference_given, object_given, number_given, text_given, field_given, variable_given, mode_given, FreeUncopied}
-use Rattle.semantics.specs.CallEffects.{CallResult, NoResult, ScalarResult, ReferenceResult, WeakResult, CallEffect, Leaves, ensure_effect, push_effect, same_reference, delete_local_effect, delete_global_effect, delete_weak_effect, heap_effect, new_effect, found_class_effect, found_field_effect, found_method_effect, new_array_effect, string_object, at_index, at_region, get_region_effect, set_region_effect, store_effect, copy_effect, view_effect, with_freed, release_effect, throw_new_effect, enter_effect, exit_effect, Halts}
+use Rattle.semantics.specs.Arguments.{Actual, reference_given, object_given, number_given, text_given, field_given, variable_given, mode_given, FreeUncopied, NumberActual, ReferenceActual, method_given, passed_value}
+use Rattle.semantics.specs.CallEffects.{CallResult, NoResult, ScalarResult, ReferenceResult, WeakResult, CallEffect, Leaves, ensure_effect, push_effect, same_reference, delete_local_effect, delete_global_effect, delete_weak_effect, heap_effect, new_effect, found_class_effect, found_field_effect, found_method_effect, new_array_effect, string_object, at_index, at_region, get_region_effect, set_region_effect, store_effect, copy_effect, view_effect, with_freed, release_effect, throw_new_effect, enter_effect, exit_effect, Halts, method_effect}
 use Rattle.semantics.specs.Heap.{Heap, is_instance, holds_number, holds_reference, fits_type, class_of, values_of, value_at, numbers_of, number_in, reference_in, field_place, static_place, fits_class, with_value_at}
 use Rattle.semantics.specs.Thread.{Shared, Thread, BuffersInUse, monitor_of}
 use Rattle.semantics.specs.Value.{Int, Flag, convert, Fatal}
+
+-- the results that the functions that call methods ask for
+abbrev pub is_void : ResultType → Bool
+is_void Void = true
+is_void type = false
+
+abbrev pub is_int : ResultType → Bool
+is_int IntResult = true
+is_int type = false
+
+abbrev pub is_reference_result : ResultType → Bool
+is_reference_result (ReferenceResult r) = true
+is_reference_result type = false
 
 -- The arguments of a function, each of its kind; a critical buffer has the element type of its variable.
 module _ (classes : Classes) (heap : Heap) (buffer : ElementType) (args : List Actual) where
@@ -31,6 +44,23 @@ module _ (classes : Classes) (heap : Heap) (buffer : ElementType) (args : List A
   -- argument 0 is a class that has the static
   abbrev pub has_static : Bool
   has_static = field.is_static && assignable classes (object_given args 0) field.class
+
+  -- what is passed to a parameter is a number, or a reference, as it asks
+  abbrev pub passes : ParameterType → Actual → Bool
+  passes IntParameter (NumberActual z) = true
+  passes (ReferenceParameter type) (ReferenceActual x r) = true
+  passes type a = false
+
+  -- as many are passed as there are parameters, each of its kind
+  abbrev pub all_pass : List Parameter → List Actual → Bool
+  all_pass [] [] = true
+  all_pass (p ∷ parameters) (a ∷ more) = passes p.type a && all_pass parameters more
+  all_pass parameters more = false
+
+  -- the method was got from the class of argument 0, returns such a result, and takes what it is passed
+  abbrev pub calls_well : (ResultType → Bool) → Option MethodId → Bool
+  calls_well returns None = false
+  calls_well returns (Some m) = m.class == object_given args 0 && returns m.function.result && all_pass m.function.parameters (drop 2 args)
 
   -- the function's arguments go together
   unfoldable pub go_together : JniFunction → Bool
@@ -47,6 +77,9 @@ module _ (classes : Classes) (heap : Heap) (buffer : ElementType) (args : List A
   go_together (GetBuffer ArrayView) = class_of heap (object_given args 0) == number_array buffer
   go_together Throw = is_instance classes heap (object_given args 0) throwable_class
   go_together ThrowNew = assignable classes (object_given args 0) throwable_class
+  go_together CallStaticVoidMethod = calls_well is_void (method_given args 1)
+  go_together CallStaticIntMethod = calls_well is_int (method_given args 1)
+  go_together CallStaticObjectMethod = calls_well is_reference_result (method_given args 1)
   go_together f = true
 
 -- Thread k calls a function. `object i`, `number i` and so on are its arguments after `env`, from 0.
@@ -98,6 +131,10 @@ module _ (unit : SourceUnit) (classes : Classes) (in_use : BuffersInUse) (k : �
   -- the place of the static of argument 1 in that class
   abbrev pub place_of_static : ℕ
   place_of_static = static_place classes (field_given args 1)
+
+  -- the method of argument 1 is called with what is beside the class and itself
+  abbrev pub passes_on : CallEffect
+  passes_on = method_effect (method_given args 1) (map passed_value (drop 2 args))
 
   -- the function table
   unfoldable pub call_effect : JniFunction → CallEffect
@@ -160,3 +197,6 @@ module _ (unit : SourceUnit) (classes : Classes) (in_use : BuffersInUse) (k : �
   call_effect MonitorEnter = enter_effect k s t (object 0) (monitor_of s.monitors (object 0))
   call_effect MonitorExit = exit_effect k s t (object 0) (monitor_of s.monitors (object 0))
   call_effect GetStaticMethodID = found_method_effect s t no_such_method_error (find_method unit classes (object 0) (text 1) (text 2))
+  call_effect CallStaticVoidMethod = passes_on
+  call_effect CallStaticIntMethod = passes_on
+  call_effect CallStaticObjectMethod = passes_on

@@ -1,16 +1,17 @@
 -- What is checked before a call has its effect, and in which order.
-use Rattle.std.specs.Prelude.{Bool, true, false, not, ◌&&◌, ◌||◌, ◌==◌, nat_le, List, [], ◌∷◌, drop, length, zip, is_some, slice_get, Option, Some, None}
+use Rattle.std.specs.Prelude.{◌+◌, Bool, true, false, not, ◌&&◌, ◌||◌, ◌==◌, nat_le, List, [], ◌∷◌, drop, length, zip, is_some, slice_get, Option, Some, None}
 use Rattle.std.specs.List.{list_any}
 use Rattle.base.specs.Element.{ElementType}
+use Rattle.base.specs.Limits.{most_activations}
 use Rattle.class_rules.specs.BuiltIns.{string_class, number_array}
 use Rattle.class_rules.specs.Class.{Classes, class_kind, is_plain, is_object_array}
-use Rattle.jni.specs.JniFunction.{JniFunction, PopLocalFrame, is_allowed_pending, prototype}
-use Rattle.jni.specs.Prototype.{LocalVariable, StaticVariable, WeakVariable, ParameterKind, Nullable, AnyReference, ClassObject, NumberArray, AnyArray, ObjectArray, StringObject, ResultKind, NewLocal}
-use Rattle.semantics.specs.Arguments.{Actual, ReferenceActual, FieldActual}
+use Rattle.jni.specs.JniFunction.{JniFunction, PopLocalFrame, is_allowed_pending, prototype, parameters_for, calls_method}
+use Rattle.jni.specs.Prototype.{LocalVariable, StaticVariable, WeakVariable, ParameterKind, Nullable, AnyReference, ClassObject, NumberArray, AnyArray, ObjectArray, StringObject, ResultKind, NewLocal, Passed}
+use Rattle.semantics.specs.Arguments.{Actual, ReferenceActual, FieldActual, MethodActual}
 use Rattle.semantics.specs.CallTable.{go_together}
 use Rattle.semantics.specs.Heap.{Heap, class_of, is_class_object}
 use Rattle.semantics.specs.Thread.{Frame, Thread}
-use Rattle.semantics.specs.Value.{Trap, NullReference, ExceptionPending, WrongObject, DeletedReference, NoCapacity}
+use Rattle.semantics.specs.Value.{Trap, NullReference, ExceptionPending, WrongObject, DeletedReference, NoCapacity, CallsTooDeep}
 use Rattle.semantics.specs.Variable.{Empty, Live, Deleted}
 
 -- ---- single arguments
@@ -27,8 +28,10 @@ is_missing (AnyReference, a) = false
 is_missing (LocalVariable, a) = false
 is_missing (StaticVariable, a) = false
 is_missing (WeakVariable, a) = false
+is_missing (Passed, a) = false
 is_missing (p, ReferenceActual x Empty) = true
 is_missing (p, FieldActual None) = true
+is_missing (p, MethodActual None) = true
 is_missing (p, a) = false
 
 -- an object of another kind than is asked for
@@ -69,7 +72,8 @@ call_trap classes heap t buffer f args =
     first_trap (
     (is_some t.pending && not (is_allowed_pending f), ExceptionPending)
     ∷ (list_any is_deleted args, DeletedReference)
-    ∷ (list_any is_missing (zip (prototype f).parameters args), NullReference)
-    ∷ (list_any (is_misfit classes heap) (zip (prototype f).parameters args) || not (go_together classes heap buffer args f), WrongObject)
+    ∷ (list_any is_missing (zip (parameters_for f (length args)) args), NullReference)
+    ∷ (list_any (is_misfit classes heap) (zip (parameters_for f (length args)) args) || not (go_together classes heap buffer args f), WrongObject)
     ∷ (lacks_room (prototype f).result (slice_get (frames_after f t.frames) 0), NoCapacity)
+    ∷ (calls_method f && nat_le most_activations (length t.callers + 1), CallsTooDeep)
     ∷ [])

@@ -8,7 +8,7 @@ use Rattle.jni.specs.JniFunction.{JniFunction}
 use Rattle.semantics.specs.Arguments.{Actual, actuals}
 use Rattle.semantics.specs.CallEffects.{CallResult, NoResult, ScalarResult, ReferenceResult}
 use Rattle.semantics.specs.Sight.{Sight}
-use Rattle.semantics.specs.Task.{Task, SetScalar, SetElement, SetNull, MakeArray, Invoke, Print, Branch, EndIf, Loop, EndTurn, Return, ReturnValue, Impossible, Target, Tested, Operand, NumberOperand, Given, tasks_of}
+use Rattle.semantics.specs.Task.{Task, SetScalar, SetElement, SetNull, MakeArray, Invoke, Print, Branch, EndIf, Loop, EndTurn, Return, ReturnValue, Impossible, Target, Tested, Operand, NumberOperand, PassedName, Given, tasks_of}
 use Rattle.semantics.specs.Term.{Term, Done, Named, Read, term_of, index_of, reduce}
 use Rattle.semantics.specs.Value.{Value, Int, Truth, Trap, Outcome, Gives, Traps, Stuck, outcome_map}
 use Rattle.semantics.specs.Variable.{StaticReference, as_reference}
@@ -77,31 +77,43 @@ element_effect sight line x i v = NoEffect
 
 -- ---- calls and returns
 
--- the call's next step is its own: its numbers are worked out
-abbrev pub is_given : Operand → Bool
-is_given (NumberOperand (Done v)) = true
-is_given (NumberOperand e) = false
-is_given (Given a) = true
+-- a name that isn't that of a number
+abbrev pub is_no_number : Outcome Value → Bool
+is_no_number (Gives v) = false
+is_no_number v = true
+
+-- the call's next step is its own: its numbers are worked out, where names have these values
+abbrev pub is_given : (number : Identifier → Outcome Value) → Operand → Bool
+is_given number (NumberOperand (Done v)) = true
+is_given number (NumberOperand e) = false
+is_given number (PassedName x) = is_no_number (number x)
+is_given number (Given a) = true
 
 -- all numbers are worked out
-abbrev pub is_ready : List Operand → Bool
-is_ready operands = list_all is_given operands
+abbrev pub is_ready : (number : Identifier → Outcome Value) → List Operand → Bool
+is_ready number operands = list_all (is_given number) operands
 
 -- a number that is worked out is left alone, and another takes its step
 abbrev pub reduce_number : Term → List Operand → Outcome Term → Outcome (List Operand) → Outcome (List Operand)
 reduce_number (Done v) rest step further = outcome_map (λ operands. NumberOperand (Done v) ∷ operands) further
 reduce_number e rest step further = outcome_map (λ (u : Term). NumberOperand u ∷ rest) step
 
+-- a name of a number becomes its value, and another is left alone
+abbrev pub reduce_name : Identifier → List Operand → Outcome Value → Outcome (List Operand) → Outcome (List Operand)
+reduce_name x rest (Gives v) further = Gives (NumberOperand (Done v) ∷ rest)
+reduce_name x rest v further = outcome_map (λ operands. PassedName x ∷ operands) further
+
 -- the first number that isn't worked out takes a step
 abbrev pub reduce_first : Sight → List Operand → Outcome (List Operand)
 reduce_first sight [] = Stuck
 reduce_first sight (NumberOperand e ∷ rest) = reduce_number e rest (reduce sight e) (reduce_first sight rest)
+reduce_first sight (PassedName x ∷ rest) = reduce_name x rest (sight.number x) (reduce_first sight rest)
 reduce_first sight (Given a ∷ rest) = outcome_map (λ operands. Given a ∷ operands) (reduce_first sight rest)
 
 -- a call looks up its arguments in its own step
 abbrev pub call_effect_of : Sight → ℕ → Target → JniFunction → List Operand → Effect
 call_effect_of sight line target f operands =
-    if is_ready operands then Calls line target f (actuals sight f operands)
+    if is_ready sight.number operands then Calls line target f (actuals sight f operands)
     else goes_on line (Invoke line target f) (reduce_first sight operands)
 
 -- what is still to do of a statement whose call is over: an `if` has its test, whether the call gave 0

@@ -7,7 +7,7 @@ use Rattle.semantics.specs.declared.event.Event.TheVariants.{Quiet, Printed, Tra
 use Rattle.semantics.specs.declared.event.Stop.{Stop}
 use Rattle.semantics.specs.declared.printed.Printed as printed
 use Rattle.semantics.specs.declared.trap.Trap.{Trap}
-use Rattle.semantics.specs.declared.trap.Trap.TheVariants.{DivisionByZero, ShiftTooFar, OutOfRange, NullReference, ExceptionPending, WrongObject, DeletedReference, NoCapacity, Fatal}
+use Rattle.semantics.specs.declared.trap.Trap.TheVariants.{DivisionByZero, ShiftTooFar, OutOfRange, NullReference, ExceptionPending, WrongObject, DeletedReference, NoCapacity, Fatal, CallsTooDeep}
 use Rattle.semantics.specs.State as state
 use Rattle.semantics.specs.Thread as source
 use Rattle.semantics.specs.Value as value
@@ -23,6 +23,7 @@ trap_view WrongObject = value.WrongObject
 trap_view DeletedReference = value.DeletedReference
 trap_view NoCapacity = value.NoCapacity
 trap_view Fatal = value.Fatal
+trap_view CallsTooDeep = value.CallsTooDeep
 
 -- what is seen of a thread's step by others
 abbrev pub event_view : Event → source.Event

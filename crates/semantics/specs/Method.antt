@@ -1,6 +1,6 @@
 -- Methods: the static native methods that a unit implements, as the JNI finds them and passes them arguments (JNI
 -- Specification, chapter 3, "Type Signatures", and chapter 4, "Calling Static Methods").
-use Rattle.std.specs.Prelude.{ℕ, Bool, true, false, ◌&&◌, List, ◌++◌, flat_map, filter, slice_get, Option, codes}
+use Rattle.std.specs.Prelude.{ℕ, Bool, ◌&&◌, List, ◌++◌, flat_map, filter, slice_get, Option, codes}
 use Rattle.std.specs.Option.{option_map}
 use Rattle.std.specs.Str.{bytes_eq}
 use Rattle.base.specs.Bytes.{Identifier}

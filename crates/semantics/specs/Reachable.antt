@@ -1,8 +1,9 @@
 -- Which objects can still be reached, and how many cells they take.
-use Rattle.std.specs.Prelude.{◌≡◌, ℕ, zero, suc, ◌+◌, Bool, cond, ◌==◌, List, [], ◌∷◌, ◌++◌, map, length, filter, filter_map, flat_map, sum_by, Contains}
+use Rattle.std.specs.Prelude.{◌≡◌, ℕ, zero, suc, ◌+◌, Bool, cond, ◌==◌, List, [], ◌∷◌, ◌++◌, map, length, filter, filter_map, flat_map, sum_by, Contains, Option, None}
 use Rattle.std.specs.Option.{option_to_list}
 use Rattle.std.specs.List.{list_any}
-use Rattle.semantics.specs.World.{World}
+use Rattle.semantics.specs.World.{Invocation, World}
+use Rattle.semantics.specs.Task.{Task}
 use Rattle.semantics.specs.Heap.{Heap, reference_in, values_of}
 use Rattle.semantics.specs.State.{State, views}
 use Rattle.semantics.specs.Thread.{Frame, Caller, Thread, Monitor}
@@ -17,9 +18,16 @@ from_one (suc n) = from_one n ++ suc n ∷ []
 abbrev pub frame_roots : List Frame → List ℕ
 frame_roots frames = flat_map (λ (f : Frame). f.references) frames
 
--- the names in the frames of a thread, and its pending exception
+-- the names among what a call is given that another has made and that isn't entered yet
+abbrev pub argument_roots : List Caller → Option (List Task) → List Invocation → List ℕ
+argument_roots (c ∷ callers) None (call ∷ calls) = filter_map reference_in call.arguments
+argument_roots callers tasks calls = []
+
+-- the names in the frames of a thread's calls, among the arguments of one that isn't entered yet, and its pending exception
 abbrev pub thread_roots : Thread → List ℕ
-thread_roots t = flat_map (λ (c : Caller). frame_roots c.frames) t.callers ++ frame_roots t.frames ++ option_to_list t.pending
+thread_roots t =
+    flat_map (λ (c : Caller). frame_roots c.frames) t.callers ++ argument_roots t.callers t.tasks t.calls
+    ++ frame_roots t.frames ++ option_to_list t.pending
 
 -- how many objects are made at load: they stay
 abbrev pub loaded_count : World → ℕ

@@ -3,6 +3,7 @@ use Rattle.std.specs.Prelude.{ℕ, Bool, true, false, ℤ, List, slice_get, is_n
 use Rattle.base.specs.Bytes.{Identifier, lookup}
 use Rattle.class_rules.specs.Fields.{FieldId}
 use Rattle.semantics.specs.Heap.{Heap, numbers_of}
+use Rattle.semantics.specs.Method.{MethodId}
 use Rattle.semantics.specs.Value.{Value, Outcome, Gives, Traps, Stuck, OutOfRange, outcome_then}
 use Rattle.semantics.specs.Variable.{Variable, Scalar, LocalRef, FieldHandle, MethodHandle, Elements, LocalArray, NoBuffer, Copy, View, StaticReference, Empty, Variables, Statics, as_static, as_argument}
 
@@ -18,6 +19,8 @@ pub record Sight : Type 0 where
   pub reference : Identifier → StaticReference
   -- what a field ID holds
   pub field : Identifier → Option FieldId
+  -- what a method ID holds
+  pub method : Identifier → Option MethodId
 
 -- the value of a number variable
 abbrev pub scalar : Option Variable → Outcome Value
@@ -68,6 +71,11 @@ abbrev pub held_field : Option Variable → Option FieldId
 held_field (Some (FieldHandle f)) = f
 held_field v = None
 
+-- what a method ID holds
+abbrev pub held_method : Option Variable → Option MethodId
+held_method (Some (MethodHandle m)) = m
+held_method v = None
+
 -- what can be seen in these variables and statics and this heap
 abbrev pub seen : Variables → Statics → Heap → Sight
 seen vs ss heap = record {
@@ -76,4 +84,5 @@ seen vs ss heap = record {
   element = λ x i. outcome_then (λ (zs : List ℤ). in_range (slice_get zs i)) (elements_of heap (lookup x vs));
   reference = λ x. held_reference (lookup x vs) (lookup x ss);
   field = λ x. held_field (lookup x vs);
+  method = λ x. held_method (lookup x vs);
 }

@@ -1,11 +1,11 @@
 -- What a thread has still to do of its call: statements, of which the first may be begun (ISO/IEC 9899:1999, 6.8).
-use Rattle.std.specs.Prelude.{ℕ, List, [], ◌∷◌, Option, Some, None, zip, map}
+use Rattle.std.specs.Prelude.{ℕ, List, [], ◌∷◌, Option, Some, None, length, zip, map}
 use Rattle.syntax.specs.Tree as tree
 use Rattle.base.specs.Bytes.{Identifier}
 use Rattle.base.specs.Element.{ElementType, JChar}
 use Rattle.syntax.specs.Tree.{Null, Expr, Argument, RightSide, FromExpr, FromCall, Call, Test, TestExpr, TestCall, VariableType, JFieldId, JMethodId, Stmt, Block, End, Next}
-use Rattle.jni.specs.JniFunction.{JniFunction, prototype, function_named}
-use Rattle.jni.specs.Prototype.{ParameterKind, IntNumber}
+use Rattle.jni.specs.JniFunction.{JniFunction, prototype, function_named, parameters_for}
+use Rattle.jni.specs.Prototype.{ParameterKind, IntNumber, Passed}
 use Rattle.semantics.specs.Term.{Term, term_of}
 
 -- what a declaration makes
@@ -21,9 +21,11 @@ pub data Target : Type 0 where
   Tested : (then' else' : Block) → Target
   Dropped : Target
 
--- an argument of a call: a number on the way to its value, or one that is looked up in the call's own step
+-- an argument of a call: a number on the way to its value, one that is looked up in the call's own step, or the bare name of
+-- either kind that a method is given
 pub data Operand : Type 0 where
   NumberOperand : Term → Operand
+  PassedName : Identifier → Operand
   Given : Argument → Operand
 
 -- each with its line, where a trap can come from it
@@ -44,15 +46,22 @@ pub data Task : Type 0 where
   -- a call of an unknown function, as in no accepted program
   Impossible : Task
 
+-- what a method is given, before the call's first step
+abbrev pub passed_operand : Expr → Operand
+passed_operand (tree.Named Null) = Given (Argument.Value (tree.Named Null))
+passed_operand (tree.Variable x) = PassedName x
+passed_operand e = NumberOperand (term_of e)
+
 -- an argument before the call's first step
 abbrev pub operand : ParameterKind × Argument → Operand
 operand (IntNumber, Argument.Value e) = NumberOperand (term_of e)
+operand (Passed, Argument.Value e) = passed_operand e
 operand (p, a) = Given a
 
 -- a call of a function, if it is known
 abbrev pub invocation : ℕ → Target → Call → Option JniFunction → Task
 invocation line target call None = Impossible
-invocation line target call (Some f) = Invoke line target f (map operand (zip (prototype f).parameters call.arguments))
+invocation line target call (Some f) = Invoke line target f (map operand (zip (parameters_for f (length call.arguments)) call.arguments))
 
 -- a call
 abbrev pub call_task : ℕ → Target → Call → Task

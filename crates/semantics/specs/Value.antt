@@ -15,7 +15,7 @@ pub data Value : Type 0 where
 
 -- Why the machine stops. C and the JNI leave undefined what follows there.
 pub data Trap : Type 0 where
-  DivisionByZero ShiftTooFar OutOfRange NullReference ExceptionPending WrongObject DeletedReference NoCapacity Fatal : Trap
+  DivisionByZero ShiftTooFar OutOfRange NullReference ExceptionPending WrongObject DeletedReference NoCapacity Fatal CallsTooDeep : Trap
 
 -- the number under which a trap is reported
 abbrev pub trap_number : Trap → ℕ
@@ -28,6 +28,7 @@ trap_number WrongObject = 6
 trap_number DeletedReference = 7
 trap_number NoCapacity = 8
 trap_number Fatal = 9
+trap_number CallsTooDeep = 10
 
 -- what a computation gives: a result, a trap, or nothing where its parts don't fit, as in no accepted program
 pub data Outcome (A : Type 0) : Type 0 where

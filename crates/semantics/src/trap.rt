@@ -14,7 +14,7 @@ pub enum Trap {
     ShiftTooFar,
     /// An element that isn't there.
     OutOfRange,
-    /// NULL where an object or a field ID is asked for.
+    /// NULL where an object, a field ID or a method ID is asked for.
     NullReference,
     /// A call that isn't allowed while an exception is pending (JNI Specification, chapter 2, "Exception Handling").
     ExceptionPending,
@@ -26,6 +26,8 @@ pub enum Trap {
     NoCapacity,
     /// `FatalError` was called.
     Fatal,
+    /// A call of a method from the last of 64 calls that are in progress.
+    CallsTooDeep,
 }
 
 impl Trap {
@@ -43,6 +45,7 @@ impl Trap {
             Trap::DeletedReference => 7,
             Trap::NoCapacity => 8,
             Trap::Fatal => 9,
+            Trap::CallsTooDeep => 10,
         }
     }
 }
