@@ -1,5 +1,5 @@
 -- An accepted unit is safe: from the entry of each of its functions the tasks break no rule.
-use Rattle.std.proofs.Common.{◌≡◌, ℕ, Bool, true, false, List, [], ◌∷◌, ◌++◌, map, Option, Some, refl, ap, ◌∙◌, subst, if◌then◌else◌}
+use Rattle.std.proofs.Common.{◌≡◌, ℕ, Bool, true, false, List, [], ◌∷◌, ◌++◌, find, map, Option, Some, refl, sym, ap, ◌∙◌, subst, if◌then◌else◌}
 use Rattle.std.specs.Prelude.{flat_map}
 use Rattle.std.specs.List.{list_any, AllByRecursion}
 use Rattle.std.specs.Str.{bytes_eq}
@@ -28,7 +28,11 @@ use Rattle.semantics_safety.proofs.EntryPoints.{entry_scope, entry_point, IsStat
 use Rattle.semantics_safety.proofs.NameLaws.{front_same}
 use Rattle.semantics_safety.proofs.SetLaws.{kinds_named}
 use Rattle.type_rules.proofs.PlaceLists.{AreUnbroken, first_empty, second_empty, front_unbroken, back_unbroken, none_broken, first_false, second_false}
-use Rattle.semantics_safety.proofs.Runs.{Enters, runs_are_safe, threads_are_sound}
+use Rattle.semantics_safety.proofs.Runs.{Enters, FindsCallable, runs_are_safe, threads_are_sound}
+use Rattle.semantics_safety.proofs.MethodsFound.{found_is_callable}
+use Rattle.semantics.specs.Activation.{function_at}
+use Rattle.class_rules.specs.Class.{Classes}
+use Rattle.class_rules.specs.Mangling.{IsInverse}
 
 -- ---- heads
 
@@ -125,6 +129,60 @@ left_static all taken g items left x new =
 left_function : (all : List Static) (taken : List Identifier) (f : Function) (items : List Item) → AreLeft all taken (FunctionItem f ∷ items) → AreLeft all (f.name ∷ taken) items
 left_function all taken f items left x new = left x (or_false (bytes_eq x f.name) (has_name taken x) new).1
 
+-- ---- functions by their names
+
+-- the name is new among those that are taken, and the function is the first that has it
+abbrev IsFirst : List Identifier → List Item → Function → Type 0
+IsFirst taken items f = (has_name taken f.name ≡ false) × (find (λ (g : Function). bytes_eq g.name f.name) (functions_in items) ≡ Some f)
+
+function_new : (taken : List Identifier) (scope : Scope) (f : Function) → broken_at (head_place taken scope f) ≡ [] → has_name taken f.name ≡ false
+function_new taken scope f none =
+    let place = head_place taken scope f in
+    let p : SortRule → Bool = λ rule. breaks rule place place.form in
+    let twice = second_false (p UnknownName) (list_any p (DeclaredTwice ∷ other_rules)) (none_broken p f.line sort_rules none) in
+    first_false (has_name taken f.name) (has_repeated (parameter_names f ++ map (λ s. s.0) scope)) (first_false (p DeclaredTwice) (list_any p other_rules) twice)
+
+-- a name is no other's
+other_way : (x y : Identifier) → bytes_eq y x ≡ false → bytes_eq x y ≡ false
+other_way x y e = by_test (bytes_eq x y) refl
+  where
+    by_test : (b : Bool) → bytes_eq x y ≡ b → b ≡ false
+    by_test true h = absurd (let same : x ≡ y = (bytes_eq-Decides x y).0 h in let no : true ≡ false = sym ((bytes_eq-Decides y x).1 (sym same)) ∙ e in cc)
+    by_test false h = refl
+
+first_after_static : (taken : List Identifier) (g : Static) (items : List Item) (fs : List Function) → AllByRecursion (IsFirst (g.name ∷ taken) items) fs → AllByRecursion (IsFirst taken (StaticItem g ∷ items)) fs
+first_after_static taken g items [] h = tt
+first_after_static taken g items (f ∷ fs) h = (((or_false (bytes_eq f.name g.name) (has_name taken f.name) h.0.0).1, h.0.1), first_after_static taken g items fs h.1)
+
+first_after_function : (taken : List Identifier) (g : Function) (items : List Item) (fs : List Function) → AllByRecursion (IsFirst (g.name ∷ taken) items) fs → AllByRecursion (IsFirst taken (FunctionItem g ∷ items)) fs
+first_after_function taken g items [] h = tt
+first_after_function taken g items (f ∷ fs) h =
+    let both = or_false (bytes_eq f.name g.name) (has_name taken f.name) h.0.0 in
+    let skips = ap (λ (b : Bool). if b then Some g else find (λ (f' : Function). bytes_eq f'.name f.name) (functions_in items)) (other_way g.name f.name both.0) in
+    ((both.1, skips ∙ h.0.1), first_after_function taken g items fs h.1)
+
+all_first : (items : List Item) (taken : List Identifier) (scope : Scope) → AreUnbroken (item_places taken scope items) → AllByRecursion (IsFirst taken items) (functions_in items)
+all_first [] taken scope sorted = tt
+all_first (StaticItem g ∷ items) taken scope sorted =
+    first_after_static taken g items (functions_in items)
+    (all_first items (g.name ∷ taken) ((g.name, static_sort g.type) ∷ scope) (second_empty (broken_at (static_place taken scope g)) (flat_map broken_at (item_places (g.name ∷ taken) ((g.name, static_sort g.type) ∷ scope) items)) sorted))
+all_first (FunctionItem f ∷ items) taken scope sorted =
+    let further = item_places (f.name ∷ taken) scope items in
+    let body = places_of f.result (entry_scope f scope) (parameter_names f ++ map (λ s. s.0) scope) f.body in
+    let own : AreUnbroken (head_place taken scope f ∷ body) = front_unbroken (function_places taken scope f) further sorted in
+    let new = function_new taken scope f (first_empty (broken_at (head_place taken scope f)) (flat_map broken_at body) own) in (
+      (new, ap (λ (b : Bool). if b then Some f else find (λ (g : Function). bytes_eq g.name f.name) (functions_in items)) ((bytes_eq-Decides f.name f.name).1 refl)),
+      first_after_function taken f items (functions_in items) (all_first items (f.name ∷ taken) scope (back_unbroken (function_places taken scope f) further sorted)),
+    )
+
+found_by_name : (unit : SourceUnit) (fs : List Function) → AllByRecursion (IsFirst [] unit.items) fs → AllByRecursion (λ (f : Function). function_at unit f.name ≡ Some f) fs
+found_by_name unit [] h = tt
+found_by_name unit (f ∷ fs) h = (h.0.1, found_by_name unit fs h.1)
+
+-- each function of a sorted unit is found by its name
+functions_once : (unit : SourceUnit) → IsSorted unit → AllByRecursion (λ (f : Function). function_at unit f.name ≡ Some f) (functions_of unit)
+functions_once unit sorted = found_by_name unit (functions_of unit) (all_first unit.items [] [] sorted)
+
 module _ (gives : (f : Function) (scope : Scope) → GivesWanted f scope) where
   all_enter : (ss : Statics) (all : List Static) (items : List Item) (taken : List Identifier) (scope : Scope) → SeesStatics scope ss → AreOfKind (weak_in all) scope → AreLeft all taken items → AllByRecursion (IsThere ss) (statics_in items) → AreUnbroken (item_places taken scope items) → AllByRecursion AcceptedFunction (functions_in items)
       → AllByRecursion (Enters (weak_in all) ss) (functions_in items)
@@ -154,11 +212,15 @@ module _ (gives : (f : Function) (scope : Scope) → GivesWanted f scope) where
   accepted_enters unit sorted regions =
       all_enter (null_statics unit) (statics_of unit) unit.items [] [] (no_names (null_statics unit)) (no_kinds (weak_names unit)) (λ x e. refl) (all_there (statics_of unit)) sorted regions
 
+  -- what GetStaticMethodID finds in a sorted unit can be called
+  sorted_finds : IsInverse → (unit : SourceUnit) (classes : Classes) → IsSorted unit → FindsCallable unit classes
+  sorted_finds inverse unit classes sorted = found_is_callable inverse classes unit (functions_once unit sorted)
+
   -- after each journal, each thread is at a point from which its tasks break no rule, or before an entry
-  pub accepted_are_sound : (unit : SourceUnit) (w : World) → IsSorted unit → HasRegions unit → Loads unit w → HasCalls w → (journal : Journal) (s : State) (k : ℕ) (t : Thread) → replay unit w journal ≡ Some s → thread_at s k ≡ Some t
+  pub accepted_are_sound : IsInverse → (unit : SourceUnit) (w : World) → IsSorted unit → HasRegions unit → Loads unit w → HasCalls w → (journal : Journal) (s : State) (k : ℕ) (t : Thread) → replay unit w journal ≡ Some s → thread_at s k ≡ Some t
       → IsSound unit w.classes (owners_after unit w journal k) s.shared.statics t
-  accepted_are_sound unit w sorted regions loads has = threads_are_sound unit w (accepted_enters unit sorted regions) loads has
+  accepted_are_sound inverse unit w sorted regions loads has = threads_are_sound unit w (accepted_enters unit sorted regions) (sorted_finds inverse unit w.classes sorted) loads has
 
   -- an accepted unit is safe in each world that goes with it
-  pub accepted_is_safe : AcceptedIsSafe
-  accepted_is_safe unit w sorted regions loads has = runs_are_safe unit w (accepted_enters unit sorted regions) loads has
+  pub accepted_is_safe : IsInverse → AcceptedIsSafe
+  accepted_is_safe inverse unit w sorted regions loads has = runs_are_safe unit w (accepted_enters unit sorted regions) (sorted_finds inverse unit w.classes sorted) loads has

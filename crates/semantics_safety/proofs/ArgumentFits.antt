@@ -8,14 +8,15 @@ use Rattle.base.specs.Element.{ElementType, JInt, JShort, JByte, JChar, same_ele
 use Rattle.syntax.specs.Parts.{names_in, elements_in, argument_expressions}
 use Rattle.syntax.specs.Tree.{Null, Expr, Number, Named, Variable, Element, Prefix, Binary, Paren, Argument, Value, Text, AddressOf}
 use Rattle.jni.specs.Access.{Access, ElementsCopy, ArrayView, CharsCopy, CharsView}
-use Rattle.jni.specs.Prototype.{ParameterKind, Nullable, NonNull, AnyReference, ClassObject, AnyArray, ObjectArray, StringObject, NumberArray, LocalVariable, StaticVariable, WeakVariable, FieldID, IntNumber, TextBytes, ArrayVariable, BufferVariable, Mode, IsCopy}
-use Rattle.type_rules.specs.Sorts.{Sort, Jint, Flag, Ref, Global, Weak, Buffer, Array, sort_in, sort_of, is_jint, is_flag, is_ref, is_global, is_weak, is_any_reference, is_reference, is_field, is_array_of, is_buffer_for, is_null, name_sort, argument_fits, arguments_fit}
+use Rattle.jni.specs.Prototype.{ParameterKind, Nullable, NonNull, AnyReference, ClassObject, AnyArray, ObjectArray, StringObject, NumberArray, LocalVariable, StaticVariable, WeakVariable, FieldID, MethodID, Passed, IntNumber, TextBytes, ArrayVariable, BufferVariable, Mode, IsCopy}
+use Rattle.type_rules.specs.Sorts.{Sort, Jint, Flag, Ref, Global, Weak, Buffer, Array, sort_in, sort_of, is_jint, is_flag, is_ref, is_global, is_weak, is_any_reference, is_reference, is_field, is_method, is_array_of, is_buffer_for, is_null, name_sort, argument_fits, arguments_fit}
 use Rattle.type_rules.specs.Sorts as sort
 use Rattle.type_rules.specs.SortRules.{is_mode, is_mode_parameter, modes_fit}
 use Rattle.region_rules.specs.RegionRules.{is_dead, is_untested, is_free}
 use Rattle.region_rules.specs.RegionStates.{RegionState, state_of}
 use Rattle.semantics.specs.Task.{operand}
-use Rattle.semantics_safety.specs.Points.{Point, ReferenceFits, AnyReferenceFits, ReferenceArgumentFits, GivenFits, OperandFits, OperandsFit}
+use Rattle.semantics.specs.Term.{term_of}
+use Rattle.semantics_safety.specs.Points.{Point, ReferenceFits, AnyReferenceFits, ReferenceArgumentFits, GivenFits, PassedFits, HasSort, OperandFits, OperandsFit}
 use Rattle.semantics_safety.proofs.ExpressionFits.{AreStated, MayRead, is_live, usable_if, expression_fits}
 
 -- ---- expressions together
@@ -84,6 +85,10 @@ is_a_weak o h = absurd (cc)
 pub is_a_field : (o : Option Sort) → is_field o ≡ true → o ≡ Some sort.FieldId
 is_a_field (Some sort.FieldId) h = refl
 is_a_field o h = absurd (cc)
+
+pub is_a_method : (o : Option Sort) → is_method o ≡ true → o ≡ Some sort.MethodId
+is_a_method (Some sort.MethodId) h = refl
+is_a_method o h = absurd (cc)
 
 pub element_same : (t u : ElementType) → same_element t u ≡ true → u ≡ t
 element_same JInt JInt h = refl
@@ -171,6 +176,11 @@ module _ (p : Point) (stated : AreStated p) where
   field_argument (Value (Variable x)) h = is_a_field (sort_in p.names x) h
   field_argument a h = absurd (cc)
 
+  method_argument : (a : Argument) → argument_fits p.names MethodID a ≡ true → GivenFits p MethodID a
+  method_argument (Value (Named c)) h = tt
+  method_argument (Value (Variable x)) h = is_a_method (sort_in p.names x) h
+  method_argument a h = absurd (cc)
+
   array_argument : (t : ElementType) (a : Argument) → argument_fits p.names (ArrayVariable t) a ≡ true → GivenFits p (ArrayVariable t) a
   array_argument t (Value (Variable x)) h = array_of t (sort_in p.names x) h
   array_argument t a h = absurd (cc)
@@ -208,6 +218,32 @@ module _ (p : Point) (stated : AreStated p) where
   number_argument (Value e) h read = expression_fits p stated e Jint (first_read p.regions e [] read).0 (is_a_jint (sort_of p.names e) h) tt
   number_argument (Text t) h read = absurd (cc)
   number_argument (AddressOf x) h read = absurd (cc)
+
+  -- what a method is passed: NULL, a name, or a number
+  no_reference : (b : Bool) → (b || false || false) ≡ true → b ≡ true
+  no_reference true h = refl
+  no_reference false h = absurd (cc)
+
+  passed_number : (e : Expr) → is_jint (sort_of p.names e) ≡ true → MayReadAll p.regions (e ∷ []) → HasSort p (term_of e) Jint
+  passed_number e h read = expression_fits p stated e Jint (first_read p.regions e [] read).0 (is_a_jint (sort_of p.names e) h) tt
+
+  passed_name : (x : Identifier) (o : Option Sort) → sort_in p.names x ≡ o → (is_jint o || false || is_reference o) ≡ true → is_dead (state_of p.regions x) ≡ false → PassedFits p x o
+  passed_name x (Some Jint) e h alive = tt
+  passed_name x (Some Ref) e h alive = is_live p stated x e alive
+  passed_name x (Some Global) e h alive = tt
+  passed_name x o e h alive = absurd (cc)
+
+  passed_argument : (a : Argument) → argument_fits p.names Passed a ≡ true → MayReadAll p.regions (argument_expressions a) → OperandFits p Passed (operand (Passed, a))
+  passed_argument (Value (Named Null)) h read = tt
+  passed_argument (Value (Variable x)) h read = passed_name x (sort_in p.names x) refl h (alive_name x read)
+  passed_argument (Value (Named c)) h read = passed_number (Named c) (no_reference _ h) read
+  passed_argument (Value (Number n unsigned)) h read = passed_number (Number n unsigned) (no_reference _ h) read
+  passed_argument (Value (Element x i)) h read = passed_number (Element x i) (no_reference _ h) read
+  passed_argument (Value (Prefix op e)) h read = passed_number (Prefix op e) (no_reference _ h) read
+  passed_argument (Value (Binary op e d)) h read = passed_number (Binary op e d) (no_reference _ h) read
+  passed_argument (Value (Paren e)) h read = passed_number (Paren e) (no_reference _ h) read
+  passed_argument (Text t) h read = absurd (cc)
+  passed_argument (AddressOf x) h read = absurd (cc)
 
   argument_is : (parameter : ParameterKind) (a : Argument) → argument_fits p.names parameter a ≡ true → IsRightMode parameter a → MayReadAll p.regions (argument_expressions a) → BufferTested p parameter a → OperandFits p parameter (operand (parameter, a))
   argument_is Nullable a h mode read tested = reference_argument a h read
@@ -252,6 +288,8 @@ module _ (p : Point) (stated : AreStated p) where
   argument_is WeakVariable a h mode read tested = weak_argument a h
   argument_is AnyReference a h mode read tested = any_argument a h read
   argument_is FieldID a h mode read tested = field_argument a h
+  argument_is MethodID a h mode read tested = method_argument a h
+  argument_is Passed a h mode read tested = passed_argument a h read
   argument_is IntNumber a h mode read tested = number_argument a h read
   argument_is TextBytes a h mode read tested = text_argument a h
   argument_is (ArrayVariable t) a h mode read tested = array_argument t a h

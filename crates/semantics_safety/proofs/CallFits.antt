@@ -1,10 +1,11 @@
 -- A call that keeps the rules of sorts and regions fits at its point.
-use Rattle.std.proofs.Common.{◌≡◌, ℕ, ◌<◌, arith, inl, inr, Bool, true, false, not, ◌&&◌, ◌||◌, List, [], ◌∷◌, ◌++◌, map, length, nat_le, Option, Some, None, refl, sym, ap, ◌∙◌, subst, if◌then◌else◌}
+use Rattle.std.proofs.Common.{◌≡◌, ℕ, suc, ◌<◌, arith, inl, inr, Bool, true, false, not, ◌&&◌, ◌||◌, List, [], ◌∷◌, ◌++◌, map, length, nat_le, Option, Some, None, refl, sym, ap, ◌∙◌, subst, if◌then◌else◌}
 use Rattle.std.specs.Prelude.{flat_map, filter_map, zip, ◌==◌}
 use Rattle.std.specs.List.{list_any, cons_option}
 use Rattle.std.specs.Option.{option_and_then, option_to_list}
 use Rattle.std.specs.Str.{bytes_eq}
 use Rattle.std.proofs.lemmas.Bool.Decides.{Decides-eqb, nat_tests}
+use Rattle.std.proofs.lemmas.List.{length-map}
 use Rattle.std.proofs.lemmas.Slice.Eq.{bytes_eq-Decides}
 use Rattle.base.specs.Bytes.{Identifier, ByName, lookup}
 use Rattle.base.specs.Element.{ElementType}
@@ -12,8 +13,8 @@ use Rattle.base.specs.Options.{some_passes}
 use Rattle.syntax.specs.Parts.{names_in, elements_in, argument_expressions, own_expressions, own_call, used_names, addresses_in, written_name, assigned_name}
 use Rattle.syntax.specs.Tree.{Variable, Argument, Value, Stmt}
 use Rattle.jni.specs.Access.{Access, ElementsCopy, ArrayView, CharsCopy, CharsView, is_critical, same_access}
-use Rattle.jni.specs.JniFunction.{JniFunction, GetBuffer, ReleaseBuffer, DeleteLocalRef, PopLocalFrame, prototype}
-use Rattle.jni.specs.Prototype.{ParameterKind, IntNumber, BufferVariable, Mode, owner, release_mode}
+use Rattle.jni.specs.JniFunction.{JniFunction, GetBuffer, ReleaseBuffer, DeleteLocalRef, PopLocalFrame, calls_method, parameters_for, takes_count, prototype}
+use Rattle.jni.specs.Prototype.{ParameterKind, IntNumber, Passed, BufferVariable, Mode, owner, release_mode}
 use Rattle.type_rules.specs.Sorts.{arguments_fit}
 use Rattle.type_rules.specs.SortRules.{modes_fit}
 use Rattle.region_rules.specs.RegionRules.{RegionRule, CallWhileCritical, UntestedBuffer, WrongBuffer, PopLastFrame, DeadReference, ArrayInUse, is_put_jint, is_critical_call, is_dead, is_reference_now, is_untested, is_free, is_mismatched, is_array_in_use, is_level, breaks_region_rule, Obeys}
@@ -24,6 +25,7 @@ use Rattle.semantics_safety.specs.Points.{Point, IsLive, IsUsable, NameFits, Ope
 use Rattle.semantics_safety.specs.Wanted.{Holds, CallKeeps, MeetsViews, CallFits, operand_argument, call_seen}
 use Rattle.semantics_safety.proofs.ArgumentFits.{MayReadAll, both_read, element_same, BufferTested, BuffersTested, operands_fit}
 use Rattle.semantics_safety.proofs.ExpressionFits.{AreStated}
+use Rattle.semantics_safety.proofs.Parameters.{counted, modes_of_all, none_among, own_parameters}
 
 -- ---- tests, turned round
 
@@ -131,13 +133,16 @@ none_holds p q none x access a h e = apart (list_any q (held_buffers p.regions))
 
 -- ---- arguments, as the rules see them
 
+-- a number, or what may be one
 is_number : ParameterKind → Bool
 is_number IntNumber = true
+is_number Passed = true
 is_number parameter = false
 
 seen_one : (parameter : ParameterKind) (a : Argument) → is_number parameter ≡ false → operand_argument (operand (parameter, a)) ≡ a
 unfolding is_number
 seen_one IntNumber a h = absurd (cc)
+seen_one Passed a h = absurd (cc)
 seen_one parameter a h = refl
 
 seen_same : (parameters : List ParameterKind) (arguments : List Argument) → length arguments ≡ length parameters → list_any is_number parameters ≡ false → map operand_argument (map operand (zip parameters arguments)) ≡ arguments
@@ -173,29 +178,32 @@ pop_unnumbered = refl
 
 -- the operands of a call
 abbrev pub operands_of : JniFunction → List Argument → List Operand
-operands_of f arguments = map operand (zip (prototype f).parameters arguments)
+operands_of f arguments = map operand (zip (parameters_for f (length arguments)) arguments)
 
 module _ (arguments : List Argument) where
+  unnumbered : (f : JniFunction) → calls_method f ≡ false → list_any is_number (prototype f).parameters ≡ false → list_any is_number (parameters_for f (length arguments)) ≡ false
+  unnumbered f plain h = subst (λ (l : List ParameterKind). list_any is_number l ≡ false) (sym (own_parameters f (length arguments) plain)) h
+
   abbrev seen_by : JniFunction → List Argument
   seen_by f = map operand_argument (operands_of f arguments)
 
   -- what a call leaves of a state
-  pub after_same : (regions : RegionState) (f : JniFunction) → length arguments ≡ length (prototype f).parameters → after_call regions (call_seen f (operands_of f arguments)) ≡ after_call regions (Some (f, arguments))
-  after_same regions (ReleaseBuffer access) count = ap (λ (l : List Argument). after_call regions (Some (ReleaseBuffer access, l))) (seen_same (prototype (ReleaseBuffer access)).parameters arguments count (release_unnumbered access))
-  after_same regions DeleteLocalRef count = ap (λ (l : List Argument). after_call regions (Some (DeleteLocalRef, l))) (seen_same (prototype DeleteLocalRef).parameters arguments count delete_unnumbered)
+  pub after_same : (regions : RegionState) (f : JniFunction) → length arguments ≡ length (parameters_for f (length arguments)) → after_call regions (call_seen f (operands_of f arguments)) ≡ after_call regions (Some (f, arguments))
+  after_same regions (ReleaseBuffer access) count = ap (λ (l : List Argument). after_call regions (Some (ReleaseBuffer access, l))) (seen_same (parameters_for (ReleaseBuffer access) (length arguments)) arguments count (unnumbered (ReleaseBuffer access) refl (release_unnumbered access)))
+  after_same regions DeleteLocalRef count = ap (λ (l : List Argument). after_call regions (Some (DeleteLocalRef, l))) (seen_same (parameters_for DeleteLocalRef (length arguments)) arguments count (unnumbered DeleteLocalRef refl delete_unnumbered))
   after_same regions PopLocalFrame count = refl
   after_same regions f count = refl
 
   -- what a call gets
-  pub get_same : (f : JniFunction) → length arguments ≡ length (prototype f).parameters → get_of (call_seen f (operands_of f arguments)) ≡ get_of (Some (f, arguments))
-  get_same (GetBuffer access) count = ap (λ (l : List Argument). get_of (Some (GetBuffer access, l))) (seen_same (prototype (GetBuffer access)).parameters arguments count (get_unnumbered access))
+  pub get_same : (f : JniFunction) → length arguments ≡ length (parameters_for f (length arguments)) → get_of (call_seen f (operands_of f arguments)) ≡ get_of (Some (f, arguments))
+  get_same (GetBuffer access) count = ap (λ (l : List Argument). get_of (Some (GetBuffer access, l))) (seen_same (parameters_for (GetBuffer access) (length arguments)) arguments count (unnumbered (GetBuffer access) refl (get_unnumbered access)))
   get_same f count = refl
 
-  keeps_seen : (p : Point) (f : JniFunction) → length arguments ≡ length (prototype f).parameters → CallKeeps p f arguments → CallKeeps p f (seen_by f)
-  keeps_seen p (GetBuffer access) count h = subst (CallKeeps p (GetBuffer access)) (sym (seen_same (prototype (GetBuffer access)).parameters arguments count (get_unnumbered access))) h
-  keeps_seen p (ReleaseBuffer access) count h = subst (CallKeeps p (ReleaseBuffer access)) (sym (seen_same (prototype (ReleaseBuffer access)).parameters arguments count (release_unnumbered access))) h
-  keeps_seen p DeleteLocalRef count h = subst (CallKeeps p DeleteLocalRef) (sym (seen_same (prototype DeleteLocalRef).parameters arguments count delete_unnumbered)) h
-  keeps_seen p PopLocalFrame count h = subst (CallKeeps p PopLocalFrame) (sym (seen_same (prototype PopLocalFrame).parameters arguments count pop_unnumbered)) h
+  keeps_seen : (p : Point) (f : JniFunction) → length arguments ≡ length (parameters_for f (length arguments)) → CallKeeps p f arguments → CallKeeps p f (seen_by f)
+  keeps_seen p (GetBuffer access) count h = subst (CallKeeps p (GetBuffer access)) (sym (seen_same (parameters_for (GetBuffer access) (length arguments)) arguments count (unnumbered (GetBuffer access) refl (get_unnumbered access)))) h
+  keeps_seen p (ReleaseBuffer access) count h = subst (CallKeeps p (ReleaseBuffer access)) (sym (seen_same (parameters_for (ReleaseBuffer access) (length arguments)) arguments count (unnumbered (ReleaseBuffer access) refl (release_unnumbered access)))) h
+  keeps_seen p DeleteLocalRef count h = subst (CallKeeps p DeleteLocalRef) (sym (seen_same (parameters_for DeleteLocalRef (length arguments)) arguments count (unnumbered DeleteLocalRef refl delete_unnumbered))) h
+  keeps_seen p PopLocalFrame count h = subst (CallKeeps p PopLocalFrame) (sym (seen_same (parameters_for PopLocalFrame (length arguments)) arguments count (unnumbered PopLocalFrame refl pop_unnumbered))) h
   keeps_seen p f count h = tt
 
 -- ---- the rules of regions, by the call
@@ -305,7 +313,7 @@ module _ (p : Point) where
   )
 
   -- by its function
-  call_keeps : (f : JniFunction) (arguments : List Argument) → length arguments ≡ length (prototype f).parameters → OperandsFit p (prototype f).parameters (operands_of f arguments) → MayReadAll p.regions (flat_map argument_expressions arguments)
+  call_keeps : (f : JniFunction) (arguments : List Argument) → length arguments ≡ length (parameters_for f (length arguments)) → OperandsFit p (parameters_for f (length arguments)) (operands_of f arguments) → MayReadAll p.regions (flat_map argument_expressions arguments)
       → some_passes (λ get. not (some_passes (λ x. is_reference_now (state_of p.regions x)) get.1)) (get_of (Some (f, arguments))) ≡ false
       → some_passes (λ release. (release.commits && is_critical release.access) || some_passes (λ x. is_mismatched release (state_of p.regions x)) release.buffer) (release_of (Some (f, arguments))) ≡ false
       → some_passes (is_array_in_use p.regions) (deleted_name (Some (f, arguments))) ≡ false
@@ -319,6 +327,13 @@ module _ (p : Point) where
   call_keeps DeleteLocalRef (a ∷ b ∷ rest) count fits read get release deleted popped last = absurd (cc)
   call_keeps PopLocalFrame arguments count fits read get release deleted popped last = pop_keeps arguments popped last
   call_keeps f arguments count fits read get release deleted popped last = tt
+
+-- each argument with its parameter
+zipped : (parameters : List ParameterKind) (arguments : List Argument) → length arguments ≡ length parameters → length (zip parameters arguments) ≡ length arguments
+zipped [] [] count = refl
+zipped [] (a ∷ arguments) count = absurd (cc)
+zipped (parameter ∷ parameters) [] count = refl
+zipped (parameter ∷ parameters) (a ∷ arguments) count = let later : length arguments ≡ length parameters = cc in ap suc (zipped parameters arguments later)
 
 -- ---- buffers that were tested
 
@@ -349,41 +364,49 @@ module _ (p : Point) (stated : AreStated p) where
   owner_tested CharsCopy o = tt
   owner_tested CharsView o = tt
 
-  mode_tested : (access : Access) (modes : List Argument) → BuffersTested p stated (release_mode access) modes
+  mode_tested : (access : Access) (modes : List Argument) → BuffersTested p stated (release_mode access ++ []) modes
   unfolding is_buffer
   mode_tested (ElementsCopy t) modes = none_tested (Mode ∷ []) modes refl
   mode_tested ArrayView modes = none_tested (Mode ∷ []) modes refl
   mode_tested CharsCopy modes = none_tested [] modes refl
   mode_tested CharsView modes = none_tested [] modes refl
 
-  tested_at : (f : JniFunction) (arguments : List Argument) → some_passes (λ release. some_passes (λ x. is_untested (state_of p.regions x)) release.buffer) (release_of (Some (f, arguments))) ≡ false → BuffersTested p stated (prototype f).parameters arguments
+  tested_at : (f : JniFunction) (arguments : List Argument) → some_passes (λ release. some_passes (λ x. is_untested (state_of p.regions x)) release.buffer) (release_of (Some (f, arguments))) ≡ false → BuffersTested p stated (parameters_for f (length arguments)) arguments
   unfolding is_buffer
   tested_at (ReleaseBuffer access) [] rule = tt
   tested_at (ReleaseBuffer access) (o ∷ []) rule = (owner_tested access o, tt)
   tested_at (ReleaseBuffer access) (o ∷ b ∷ modes) rule = (owner_tested access o, (one_tested p access b rule, mode_tested access modes))
-  tested_at (GetBuffer (ElementsCopy t)) arguments rule = none_tested (prototype (GetBuffer (ElementsCopy t))).parameters arguments refl
-  tested_at (GetBuffer ArrayView) arguments rule = none_tested (prototype (GetBuffer ArrayView)).parameters arguments refl
-  tested_at (GetBuffer CharsCopy) arguments rule = none_tested (prototype (GetBuffer CharsCopy)).parameters arguments refl
-  tested_at (GetBuffer CharsView) arguments rule = none_tested (prototype (GetBuffer CharsView)).parameters arguments refl
-  tested_at f arguments rule = none_tested (prototype f).parameters arguments refl
+  tested_at (GetBuffer (ElementsCopy t)) arguments rule = none_tested (parameters_for (GetBuffer (ElementsCopy t)) (length arguments)) arguments refl
+  tested_at (GetBuffer ArrayView) arguments rule = none_tested (parameters_for (GetBuffer ArrayView) (length arguments)) arguments refl
+  tested_at (GetBuffer CharsCopy) arguments rule = none_tested (parameters_for (GetBuffer CharsCopy) (length arguments)) arguments refl
+  tested_at (GetBuffer CharsView) arguments rule = none_tested (parameters_for (GetBuffer CharsView) (length arguments)) arguments refl
+  tested_at f arguments rule = none_tested (parameters_for f (length arguments)) arguments (none_among is_buffer refl f (length arguments) refl)
 
   -- ---- the call
 
-  module _ (s : Stmt) (obeys : Obeys p.regions s) (f : JniFunction) (arguments : List Argument) (called : function_called s ≡ Some (f, arguments)) (own : own_expressions s ≡ flat_map argument_expressions arguments) (count : length arguments ≡ length (prototype f).parameters) (fit : arguments_fit p.names (prototype f).parameters arguments ≡ true) (modes : modes_fit (prototype f).parameters arguments ≡ true) where
+  module _ (s : Stmt) (obeys : Obeys p.regions s) (f : JniFunction) (arguments : List Argument) (called : function_called s ≡ Some (f, arguments)) (own : own_expressions s ≡ flat_map argument_expressions arguments) (takes : takes_count f (length arguments) ≡ true) (fit : arguments_fit p.names (parameters_for f (length arguments)) arguments ≡ true) (modes : modes_fit (prototype f).parameters arguments ≡ true) where
+    count : length arguments ≡ length (parameters_for f (length arguments))
+    count = counted f (length arguments) takes
+
     arguments_read : MayReadAll p.regions (flat_map argument_expressions arguments)
     arguments_read = subst (MayReadAll p.regions) own (statement_reads p.regions s obeys)
 
-    call_operands : OperandsFit p (prototype f).parameters (operands_of f arguments)
-    call_operands = operands_fit p stated (prototype f).parameters arguments count fit modes arguments_read (tested_at f arguments (tested_rule p s obeys f arguments called))
+    call_operands : OperandsFit p (parameters_for f (length arguments)) (operands_of f arguments)
+    call_operands = operands_fit p stated (parameters_for f (length arguments)) arguments count fit (modes_of_all f arguments modes) arguments_read (tested_at f arguments (tested_rule p s obeys f arguments called))
 
     -- what the call asks, of its arguments themselves
     pub call_rules : CallKeeps p f arguments
     call_rules = call_keeps p f arguments count call_operands arguments_read (get_rule p s obeys f arguments called) (release_rule p s obeys f arguments called) (deleted_rule p s obeys f arguments called) (popped_rule p s obeys f arguments called) (last_rule p s obeys f arguments called)
 
+    -- as many operands as arguments
+    same_number : length (operands_of f arguments) ≡ length arguments
+    same_number = length-map (zip (parameters_for f (length arguments)) arguments) operand ∙ zipped (parameters_for f (length arguments)) arguments count
+
     -- a call that keeps the rules fits
     pub call_fits : CallFits p f (operands_of f arguments)
     call_fits = record {
-      sorts = call_operands;
+      sorts = subst (λ (n : ℕ). OperandsFit p (parameters_for f n) (operands_of f arguments)) (sym same_number) call_operands;
+      count = subst (λ (n : ℕ). takes_count f n ≡ true) (sym same_number) takes;
       views = views_met p s obeys f arguments called;
       rules = keeps_seen arguments p f count call_rules;
     }

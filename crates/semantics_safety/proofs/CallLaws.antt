@@ -1,8 +1,8 @@
 -- The step of each call of the JNI keeps what holds of its thread, and so does each step within a call.
-use Rattle.std.proofs.Common.{◌≡◌, ◌⊎◌, inl, inr, refl, ℕ, false, List, ◌∷◌, Some, sym, subst, length}
+use Rattle.std.proofs.Common.{◌≡◌, ◌⊎◌, inl, inr, refl, ℕ, Bool, true, false, List, ◌∷◌, Some, sym, subst, length}
 use Rattle.class_rules.specs.Class.{Classes}
 use Rattle.syntax.specs.Tree.{SourceUnit}
-use Rattle.jni.specs.JniFunction.{JniFunction, DeleteLocalRef, DeleteGlobalRef, DeleteWeakGlobalRef, PushLocalFrame, PopLocalFrame, GetArrayRegion, GetStringRegion, GetBuffer, ReleaseBuffer}
+use Rattle.jni.specs.JniFunction.{JniFunction, DeleteLocalRef, DeleteGlobalRef, DeleteWeakGlobalRef, PushLocalFrame, PopLocalFrame, GetArrayRegion, GetStringRegion, GetBuffer, ReleaseBuffer, CallStaticVoidMethod, CallStaticIntMethod, CallStaticObjectMethod, calls_method}
 use Rattle.semantics.specs.Arguments.{Actual, actuals}
 use Rattle.semantics.specs.CallEffects.{CallResult}
 use Rattle.semantics.specs.CallStep.{call_step}
@@ -28,20 +28,23 @@ use Rattle.semantics_safety.proofs.StepLaws.{plain_lands}
 
 module _ (unit : SourceUnit) (classes : Classes) (in_use : BuffersInUse) (k : ℕ) (s : Shared) (t : Thread) (line : ℕ) (rest : List Task) (p : Point) {weak : WeakNames} {own : Owners} (stands : Stands weak own s.statics t.variables t.frames p) (whole : Goes weak own s.statics t t.tasks) where
   -- the step of a call, by its function
-  pub each_call_lands : (f : JniFunction) (target : Target) (operands : List Operand) (args : List Actual) → args ≡ actuals (sight_of s t) f operands → Runs (Invoke line target f operands) (GoesOn rest) p → LandsBy weak (Calls line target f args) (length t.frames) own s.statics (call_step unit classes in_use k s t line target f args rest false)
-  each_call_lands DeleteLocalRef target operands args is runs =
+  pub each_call_lands : (f : JniFunction) (target : Target) (operands : List Operand) (args : List Actual) → args ≡ actuals (sight_of s t) f operands → calls_method f ≡ false → Runs (Invoke line target f operands) (GoesOn rest) p → LandsBy weak (Calls line target f args) (length t.frames) own s.statics (call_step unit classes in_use k s t line target f args rest false)
+  each_call_lands DeleteLocalRef target operands args is plain runs =
       subst (λ (l : List Actual). LandsBy weak (Calls line target DeleteLocalRef l) (length t.frames) own s.statics (call_step unit classes in_use k s t line target DeleteLocalRef l rest false)) (sym is) (delete_lands unit classes in_use k s t line rest p stands whole target operands runs)
-  each_call_lands PushLocalFrame target operands args is runs = push_lands unit classes in_use k s t line rest p stands whole target operands args runs
-  each_call_lands PopLocalFrame target operands args is runs = pop_lands unit classes in_use k s t line rest p stands whole target operands args runs
-  each_call_lands DeleteGlobalRef target operands args is runs = delete_global_lands unit classes in_use k s t line rest p stands whole target operands args runs
-  each_call_lands DeleteWeakGlobalRef target operands args is runs = delete_weak_lands unit classes in_use k s t line rest p stands whole target operands args runs
-  each_call_lands (GetArrayRegion u) target operands args is runs = array_region_lands unit classes in_use k s t line rest p stands whole u target operands args is runs
-  each_call_lands GetStringRegion target operands args is runs = string_region_lands unit classes in_use k s t line rest p stands whole target operands args is runs
-  each_call_lands (GetBuffer access) target operands args is runs =
+  each_call_lands PushLocalFrame target operands args is plain runs = push_lands unit classes in_use k s t line rest p stands whole target operands args runs
+  each_call_lands PopLocalFrame target operands args is plain runs = pop_lands unit classes in_use k s t line rest p stands whole target operands args runs
+  each_call_lands DeleteGlobalRef target operands args is plain runs = delete_global_lands unit classes in_use k s t line rest p stands whole target operands args runs
+  each_call_lands DeleteWeakGlobalRef target operands args is plain runs = delete_weak_lands unit classes in_use k s t line rest p stands whole target operands args runs
+  each_call_lands (GetArrayRegion u) target operands args is plain runs = array_region_lands unit classes in_use k s t line rest p stands whole u target operands args is runs
+  each_call_lands GetStringRegion target operands args is plain runs = string_region_lands unit classes in_use k s t line rest p stands whole target operands args is runs
+  each_call_lands (GetBuffer access) target operands args is plain runs =
       subst (λ (l : List Actual). LandsBy weak (Calls line target (GetBuffer access) l) (length t.frames) own s.statics (call_step unit classes in_use k s t line target (GetBuffer access) l rest false)) (sym is) (get_lands unit classes in_use k s t line rest p stands whole access target operands runs)
-  each_call_lands (ReleaseBuffer access) target operands args is runs =
+  each_call_lands (ReleaseBuffer access) target operands args is plain runs =
       subst (λ (l : List Actual). LandsBy weak (Calls line target (ReleaseBuffer access) l) (length t.frames) own s.statics (call_step unit classes in_use k s t line target (ReleaseBuffer access) l rest false)) (sym is) (release_lands unit classes in_use k s t line rest p stands whole access target operands runs)
-  each_call_lands f target operands args is runs = call_lands unit classes in_use k s t line f args rest p stands tt whole target operands runs
+  each_call_lands CallStaticVoidMethod target operands args is plain runs = absurd (cc)
+  each_call_lands CallStaticIntMethod target operands args is plain runs = absurd (cc)
+  each_call_lands CallStaticObjectMethod target operands args is plain runs = absurd (cc)
+  each_call_lands f target operands args is plain runs = call_lands unit classes in_use k s t line f args rest p stands tt whole target operands runs
 
 -- an effect that doesn't return
 abbrev pub IsNoReturn : Effect → Type 0
@@ -61,9 +64,37 @@ returns_or_not (Calls line target f args) = inr tt
 returns_or_not (TrapsAt trap line) = inr tt
 returns_or_not NoEffect = inr tt
 
+-- an effect that neither returns nor calls a method
+abbrev pub IsWithin : Effect → Type 0
+IsWithin (Returns given) = ⊥
+IsWithin (Calls line target f args) = calls_method f ≡ false
+IsWithin e = Unit {0}
+
+-- an effect returns, calls a method, or does neither
+pub data Way (e : Effect) : Type 0 where
+  Returning : (given : CallResult) → e ≡ Returns given → Way e
+  Calling : (line : ℕ) (target : Target) (f : JniFunction) (args : List Actual) → e ≡ Calls line target f args → calls_method f ≡ true → Way e
+  Within : IsWithin e → Way e
+
+way_of_call : (line : ℕ) (target : Target) (f : JniFunction) (args : List Actual) (b : Bool) → calls_method f ≡ b → Way (Calls line target f args)
+way_of_call line target f args true is = Calling line target f args refl is
+way_of_call line target f args false is = Within is
+
+pub way_of : (e : Effect) → Way e
+way_of (Returns given) = Returning given refl
+way_of (Calls line target f args) = way_of_call line target f args (calls_method f) refl
+way_of (Becomes tasks) = Within tt
+way_of (Sets x v) = Within tt
+way_of (SetsNull target) = Within tt
+way_of (SetsElement x i z) = Within tt
+way_of (MakesArray u x n) = Within tt
+way_of (Prints z) = Within tt
+way_of (TrapsAt trap line) = Within tt
+way_of NoEffect = Within tt
+
 module _ (unit : SourceUnit) (classes : Classes) (in_use : BuffersInUse) (k : ℕ) (s : Shared) (t : Thread) (task : Task) (rest : List Task) (p : Point) {weak : WeakNames} {own : Owners} (stands : Stands weak own s.statics t.variables t.frames p) (runs : Runs task (GoesOn rest) p) (whole : Goes weak own s.statics t t.tasks) where
-  each_lands : (e : Effect) → IsNoReturn e → Follows weak own (sight_of s t) s.statics t.variables t.frames p rest e → LandsBy weak e (length t.frames) own s.statics (after_effect unit classes in_use k s t rest e)
-  each_lands (Calls line target f args) away (operands, is, ready, r) = each_call_lands unit classes in_use k s t line rest p stands whole f target operands args is r
+  each_lands : (e : Effect) → IsWithin e → Follows weak own (sight_of s t) s.statics t.variables t.frames p rest e → LandsBy weak e (length t.frames) own s.statics (after_effect unit classes in_use k s t rest e)
+  each_lands (Calls line target f args) away (operands, is, ready, r) = each_call_lands unit classes in_use k s t line rest p stands whole f target operands args is away r
   each_lands (SetsNull target) away h = plain_by weak (SetsNull target) tt (length t.frames) own s.statics (after_effect unit classes in_use k s t rest (SetsNull target)) (null_lands unit classes in_use k s t rest p stands target h)
   each_lands (Becomes tasks) away h = plain_by weak (Becomes tasks) tt (length t.frames) own s.statics (after_effect unit classes in_use k s t rest (Becomes tasks)) (plain_lands unit classes in_use k s t rest p stands (sight_of s t) (Becomes tasks) tt whole h)
   each_lands (Sets x v) away h = plain_by weak (Sets x v) tt (length t.frames) own s.statics (after_effect unit classes in_use k s t rest (Sets x v)) (plain_lands unit classes in_use k s t rest p stands (sight_of s t) (Sets x v) tt whole h)
@@ -75,5 +106,5 @@ module _ (unit : SourceUnit) (classes : Classes) (in_use : BuffersInUse) (k : �
   each_lands NoEffect away h = absurd h
 
   -- each step within a call but a return, unmarked, leads to a point again, and is possible
-  pub each_step_lands : IsNoReturn (effect_of (sight_of s t) task) → LandsBy weak (effect_of (sight_of s t) task) (length t.frames) own s.statics (step_within unit classes in_use k s t false (Some (task ∷ rest)))
+  pub each_step_lands : IsWithin (effect_of (sight_of s t) task) → LandsBy weak (effect_of (sight_of s t) task) (length t.frames) own s.statics (step_within unit classes in_use k s t false (Some (task ∷ rest)))
   each_step_lands away = each_lands (effect_of (sight_of s t) task) away (effect_follows s.heap s.statics t.variables t.frames p stands rest task runs)

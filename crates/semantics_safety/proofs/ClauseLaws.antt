@@ -9,8 +9,8 @@ use Rattle.base.specs.Bytes.{Identifier, ByName, lookup}
 use Rattle.syntax.specs.Tree as tree
 use Rattle.syntax.specs.Tree.{Argument}
 use Rattle.jni.specs.Access.{Access, is_critical}
-use Rattle.jni.specs.JniFunction.{JniFunction, prototype}
-use Rattle.jni.specs.Prototype.{ParameterKind, FieldID, IntNumber, TextBytes, AnyReference, LocalVariable, StaticVariable, WeakVariable, ArrayVariable, BufferVariable, Mode, IsCopy}
+use Rattle.jni.specs.JniFunction.{JniFunction, parameters_for}
+use Rattle.jni.specs.Prototype.{ParameterKind, FieldID, IntNumber, TextBytes, AnyReference, LocalVariable, StaticVariable, WeakVariable, ArrayVariable, BufferVariable, Mode, IsCopy, MethodID, Passed}
 use Rattle.type_rules.specs.Sorts.{Sort, sort_in}
 use Rattle.type_rules.specs.Sorts as sort
 use Rattle.type_rules.specs.SortGroups.{IsNumberSort}
@@ -18,13 +18,13 @@ use Rattle.semantics.specs.Object.{Reference}
 use Rattle.region_rules.specs.RegionRules.{is_critical_call}
 use Rattle.region_rules.specs.RegionStates.{VariableState, Untested, Usable, ReferenceAt, BufferIn, state_of}
 use Rattle.semantics.specs.Task as task
-use Rattle.semantics.specs.Task.{Task, SetScalar, SetElement, Invoke, Print, Branch, Loop, Target, Declared, Assigned, Tested, Dropped, Operand, NumberOperand, Given}
+use Rattle.semantics.specs.Task.{Task, SetScalar, SetElement, Invoke, Print, Branch, Loop, Target, Declared, Assigned, Tested, Dropped, Operand, NumberOperand, Given, PassedName}
 use Rattle.semantics.specs.Term as term
 use Rattle.semantics.specs.Term.{Term, Done, Read, IsNull, Prefix, And, Or, Binary}
 use Rattle.semantics.specs.Thread.{Frame}
 use Rattle.semantics.specs.Variable.{Variable, LocalRef, Elements, Buffer, NoBuffer, Copy, View, StaticReference, Variables, Statics, viewed}
 use Rattle.semantics_safety.specs.Owners.{Owners, IsOwn}
-use Rattle.semantics_safety.specs.Points.{Point, AreOnce, IsLive, IsUsable, NullTestFits, ElementsFit, ReferenceFits, AnyReferenceFits, HasSort, ReferenceArgumentFits, AnyReferenceArgumentFits, NameFits, FieldArgumentFits, ModeFits, CopyFits, TextFits, GivenFits, OperandFits, OperandsFit, is_copy, owns, owners}
+use Rattle.semantics_safety.specs.Points.{Point, AreOnce, IsLive, IsUsable, NullTestFits, ElementsFit, ReferenceFits, AnyReferenceFits, HasSort, ReferenceArgumentFits, AnyReferenceArgumentFits, NameFits, FieldArgumentFits, ModeFits, CopyFits, TextFits, GivenFits, OperandFits, OperandsFit, is_copy, owns, owners, PassedFits, NullFits, MethodArgumentFits}
 use Rattle.semantics_safety.specs.StepSafe.{MayMeetView, is_lent, references_at, IsAlive}
 use Rattle.semantics_safety.specs.Stands.{VariableFits, IsOf, Shows, Stands}
 use Rattle.semantics_safety.specs.Used.{term_names, argument_names, operand_names, task_names}
@@ -270,6 +270,21 @@ module _ (ss : Statics) (vs : Variables) (frames : List Frame) (p : Point) {weak
   field_argument_alive (tree.Value (tree.Variable x)) h = (sort_alive x sort.FieldId (λ c. cc) h, tt)
   field_argument_alive a h = absurd h
 
+  method_argument_alive : (a : Argument) → MethodArgumentFits p a → AllByRecursion Alive (argument_names a)
+  method_argument_alive (tree.Value (tree.Named c)) h = tt
+  method_argument_alive (tree.Value (tree.Variable x)) h = (sort_alive x sort.MethodId (λ c. cc) h, tt)
+  method_argument_alive a h = absurd h
+
+  null_argument_alive : (a : Argument) → NullFits a → AllByRecursion Alive (argument_names a)
+  null_argument_alive (tree.Value (tree.Named tree.Null)) h = tt
+  null_argument_alive a h = absurd h
+
+  passed_alive : (x : Identifier) (o : Option Sort) → sort_in p.names x ≡ o → PassedFits p x o → Alive x
+  passed_alive x (Some sort.Jint) e h = sort_alive x sort.Jint (λ c. cc) e
+  passed_alive x (Some sort.Ref) e h = live_alive x h
+  passed_alive x (Some sort.Global) e h = sort_alive x sort.Global (λ c. cc) e
+  passed_alive x o e h = absurd h
+
   mode_alive : (a : Argument) → ModeFits a → AllByRecursion Alive (argument_names a)
   mode_alive (tree.Value (tree.Number n unsigned)) h = tt
   mode_alive (tree.Value (tree.Named c)) h = tt
@@ -292,6 +307,8 @@ module _ (ss : Statics) (vs : Variables) (frames : List Frame) (p : Point) {weak
   given_alive WeakVariable a h = named_alive (λ x. sort_in p.names x ≡ Some sort.Weak) a (λ x e. sort_alive x sort.Weak (λ c. cc) e) h
   given_alive AnyReference a h = any_argument_alive a h
   given_alive FieldID a h = field_argument_alive a h
+  given_alive MethodID a h = method_argument_alive a h
+  given_alive Passed a h = null_argument_alive a h
   given_alive (ArrayVariable t) a h = named_alive (λ x. (size : ℕ) × (sort_in p.names x ≡ Some (sort.Array t size))) a (λ x e. sort_alive x (sort.Array t e.0) (λ c. cc) e.1) h
   given_alive (BufferVariable access) a h = named_alive (IsUsable p) a usable_alive h
   given_alive Mode a h = mode_alive a h
@@ -300,7 +317,10 @@ module _ (ss : Statics) (vs : Variables) (frames : List Frame) (p : Point) {weak
 
   operand_alive : (parameter : ParameterKind) (o : Operand) → OperandFits p parameter o → AllByRecursion Alive (operand_names o)
   operand_alive IntNumber (NumberOperand t) h = term_alive t sort.Jint h
+  operand_alive Passed (NumberOperand t) h = term_alive t sort.Jint h
+  operand_alive Passed (PassedName x) h = (passed_alive x (sort_in p.names x) refl h, tt)
   operand_alive parameter (NumberOperand t) h = absurd h
+  operand_alive parameter (PassedName x) h = absurd h
   operand_alive parameter (Given a) h = given_alive parameter a h
 
   operands_alive : (parameters : List ParameterKind) (operands : List Operand) → OperandsFit p parameters operands → AllByRecursion Alive (flat_map operand_names operands)
@@ -331,10 +351,10 @@ module _ (ss : Statics) (vs : Variables) (frames : List Frame) (p : Point) {weak
   return_alive (Binary op a b) h = term_alive (Binary op a b) sort.Jint h
 
   call_alive : (line : ℕ) (target : Target) (f : JniFunction) (operands : List Operand) (k : Point → Type 0) → Runs (Invoke line target f operands) k p → AllByRecursion Alive (flat_map operand_names operands)
-  call_alive line (Tested a b) f operands k r = operands_alive (prototype f).parameters operands (r.0).sorts
-  call_alive line (Declared kind x) f operands k r = operands_alive (prototype f).parameters operands (r.0).sorts
-  call_alive line (Assigned x) f operands k r = operands_alive (prototype f).parameters operands (r.0).sorts
-  call_alive line Dropped f operands k r = operands_alive (prototype f).parameters operands (r.0).sorts
+  call_alive line (Tested a b) f operands k r = operands_alive (parameters_for f (length operands)) operands (r.0).sorts
+  call_alive line (Declared kind x) f operands k r = operands_alive (parameters_for f (length operands)) operands (r.0).sorts
+  call_alive line (Assigned x) f operands k r = operands_alive (parameters_for f (length operands)) operands (r.0).sorts
+  call_alive line Dropped f operands k r = operands_alive (parameters_for f (length operands)) operands (r.0).sorts
 
   -- each name that a step uses
   each_used : (t : Task) (k : Point → Type 0) → Runs t k p → AllByRecursion Alive (task_names t)

@@ -1,31 +1,31 @@
 -- The effect of a task that runs at a point follows: the point after it has what is wanted there.
-use Rattle.std.proofs.Common.{◌≡◌, ℕ, Bool, true, false, not, ◌&&◌, List, [], ◌∷◌, ◌++◌, map, Option, Some, refl, sym, ap, subst, append_assoc}
+use Rattle.std.proofs.Common.{◌≡◌, ℕ, Bool, true, false, not, ◌&&◌, List, [], ◌∷◌, ◌++◌, length, map, suc, Option, Some, refl, sym, ap, subst, append_assoc}
 use Rattle.std.specs.Prelude.{ℤ}
 use Rattle.std.proofs.lemmas.Bool.{cond_both}
 use Rattle.base.specs.Bytes.{Identifier, lookup}
 use Rattle.syntax.specs.Tree as tree
 use Rattle.syntax.specs.Tree.{Block, Expr, Argument}
-use Rattle.jni.specs.JniFunction.{JniFunction, prototype}
-use Rattle.jni.specs.Prototype.{ParameterKind, IntNumber}
+use Rattle.jni.specs.JniFunction.{JniFunction, parameters_for, takes_count, prototype}
+use Rattle.jni.specs.Prototype.{ParameterKind, IntNumber, Passed}
 use Rattle.type_rules.specs.Sorts.{Sort, sort_in}
 use Rattle.type_rules.specs.Sorts as sort
 use Rattle.type_rules.specs.SortGroups.{IsIndexSort, IsNumberSort}
 use Rattle.semantics.specs.Arguments.{actuals}
 use Rattle.semantics.specs.CallEffects.{ScalarResult}
-use Rattle.semantics.specs.Effect.{Effect, Becomes, Sets, SetsElement, Prints, Calls, Returns, at_line, goes_on, with_value, print_effect, branch_effect, loop_effect, element_effect, is_given, is_ready, reduce_number, reduce_first, call_effect_of, returned_name, return_effect, effect_of}
+use Rattle.semantics.specs.Effect.{Effect, Becomes, Sets, SetsElement, Prints, Calls, Returns, at_line, goes_on, with_value, print_effect, branch_effect, loop_effect, element_effect, is_given, is_no_number, is_ready, reduce_number, reduce_name, reduce_first, call_effect_of, returned_name, return_effect, effect_of}
 use Rattle.semantics.specs.Heap.{Heap}
 use Rattle.region_rules.specs.RegionStates.{get_of, after_call, with_changed, made_free}
 use Rattle.region_rules.specs.Regions.{made_usable}
 use Rattle.semantics.specs.Sight.{Sight, seen, scalar}
 use Rattle.semantics.specs.Task as task
-use Rattle.semantics.specs.Task.{Task, SetScalar, SetElement, SetNull, MakeArray, Invoke, Print, Branch, EndIf, Loop, EndTurn, Impossible, Target, Declared, Assigned, Tested, Dropped, Operand, NumberOperand, Given, tasks_of}
+use Rattle.semantics.specs.Task.{Task, SetScalar, SetElement, SetNull, MakeArray, Invoke, Print, Branch, EndIf, Loop, EndTurn, Impossible, Target, Declared, Assigned, Tested, Dropped, Operand, NumberOperand, PassedName, Given, tasks_of}
 use Rattle.semantics.specs.Term as term
 use Rattle.semantics.specs.Term.{Term, Done, Read, IsNull, Prefix, And, Or, Binary, Reduction, done, index_of, reduce}
 use Rattle.semantics.specs.Thread.{Frame}
 use Rattle.semantics.specs.Value.{Value, Int, Truth, Outcome, Gives, Traps, Stuck, outcome_map}
 use Rattle.semantics.specs.Variable.{StaticReference, Variable, LocalRef, Variables, Statics}
 use Rattle.semantics_safety.specs.Owners.{Owners}
-use Rattle.semantics_safety.specs.Points.{Point, value_sort, ElementsFit, HasSort, OperandFits, OperandsFit}
+use Rattle.semantics_safety.specs.Points.{Point, value_sort, ElementsFit, HasSort, OperandFits, OperandsFit, PassedFits}
 use Rattle.semantics_safety.specs.Stands.{Stands}
 use Rattle.semantics_safety.specs.Wanted.{at, Teaches, Nothing, ForNull, ForOther, IsTrueNow, IsFalseNow, Closes, Outside, MayReturnFrom, ReturnedFits, ReturnFits, SetsNumber, ResultGoes, CallFits, CallKeeps, operand_argument, call_seen, RunsTest, RunsBlock, Turns, Runs, GoesOn}
 use Rattle.semantics_safety.specs.Follows.{Follows}
@@ -205,34 +205,84 @@ module _ (heap : Heap) (ss : Statics) (vs : Variables) (frames : List Frame) (p 
   after_go parameter parameters o before (Traps trap) h g = tt
   after_go parameter parameters o before Stuck h g = g
 
-  number_go : (parameters : List ParameterKind) (e : Term) (before : List Operand) (o : Reduction) → TermFits p sort.Jint o → OperandsFit p parameters before → OperandsGo (IntNumber ∷ parameters) (NumberOperand e ∷ before) (outcome_map (λ (u : Term). NumberOperand u ∷ before) o)
-  number_go parameters e before (Gives u) h g = ((h, g), refl)
-  number_go parameters e before (Traps trap) h g = tt
-  number_go parameters e before Stuck h g = h
+  -- a number takes a step, whatever is to be given
+  number_sort : (parameter : ParameterKind) (t : Term) → OperandFits p parameter (NumberOperand t) → HasSort p t sort.Jint
+  number_sort IntNumber t h = h
+  number_sort Passed t h = h
+  number_sort parameter t h = absurd h
 
-  number_kind : (parameter : ParameterKind) (t : Term) → OperandFits p parameter (NumberOperand t) → (parameter ≡ IntNumber) × HasSort p t sort.Jint
-  number_kind IntNumber t h = (refl, h)
-  number_kind parameter t h = absurd h
+  number_fits : (parameter : ParameterKind) (t : Term) → OperandFits p parameter (NumberOperand t) → (u : Term) → HasSort p u sort.Jint → OperandFits p parameter (NumberOperand u)
+  number_fits IntNumber t h u is = is
+  number_fits Passed t h u is = is
+  number_fits parameter t h u is = absurd h
 
-  not_ready : (b : Bool) → (true && b) ≡ false → b ≡ false
-  not_ready b e = e
+  number_go : (parameter : ParameterKind) (parameters : List ParameterKind) (e : Term) (before : List Operand) (o : Reduction) → ((u : Term) → HasSort p u sort.Jint → OperandFits p parameter (NumberOperand u)) → TermFits p sort.Jint o → OperandsFit p parameters before
+      → OperandsGo (parameter ∷ parameters) (NumberOperand e ∷ before) (outcome_map (λ (u : Term). NumberOperand u ∷ before) o)
+  number_go parameter parameters e before (Gives u) fits h g = ((fits u h, g), refl)
+  number_go parameter parameters e before (Traps trap) fits h g = tt
+  number_go parameter parameters e before Stuck fits h g = h
 
-  number_steps : (parameters : List ParameterKind) (e : Term) (before : List Operand) → HasSort p e sort.Jint → OperandsFit p parameters before → (is_ready before ≡ false → OperandsGo parameters before (reduce_first sight before)) → (is_given (NumberOperand e) && is_ready before) ≡ false
-      → OperandsGo (IntNumber ∷ parameters) (NumberOperand e ∷ before) (reduce_number e before (reduce sight e) (reduce_first sight before))
-  number_steps parameters (Done v) before h g further e = after_go IntNumber parameters (NumberOperand (Done v)) before (reduce_first sight before) h (further e)
-  number_steps parameters t before h g further e = number_go parameters t before (reduce sight t) (reduce_fits p sight (sees ss vs frames p heap stands) t sort.Jint h tt) g
+  number_steps : (parameter : ParameterKind) (parameters : List ParameterKind) (e : Term) (before : List Operand) → OperandFits p parameter (NumberOperand e) → OperandsFit p parameters before → (is_ready sight.number before ≡ false → OperandsGo parameters before (reduce_first sight before)) → (is_given sight.number (NumberOperand e) && is_ready sight.number before) ≡ false
+      → OperandsGo (parameter ∷ parameters) (NumberOperand e ∷ before) (reduce_number e before (reduce sight e) (reduce_first sight before))
+  number_steps parameter parameters (Done v) before h g further e = after_go parameter parameters (NumberOperand (Done v)) before (reduce_first sight before) h (further e)
+  number_steps parameter parameters t before h g further e =
+      number_go parameter parameters t before (reduce sight t) (number_fits parameter t h) (reduce_fits p sight (sees ss vs frames p heap stands) t sort.Jint (number_sort parameter t h) tt) g
 
-  operands_go : (parameters : List ParameterKind) (operands : List Operand) → OperandsFit p parameters operands → is_ready operands ≡ false → OperandsGo parameters operands (reduce_first sight operands)
+  -- a name that a method is given is that of a number, or of a reference
+  abbrev PassedValue : Outcome Value → Type 0
+  PassedValue (Gives v) = HasSort p (Done v) sort.Jint
+  PassedValue o = Unit {0}
+
+  jint_passed : (o : Outcome Value) → ValueFits sort.Jint o → PassedValue o
+  jint_passed (Gives v) h = h
+  jint_passed (Traps trap) h = tt
+  jint_passed Stuck h = tt
+
+  name_passed : (x : Identifier) (o : Option Sort) → sort_in p.names x ≡ o → PassedFits p x o → PassedValue (sight.number x)
+  name_passed x (Some sort.Jint) e h = jint_passed (sight.number x) ((sees ss vs frames p heap stands).number x sort.Jint e tt)
+  name_passed x (Some sort.Ref) e h = let there = stands.sorts x sort.Ref e in subst (λ (v : Option Variable). PassedValue (scalar v)) (sym there.2) tt
+  name_passed x (Some sort.Global) e h = let there = stands.sorts x sort.Global e in subst (λ (v : Option Variable). PassedValue (scalar v)) (sym there.0) tt
+  name_passed x o e h = absurd h
+
+  name_kind : (parameter : ParameterKind) (x : Identifier) → OperandFits p parameter (PassedName x) → (parameter ≡ Passed) × PassedFits p x (sort_in p.names x)
+  name_kind Passed x h = (refl, h)
+  name_kind parameter x h = absurd h
+
+  name_steps : (parameters : List ParameterKind) (x : Identifier) (before : List Operand) (o : Outcome Value) → PassedValue o → PassedFits p x (sort_in p.names x) → OperandsFit p parameters before → (is_ready sight.number before ≡ false → OperandsGo parameters before (reduce_first sight before)) → (is_no_number o && is_ready sight.number before) ≡ false
+      → OperandsGo (Passed ∷ parameters) (PassedName x ∷ before) (reduce_name x before o (reduce_first sight before))
+  name_steps parameters x before (Gives v) is h g further e = ((is, g), refl)
+  name_steps parameters x before (Traps trap) is h g further e = after_go Passed parameters (PassedName x) before (reduce_first sight before) h (further e)
+  name_steps parameters x before Stuck is h g further e = after_go Passed parameters (PassedName x) before (reduce_first sight before) h (further e)
+
+  operands_go : (parameters : List ParameterKind) (operands : List Operand) → OperandsFit p parameters operands → is_ready sight.number operands ≡ false → OperandsGo parameters operands (reduce_first sight operands)
   operands_go [] [] h e = absurd (cc)
   operands_go [] (o ∷ operands) h e = absurd h
   operands_go (parameter ∷ parameters) [] h e = absurd h
-  operands_go (parameter ∷ parameters) (NumberOperand t ∷ operands) h e =
-      let kind = number_kind parameter t h.0 in
-      subst (λ (q : ParameterKind). OperandsGo (q ∷ parameters) (NumberOperand t ∷ operands) (reduce_first sight (NumberOperand t ∷ operands))) (sym kind.0) (number_steps parameters t operands kind.1 h.1 (operands_go parameters operands h.1) e)
+  operands_go (parameter ∷ parameters) (NumberOperand t ∷ operands) h e = number_steps parameter parameters t operands h.0 h.1 (operands_go parameters operands h.1) e
+  operands_go (parameter ∷ parameters) (PassedName x ∷ operands) h e =
+      let kind = name_kind parameter x h.0 in
+      subst (λ (q : ParameterKind). OperandsGo (q ∷ parameters) (PassedName x ∷ operands) (reduce_first sight (PassedName x ∷ operands))) (sym kind.0)
+      (name_steps parameters x operands (sight.number x) (name_passed x (sort_in p.names x) refl kind.1) kind.1 h.1 (operands_go parameters operands h.1) e)
   operands_go (parameter ∷ parameters) (Given a ∷ operands) h e = after_go parameter parameters (Given a) operands (reduce_first sight operands) h.0 (operands_go parameters operands h.1 e)
 
-  fits_again : (f : JniFunction) (before after : List Operand) → CallFits p f before → AsGood (prototype f).parameters before after → CallFits p f after
-  fits_again f before after fits good = record { sorts = good.0; views = fits.views; rules = subst (λ (args : List Argument). CallKeeps p f args) (sym good.1) fits.rules }
+  -- as many
+  same_count : (before after : List Operand) → map operand_argument after ≡ map operand_argument before → length after ≡ length before
+  same_count [] [] e = refl
+  same_count [] (o ∷ after) e = absurd (cc)
+  same_count (o ∷ before) [] e = absurd (cc)
+  same_count (o ∷ before) (u ∷ after) e =
+      let both : operand_argument u ∷ map operand_argument after ≡ operand_argument o ∷ map operand_argument before = e in
+      ap suc (same_count before after (let rest : map operand_argument after ≡ map operand_argument before = cc in rest))
+
+  fits_again : (f : JniFunction) (before after : List Operand) → CallFits p f before → AsGood (parameters_for f (length before)) before after → CallFits p f after
+  fits_again f before after fits good =
+      let same = sym (same_count before after good.1) in
+      record {
+        sorts = subst (λ (n : ℕ). OperandsFit p (parameters_for f n) after) same good.0;
+        count = subst (λ (n : ℕ). takes_count f n ≡ true) same fits.count;
+        views = fits.views;
+        rules = subst (λ (args : List Argument). CallKeeps p f args) (sym good.1) fits.rules;
+      }
 
   goes_again : (target : Target) (f : JniFunction) (before after : List Operand) → map operand_argument after ≡ map operand_argument before
       → ResultGoes target (prototype f).result (get_of (call_seen f before)) (GoesOn rest) (at p (after_call p.regions (call_seen f before)))
@@ -240,7 +290,7 @@ module _ (heap : Heap) (ss : Statics) (vs : Variables) (frames : List Frame) (p 
   goes_again target f before after e h =
       subst (λ (args : List Argument). ResultGoes target (prototype f).result (get_of (Some (f, args))) (GoesOn rest) (at p (after_call p.regions (Some (f, args))))) (sym e) h
 
-  runs_again : (line : ℕ) (target : Target) (f : JniFunction) (before after : List Operand) → Runs (Invoke line target f before) (GoesOn rest) p → AsGood (prototype f).parameters before after → Runs (Invoke line target f after) (GoesOn rest) p
+  runs_again : (line : ℕ) (target : Target) (f : JniFunction) (before after : List Operand) → Runs (Invoke line target f before) (GoesOn rest) p → AsGood (parameters_for f (length before)) before after → Runs (Invoke line target f after) (GoesOn rest) p
   runs_again line (Tested a b) f before after r good = (fits_again f before after r.0 good, r.1, r.2, r.3)
   runs_again line (Declared kind x) f before after r good = (fits_again f before after r.0 good, r.1, goes_again (Declared kind x) f before after good.1 r.2)
   runs_again line (Assigned x) f before after r good = (fits_again f before after r.0 good, r.1, goes_again (Assigned x) f before after good.1 r.2)
@@ -252,16 +302,16 @@ module _ (heap : Heap) (ss : Statics) (vs : Variables) (frames : List Frame) (p 
   call_fits line (Assigned x) f operands r = r.0
   call_fits line Dropped f operands r = r.0
 
-  operands_stepped : (line : ℕ) (target : Target) (f : JniFunction) (operands : List Operand) (o : Outcome (List Operand)) → Runs (Invoke line target f operands) (GoesOn rest) p → OperandsGo (prototype f).parameters operands o → Goes (goes_on line (Invoke line target f) o)
+  operands_stepped : (line : ℕ) (target : Target) (f : JniFunction) (operands : List Operand) (o : Outcome (List Operand)) → Runs (Invoke line target f operands) (GoesOn rest) p → OperandsGo (parameters_for f (length operands)) operands o → Goes (goes_on line (Invoke line target f) o)
   operands_stepped line target f operands (Gives after) r good = (p, stands, runs_again line target f operands after r good)
   operands_stepped line target f operands (Traps trap) r good = tt
   operands_stepped line target f operands Stuck r good = absurd good
 
   calls : (line : ℕ) (target : Target) (f : JniFunction) (operands : List Operand) → Runs (Invoke line target f operands) (GoesOn rest) p → Goes (call_effect_of sight line target f operands)
   calls line target f operands r =
-      cond_both (is_ready operands) (Calls line target f (actuals sight f operands)) (goes_on line (Invoke line target f) (reduce_first sight operands)) Goes
+      cond_both (is_ready sight.number operands) (Calls line target f (actuals sight f operands)) (goes_on line (Invoke line target f) (reduce_first sight operands)) Goes
       (λ e. (operands, refl, e, r))
-      (λ e. operands_stepped line target f operands (reduce_first sight operands) r (operands_go (prototype f).parameters operands ((call_fits line target f operands r).sorts) e))
+      (λ e. operands_stepped line target f operands (reduce_first sight operands) r (operands_go (parameters_for f (length operands)) operands ((call_fits line target f operands r).sorts) e))
 
   -- ---- all tasks
 

@@ -19,6 +19,7 @@ use Rattle.semantics_safety.specs.Owners.{owners_after}
 use Rattle.semantics_safety.specs.Stands.{IsSound}
 use Rattle.semantics_safety.specs.StepSafe.{HasCalls, AcceptedIsSafe}
 use Rattle.semantics_safety.specs.Wanted.{Outside, GoesOn}
+use Rattle.class_rules.specs.Mangling.{IsInverse}
 use Rattle.semantics_safety.proofs.Accepted.{GivesWanted, accepted_is_safe, accepted_are_sound}
 use Rattle.semantics_safety.proofs.Assignments.{assign_value, assign_call}
 use Rattle.semantics_safety.proofs.BlockLaws.{block_goes}
@@ -66,10 +67,10 @@ function_gives f scope globals once sorted accepted =
     (block_gives plain_gives push_gives f.body p p taken taken f.result Returned (λ q. ⊥) known known (λ x s e. e) sorted accepted (λ after e now. goes_nowhere after e)))
 
 -- after each journal of an accepted unit, each thread is at a point, or before an entry
-pub unit_is_sound : (unit : SourceUnit) (w : World) → IsSorted unit → HasRegions unit → Loads unit w → HasCalls w → (journal : Journal) (s : State) (k : ℕ) (t : Thread) → replay unit w journal ≡ Some s → thread_at s k ≡ Some t
+pub unit_is_sound : IsInverse → (unit : SourceUnit) (w : World) → IsSorted unit → HasRegions unit → Loads unit w → HasCalls w → (journal : Journal) (s : State) (k : ℕ) (t : Thread) → replay unit w journal ≡ Some s → thread_at s k ≡ Some t
     → IsSound unit w.classes (owners_after unit w journal k) s.shared.statics t
 unit_is_sound = accepted_are_sound function_gives
 
 -- an accepted unit is safe
-pub unit_is_safe : AcceptedIsSafe
+pub unit_is_safe : IsInverse → AcceptedIsSafe
 unit_is_safe = accepted_is_safe function_gives

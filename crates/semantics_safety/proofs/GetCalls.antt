@@ -1,6 +1,6 @@
 -- The steps of the calls that get a buffer.
 use Rattle.std.proofs.Common.{◌≡◌, ◌≢◌, ℕ, ◌+◌, ◌≤◌, arith, Bool, true, false, ◌⊎◌, inl, inr, List, [], ◌∷◌, ◌++◌, map, filter, length, Option, Some, None, refl, sym, ap, ◌∙◌, subst, if◌then◌else◌}
-use Rattle.std.specs.Prelude.{ℤ, nat_le, nat_lt, zip, ◌||◌, ◌&&◌, not, is_some, slice_get}
+use Rattle.std.specs.Prelude.{ℤ, nat_le, nat_lt, zip, ◌||◌, ◌&&◌, not, is_some}
 use Rattle.std.specs.List.{list_any}
 use Rattle.std.specs.Option.{option_map}
 use Rattle.std.specs.Str.{bytes_eq}
@@ -10,7 +10,7 @@ use Rattle.syntax.specs.Tree.{SourceUnit}
 use Rattle.syntax.specs.Tree as tree
 use Rattle.class_rules.specs.Class.{Classes}
 use Rattle.jni.specs.Access.{Access, ElementsCopy, ArrayView, CharsCopy, CharsView, is_critical}
-use Rattle.jni.specs.JniFunction.{JniFunction, GetBuffer, PushLocalFrame, is_allowed_pending, prototype}
+use Rattle.jni.specs.JniFunction.{JniFunction, GetBuffer, PushLocalFrame, is_allowed_pending, parameters_for}
 use Rattle.jni.specs.Prototype.{GivesBuffer, owner, IsCopy}
 use Rattle.type_rules.specs.Sorts.{Sort, sort_in}
 use Rattle.type_rules.specs.Sorts as sort
@@ -19,15 +19,15 @@ use Rattle.semantics.specs.Object.{Reference}
 use Rattle.semantics.specs.Arguments.{Actual, ReferenceActual, look_up, actuals, reference_in_actual, name_or_zero, address_given, address_in_actual}
 use Rattle.semantics.specs.CallEffects.{CallEffect, Leaves, BufferResult}
 use Rattle.semantics.specs.CallStep.{put, put_assigned, tell_copy, trap_of_call, target_element, checked, after_call, call_step}
-use Rattle.semantics.specs.CallTable.{call_effect, go_together}
-use Rattle.semantics.specs.Checks.{call_trap, first_trap, is_deleted, is_missing, is_misfit, lacks_room, frames_after}
+use Rattle.semantics.specs.CallTable.{call_effect}
+use Rattle.semantics.specs.Checks.{call_trap, first_trap, is_deleted, is_missing}
 use Rattle.semantics.specs.Effect.{tasks_after, Calls}
 use Rattle.semantics.specs.Heap.{Heap, numbers_of}
 use Rattle.semantics.specs.Sight.{held_reference}
 use Rattle.semantics.specs.Task.{Task, Target, Declared, Assigned, Tested, Dropped, VariableKind, ScalarKind, ReferenceKind, FieldKind, MethodKind, BufferKind, Operand, Given, Invoke}
 use Rattle.semantics.specs.Thread.{Thread, Shared, BuffersInUse, Frame, sight_of}
 use Rattle.semantics.specs.ThreadStep.{with_tasks}
-use Rattle.semantics.specs.Value.{Flag, Value, Trap, ExceptionPending, DeletedReference, NullReference, WrongObject, NoCapacity}
+use Rattle.semantics.specs.Value.{Flag, Value, Trap, ExceptionPending, DeletedReference, NullReference}
 use Rattle.semantics.specs.Variable.{Variable, Scalar, LocalRef, Elements, Buffer, NoBuffer, Copy, View, Variables, Statics, assign}
 use Rattle.semantics_safety.proofs.OwnerLaws.{LandsBy, put_by}
 use Rattle.semantics_safety.specs.Owners.{Owners}
@@ -187,19 +187,17 @@ module _ (ss : Statics) (vs : Variables) (frames : List Frame) (p : Point) {weak
 
 -- ---- the step
 
-third_fails : (a b c d e : Bool) (u v w x y : Trap) → first_trap ((a, u) ∷ (b, v) ∷ (c, w) ∷ (d, x) ∷ (e, y) ∷ []) ≡ None → c ≡ false
-third_fails true b c d e u v w x y h = absurd (cc)
-third_fails false true c d e u v w x y h = absurd (cc)
-third_fails false false true d e u v w x y h = absurd (cc)
-third_fails false false false d e u v w x y h = refl
+third_fails : (a b c : Bool) (u v w : Trap) (further : List (Bool × Trap)) → first_trap ((a, u) ∷ (b, v) ∷ (c, w) ∷ further) ≡ None → c ≡ false
+third_fails true b c u v w further h = absurd (cc)
+third_fails false true c u v w further h = absurd (cc)
+third_fails false false true u v w further h = absurd (cc)
+third_fails false false false u v w further h = refl
 
 -- a call that no trap stopped has all objects that it asks for
-none_missing : (classes : Classes) (heap : Heap) (t : Thread) (buffer : ElementType) (f : JniFunction) (args : List Actual) → call_trap classes heap t buffer f args ≡ None → list_any is_missing (zip (prototype f).parameters args) ≡ false
+none_missing : (classes : Classes) (heap : Heap) (t : Thread) (buffer : ElementType) (f : JniFunction) (args : List Actual) → call_trap classes heap t buffer f args ≡ None → list_any is_missing (zip (parameters_for f (length args)) args) ≡ false
 unfolding call_trap
 none_missing classes heap t buffer f args none =
-    third_fails (is_some t.pending && not (is_allowed_pending f)) (list_any is_deleted args) (list_any is_missing (zip (prototype f).parameters args))
-    (list_any (is_misfit classes heap) (zip (prototype f).parameters args) || not (go_together classes heap buffer args f))
-    (lacks_room (prototype f).result (slice_get (frames_after f t.frames) 0)) ExceptionPending DeletedReference NullReference WrongObject NoCapacity none
+    third_fails (is_some t.pending && not (is_allowed_pending f)) (list_any is_deleted args) (list_any is_missing (zip (parameters_for f (length args)) args)) ExceptionPending DeletedReference NullReference _ none
 
 module _ (unit : SourceUnit) (classes : Classes) (in_use : BuffersInUse) (k : ℕ) (s : Shared) (t : Thread) (line : ℕ) (rest : List Task) (p : Point) {weak : WeakNames} {own : Owners} (stands : Stands weak own s.statics t.variables t.frames p) (whole : Goes weak own s.statics t t.tasks) where
   -- the object of the first argument
@@ -279,7 +277,7 @@ module _ (unit : SourceUnit) (classes : Classes) (in_use : BuffersInUse) (k : �
   told_is CharsView a c = refl
 
   -- NULL would have been a trap
-  null_missing : (access : Access) (a : Identifier) (c : Operand) (level : ℕ) → lookup a t.variables ≡ Some (LocalRef level None) → list_any is_missing (zip (prototype (GetBuffer access)).parameters (got_with access a c)) ≡ true
+  null_missing : (access : Access) (a : Identifier) (c : Operand) (level : ℕ) → lookup a t.variables ≡ Some (LocalRef level None) → list_any is_missing (zip (parameters_for (GetBuffer access) (length (got_with access a c))) (got_with access a c)) ≡ true
   null_missing (ElementsCopy u) a c level e = ap (λ (o : Option Variable). is_missing (owner (ElementsCopy u), ReferenceActual a (held_reference o (lookup a s.statics))) || list_any is_missing ((IsCopy, look_up (sight_of s t) (IsCopy, c)) ∷ [])) e
   null_missing CharsCopy a c level e = ap (λ (o : Option Variable). is_missing (owner CharsCopy, ReferenceActual a (held_reference o (lookup a s.statics))) || list_any is_missing ((IsCopy, look_up (sight_of s t) (IsCopy, c)) ∷ [])) e
   null_missing ArrayView a c level e = ap (λ (o : Option Variable). is_missing (owner ArrayView, ReferenceActual a (held_reference o (lookup a s.statics))) || list_any is_missing ((IsCopy, look_up (sight_of s t) (IsCopy, c)) ∷ [])) e

@@ -8,10 +8,10 @@ use Rattle.class_rules.specs.Fields.{FieldId, find_field, find_static}
 use Rattle.syntax.specs.Tree.{SourceUnit}
 use Rattle.jni.specs.Access.{ElementsCopy, ArrayView, CharsCopy, CharsView}
 use Rattle.jni.specs.JniFunction as jni
-use Rattle.jni.specs.JniFunction.{JniFunction, prototype}
+use Rattle.jni.specs.JniFunction.{JniFunction, calls_method, prototype}
 use Rattle.jni.specs.Prototype.{ResultKind, NewLocal}
 use Rattle.semantics.specs.Arguments.{Actual, ReleaseMode, CopyBackAndFree, CopyBack, FreeUncopied, number_given, object_given, reference_given, text_given, variable_given, mode_given}
-use Rattle.semantics.specs.CallEffects.{CallResult, NoResult, NullResult, ScalarResult, ReferenceResult, FieldResult, MethodResult, BufferResult, CallEffect, Throws, Halts, Leaves, out_of_memory, with_capacity, ensure_effect, push_effect, delete_local_effect, delete_global_effect, delete_weak_effect, found_class_effect, found_field_effect, found_method_effect, new_array_effect, at_index, at_region, local_array, get_region_effect, set_region_effect, store_effect, release_effect, enter_effect, exit_effect}
+use Rattle.semantics.specs.CallEffects.{CallResult, NoResult, NullResult, ScalarResult, ReferenceResult, FieldResult, MethodResult, BufferResult, CallEffect, Throws, Halts, Leaves, Enters, out_of_memory, with_capacity, ensure_effect, push_effect, delete_local_effect, delete_global_effect, delete_weak_effect, found_class_effect, found_field_effect, found_method_effect, new_array_effect, at_index, at_region, local_array, get_region_effect, set_region_effect, store_effect, release_effect, enter_effect, exit_effect}
 use Rattle.semantics.specs.CallStep.{put, put_assigned, received, failure, resumed, trap_of_call, checked, completed, after_call, after_refusal, call_step}
 use Rattle.semantics.specs.CallTable.{call_effect}
 use Rattle.semantics.specs.Method.{MethodId, find_method}
@@ -24,7 +24,7 @@ use Rattle.semantics.specs.ThreadStep.{set_element, with_tasks, after_effect, af
 use Rattle.semantics.specs.Value.{Trap}
 use Rattle.semantics.specs.Variable.{Variable, Scalar, LocalRef, FieldHandle, MethodHandle, Elements, LocalArray, NoBuffer, Copy, View, StaticReference, Empty, Live, Weakly, Cleared, Deleted}
 use Rattle.semantics.specs.World.{Invocation, fresh_object}
-use Rattle.semantics_safety.proofs.CallLaws.{IsNoReturn}
+use Rattle.semantics_safety.proofs.CallLaws.{IsWithin}
 
 -- calls to come, and callers
 abbrev pub Held : Type 0
@@ -44,6 +44,7 @@ abbrev EffectKeeps : Held → CallEffect → Type 0
 EffectKeeps calls (Leaves made s t given) = held t ≡ calls
 EffectKeeps calls (Throws c) = Unit {0}
 EffectKeeps calls (Halts trap) = Unit {0}
+EffectKeeps calls (Enters function arguments) = ⊥
 
 -- ---- results
 
@@ -151,36 +152,39 @@ module _ (unit : SourceUnit) (classes : Classes) (in_use : BuffersInUse) (k : �
   exit_keeps n None = tt
   exit_keeps n (Some m) = cond_both (m.owner == k) _ _ (EffectKeeps (held t)) (λ e. refl) (λ e. tt)
 
-  effect_keeps : (args : List Actual) (f : JniFunction) → EffectKeeps (held t) (call_effect unit classes in_use k s t args f)
+  effect_keeps : (args : List Actual) (f : JniFunction) → calls_method f ≡ false → EffectKeeps (held t) (call_effect unit classes in_use k s t args f)
   unfolding call_effect
-  effect_keeps args jni.FindClass = class_keeps _ (class_named classes (text_given args 0))
-  effect_keeps args jni.EnsureLocalCapacity = ensure_keeps (number_given args 0)
-  effect_keeps args jni.PushLocalFrame = push_keeps (number_given args 0)
-  effect_keeps args jni.DeleteLocalRef = delete_local_keeps (lookup (variable_given args 0) t.variables) (reference_given args 0)
-  effect_keeps args jni.DeleteGlobalRef = delete_global_keeps (variable_given args 0) (lookup (variable_given args 0) s.statics)
-  effect_keeps args jni.DeleteWeakGlobalRef = delete_weak_keeps (variable_given args 0) (lookup (variable_given args 0) s.statics)
-  effect_keeps args jni.GetFieldID = field_keeps _ (find_field classes (object_given args 0) (text_given args 1) (text_given args 2))
-  effect_keeps args jni.GetStaticFieldID = field_keeps _ (find_static classes (object_given args 0) (text_given args 1) (text_given args 2))
-  effect_keeps args jni.GetStaticMethodID = method_keeps _ (find_method unit classes (object_given args 0) (text_given args 1) (text_given args 2))
-  effect_keeps args (jni.NewArray T) = array_keeps _ (number_given args 0) _
-  effect_keeps args jni.NewObjectArray = array_keeps _ (number_given args 0) _
-  effect_keeps args jni.GetObjectArrayElement = index_keeps _ _ (number_given args 1) _ (λ i. refl)
-  effect_keeps args jni.SetObjectArrayElement = index_keeps _ _ (number_given args 1) _ (λ i. store_keeps _ _ _ i)
-  effect_keeps args (jni.GetArrayRegion T) = region_keeps _ _ (number_given args 1) (number_given args 2) _ (λ i j. get_region_keeps _ _ i j)
-  effect_keeps args (jni.SetArrayRegion T) = region_keeps _ _ (number_given args 1) (number_given args 2) _ (λ i j. set_region_keeps _ _ i j)
-  effect_keeps args jni.GetStringRegion = region_keeps _ _ (number_given args 1) (number_given args 2) _ (λ i j. get_region_keeps _ _ i j)
-  effect_keeps args (jni.GetBuffer (ElementsCopy T)) = refl
-  effect_keeps args (jni.GetBuffer ArrayView) = refl
-  effect_keeps args (jni.GetBuffer CharsCopy) = refl
-  effect_keeps args (jni.GetBuffer CharsView) = refl
-  effect_keeps args (jni.ReleaseBuffer (ElementsCopy T)) = release_keeps (object_given args 0) (variable_given args 1) (mode_given args 2)
-  effect_keeps args (jni.ReleaseBuffer ArrayView) = refl
-  effect_keeps args (jni.ReleaseBuffer CharsCopy) = refl
-  effect_keeps args (jni.ReleaseBuffer CharsView) = refl
-  effect_keeps args jni.FatalError = tt
-  effect_keeps args jni.MonitorEnter = enter_keeps (object_given args 0) (monitor_of s.monitors (object_given args 0))
-  effect_keeps args jni.MonitorExit = exit_keeps (object_given args 0) (monitor_of s.monitors (object_given args 0))
-  effect_keeps args f = refl
+  effect_keeps args jni.FindClass own = class_keeps _ (class_named classes (text_given args 0))
+  effect_keeps args jni.EnsureLocalCapacity own = ensure_keeps (number_given args 0)
+  effect_keeps args jni.PushLocalFrame own = push_keeps (number_given args 0)
+  effect_keeps args jni.DeleteLocalRef own = delete_local_keeps (lookup (variable_given args 0) t.variables) (reference_given args 0)
+  effect_keeps args jni.DeleteGlobalRef own = delete_global_keeps (variable_given args 0) (lookup (variable_given args 0) s.statics)
+  effect_keeps args jni.DeleteWeakGlobalRef own = delete_weak_keeps (variable_given args 0) (lookup (variable_given args 0) s.statics)
+  effect_keeps args jni.GetFieldID own = field_keeps _ (find_field classes (object_given args 0) (text_given args 1) (text_given args 2))
+  effect_keeps args jni.GetStaticFieldID own = field_keeps _ (find_static classes (object_given args 0) (text_given args 1) (text_given args 2))
+  effect_keeps args jni.GetStaticMethodID own = method_keeps _ (find_method unit classes (object_given args 0) (text_given args 1) (text_given args 2))
+  effect_keeps args (jni.NewArray T) own = array_keeps _ (number_given args 0) _
+  effect_keeps args jni.NewObjectArray own = array_keeps _ (number_given args 0) _
+  effect_keeps args jni.GetObjectArrayElement own = index_keeps _ _ (number_given args 1) _ (λ i. refl)
+  effect_keeps args jni.SetObjectArrayElement own = index_keeps _ _ (number_given args 1) _ (λ i. store_keeps _ _ _ i)
+  effect_keeps args (jni.GetArrayRegion T) own = region_keeps _ _ (number_given args 1) (number_given args 2) _ (λ i j. get_region_keeps _ _ i j)
+  effect_keeps args (jni.SetArrayRegion T) own = region_keeps _ _ (number_given args 1) (number_given args 2) _ (λ i j. set_region_keeps _ _ i j)
+  effect_keeps args jni.GetStringRegion own = region_keeps _ _ (number_given args 1) (number_given args 2) _ (λ i j. get_region_keeps _ _ i j)
+  effect_keeps args (jni.GetBuffer (ElementsCopy T)) own = refl
+  effect_keeps args (jni.GetBuffer ArrayView) own = refl
+  effect_keeps args (jni.GetBuffer CharsCopy) own = refl
+  effect_keeps args (jni.GetBuffer CharsView) own = refl
+  effect_keeps args (jni.ReleaseBuffer (ElementsCopy T)) own = release_keeps (object_given args 0) (variable_given args 1) (mode_given args 2)
+  effect_keeps args (jni.ReleaseBuffer ArrayView) own = refl
+  effect_keeps args (jni.ReleaseBuffer CharsCopy) own = refl
+  effect_keeps args (jni.ReleaseBuffer CharsView) own = refl
+  effect_keeps args jni.FatalError own = tt
+  effect_keeps args jni.MonitorEnter own = enter_keeps (object_given args 0) (monitor_of s.monitors (object_given args 0))
+  effect_keeps args jni.MonitorExit own = exit_keeps (object_given args 0) (monitor_of s.monitors (object_given args 0))
+  effect_keeps args jni.CallStaticVoidMethod own = absurd (cc)
+  effect_keeps args jni.CallStaticIntMethod own = absurd (cc)
+  effect_keeps args jni.CallStaticObjectMethod own = absurd (cc)
+  effect_keeps args f own = refl
 
   module _ (line : ℕ) (target : Target) (f : JniFunction) (args : List Actual) (rest : List Task) where
     completed_keeps : (made : List Object) (s' : Shared) (t' : Thread) (given : CallResult) → held t' ≡ held t → KeepsCalls (held t) (completed unit classes in_use k s t line target f args rest made s' t' given)
@@ -189,15 +193,16 @@ module _ (unit : SourceUnit) (classes : Classes) (in_use : BuffersInUse) (k : �
     after_keeps : (e : CallEffect) → EffectKeeps (held t) e → KeepsCalls (held t) (after_call unit classes in_use k s t line target f args rest e)
     after_keeps (Throws c) h = completed_keeps (fresh_object classes c ∷ []) s (record t { pending = Some (next_name s.heap) }) (failure (prototype f).result) refl
     after_keeps (Halts trap) h = refl
+    after_keeps (Enters function arguments) h = absurd h
     after_keeps (Leaves made s' t' given) h = completed_keeps made s' t' given h
 
     refusal_keeps : (makes : Bool) → KeepsCalls (held t) (after_refusal unit classes in_use k s t line target f args rest makes)
     refusal_keeps true = completed_keeps [] s (record t { pending = Some (out_of_memory classes) }) (failure (prototype f).result) refl
     refusal_keeps false = tt
 
-    call_keeps : (refused : Bool) → KeepsCalls (held t) (call_step unit classes in_use k s t line target f args rest refused)
-    call_keeps false = after_keeps _ (checked_keeps (held t) (trap_of_call classes s t target f args) _ (effect_keeps args f))
-    call_keeps true = refusal_keeps _
+    call_keeps : calls_method f ≡ false → (refused : Bool) → KeepsCalls (held t) (call_step unit classes in_use k s t line target f args rest refused)
+    call_keeps own false = after_keeps _ (checked_keeps (held t) (trap_of_call classes s t target f args) _ (effect_keeps args f own))
+    call_keeps own true = refusal_keeps _
 
   -- ---- steps
 
@@ -212,23 +217,23 @@ module _ (unit : SourceUnit) (classes : Classes) (in_use : BuffersInUse) (k : �
   element_keeps x i z rest (Some (MethodHandle f)) = tt
   element_keeps x i z rest None = tt
 
-  effects_keep : (rest : List Task) (e : Effect) → IsNoReturn e → KeepsCalls (held t) (after_effect unit classes in_use k s t rest e)
+  effects_keep : (rest : List Task) (e : Effect) → IsWithin e → KeepsCalls (held t) (after_effect unit classes in_use k s t rest e)
   effects_keep rest (Becomes tasks) away = refl
   effects_keep rest (Sets x v) away = refl
   effects_keep rest (SetsNull target) away = put_keeps target NullResult s (with_tasks t rest) (held t) refl
   effects_keep rest (SetsElement x i z) away = element_keeps x i z rest (lookup x t.variables)
   effects_keep rest (MakesArray u x n) away = refl
   effects_keep rest (Prints z) away = refl
-  effects_keep rest (Calls line target f args) away = call_keeps line target f args rest false
+  effects_keep rest (Calls line target f args) away = call_keeps line target f args rest away false
   effects_keep rest (Returns given) away = absurd away
   effects_keep rest (TrapsAt trap line) away = refl
   effects_keep rest NoEffect away = tt
 
   refused_keep : (rest : List Task) (e : Effect) → KeepsCalls (held t) (after_refused_effect unit classes in_use k s t rest e)
-  refused_keep rest (Calls line target f args) = call_keeps line target f args rest true
+  refused_keep rest (Calls line target f args) = refusal_keeps line target f args rest _
   refused_keep rest e = tt
 
   -- each step within a call
-  pub calls_kept : (refused : Bool) (task : Task) (rest : List Task) → IsNoReturn (effect_of (sight_of s t) task) → KeepsCalls (held t) (step_within unit classes in_use k s t refused (Some (task ∷ rest)))
+  pub calls_kept : (refused : Bool) (task : Task) (rest : List Task) → IsWithin (effect_of (sight_of s t) task) → KeepsCalls (held t) (step_within unit classes in_use k s t refused (Some (task ∷ rest)))
   calls_kept false task rest away = effects_keep rest (effect_of (sight_of s t) task) away
   calls_kept true task rest away = refused_keep rest (effect_of (sight_of s t) task)

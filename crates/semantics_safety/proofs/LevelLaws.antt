@@ -32,7 +32,7 @@ no_local e = cc
 
 module _ (ss : Statics) (vs : Variables) (frames : List Frame) (p : Point) {weak : WeakNames} {own : Owners} (stands : Stands weak own ss vs frames p) (k : Point → Type 0) (x : Identifier) (level : ℕ) (r : Reference) (there : lookup x vs ≡ Some (LocalRef level r)) where
   -- the variable that is set at a point is of the frame that is current there
-  set_level : (q : Point) (fs : List Frame) → Stands weak own ss vs fs q → (s : Option Sort) (get : Option (Access × Option Identifier)) → AssignsResult q s x NewLocal get k → level ≡ length fs
+  pub set_level : (q : Point) (fs : List Frame) → Stands weak own ss vs fs q → (s : Option Sort) (get : Option (Access × Option Identifier)) → AssignsResult q s x NewLocal get k → level ≡ length fs
   set_level q fs now (Some sort.Ref) get (may, goes) =
       let shown = now.shows x _ may.known in
       let same : level ≡ q.regions.frames = cc in

@@ -32,6 +32,9 @@ IsQuietFunction (jni.GetArrayRegion T) = ⊥
 IsQuietFunction jni.GetStringRegion = ⊥
 IsQuietFunction (jni.GetBuffer access) = ⊥
 IsQuietFunction (jni.ReleaseBuffer access) = ⊥
+IsQuietFunction jni.CallStaticVoidMethod = ⊥
+IsQuietFunction jni.CallStaticIntMethod = ⊥
+IsQuietFunction jni.CallStaticObjectMethod = ⊥
 IsQuietFunction f = Unit {0}
 
 module _ (unit : SourceUnit) (classes : Classes) (in_use : BuffersInUse) (k : ℕ) (s : Shared) (t : Thread) (args : List Actual) where
@@ -103,6 +106,9 @@ module _ (unit : SourceUnit) (classes : Classes) (in_use : BuffersInUse) (k : �
   effect_quiet jni.GetFieldID h = field_quiet _ (find_field classes (object_given args 0) (text_given args 1) (text_given args 2))
   effect_quiet jni.GetStaticFieldID h = field_quiet _ (find_static classes (object_given args 0) (text_given args 1) (text_given args 2))
   effect_quiet jni.GetStaticMethodID h = method_quiet _ (find_method unit classes (object_given args 0) (text_given args 1) (text_given args 2))
+  effect_quiet jni.CallStaticVoidMethod h = absurd h
+  effect_quiet jni.CallStaticIntMethod h = absurd h
+  effect_quiet jni.CallStaticObjectMethod h = absurd h
   effect_quiet (jni.SetField T) h = (refl, refl, refl, Plainly NoResultThere)
   effect_quiet jni.GetObjectField h = (refl, refl, refl, reference_given_quiet _)
   effect_quiet jni.SetObjectField h = (refl, refl, refl, Plainly NoResultThere)

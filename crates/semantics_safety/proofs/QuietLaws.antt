@@ -8,7 +8,7 @@ use Rattle.jni.specs.Prototype.{ResultKind, NewLocal}
 use Rattle.semantics.specs.Object.{Object}
 use Rattle.semantics.specs.World.{fresh_object}
 use Rattle.semantics.specs.Arguments.{Actual, address_given}
-use Rattle.semantics.specs.CallEffects.{CallResult, ReferenceResult, CallEffect, Throws, Halts, Leaves, with_local, out_of_memory}
+use Rattle.semantics.specs.CallEffects.{CallResult, ReferenceResult, CallEffect, Throws, Halts, Leaves, Enters, with_local, out_of_memory}
 use Rattle.semantics.specs.CallStep.{put, received, tell_copy, failure, is_zero, completed, after_call, after_refusal}
 use Rattle.region_rules.specs.RegionStates as states
 use Rattle.region_rules.specs.RegionStates.{RegionState}
@@ -63,6 +63,7 @@ pub data Gives : ResultKind → CallResult → Type 0 where
 abbrev pub IsQuiet : Shared → Thread → ResultKind → CallEffect → Type 0
 IsQuiet s t kind (Throws c) = Simple kind (failure kind)
 IsQuiet s t kind (Halts trap) = Unit {0}
+IsQuiet s t kind (Enters function arguments) = ⊥
 IsQuiet s t kind (Leaves made s' t' given) = (t'.variables ≡ t.variables) × (references_of t'.frames ≡ references_of t.frames) × (s'.statics ≡ s.statics) × Gives kind given
 
 module _ (t : Thread) (line : ℕ) (rest : List Task) where
@@ -181,6 +182,7 @@ module _ (unit : SourceUnit) (classes : Classes) (in_use : BuffersInUse) (k : �
       → LandsBy weak (Calls line target f args) (length t.frames) own s.statics (after_call unit classes in_use k s t line target f args rest e)
   quiet_lands left get (Throws c) away whole room quiet h = completed_lands left (fresh_object classes c ∷ []) s (record t { pending = Some (next_name s.heap) }) (failure (prototype f).result) get away refl refl refl quiet h
   quiet_lands left get (Halts trap) away whole room quiet h = (whole, λ x r e. (r, e))
+  quiet_lands left get (Enters function arguments) away whole room quiet h = absurd quiet
   quiet_lands left get (Leaves made s' t' given) away whole room quiet h =
       subst (λ (ss : Statics). LandsBy weak (Calls line target f args) (length t.frames) own ss (completed unit classes in_use k s t line target f args rest made s' t' given)) quiet.2
       (given_lands unit classes in_use k s t line target f args rest p own left (prototype f).result made s' t' given get refl away (λ e. frame_again t'.frames t.frames quiet.1 (room e)) (stands_again s' t' quiet.0 quiet.1 quiet.2) quiet.3 h)

@@ -5,7 +5,7 @@ use Rattle.std.specs.List.{list_any}
 use Rattle.base.specs.Element.{ElementType}
 use Rattle.class_rules.specs.Class.{Classes}
 use Rattle.jni.specs.JniFunction as jni
-use Rattle.jni.specs.JniFunction.{JniFunction, PushLocalFrame, is_allowed_pending, prototype}
+use Rattle.jni.specs.JniFunction.{JniFunction, PushLocalFrame, is_allowed_pending, parameters_for, prototype}
 use Rattle.jni.specs.Prototype.{ResultKind, NewLocal}
 use Rattle.semantics.specs.Arguments.{Actual}
 use Rattle.semantics.specs.CallStep.{trap_of_call, target_element, checked, after_call, call_step}
@@ -41,13 +41,13 @@ quiet_no_push f h e = subst IsQuietFunction e h
 
 -- ---- room for a local reference
 
-last_fails : (a b c d e : Bool) (u v w x y : Trap) → first_trap ((a, u) ∷ (b, v) ∷ (c, w) ∷ (d, x) ∷ (e, y) ∷ []) ≡ None → e ≡ false
-last_fails true b c d e u v w x y h = absurd (cc)
-last_fails false true c d e u v w x y h = absurd (cc)
-last_fails false false true d e u v w x y h = absurd (cc)
-last_fails false false false true e u v w x y h = absurd (cc)
-last_fails false false false false true u v w x y h = absurd (cc)
-last_fails false false false false false u v w x y h = refl
+fifth_fails : (a b c d e : Bool) (u v w x y : Trap) (further : List (Bool × Trap)) → first_trap ((a, u) ∷ (b, v) ∷ (c, w) ∷ (d, x) ∷ (e, y) ∷ further) ≡ None → e ≡ false
+fifth_fails true b c d e u v w x y further h = absurd (cc)
+fifth_fails false true c d e u v w x y further h = absurd (cc)
+fifth_fails false false true d e u v w x y further h = absurd (cc)
+fifth_fails false false false true e u v w x y further h = absurd (cc)
+fifth_fails false false false false true u v w x y further h = absurd (cc)
+fifth_fails false false false false false u v w x y further h = refl
 
 frames_stay : (f : JniFunction) (frames : List Frame) → IsFree f → frames_after f frames ≡ frames
 frames_stay (jni.ReleaseBuffer access) frames h = absurd h
@@ -63,13 +63,13 @@ has_frame (frame ∷ below) h = tt
 pub has_room : (classes : Classes) (heap : Heap) (t : Thread) (buffer : ElementType) (f : JniFunction) (args : List Actual) → call_trap classes heap t buffer f args ≡ None → (prototype f).result ≡ NewLocal → is_full (slice_get (frames_after f t.frames) 0) ≡ false
 unfolding call_trap
 has_room classes heap t buffer f args none is =
-    subst (λ (kind : ResultKind). lacks_room kind (slice_get (frames_after f t.frames) 0) ≡ false) is (last_fails
+    subst (λ (kind : ResultKind). lacks_room kind (slice_get (frames_after f t.frames) 0) ≡ false) is (fifth_fails
     (is_some t.pending && not (is_allowed_pending f))
     (list_any is_deleted args)
-    (list_any is_missing (zip (prototype f).parameters args))
-    (list_any (is_misfit classes heap) (zip (prototype f).parameters args) || not (go_together classes heap buffer args f))
+    (list_any is_missing (zip (parameters_for f (length args)) args))
+    (list_any (is_misfit classes heap) (zip (parameters_for f (length args)) args) || not (go_together classes heap buffer args f))
     (lacks_room (prototype f).result (slice_get (frames_after f t.frames) 0))
-    ExceptionPending DeletedReference NullReference WrongObject NoCapacity none)
+    ExceptionPending DeletedReference NullReference WrongObject NoCapacity _ none)
 
 module _ (unit : SourceUnit) (classes : Classes) (in_use : BuffersInUse) (k : ℕ) (s : Shared) (t : Thread) (line : ℕ) (f : JniFunction) (args : List Actual) (rest : List Task) (p : Point) {weak : WeakNames} {own : Owners} (stands : Stands weak own s.statics t.variables t.frames p) (quiet : IsQuietFunction f) (whole : Goes weak own s.statics t t.tasks) where
   goes_at : (target : Target) (operands : List Operand) → ResultGoes target (prototype f).result (get_of (call_seen f operands)) (GoesOn rest) (at p (states.after_call p.regions (call_seen f operands)))

@@ -1,18 +1,19 @@
 -- A step within a call whose allocation is refused keeps what holds of its thread, where it is possible.
-use Rattle.std.proofs.Common.{◌≡◌, ℕ, Bool, true, false, List, [], ◌∷◌, Option, Some, None, refl, length}
+use Rattle.std.proofs.Common.{◌≡◌, ℕ, Bool, true, false, List, [], ◌∷◌, map, drop, Option, Some, None, refl, length}
 use Rattle.std.specs.Prelude.{ℤ, pos, negsuc, nat_le}
 use Rattle.std.proofs.lemmas.Bool.{cond_both}
 use Rattle.base.specs.Bytes.{Identifier, lookup}
 use Rattle.class_rules.specs.Class.{Classes}
 use Rattle.syntax.specs.Tree.{SourceUnit}
 use Rattle.jni.specs.Access.{ElementsCopy, ArrayView, CharsCopy, CharsView}
-use Rattle.jni.specs.JniFunction.{JniFunction, DeleteLocalRef, DeleteGlobalRef, DeleteWeakGlobalRef, PushLocalFrame, PopLocalFrame, GetArrayRegion, GetStringRegion, GetBuffer, ReleaseBuffer}
-use Rattle.semantics.specs.Arguments.{Actual, ReleaseMode, CopyBackAndFree, CopyBack, FreeUncopied, number_given, object_given, variable_given, reference_given, mode_given}
-use Rattle.semantics.specs.CallEffects.{CallEffect, delete_local_effect, delete_global_effect, delete_weak_effect, push_effect, release_effect}
+use Rattle.jni.specs.JniFunction.{JniFunction, DeleteLocalRef, DeleteGlobalRef, DeleteWeakGlobalRef, PushLocalFrame, PopLocalFrame, GetArrayRegion, GetStringRegion, GetBuffer, ReleaseBuffer, CallStaticVoidMethod, CallStaticIntMethod, CallStaticObjectMethod, calls_method}
+use Rattle.semantics.specs.Arguments.{Actual, ReleaseMode, CopyBackAndFree, CopyBack, FreeUncopied, number_given, object_given, variable_given, reference_given, mode_given, method_given, passed_value}
+use Rattle.semantics.specs.Method.{MethodId}
+use Rattle.semantics.specs.CallEffects.{CallEffect, delete_local_effect, delete_global_effect, delete_weak_effect, push_effect, release_effect, method_effect}
 use Rattle.semantics.specs.CallStep.{trap_of_call, checked, makes_objects, after_refusal, call_step}
 use Rattle.semantics.specs.CallTable.{call_effect}
 use Rattle.semantics.specs.Effect.{Effect, Calls, effect_of}
-use Rattle.semantics.specs.Object.{Reference}
+use Rattle.semantics.specs.Object.{ObjectValue, Reference}
 use Rattle.semantics.specs.Task.{Task, Target, Declared, Assigned, Tested, Dropped, Operand, Invoke}
 use Rattle.semantics.specs.Thread.{Thread, Shared, BuffersInUse, capacities, sight_of}
 use Rattle.semantics.specs.ThreadStep.{after_refused_effect, step_within}
@@ -36,9 +37,21 @@ array_no_push u e = cc
 string_no_push : GetStringRegion ≡ PushLocalFrame → ⊥
 string_no_push e = cc
 
-checked_none : (o : Option Trap) (e : CallEffect) → makes_objects e ≡ false → makes_objects (checked o e) ≡ false
+pub checked_none : (o : Option Trap) (e : CallEffect) → makes_objects e ≡ false → makes_objects (checked o e) ≡ false
 checked_none None e h = h
 checked_none (Some trap) e h = refl
+
+called_none : (o : Option MethodId) (arguments : List ObjectValue) → makes_objects (method_effect o arguments) ≡ false
+called_none None arguments = refl
+called_none (Some m) arguments = refl
+
+-- a call of a method makes none itself
+pub method_made : (unit : SourceUnit) (classes : Classes) (in_use : BuffersInUse) (k : ℕ) (s : Shared) (t : Thread) (f : JniFunction) → calls_method f ≡ true → (args : List Actual) → makes_objects (call_effect unit classes in_use k s t args f) ≡ false
+unfolding call_effect
+method_made unit classes in_use k s t CallStaticVoidMethod is args = called_none (method_given args 1) (map passed_value (drop 2 args))
+method_made unit classes in_use k s t CallStaticIntMethod is args = called_none (method_given args 1) (map passed_value (drop 2 args))
+method_made unit classes in_use k s t CallStaticObjectMethod is args = called_none (method_given args 1) (map passed_value (drop 2 args))
+method_made unit classes in_use k s t f is args = absurd (cc)
 
 module _ (unit : SourceUnit) (classes : Classes) (in_use : BuffersInUse) (k : ℕ) (s : Shared) (t : Thread) (line : ℕ) (rest : List Task) (weak : WeakNames) (own : Owners) where
   -- a call that makes no object has nothing to refuse
@@ -130,6 +143,9 @@ module _ (unit : SourceUnit) (classes : Classes) (in_use : BuffersInUse) (k : �
     each_refused_lands GetStringRegion (Declared kind x) operands args runs = refused_lands unit classes in_use k s t line (Declared kind x) GetStringRegion args rest p stands (λ y. refl) None _ tt NoResultThere runs.2
     each_refused_lands GetStringRegion (Assigned x) operands args runs = refused_lands unit classes in_use k s t line (Assigned x) GetStringRegion args rest p stands (λ y. refl) None _ tt NoResultThere runs.2
     each_refused_lands GetStringRegion Dropped operands args runs = refused_lands unit classes in_use k s t line Dropped GetStringRegion args rest p stands (λ y. refl) None _ tt NoResultThere runs.2
+    each_refused_lands CallStaticVoidMethod target operands args runs = none_refused CallStaticVoidMethod target args (method_made unit classes in_use k s t CallStaticVoidMethod refl args)
+    each_refused_lands CallStaticIntMethod target operands args runs = none_refused CallStaticIntMethod target args (method_made unit classes in_use k s t CallStaticIntMethod refl args)
+    each_refused_lands CallStaticObjectMethod target operands args runs = none_refused CallStaticObjectMethod target args (method_made unit classes in_use k s t CallStaticObjectMethod refl args)
     each_refused_lands f target operands args runs = refused_call_lands unit classes in_use k s t line f args rest p stands tt whole target operands runs
 
 module _ (unit : SourceUnit) (classes : Classes) (in_use : BuffersInUse) (k : ℕ) (s : Shared) (t : Thread) (task : Task) (rest : List Task) (p : Point) {weak : WeakNames} {own : Owners} (stands : Stands weak own s.statics t.variables t.frames p) (runs : Runs task (GoesOn rest) p) (whole : Goes weak own s.statics t t.tasks) where

@@ -1,5 +1,6 @@
 -- The steps of the calls that release a buffer.
 use Rattle.std.proofs.Common.{◌≡◌, ℕ, arith, Bool, true, false, inl, inr, List, [], ◌∷◌, map, Option, Some, None, refl, sym, ap, ◌∙◌, subst, if◌then◌else◌, length}
+use Rattle.std.proofs.lemmas.List.{append-nil}
 use Rattle.std.specs.Option.{option_map}
 use Rattle.std.specs.Str.{bytes_eq}
 use Rattle.base.specs.Bytes.{Identifier, lookup}
@@ -7,8 +8,8 @@ use Rattle.syntax.specs.Tree.{SourceUnit}
 use Rattle.syntax.specs.Tree as tree
 use Rattle.class_rules.specs.Class.{Classes}
 use Rattle.jni.specs.Access.{Access, ElementsCopy, ArrayView, CharsCopy, CharsView, is_critical}
-use Rattle.jni.specs.JniFunction.{ReleaseBuffer, PushLocalFrame, prototype}
-use Rattle.jni.specs.Prototype.{GivesNothing, release_mode, Mode}
+use Rattle.jni.specs.JniFunction.{ReleaseBuffer, PushLocalFrame, parameters_for, prototype}
+use Rattle.jni.specs.Prototype.{ParameterKind, GivesNothing, release_mode, Mode}
 use Rattle.type_rules.specs.Sorts.{sort_in}
 use Rattle.region_rules.specs.RegionStates as states
 use Rattle.region_rules.specs.RegionStates.{VariableState, Free, Usable, BufferIn, state_of, with_changed, made_free, has_commit}
@@ -163,6 +164,10 @@ module _ (unit : SourceUnit) (classes : Classes) (in_use : BuffersInUse) (k : �
       released_at a x target away None access modes (trap_of_call classes s t target (ReleaseBuffer access) (given_to access a x modes)) usable commits fit.1.1 goes
   release_operands access target operands away rules fit goes = absurd rules
 
+  -- no more arguments than its own
+  own_sorts : (access : Access) (operands : List Operand) → OperandsFit p (parameters_for (ReleaseBuffer access) (length operands)) operands → OperandsFit p (prototype (ReleaseBuffer access)).parameters operands
+  own_sorts access operands h = subst (λ (l : List ParameterKind). OperandsFit p l operands) (append-nil (prototype (ReleaseBuffer access)).parameters) h
+
   no_push : (access : Access) → ReleaseBuffer access ≡ PushLocalFrame → ⊥
   no_push access e = cc
 
@@ -170,6 +175,6 @@ module _ (unit : SourceUnit) (classes : Classes) (in_use : BuffersInUse) (k : �
   pub release_lands : (access : Access) (target : Target) (operands : List Operand) → Runs (Invoke line target (ReleaseBuffer access) operands) (GoesOn rest) p
       → LandsBy weak (Calls line target (ReleaseBuffer access) (actuals (sight_of s t) (ReleaseBuffer access) operands)) (length t.frames) own s.statics (call_step unit classes in_use k s t line target (ReleaseBuffer access) (actuals (sight_of s t) (ReleaseBuffer access) operands) rest false)
   release_lands access (Tested a b) operands r = absurd (no_push access r.1)
-  release_lands access (Declared kind x) operands r = release_operands access (Declared kind x) operands tt r.0.rules r.0.sorts r.2
-  release_lands access (Assigned x) operands r = release_operands access (Assigned x) operands tt r.0.rules r.0.sorts r.2
-  release_lands access Dropped operands r = release_operands access Dropped operands tt r.0.rules r.0.sorts r.2
+  release_lands access (Declared kind x) operands r = release_operands access (Declared kind x) operands tt r.0.rules (own_sorts access operands r.0.sorts) r.2
+  release_lands access (Assigned x) operands r = release_operands access (Assigned x) operands tt r.0.rules (own_sorts access operands r.0.sorts) r.2
+  release_lands access Dropped operands r = release_operands access Dropped operands tt r.0.rules (own_sorts access operands r.0.sorts) r.2

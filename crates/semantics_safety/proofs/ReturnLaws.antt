@@ -20,8 +20,8 @@ use Rattle.semantics.specs.Thread.{Frame, Caller, Thread, Shared, BuffersInUse, 
 use Rattle.semantics.specs.Value.{Word, Int, Flag, Truth}
 use Rattle.semantics.specs.Variable.{Variable, StaticReference, Statics, assign}
 use Rattle.semantics_safety.specs.Owners.{Owners, is_target, with_result}
-use Rattle.semantics_safety.specs.Stands.{CallerStands, Goes, IsMethodResult, Stands}
-use Rattle.semantics_safety.specs.StepSafe.{has_calls}
+use Rattle.semantics_safety.specs.Stands.{CallerStands, Goes, Stands}
+use Rattle.semantics_safety.specs.StepSafe.{IsMethodResult, has_calls}
 use Rattle.semantics_safety.specs.Wanted.{GoesOn, ResultGoes}
 use Rattle.semantics_safety.specs.WeakNames.{WeakNames}
 use Rattle.semantics_safety.proofs.ClauseLaws.{no_views}

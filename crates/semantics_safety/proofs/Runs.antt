@@ -1,5 +1,5 @@
 -- What holds of each thread before its steps holds after each journal that can be replayed, so each thread's next step is safe.
-use Rattle.std.proofs.Common.{◌≡◌, ◌⊎◌, inl, inr, ℕ, zero, suc, Bool, true, false, ◌&&◌, List, [], ◌∷◌, map, Option, Some, None, refl, sym, ◌∙◌, subst, if◌then◌else◌, ap, ◌+◌, ◌<◌, ◌==◌, length, arith}
+use Rattle.std.proofs.Common.{◌≡◌, ℕ, zero, suc, Bool, true, false, ◌&&◌, List, [], ◌∷◌, map, Option, Some, None, refl, sym, ◌∙◌, subst, if◌then◌else◌, ap, ◌+◌, ◌<◌, ◌==◌, length, arith}
 use Rattle.std.proofs.lemmas.Bool.Decides.{nat_tests}
 use Rattle.std.specs.Prelude.{IsTrue, find, is_none, not, is_some, slice_get, slice_set}
 use Rattle.std.specs.List.{list_all, AllByRecursion, AllZip}
@@ -19,7 +19,11 @@ use Rattle.semantics.specs.Run.{replay_from}
 use Rattle.semantics.specs.Start.{waiting_thread, null_static, null_statics, start}
 use Rattle.semantics.specs.State.{State, thread_at, set_thread, in_use, with_event, advanced}
 use Rattle.semantics.specs.Step.{is_unfinished, is_waiting, is_live, can_step, step_of, turn_step, clearing_step, world_step}
-use Rattle.semantics.specs.Task.{Task, Target, tasks_of}
+use Rattle.semantics.specs.Task.{Task, Target, Operand, Invoke, tasks_of}
+use Rattle.semantics.specs.Arguments.{Actual, actuals, method_given}
+use Rattle.semantics.specs.Method.{MethodId, find_method}
+use Rattle.semantics.specs.Value.{Trap}
+use Rattle.jni.specs.JniFunction.{JniFunction, calls_method}
 use Rattle.semantics.specs.Thread.{Thread, Caller, Ending, Unfinished, Ended, Uncaught, Shared, Frame, BuffersInUse, Event, Quiet, PrintedNumber, Trapped, Advance, Advances, NoAdvance, sight_of}
 use Rattle.semantics.specs.ThreadStep.{after_effect, after_refused_effect, step_within, thread_step}
 use Rattle.semantics.specs.Reachable.{is_in}
@@ -30,23 +34,27 @@ use Rattle.semantics.proofs.ClearedEffects.{cleared_lookup}
 use Rattle.semantics.proofs.StepLaws.{step-thread}
 use Rattle.semantics.specs.Effect.{Effect, Becomes, Sets, SetsNull, SetsElement, MakesArray, Prints, Calls, Returns, TrapsAt, NoEffect, effect_of}
 use Rattle.semantics.specs.CallEffects.{CallResult}
-use Rattle.semantics.specs.CallStep.{received}
+use Rattle.semantics.specs.CallStep.{call_step, calling, received, trap_of_call}
 use Rattle.semantics.specs.Return.{ending_after, calls_after, given_back, resumed_in, return_by, return_into}
-use Rattle.semantics_safety.specs.Owners.{Owners, ThreadOwners, AllOwners, no_owners, with_result, after_event, after_return, after_step, after_tasks, after_advance, after_turn, after_entry, with_owners, owners_from, owners_after}
+use Rattle.semantics_safety.specs.Owners.{Owners, ThreadOwners, AllOwners, no_owners, no_owner, with_result, after_event, after_invoked, after_return, after_step, after_tasks, after_advance, after_turn, after_entry, with_owners, owners_from, owners_after}
 use Rattle.semantics_safety.specs.Points.{Point}
-use Rattle.semantics_safety.specs.Stands.{VariableFits, Stands, CallerStands, Goes, IsSound}
-use Rattle.semantics_safety.specs.StepSafe.{has_calls, HasCalls, IsSafe}
+use Rattle.semantics_safety.specs.Stands.{AreCallable, VariableFits, Stands, CallerStands, Goes, IsSound}
+use Rattle.semantics_safety.specs.StepSafe.{IsCallable, has_calls, HasCalls, IsSafe}
 use Rattle.semantics_safety.specs.Wanted.{GoesOn, Runs}
+use Rattle.semantics_safety.specs.Follows.{Follows}
+use Rattle.semantics_safety.proofs.EffectLaws.{effect_follows}
 use Rattle.semantics_safety.specs.WeakNames.{WeakNames, AreOfKind, HoldWeakly, weak_names}
-use Rattle.semantics_safety.proofs.CallLaws.{IsNoReturn, each_step_lands, returns_or_not}
+use Rattle.semantics_safety.proofs.CallLaws.{IsWithin, Way, Returning, Calling, Within, each_step_lands, way_of}
 use Rattle.semantics_safety.proofs.EntryPoints.{entry_point, SeesStatics, HasNamesOnce, stands_at_entry}
 use Rattle.semantics_safety.proofs.FrameLaws.{both_true}
 use Rattle.semantics_safety.proofs.KeptCalls.{Held, held, KeepsCalls, calls_kept, put_keeps, received_calls}
-use Rattle.semantics_safety.proofs.Alone.{threads_alone}
+use Rattle.semantics_safety.proofs.CallersKept.{LeavesCallers, callers_left}
+use Rattle.semantics_safety.proofs.KeptMethods.{LeavesCallable, methods_kept}
+use Rattle.semantics_safety.proofs.Pushes.{call_made_loads, call_to, caller_stands, each_call, method_callable, unrefused}
 use Rattle.semantics_safety.proofs.ReturnLaws.{LandsBack, back_gives, callers_viewless, calls_there, return_lands}
 use Rattle.semantics_safety.proofs.OwnerLaws.{LandsBy, LandsByIfPossible}
 use Rattle.semantics_safety.proofs.RefusedLaws.{marked_step_lands}
-use Rattle.semantics_safety.proofs.StepClauses.{view, return, references, owned, release, declared, free, taken, possible}
+use Rattle.semantics_safety.proofs.StepClauses.{resumable, methods, view, return, references, owned, release, declared, free, taken, possible}
 
 -- what holds of threads, where the first of them has this number
 abbrev pub AllSound : SourceUnit → Classes → AllOwners → Statics → ℕ → List Thread → Type 0
@@ -148,12 +156,28 @@ module _ (weak : WeakNames) (ss us : Statics) (stay : NamesStay ss us) (only : H
 
 -- ---- one thread
 
-module _ (unit : SourceUnit) (classes : Classes) (first : Statics) (enters : AllByRecursion (Enters (weak_names unit) first) (functions_of unit)) where
+-- where a thread is before each step, its method IDs aside
+record Placed (unit : SourceUnit) (classes : Classes) (own : ThreadOwners) (statics : Statics) (t : Thread) : Type 0 where
+  goes : Goes (weak_names unit) own.current statics t t.tasks
+  callers : AllZip (CallerStands (weak_names unit) statics) own.callers t.callers
+  loads : IsTrue (list_all (call_loads unit classes) t.calls)
+
+-- what GetStaticMethodID finds can be called
+abbrev pub FindsCallable : SourceUnit → Classes → Type 0
+FindsCallable unit classes = (c : ℕ) (name text : List ℕ) (m : MethodId) → find_method unit classes c name text ≡ Some m → IsCallable unit classes m
+
+module _ (unit : SourceUnit) (classes : Classes) (first : Statics) (enters : AllByRecursion (Enters (weak_names unit) first) (functions_of unit)) (finds : FindsCallable unit classes) where
   abbrev weak : WeakNames
   weak = weak_names unit
 
   sound_later : (own : ThreadOwners) (ss us : Statics) (t : Thread) → NamesStay ss us → HoldWeakly weak us → IsSound unit classes own ss t → IsSound unit classes own us t
-  sound_later own ss us t stay only h = record { goes = goes_later weak ss us stay only own.current t t.tasks h.goes; callers = callers_later weak ss us stay only own.callers t.callers h.callers; loads = h.loads }
+  sound_later own ss us t stay only h = record {
+    goes = goes_later weak ss us stay only own.current t t.tasks h.goes;
+    callers = callers_later weak ss us stay only own.callers t.callers h.callers;
+    loads = h.loads;
+    methods = h.methods;
+    below = h.below;
+  }
 
   -- where a thread stands, only weak statics hold weak references
   goes_only : (own : Owners) (ss : Statics) (t : Thread) (o : Option (List Task)) → Goes weak own ss t o → HoldWeakly weak ss
@@ -199,10 +223,23 @@ module _ (unit : SourceUnit) (classes : Classes) (first : Statics) (enters : All
 
   -- ---- a step
 
-  -- what a step leaves is sound, with these owners, and only a marked one may be impossible
+  -- what a step leaves is in its place, with these owners, and only a marked one may be impossible
+  abbrev PlacedOn : Bool → (Event → Variables → ThreadOwners) → Statics → Advance → Type 0
+  PlacedOn refused give ss (Advances s t event) = Placed unit classes (give event t.variables) s.statics t × NamesStay ss s.statics
+  PlacedOn refused give ss NoAdvance = refused ≡ true
+
+  -- the same of all that holds of a thread before its steps
   abbrev StepsOn : Bool → (Event → Variables → ThreadOwners) → Statics → Advance → Type 0
   StepsOn refused give ss (Advances s t event) = IsSound unit classes (give event t.variables) s.statics t × NamesStay ss s.statics
   StepsOn refused give ss NoAdvance = refused ≡ true
+
+  -- the method IDs of a caller can be called
+  abbrev CallerHolds : Caller → Type 0
+  CallerHolds c = AreCallable unit classes c.variables
+
+  steps_on : (refused : Bool) (give : Event → Variables → ThreadOwners) (ss : Statics) (e : Advance) → PlacedOn refused give ss e → LeavesCallable unit classes e → LeavesCallers CallerHolds e → StepsOn refused give ss e
+  steps_on refused give ss (Advances s t event) h held waiting = (record { goes = (h.0).goes; callers = (h.0).callers; loads = (h.0).loads; methods = held; below = waiting }, h.1)
+  steps_on refused give ss NoAdvance h held waiting = h
 
   -- calls to come that load
   abbrev AllLoad : List Invocation → Type 0
@@ -214,7 +251,7 @@ module _ (unit : SourceUnit) (classes : Classes) (first : Statics) (enters : All
     effect = effect_of (sight_of s t) task
 
     -- one that doesn't return leaves the callers' owners
-    kept_owners : (e : Effect) → IsNoReturn e → (event : Event) (vs : Variables) → after_step t own event e vs ≡ record own { current = after_event event e (length t.frames) own.current vs }
+    kept_owners : (e : Effect) → IsWithin e → (event : Event) (vs : Variables) → after_step t own event e vs ≡ record own { current = after_event event e (length t.frames) own.current vs }
     kept_owners (Returns given) away event vs = absurd away
     kept_owners (Becomes tasks) away event vs = refl
     kept_owners (Sets x v) away event vs = refl
@@ -222,16 +259,17 @@ module _ (unit : SourceUnit) (classes : Classes) (first : Statics) (enters : All
     kept_owners (SetsElement x i z) away event vs = refl
     kept_owners (MakesArray u x n) away event vs = refl
     kept_owners (Prints z) away event vs = refl
-    kept_owners (Calls line target f args) away event vs = refl
+    kept_owners (Calls line target f args) away event vs =
+        ap (λ (b : Bool). after_invoked b event own (after_event event (Calls line target f args) (length t.frames) own.current vs)) away
     kept_owners (TrapsAt trap line) away event vs = refl
     kept_owners NoEffect away event vs = refl
 
-    module _ (away : IsNoReturn effect) (ss : Statics) (callers : AllZip (CallerStands weak ss) own.callers t.callers) (loads : AllLoad t.calls) where
-      lands_on : (refused : Bool) (e : Advance) → LandsBy weak effect (length t.frames) own.current ss e → KeepsCalls (held t) e → StepsOn refused (after_tasks s t (Some (task ∷ rest)) own) ss e
+    module _ (away : IsWithin effect) (ss : Statics) (callers : AllZip (CallerStands weak ss) own.callers t.callers) (loads : AllLoad t.calls) where
+      lands_on : (refused : Bool) (e : Advance) → LandsBy weak effect (length t.frames) own.current ss e → KeepsCalls (held t) e → PlacedOn refused (after_tasks s t (Some (task ∷ rest)) own) ss e
       lands_on refused (Advances s' t' event) h kept =
           let same_callers : t.callers ≡ t'.callers = ap (λ (x : Held). x.1) (sym kept) in
           let same_calls : t.calls ≡ t'.calls = ap (λ (x : Held). x.0) (sym kept) in (
-            subst (λ (o : ThreadOwners). IsSound unit classes o s'.statics t') (sym (kept_owners effect away event t'.variables)) (record {
+            subst (λ (o : ThreadOwners). Placed unit classes o s'.statics t') (sym (kept_owners effect away event t'.variables)) (record {
               goes = h.0;
               callers = subst (AllZip (CallerStands weak s'.statics) own.callers) same_callers (callers_later weak ss s'.statics h.1 (goes_only _ s'.statics t' t'.tasks h.0) own.callers t.callers callers);
               loads = subst AllLoad same_calls loads;
@@ -240,7 +278,7 @@ module _ (unit : SourceUnit) (classes : Classes) (first : Statics) (enters : All
           )
       lands_on refused NoAdvance h kept = absurd h
 
-      lands_if_possible : (e : Advance) → LandsByIfPossible weak effect (length t.frames) own.current ss e → KeepsCalls (held t) e → StepsOn true (after_tasks s t (Some (task ∷ rest)) own) ss e
+      lands_if_possible : (e : Advance) → LandsByIfPossible weak effect (length t.frames) own.current ss e → KeepsCalls (held t) e → PlacedOn true (after_tasks s t (Some (task ∷ rest)) own) ss e
       lands_if_possible (Advances s' t' event) h kept = lands_on true (Advances s' t' event) h kept
       lands_if_possible NoAdvance h kept = refl
 
@@ -253,14 +291,14 @@ module _ (unit : SourceUnit) (classes : Classes) (first : Statics) (enters : All
     loads_after (Uncaught c) calls h = refl
 
     back_on : (target : Target) (o : Owners) (owners : List Owners) (callers : List Caller) → AllZip (CallerStands weak s.statics) owners callers → (e : Advance) → LandsBack weak target o s.statics e → KeepsCalls (t.calls, callers) e
-        → StepsOn false (λ event vs. record { current = with_result target o vs; callers = owners }) s.statics e
+        → PlacedOn false (λ event vs. record { current = with_result target o vs; callers = owners }) s.statics e
     back_on target o owners callers stand (Advances s' t' event) h kept =
         let same_callers : callers ≡ t'.callers = ap (λ (x : Held). x.1) (sym kept) in
         let same_calls : t.calls ≡ t'.calls = ap (λ (x : Held). x.0) (sym kept) in
         (record { goes = h.0; callers = subst (AllZip (CallerStands weak s'.statics) owners) same_callers (callers_later weak s.statics s'.statics h.1 (goes_only _ s'.statics t' t'.tasks h.0) owners callers stand); loads = subst AllLoad same_calls loads }, h.1)
     back_on target o owners callers stand NoAdvance h kept = absurd h
 
-    returned : (given : CallResult) (owners : List Owners) (callers : List Caller) → own.callers ≡ owners → AllZip (CallerStands weak s.statics) owners callers → StepsOn false (λ event vs. after_return callers owners own vs) s.statics (return_by k s t given callers)
+    returned : (given : CallResult) (owners : List Owners) (callers : List Caller) → own.callers ≡ owners → AllZip (CallerStands weak s.statics) owners callers → PlacedOn false (λ event vs. after_return callers owners own vs) s.statics (return_by k s t given callers)
     returned given [] [] is stand =
         (record { goes = (refl, calls_there s.heap t.pending t.calls, only); callers = subst (λ (l : List Owners). AllZip (CallerStands weak s.statics) l []) (sym is) tt; loads = loads_after (ending_after s.heap t.pending t.calls) t.calls loads }, λ x r e. (r, e))
     returned given (o ∷ owners) [] is stand = absurd stand
@@ -270,6 +308,40 @@ module _ (unit : SourceUnit) (classes : Classes) (first : Statics) (enters : All
         back_on c.target o owners callers stand.1 (return_into s t back c callers)
         (return_lands unit classes room k s t c callers stand.0 back (back_gives t.pending c.result (stand.0).method given))
         (put_keeps c.target back s (received c.result back (resumed_in t c callers)) (t.calls, callers) (received_calls c.result back (resumed_in t c callers)))
+
+  -- ---- calls of methods
+
+  module _ (room : BuffersInUse) (k : ℕ) (s : Shared) (t : Thread) (own : ThreadOwners) (sound : IsSound unit classes own s.statics t) (task : Task) (rest : List Task) (p : Point) (stands : Stands weak own.current s.statics t.variables t.frames p)
+      (line : ℕ) (target : Target) (f : JniFunction) (args : List Actual) (method : calls_method f ≡ true) where
+    abbrev left_by_call : Event → Variables → ThreadOwners
+    left_by_call event vs = after_step t own event (Calls line target f args) vs
+
+    trapped : (trap : Trap) → PlacedOn false left_by_call s.statics (Advances s t (Trapped trap line))
+    trapped trap =
+        let same : own ≡ left_by_call (Trapped trap line) t.variables = ap (λ (b : Bool). after_invoked b (Trapped trap line) own own.current) (sym method) in
+        (subst (λ (o : ThreadOwners). Placed unit classes o s.statics t) same (record { goes = sound.goes; callers = sound.callers; loads = sound.loads }), λ x r e. (r, e))
+
+    both_load : (a b : Bool) → a ≡ true → b ≡ true → (a && b) ≡ true
+    both_load true b e h = h
+    both_load false b e h = absurd (cc)
+
+    pushed : (operands : List Operand) → args ≡ actuals (sight_of s t) f operands → Runs (Invoke line target f operands) (GoesOn rest) p → (m : MethodId) → trap_of_call classes s t target f args ≡ None → method_given args 1 ≡ Some m
+        → PlacedOn false left_by_call s.statics (Advances s (calling unit classes room k s t line target f args rest (call_to unit classes room k s t line target f args rest method m)) Quiet)
+    pushed operands is runs m none given =
+        let callable = method_callable unit classes (sight_of s t) t.variables (λ x. refl) sound.methods f method operands m (subst (λ (l : List Actual). method_given l 1 ≡ Some m) is given) in
+        let now : ThreadOwners = record { current = no_owner; callers = own.current ∷ own.callers } in
+        let same : now ≡ left_by_call Quiet [] = ap (λ (b : Bool). after_invoked b Quiet own (after_event Quiet (Calls line target f args) (length t.frames) own.current [])) (sym method) in (
+          subst (λ (o : ThreadOwners). Placed unit classes o s.statics (calling unit classes room k s t line target f args rest (call_to unit classes room k s t line target f args rest method m))) same (record {
+            goes = (refl, λ e. refl, stands.only);
+            callers = (caller_stands classes s t line f args rest p stands method target operands none runs, sound.callers);
+            loads = both_load _ (list_all (call_loads unit classes) t.calls) (call_made_loads unit classes s t target line f args m method callable none given) sound.loads;
+          }),
+          λ x r e. (r, e),
+        )
+
+    method_called : Follows weak own.current (sight_of s t) s.statics t.variables t.frames p rest (Calls line target f args) → PlacedOn false left_by_call s.statics (call_step unit classes room k s t line target f args rest false)
+    method_called (operands, is, ready, runs) =
+        each_call unit classes room k s t line target f args rest method (PlacedOn false left_by_call s.statics) trapped (pushed operands is runs)
 
   -- ---- entries
 
@@ -282,18 +354,18 @@ module _ (unit : SourceUnit) (classes : Classes) (first : Statics) (enters : All
       by_test false e later = later e
 
   module _ (s : Shared) (t : Thread) (own : ThreadOwners) (stay : NamesStay first s.statics) (only : HoldWeakly weak s.statics) (call : Invocation) (calls : List Invocation) (loads : IsTrue (list_all (call_loads unit classes) calls)) (callers : AllZip (CallerStands weak s.statics) own.callers t.callers) where
-    enters_class : (f : Function) (o : Option ℕ) → Enters weak first f → is_some o ≡ true → fit_parameters f.parameters call.arguments ≡ true → StepsOn false (after_tasks s t None own) s.statics (entry_advance s (option_map (λ c. entered t calls f c call.arguments) o))
+    enters_class : (f : Function) (o : Option ℕ) → Enters weak first f → is_some o ≡ true → fit_parameters f.parameters call.arguments ≡ true → PlacedOn false (after_tasks s t None own) s.statics (entry_advance s (option_map (λ c. entered t calls f c call.arguments) o))
     enters_class f None h there fits = absurd (cc)
     enters_class f (Some c) (scope, sees, kinds, once, goes) there fits =
         (record { callers = callers; goes = (entry_point f scope, stands_at_entry weak s.statics scope f c call.arguments (sees_later first s.statics stay scope sees) kinds only fits once, goes); loads = loads }, λ x r e. (r, e))
 
-    enters_function : (o : Option Function) → function_at unit call.function ≡ o → some_passes (is_callable classes call.arguments) o ≡ true → StepsOn false (after_tasks s t None own) s.statics (entry_advance s (entered_function classes t call calls o))
+    enters_function : (o : Option Function) → function_at unit call.function ≡ o → some_passes (is_callable classes call.arguments) o ≡ true → PlacedOn false (after_tasks s t None own) s.statics (entry_advance s (entered_function classes t call calls o))
     enters_function None e h = absurd (cc)
     enters_function (Some f) e h =
         let both = both_true (is_some (class_of_function classes f)) (fit_parameters f.parameters call.arguments) h in
         enters_class f (class_of_function classes f) (found_enters (functions_of unit) call.function f enters e) both.0 both.1
 
-  entry_steps : (s : Shared) (t : Thread) (own : ThreadOwners) → NamesStay first s.statics → HoldWeakly weak s.statics → AllZip (CallerStands weak s.statics) own.callers t.callers → (calls : List Invocation) → IsTrue (has_calls calls) → IsTrue (list_all (call_loads unit classes) calls) → StepsOn false (after_tasks s t None own) s.statics (entry_advance s (enter unit classes t calls))
+  entry_steps : (s : Shared) (t : Thread) (own : ThreadOwners) → NamesStay first s.statics → HoldWeakly weak s.statics → AllZip (CallerStands weak s.statics) own.callers t.callers → (calls : List Invocation) → IsTrue (has_calls calls) → IsTrue (list_all (call_loads unit classes) calls) → PlacedOn false (after_tasks s t None own) s.statics (entry_advance s (enter unit classes t calls))
   entry_steps s t own stay only callers [] has loads = absurd (cc)
   entry_steps s t own stay only callers (call ∷ calls) has loads =
       let both = both_true (call_loads unit classes call) (list_all (call_loads unit classes) calls) loads in
@@ -304,31 +376,39 @@ module _ (unit : SourceUnit) (classes : Classes) (first : Statics) (enters : All
   module _ (room : BuffersInUse) (k : ℕ) (s : Shared) (t : Thread) (own : ThreadOwners) (stay : NamesStay first s.statics) (live : is_unfinished t.ending ≡ true) (sound : IsSound unit classes own s.statics t) where
     -- a step within the call, by its effect
     module _ (task : Task) (rest : List Task) (p : Point) (stands : Stands weak own.current s.statics t.variables t.frames p) (runs : Runs task (GoesOn rest) p) where
-      unmarked : ((given : CallResult) × (effect_of (sight_of s t) task ≡ Returns given)) ⊎ IsNoReturn (effect_of (sight_of s t) task)
-          → StepsOn false (after_tasks s t (Some (task ∷ rest)) own) s.statics (step_within unit classes room k s t false (Some (task ∷ rest)))
-      unmarked (inl (given, is)) =
-          subst (λ (e : Effect). StepsOn false (λ event vs. after_step t own event e vs) s.statics (after_effect unit classes room k s t rest e)) (sym is)
+      unmarked : Way (effect_of (sight_of s t) task) → PlacedOn false (after_tasks s t (Some (task ∷ rest)) own) s.statics (step_within unit classes room k s t false (Some (task ∷ rest)))
+      unmarked (Returning given is) =
+          subst (λ (e : Effect). PlacedOn false (λ event vs. after_step t own event e vs) s.statics (after_effect unit classes room k s t rest e)) (sym is)
           (returned room k s t own sound.loads stands.only given own.callers t.callers refl sound.callers)
-      unmarked (inr away) =
+      unmarked (Calling line target f args is method) =
+          subst (λ (e : Effect). PlacedOn false (λ event vs. after_step t own event e vs) s.statics (after_effect unit classes room k s t rest e)) (sym is)
+          (method_called room k s t own sound task rest p stands line target f args method
+          (subst (Follows weak own.current (sight_of s t) s.statics t.variables t.frames p rest) is (effect_follows s.heap s.statics t.variables t.frames p stands rest task runs)))
+      unmarked (Within away) =
           lands_on s t task rest own away s.statics sound.callers sound.loads false (step_within unit classes room k s t false (Some (task ∷ rest)))
           (each_step_lands unit classes room k s t task rest p stands runs sound.goes away) (calls_kept unit classes room k s t false task rest away)
 
-      marked : ((given : CallResult) × (effect_of (sight_of s t) task ≡ Returns given)) ⊎ IsNoReturn (effect_of (sight_of s t) task)
-          → StepsOn true (after_tasks s t (Some (task ∷ rest)) own) s.statics (step_within unit classes room k s t true (Some (task ∷ rest)))
-      marked (inl (given, is)) = subst (λ (e : Effect). StepsOn true (λ event vs. after_step t own event e vs) s.statics (after_refused_effect unit classes room k s t rest e)) (sym is) refl
-      marked (inr away) =
+      marked : Way (effect_of (sight_of s t) task) → PlacedOn true (after_tasks s t (Some (task ∷ rest)) own) s.statics (step_within unit classes room k s t true (Some (task ∷ rest)))
+      marked (Returning given is) = subst (λ (e : Effect). PlacedOn true (λ event vs. after_step t own event e vs) s.statics (after_refused_effect unit classes room k s t rest e)) (sym is) refl
+      marked (Calling line target f args is method) =
+          subst (λ (e : Effect). PlacedOn true (λ event vs. after_step t own event e vs) s.statics (after_refused_effect unit classes room k s t rest e)) (sym is)
+          (unrefused unit classes room k s t line target f args rest method (PlacedOn true (λ event vs. after_step t own event (Calls line target f args) vs) s.statics) refl)
+      marked (Within away) =
           lands_if_possible s t task rest own away s.statics sound.callers sound.loads (step_within unit classes room k s t true (Some (task ∷ rest)))
           (marked_step_lands unit classes room k s t task rest p stands runs sound.goes) (calls_kept unit classes room k s t true task rest away)
 
-    steps_at : (refused : Bool) (o : Option (List Task)) → Goes weak own.current s.statics t o → StepsOn refused (after_tasks s t o own) s.statics (step_within unit classes room k s t refused o)
+    steps_at : (refused : Bool) (o : Option (List Task)) → Goes weak own.current s.statics t o → PlacedOn refused (after_tasks s t o own) s.statics (step_within unit classes room k s t refused o)
     steps_at true None g = refl
     steps_at false None g = entry_steps s t own stay g.2 sound.callers t.calls (g.1 live) sound.loads
     steps_at refused (Some []) g = absurd (g.2)
-    steps_at false (Some (task ∷ rest)) (p, stands, runs) = unmarked task rest p stands runs (returns_or_not (effect_of (sight_of s t) task))
-    steps_at true (Some (task ∷ rest)) (p, stands, runs) = marked task rest p stands runs (returns_or_not (effect_of (sight_of s t) task))
+    steps_at false (Some (task ∷ rest)) (p, stands, runs) = unmarked task rest p stands runs (way_of (effect_of (sight_of s t) task))
+    steps_at true (Some (task ∷ rest)) (p, stands, runs) = marked task rest p stands runs (way_of (effect_of (sight_of s t) task))
 
     thread_steps : (refused : Bool) → StepsOn refused (after_tasks s t t.tasks own) s.statics (thread_step unit classes room k s t refused)
-    thread_steps refused = steps_at refused t.tasks sound.goes
+    thread_steps refused =
+        steps_on refused (after_tasks s t t.tasks own) s.statics (thread_step unit classes room k s t refused) (steps_at refused t.tasks sound.goes)
+        (methods_kept unit classes room k s t finds sound.methods sound.below refused t.tasks)
+        (callers_left CallerHolds unit classes room k s t sound.below (λ task rest line target f args at is method. sound.methods) refused)
 
   sound_only : (own : ThreadOwners) (ss : Statics) (t : Thread) → IsSound unit classes own ss t → HoldWeakly weak ss
   sound_only own ss t h = goes_only own.current ss t t.tasks h.goes
@@ -419,13 +499,13 @@ null_held weak (g ∷ gs) x n e = by_test (bytes_eq x g.name) e (null_held weak 
     by_test true h later = absurd (cc)
     by_test false h later = later h
 
-module _ (unit : SourceUnit) (w : World) (enters : AllByRecursion (Enters (weak_names unit) (null_statics unit)) (functions_of unit)) where
+module _ (unit : SourceUnit) (w : World) (enters : AllByRecursion (Enters (weak_names unit) (null_statics unit)) (functions_of unit)) (finds : FindsCallable unit w.classes) where
   abbrev Running : AllOwners → State → Type 0
-  Running owners s = AreRunning unit w.classes (null_statics unit) enters owners s
+  Running owners s = AreRunning unit w.classes (null_statics unit) enters finds owners s
 
   entry_running : (owners : AllOwners) (s : State) → Running owners s → (e : Entry) (next : State) → world_step unit w s e ≡ Some next → Running (after_entry unit w.classes s owners e) next
-  entry_running owners s h (Step k refused) next g = turn_running unit w.classes (null_statics unit) enters owners s h k refused next g
-  entry_running owners s h (Clearing names) next g = cleared_running unit w.classes (null_statics unit) enters w owners s h names next g
+  entry_running owners s h (Step k refused) next g = turn_running unit w.classes (null_statics unit) enters finds owners s h k refused next g
+  entry_running owners s h (Clearing names) next g = cleared_running unit w.classes (null_statics unit) enters finds w owners s h names next g
 
   replay_running : (journal : Journal) (owners : AllOwners) (s end : State) → Running owners s → replay_from unit w s journal ≡ Some end → Running (owners_from unit w (Some s) owners journal) end
   replay_running [] owners s end h e = let same : s ≡ end = cc in subst (Running owners) same h
@@ -443,7 +523,7 @@ module _ (unit : SourceUnit) (w : World) (enters : AllByRecursion (Enters (weak_
   all_waiting k (calls ∷ threads) loads has =
       let l = both_true (list_all (call_loads unit w.classes) calls) (list_all (list_all (call_loads unit w.classes)) threads) loads in
       let c = both_true (has_calls calls) (list_all has_calls threads) has in
-      (record { goes = (refl, λ e. c.0, null_held (weak_names unit) (statics_of unit)); callers = tt; loads = l.0 }, all_waiting (k + 1) threads l.1 c.1)
+      (record { goes = (refl, λ e. c.0, null_held (weak_names unit) (statics_of unit)); callers = tt; loads = l.0; methods = tt; below = tt }, all_waiting (k + 1) threads l.1 c.1)
 
   start_running : Loads unit w → HasCalls w → Running (λ k. no_owners) (start unit w)
   start_running loads has = record { sound = all_waiting 1 w.threads loads.1 has; stay = λ x r e. (r, e); only = null_held (weak_names unit) (statics_of unit) }
@@ -451,15 +531,16 @@ module _ (unit : SourceUnit) (w : World) (enters : AllByRecursion (Enters (weak_
   -- where each function's tasks break no rule, each thread is at a point, or before an entry, after each journal
   pub threads_are_sound : Loads unit w → HasCalls w → (journal : Journal) (s : State) (k : ℕ) (t : Thread) → replay_from unit w (start unit w) journal ≡ Some s → thread_at s k ≡ Some t → IsSound unit w.classes (owners_after unit w journal k) s.shared.statics t
   threads_are_sound loads has journal s k t replayed there =
-      thread_sound unit w.classes (null_statics unit) enters (owners_after unit w journal) s k t (replay_running journal (λ k. no_owners) (start unit w) s (start_running loads has) replayed) there
+      thread_sound unit w.classes (null_statics unit) enters finds (owners_after unit w journal) s k t (replay_running journal (λ k. no_owners) (start unit w) s (start_running loads has) replayed) there
 
   -- and no step of any replay breaks one
   pub runs_are_safe : Loads unit w → HasCalls w → IsSafe unit w
   runs_are_safe loads has journal s k t replayed there =
       let running : Running (owners_after unit w journal) s = replay_running journal (λ k. no_owners) (start unit w) s (start_running loads has) replayed in
-      let sound = thread_sound unit w.classes (null_statics unit) enters (owners_after unit w journal) s k t running there in
+      let sound = thread_sound unit w.classes (null_statics unit) enters finds (owners_after unit w journal) s k t running there in
       record {
-        alone = threads_alone unit w journal s k t replayed there;
+        callers = resumable (weak_names unit) s.shared.statics (owners_after unit w journal k).callers t.callers sound.callers;
+        methods = methods unit w.classes (weak_names unit) (owners_after unit w journal k).current s.shared t sound.goes sound.methods;
         view = view (weak_names unit) (owners_after unit w journal k).current s.shared t sound.goes (callers_viewless (weak_names unit) s.shared.statics (owners_after unit w journal k).callers t.callers sound.callers);
         return = return (weak_names unit) (owners_after unit w journal k).current s.shared t sound.goes;
         references = references (weak_names unit) (owners_after unit w journal k).current s.shared t sound.goes;
@@ -469,5 +550,5 @@ module _ (unit : SourceUnit) (w : World) (enters : AllByRecursion (Enters (weak_
         free = free (weak_names unit) (owners_after unit w journal k).current s.shared t sound.goes;
         weak = taken (weak_names unit) (owners_after unit w journal k).current s.shared t sound.goes;
         possible = possible (weak_names unit) (owners_after unit w journal k).current s.shared t sound.goes;
-        progress = step_there unit w.classes (null_statics unit) enters (owners_after unit w journal) s k t running there;
+        progress = step_there unit w.classes (null_statics unit) enters finds (owners_after unit w journal) s k t running there;
       }

@@ -1,13 +1,13 @@
 -- The call of a statement that keeps the rules, and what is known after it.
 use Rattle.std.proofs.Common.{◌≡◌, ℕ, ◌+◌, ◌-◌, ◌<◌, ◌≤◌, arith, inl, inr, Bool, true, false, not, ◌&&◌, List, length, Option, Some, None, refl, sym, ap, ◌∙◌, subst, nat_le, if◌then◌else◌}
-use Rattle.std.specs.Prelude.{flat_map, ◌==◌}
+use Rattle.std.specs.Prelude.{flat_map}
 use Rattle.std.specs.Option.{is_none, option_and_then, option_map}
-use Rattle.std.proofs.lemmas.Bool.Decides.{Decides-eqb, nat_tests}
+use Rattle.std.proofs.lemmas.Bool.Decides.{nat_tests}
 use Rattle.base.specs.Bytes.{Identifier}
 use Rattle.base.specs.Options.{some_passes}
 use Rattle.syntax.specs.Parts.{argument_expressions, own_expressions, own_call}
 use Rattle.syntax.specs.Tree.{ResultType, Call, TestCall, Stmt, If, IfElse, End}
-use Rattle.jni.specs.JniFunction.{JniFunction, PushLocalFrame, function_named, prototype}
+use Rattle.jni.specs.JniFunction.{JniFunction, PushLocalFrame, function_named, parameters_for, takes_count, prototype}
 use Rattle.type_rules.specs.Sorts.{call_arguments_fit, arguments_fit}
 use Rattle.type_rules.specs.SortRules as rules
 use Rattle.type_rules.specs.SortRules.{has_wrong_count, has_wrong_mode, modes_fit, may_be_tested}
@@ -18,6 +18,7 @@ use Rattle.semantics_safety.specs.Points.{Point}
 use Rattle.semantics_safety.specs.Wanted.{CallFits, CallKeeps, ResultGoes, RunsPlain, RunsPush, call_seen, is_push, at}
 use Rattle.semantics_safety.proofs.CallFits.{not_so, operands_of, after_same, get_same, call_rules, call_fits, unbroken}
 use Rattle.type_rules.proofs.KeptPlaces.{IsKept}
+use Rattle.semantics_safety.proofs.Parameters.{counted}
 use Rattle.semantics_safety.proofs.KnownPoints.{IsKnown, Kin, kin_same, known_changed}
 use Rattle.semantics_safety.proofs.WaysGive.{Pushes, free_kin, known_one}
 
@@ -26,7 +27,7 @@ pub record IsCalled (p : Point) (s : Stmt) (c : Call) : Type 0 where
   pub function : JniFunction
   pub is_named : function_named c.function ≡ Some function
   pub called : function_called s ≡ Some (function, c.arguments)
-  pub count : length c.arguments ≡ length (prototype function).parameters
+  pub count : length c.arguments ≡ length (parameters_for function (length c.arguments))
   pub fits : CallFits p function (operands_of function c.arguments)
   pub keeps : CallKeeps p function c.arguments
 
@@ -40,20 +41,20 @@ call_there p taken returns s c known kept obeys own expressions =
     let f = found.0 in
     let called : function_called s ≡ Some (f, c.arguments) =
     ap (option_and_then (λ (c : Call). option_map (λ (f : JniFunction). (f, c.arguments)) (function_named c.function))) own ∙ ap (option_map (λ (f : JniFunction). (f, c.arguments))) found.1 in
-    let counted : has_wrong_count c (Some f) ≡ false = ap (has_wrong_count c) (sym found.1) ∙ ap (some_passes (λ (c : Call). has_wrong_count c (function_named c.function))) (sym own) ∙ kept.count in
-    let count = (Decides-eqb (length c.arguments) (length (prototype f).parameters)).0 (not_so (length c.arguments == length (prototype f).parameters) counted) in
+    let right : has_wrong_count c (Some f) ≡ false = ap (has_wrong_count c) (sym found.1) ∙ ap (some_passes (λ (c : Call). has_wrong_count c (function_named c.function))) (sym own) ∙ kept.count in
+    let takes = not_so (takes_count f (length c.arguments)) right in
     let fitted : not (call_arguments_fit p.names c (Some f)) ≡ false =
     ap (λ (o : Option JniFunction). not (call_arguments_fit p.names c o)) (sym found.1) ∙ ap (some_passes (λ (c : Call). not (call_arguments_fit p.names c (function_named c.function)))) (sym own) ∙ kept.arguments in
-    let fit = not_so (arguments_fit p.names (prototype f).parameters c.arguments) fitted in
+    let fit = not_so (arguments_fit p.names (parameters_for f (length c.arguments)) c.arguments) fitted in
     let moded : has_wrong_mode c (Some f) ≡ false = ap (has_wrong_mode c) (sym found.1) ∙ ap (some_passes (λ (c : Call). has_wrong_mode c (function_named c.function))) (sym own) ∙ kept.modes in
     let modes = not_so (modes_fit (prototype f).parameters c.arguments) moded in
     record {
       function = f;
       is_named = found.1;
       called = called;
-      count = count;
-      fits = call_fits p known.stated s obeys f c.arguments called expressions count fit modes;
-      keeps = call_rules p known.stated s obeys f c.arguments called expressions count fit modes;
+      count = counted f (length c.arguments) takes;
+      fits = call_fits p known.stated s obeys f c.arguments called expressions takes fit modes;
+      keeps = call_rules p known.stated s obeys f c.arguments called expressions takes fit modes;
     }
 
 -- ---- what is known after a call

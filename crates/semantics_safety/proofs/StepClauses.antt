@@ -1,11 +1,16 @@
 -- What is asked of each step holds of a thread that goes on from the point where it is.
-use Rattle.std.proofs.Common.{◌≡◌, ◌≢◌, ℕ, List, [], ◌∷◌, ◌++◌, length, flat_map, Option, Some, None, sym, subst, ap, ◌∙◌}
-use Rattle.std.specs.List.{AllByRecursion}
+use Rattle.std.proofs.Common.{◌≡◌, ◌≢◌, ℕ, true, ◌+◌, ◌≤◌, List, [], ◌∷◌, ◌++◌, length, flat_map, Option, Some, None, refl, sym, subst, ap, ◌∙◌}
+use Rattle.std.specs.List.{AllByRecursion, AllZip}
 use Rattle.base.specs.Bytes.{Identifier, lookup}
 use Rattle.jni.specs.Access.{Access}
-use Rattle.jni.specs.JniFunction.{JniFunction, ReleaseBuffer, prototype}
-use Rattle.jni.specs.Prototype.{NewLocal}
-use Rattle.semantics.specs.Arguments.{Actual, object_given, variable_given}
+use Rattle.jni.specs.JniFunction.{JniFunction, ReleaseBuffer, calls_method, prototype}
+use Rattle.base.specs.Limits.{most_further}
+use Rattle.class_rules.specs.Class.{Classes}
+use Rattle.syntax.specs.Tree.{SourceUnit}
+use Rattle.type_rules.specs.Sorts.{sort_in}
+use Rattle.semantics.specs.Method.{MethodId}
+use Rattle.jni.specs.Prototype.{ResultKind, NewLocal}
+use Rattle.semantics.specs.Arguments.{Actual, method_given, object_given, variable_given}
 use Rattle.semantics.specs.CallEffects.{CallResult}
 use Rattle.semantics.specs.Checks.{frames_after}
 use Rattle.semantics.specs.Effect.{Calls, Returns, NoEffect, effect_of}
@@ -13,27 +18,68 @@ use Rattle.semantics.specs.Object.{Reference}
 use Rattle.semantics.specs.Task.{Task, Target, Assigned}
 use Rattle.semantics.specs.Thread.{Thread, Caller, Shared, sight_of, viewed_by, objects_viewed}
 use Rattle.semantics.specs.ThreadStep.{next_effect}
-use Rattle.semantics.specs.Variable.{LocalRef}
+use Rattle.semantics.specs.Variable.{LocalRef, Statics}
 use Rattle.semantics.specs.WeakArguments.{WeakAreTaken}
 use Rattle.semantics_safety.specs.Owners.{Owners, IsOwn}
 use Rattle.semantics_safety.specs.Follows.{Follows}
-use Rattle.semantics_safety.specs.Stands.{Goes}
-use Rattle.semantics_safety.specs.StepSafe.{MayMeetView, MayReturn, IsAlive, came_from, HoldsNoBuffer, SetsWhole}
+use Rattle.semantics_safety.specs.Stands.{AreCallable, CallerStands, Goes}
+use Rattle.semantics_safety.specs.StepSafe.{IsCallable, IsResumable, MayMeetView, MayReturn, IsAlive, came_from, HoldsNoBuffer, SetsWhole}
 use Rattle.semantics_safety.specs.Used.{task_names}
-use Rattle.semantics_safety.specs.Wanted.{GoesOn}
+use Rattle.semantics_safety.specs.Wanted.{AssignsResult, GoesOn, ResultGoes}
 use Rattle.semantics_safety.specs.WeakNames.{WeakNames}
 use Rattle.semantics_safety.proofs.ClauseLaws.{view_clause, return_clause, reference_clause, owned_clause}
 use Rattle.semantics_safety.proofs.EffectLaws.{effect_follows, call_fits}
-use Rattle.semantics_safety.proofs.LevelLaws.{level_clause}
+use Rattle.semantics_safety.proofs.LevelLaws.{level_clause, set_level}
+use Rattle.semantics_safety.proofs.Pushes.{arguments_are_few, method_callable}
 use Rattle.semantics_safety.proofs.ReleaseLaws.{release_clause}
 use Rattle.semantics_safety.proofs.WeakLaws.{weak_clause}
-use Rattle.semantics_safety.proofs.WholeLaws.{whole_clause}
+use Rattle.semantics_safety.proofs.WholeLaws.{result_holds, whole_clause}
 
 no_call : (line : ℕ) (target : Target) (f : JniFunction) (args : List Actual) → NoEffect ≡ Calls line target f args → ⊥
 no_call line target f args e = cc
 
 no_return : (given : CallResult) → NoEffect ≡ Returns given → ⊥
 no_return given e = cc
+
+-- ---- callers
+
+-- the caller that goes on next can
+caller_resumes : (weak : WeakNames) (ss : Statics) (own : Owners) (c : Caller) → CallerStands weak ss own c → IsResumable c
+caller_resumes weak ss own c h = record {
+  method = h.method;
+  untested = λ a b e. subst (λ (target : Target). ResultGoes target c.result None (GoesOn c.tasks) h.point) e h.goes;
+  room = h.room;
+  free = λ x is. result_holds ss c.variables c.frames h.point h.stands c.target c.result None (GoesOn c.tasks) x is h.goes;
+  declared = λ x level r target kind there.
+      let goes = subst (λ (target : Target). ResultGoes target c.result None (GoesOn c.tasks) h.point) target h.goes in
+      set_level ss c.variables c.frames h.point h.stands (GoesOn c.tasks) x level r there h.point c.frames h.stands (sort_in h.point.names x) None
+      (subst (λ (kind : ResultKind). AssignsResult h.point (sort_in h.point.names x) x kind None (GoesOn c.tasks)) kind goes);
+}
+
+pub resumable : (weak : WeakNames) (ss : Statics) (owners : List Owners) (callers : List Caller) → AllZip (CallerStands weak ss) owners callers → (c : Caller) (below : List Caller) → callers ≡ c ∷ below → IsResumable c
+resumable weak ss [] [] h c below e = absurd (cc)
+resumable weak ss [] (d ∷ callers) h c below e = absurd h
+resumable weak ss (own ∷ owners) [] h c below e = absurd (cc)
+resumable weak ss (own ∷ owners) (d ∷ callers) h c below e = let same : d ≡ c = cc in subst IsResumable same (caller_resumes weak ss own d h.0)
+
+-- ---- steps
+
+module _ (unit : SourceUnit) (classes : Classes) (weak : WeakNames) (own : Owners) (s : Shared) (t : Thread) where
+  at_method : (o : Option (List Task)) → Goes weak own s.statics t o → AreCallable unit classes t.variables → (line : ℕ) (target : Target) (f : JniFunction) (args : List Actual) → next_effect s t o ≡ Calls line target f args → calls_method f ≡ true
+      → (length args ≤ 2 + most_further) × ((m : MethodId) → method_given args 1 ≡ Some m → IsCallable unit classes m)
+  at_method None g known line target f args e is = absurd (no_call line target f args e)
+  at_method (Some []) g known line target f args e is = absurd (g.2)
+  at_method (Some (task ∷ rest)) (p, stands, runs) known line target f args e is =
+      let called = subst (Follows weak own (sight_of s t) s.statics t.variables t.frames p rest) e (effect_follows s.heap s.statics t.variables t.frames p stands rest task runs) in
+      subst (λ (l : List Actual). (length l ≤ 2 + most_further) × ((m : MethodId) → method_given l 1 ≡ Some m → IsCallable unit classes m)) (sym called.1) (
+        arguments_are_few p (sight_of s t) f is called.0 (call_fits s.heap s.statics t.variables t.frames p stands rest line target f called.0 called.3),
+        method_callable unit classes (sight_of s t) t.variables (λ x. refl) known f is called.0,
+      )
+
+  -- a call of a method is one of the unit's functions, and gives it few arguments
+  pub methods : Goes weak own s.statics t t.tasks → AreCallable unit classes t.variables → (line : ℕ) (target : Target) (f : JniFunction) (args : List Actual) → next_effect s t t.tasks ≡ Calls line target f args → calls_method f ≡ true
+      → (length args ≤ 2 + most_further) × ((m : MethodId) → method_given args 1 ≡ Some m → IsCallable unit classes m)
+  methods goes known line target f args e is = at_method t.tasks goes known line target f args e is
 
 module _ (weak : WeakNames) (own : Owners) (s : Shared) (t : Thread) where
   at_return : (given : CallResult) (o : Option (List Task)) → Goes weak own s.statics t o → next_effect s t o ≡ Returns given → MayReturn t

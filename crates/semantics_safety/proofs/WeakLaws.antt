@@ -1,24 +1,25 @@
 -- At its point a thread names a weak reference in a call of the functions alone that take one.
-use Rattle.std.proofs.Common.{◌≡◌, ◌≢◌, inl, inr, ℕ, Bool, true, false, List, [], ◌∷◌, Option, Some, None, refl, sym, ◌∙◌}
+use Rattle.std.proofs.Common.{◌≡◌, ◌≢◌, inl, inr, ℕ, Bool, true, false, List, [], ◌∷◌, length, Option, Some, None, refl, sym, ◌∙◌}
 use Rattle.std.specs.List.{list_any, AllByRecursion}
 use Rattle.base.specs.Bytes.{Identifier, lookup}
 use Rattle.jni.specs.Access.{ElementsCopy, ArrayView, CharsCopy, CharsView}
-use Rattle.jni.specs.JniFunction.{JniFunction, NewLocalRef, NewGlobalRef, IsSameObject, DeleteWeakGlobalRef, GetBuffer, ReleaseBuffer, prototype}
-use Rattle.jni.specs.Prototype.{ParameterKind, FieldID, IntNumber, TextBytes, AnyReference, LocalVariable, StaticVariable, WeakVariable, ArrayVariable, BufferVariable, Mode, IsCopy}
+use Rattle.jni.specs.JniFunction.{JniFunction, NewLocalRef, NewGlobalRef, IsSameObject, DeleteWeakGlobalRef, GetBuffer, ReleaseBuffer, prototype, parameters_for}
+use Rattle.jni.specs.Prototype.{ParameterKind, FieldID, IntNumber, TextBytes, AnyReference, LocalVariable, StaticVariable, WeakVariable, ArrayVariable, BufferVariable, Mode, IsCopy, MethodID, Passed}
 use Rattle.type_rules.specs.Sorts.{Sort, sort_in}
 use Rattle.type_rules.specs.Sorts as sort
-use Rattle.semantics.specs.Task.{Task, Invoke, Target, Declared, Assigned, Tested, Dropped, Operand, NumberOperand, Given}
+use Rattle.semantics.specs.Task.{Task, Invoke, Target, Declared, Assigned, Tested, Dropped, Operand, NumberOperand, Given, PassedName}
 use Rattle.semantics.specs.Thread.{Frame}
-use Rattle.semantics.specs.Variable.{Variable, LocalRef, FieldHandle, Elements, LocalArray, Weakly, Variables, Statics}
+use Rattle.semantics.specs.Variable.{Variable, LocalRef, FieldHandle, Elements, LocalArray, Weakly, Variables, Statics, MethodHandle, Scalar}
 use Rattle.semantics.specs.WeakArguments.{takes_weak, NamesNoWeak, WeakAreTaken}
 use Rattle.syntax.specs.Tree as tree
 use Rattle.syntax.specs.Tree.{Argument}
 use Rattle.semantics_safety.specs.Owners.{Owners}
-use Rattle.semantics_safety.specs.Points.{Point, IsLive, IsUsable, ReferenceFits, ReferenceArgumentFits, NameFits, FieldArgumentFits, ModeFits, CopyFits, TextFits, GivenFits, OperandFits, OperandsFit}
+use Rattle.semantics_safety.specs.Points.{Point, IsLive, IsUsable, ReferenceFits, ReferenceArgumentFits, NameFits, FieldArgumentFits, ModeFits, CopyFits, TextFits, GivenFits, OperandFits, OperandsFit, PassedFits, NullFits, MethodArgumentFits}
 use Rattle.semantics_safety.specs.Stands.{Stands}
 use Rattle.semantics_safety.specs.Wanted.{CallFits, Runs}
 use Rattle.semantics_safety.specs.WeakNames.{WeakNames}
 use Rattle.semantics_safety.proofs.EntryPoints.{or_false}
+use Rattle.semantics_safety.proofs.Parameters.{none_among}
 use Rattle.semantics_safety.proofs.SetLaws.{none_some}
 
 -- a parameter that may be given a weak reference
@@ -74,6 +75,18 @@ module _ (ss : Statics) (vs : Variables) (frames : List Frame) (p : Point) {weak
   reference_strong x (Some sort.Global) e h = static_strong x e
   reference_strong x o e h = absurd h
 
+  method_strong : (x : Identifier) → sort_in p.names x ≡ Some sort.MethodId → IsStrong x
+  method_strong x is = let there = stands.sorts x sort.MethodId is in variable_strong x (MethodHandle there.0) there.1
+
+  number_strong : (x : Identifier) → sort_in p.names x ≡ Some sort.Jint → IsStrong x
+  number_strong x is = let there = stands.sorts x sort.Jint is in variable_strong x (Scalar there.0) there.1
+
+  passed_strong : (x : Identifier) (o : Option Sort) → sort_in p.names x ≡ o → PassedFits p x o → IsStrong x
+  passed_strong x (Some sort.Jint) e h = number_strong x e
+  passed_strong x (Some sort.Ref) e h = live_strong x h
+  passed_strong x (Some sort.Global) e h = static_strong x e
+  passed_strong x o e h = absurd h
+
   -- ---- arguments
 
   named_strong : (ok : Identifier → Type 0) (a : Argument) → ((x : Identifier) → ok x → IsStrong x) → NameFits ok a → NamesNoWeak vs ss (Given a)
@@ -89,6 +102,15 @@ module _ (ss : Statics) (vs : Variables) (frames : List Frame) (p : Point) {weak
   field_argument_strong (tree.Value (tree.Named c)) h = tt
   field_argument_strong (tree.Value (tree.Variable x)) h = field_strong x h
   field_argument_strong a h = absurd h
+
+  method_argument_strong : (a : Argument) → MethodArgumentFits p a → NamesNoWeak vs ss (Given a)
+  method_argument_strong (tree.Value (tree.Named c)) h = tt
+  method_argument_strong (tree.Value (tree.Variable x)) h = method_strong x h
+  method_argument_strong a h = absurd h
+
+  null_argument_strong : (a : Argument) → NullFits a → NamesNoWeak vs ss (Given a)
+  null_argument_strong (tree.Value (tree.Named tree.Null)) h = tt
+  null_argument_strong a h = absurd h
 
   mode_strong : (a : Argument) → ModeFits a → NamesNoWeak vs ss (Given a)
   mode_strong (tree.Value (tree.Number n unsigned)) h = tt
@@ -112,6 +134,8 @@ module _ (ss : Statics) (vs : Variables) (frames : List Frame) (p : Point) {weak
   given_strong WeakVariable a strong h = absurd (no_kind strong)
   given_strong AnyReference a strong h = absurd (no_kind strong)
   given_strong FieldID a strong h = field_argument_strong a h
+  given_strong MethodID a strong h = method_argument_strong a h
+  given_strong Passed a strong h = null_argument_strong a h
   given_strong (ArrayVariable t) a strong h = named_strong (λ x. (size : ℕ) × (sort_in p.names x ≡ Some (sort.Array t size))) a (array_strong t) h
   given_strong (BufferVariable access) a strong h = named_strong (IsUsable p) a usable_strong h
   given_strong Mode a strong h = mode_strong a h
@@ -121,6 +145,8 @@ module _ (ss : Statics) (vs : Variables) (frames : List Frame) (p : Point) {weak
   operand_strong : (parameter : ParameterKind) (o : Operand) → may_be_weak parameter ≡ false → OperandFits p parameter o → NamesNoWeak vs ss o
   operand_strong IntNumber (NumberOperand t) strong h = tt
   operand_strong parameter (NumberOperand t) strong h = tt
+  operand_strong Passed (PassedName x) strong h = passed_strong x (sort_in p.names x) refl h
+  operand_strong parameter (PassedName x) strong h = absurd h
   operand_strong parameter (Given a) strong h = given_strong parameter a strong h
 
   operands_strong : (parameters : List ParameterKind) (operands : List Operand) → list_any may_be_weak parameters ≡ false
@@ -140,7 +166,7 @@ module _ (ss : Statics) (vs : Variables) (frames : List Frame) (p : Point) {weak
     where
       by_test : (b : Bool) → takes_weak f ≡ b → WeakAreTaken vs ss (Invoke line target f operands)
       by_test true is = inl is
-      by_test false is = inr (operands_strong (prototype f).parameters operands (others_strong f is) fits.sorts)
+      by_test false is = inr (operands_strong (parameters_for f (length operands)) operands (none_among may_be_weak refl f (length operands) (others_strong f is)) fits.sorts)
 
   invoke_taken : (line : ℕ) (target : Target) (f : JniFunction) (operands : List Operand) (k : Point → Type 0) → Runs (Invoke line target f operands) k p
       → WeakAreTaken vs ss (Invoke line target f operands)

@@ -1,11 +1,11 @@
 -- A variable that a step sets as a whole is no buffer that holds something.
-use Rattle.std.proofs.Common.{◌≡◌, inl, inr, ℕ, true, false, List, [], ◌∷◌, map, Option, Some, None, refl, sym, ◌∙◌, subst}
+use Rattle.std.proofs.Common.{◌≡◌, inl, inr, ℕ, true, false, List, [], ◌∷◌, map, length, Option, Some, None, refl, sym, ◌∙◌, subst}
 use Rattle.std.specs.Prelude.{drop}
 use Rattle.std.specs.Str.{bytes_eq}
 use Rattle.std.proofs.lemmas.Slice.Eq.{bytes_eq-Decides}
 use Rattle.base.specs.Bytes.{Identifier, lookup}
 use Rattle.syntax.specs.Tree as tree
-use Rattle.jni.specs.JniFunction.{JniFunction, GetBuffer, ReleaseBuffer, DeleteLocalRef, PopLocalFrame, prototype}
+use Rattle.jni.specs.JniFunction.{JniFunction, GetBuffer, ReleaseBuffer, DeleteLocalRef, PopLocalFrame, parameters_for, prototype}
 use Rattle.jni.specs.Prototype.{ResultKind, NewLocal, NewGlobal, NewWeak, GivesFlag, GivesInt, GivesField, GivesMethod, GivesNothing, GivesBuffer, IsCopy}
 use Rattle.region_rules.specs.RegionStates.{RegionState, Free, BufferIn, state_of, get_of, after_call, after_pop}
 use Rattle.type_rules.specs.Sorts.{Sort, sort_in}
@@ -134,7 +134,7 @@ module _ (ss : Statics) (vs : Variables) (frames : List Frame) (p : Point) {weak
   result_assigned (Some (sort.Buffer t w)) x (GivesBuffer access) get k e h = free_holds x h.0
   result_assigned o x result get k e h = absurd h
 
-  result_holds : (target : Target) (result : ResultKind) (get : _) (k : Point → Type 0) (x : Identifier) → is_target target x ≡ true → ResultGoes target result get k p → Nothing x
+  pub result_holds : (target : Target) (result : ResultKind) (get : _) (k : Point → Type 0) (x : Identifier) → is_target target x ≡ true → ResultGoes target result get k p → Nothing x
   result_holds (Declared kind y) result get k x is h = subst Nothing (sym (same_name x y is)) (result_declared kind y result get k h)
   result_holds (Assigned y) result get k x is h = subst Nothing (sym (same_name x y is)) (result_assigned (sort_in p.names y) y result get k refl h)
   result_holds (Tested a b) result get k x is h = absurd h
@@ -194,7 +194,7 @@ module _ (ss : Statics) (vs : Variables) (frames : List Frame) (p : Point) {weak
   told_operand sight (Given (tree.AddressOf y)) x fit e = let same : y ≡ x = cc in subst (λ (z : Identifier). HoldsNoBuffer (lookup z vs)) same (sorted_holds ss vs frames p stands y sort.Flag tt fit)
   told_operand sight c x fit e = absurd fit
 
-  told_holds : (sight : Sight) (f : JniFunction) (operands : List Operand) (x : Identifier) → OperandsFit p (prototype f).parameters operands → IsTold f (actuals sight f operands) x → HoldsNoBuffer (lookup x vs)
+  told_holds : (sight : Sight) (f : JniFunction) (operands : List Operand) (x : Identifier) → OperandsFit p (parameters_for f (length operands)) operands → IsTold f (actuals sight f operands) x → HoldsNoBuffer (lookup x vs)
   told_holds sight (GetBuffer access) (o ∷ c ∷ []) x fit told = told_operand sight c x fit.1.0 told
   told_holds sight (GetBuffer access) (o ∷ c ∷ d ∷ operands) x fit told = absurd fit.1.1
   told_holds sight (GetBuffer access) (o ∷ []) x fit told = absurd fit.1

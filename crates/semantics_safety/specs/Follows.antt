@@ -23,7 +23,7 @@ Follows weak own sight ss vs frames p rest (SetsElement x i z) = ElementsFit p x
 Follows weak own sight ss vs frames p rest (MakesArray t x size) = IsNew p x × GoesOn rest (named p x (Array t size))
 Follows weak own sight ss vs frames p rest (Prints z) = HasNoView p × GoesOn rest p
 Follows weak own sight ss vs frames p rest (Calls line target f args) =
-    (operands : List Operand) × (args ≡ actuals sight f operands) × IsTrue (is_ready operands) × Runs (Invoke line target f operands) (GoesOn rest) p
+    (operands : List Operand) × (args ≡ actuals sight f operands) × IsTrue (is_ready sight.number operands) × Runs (Invoke line target f operands) (GoesOn rest) p
 Follows weak own sight ss vs frames p rest (Returns given) = MayReturnFrom p
 Follows weak own sight ss vs frames p rest (TrapsAt trap line) = Unit {0}
 Follows weak own sight ss vs frames p rest NoEffect = ⊥

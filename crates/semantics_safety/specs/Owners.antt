@@ -1,11 +1,11 @@
 -- Which variables have a local reference of their own: one that the call was entered with or that a call gave to the variable,
 -- and that neither DeleteLocalRef nor PopLocalFrame has ended.
-use Rattle.std.specs.Prelude.{◌≡◌, ℕ, ◌==◌, Bool, false, if◌then◌else◌, List, [], ◌∷◌, length, Option, Some, None}
+use Rattle.std.specs.Prelude.{◌≡◌, ℕ, ◌==◌, Bool, true, false, if◌then◌else◌, List, [], ◌∷◌, length, Option, Some, None}
 use Rattle.std.specs.Str.{bytes_eq}
 use Rattle.base.specs.Bytes.{Identifier, lookup}
 use Rattle.syntax.specs.Tree.{SourceUnit}
 use Rattle.class_rules.specs.Class.{Classes}
-use Rattle.jni.specs.JniFunction.{JniFunction, DeleteLocalRef, PopLocalFrame}
+use Rattle.jni.specs.JniFunction.{JniFunction, DeleteLocalRef, PopLocalFrame, calls_method}
 use Rattle.semantics.specs.Arguments.{Actual, variable_given}
 use Rattle.semantics.specs.Effect.{Effect, Calls, Returns}
 use Rattle.semantics.specs.Journal.{Entry, Step, Clearing, Journal}
@@ -13,7 +13,7 @@ use Rattle.semantics.specs.Start.{start}
 use Rattle.semantics.specs.State.{State, thread_at, in_use}
 use Rattle.semantics.specs.Step.{world_step}
 use Rattle.semantics.specs.Task.{Task, Target, Declared, Assigned}
-use Rattle.semantics.specs.Thread.{Thread, Caller, Shared, Event, Trapped, Advance, Advances, NoAdvance}
+use Rattle.semantics.specs.Thread.{Thread, Caller, Shared, Event, Quiet, Trapped, Advance, Advances, NoAdvance}
 use Rattle.semantics.specs.ThreadStep.{next_effect, thread_step}
 use Rattle.semantics.specs.Variable.{Variable, LocalRef, Variables}
 use Rattle.semantics.specs.World.{World}
@@ -88,9 +88,16 @@ abbrev pub after_return : List Caller → List Owners → ThreadOwners → Varia
 after_return (c ∷ callers) (own ∷ owners) now vs = record { current = with_result c.target own vs; callers = owners }
 after_return callers owners now vs = now
 
+-- after a call of the JNI: one of a method leaves the call in progress to the callers; these are left where it is another
+abbrev pub after_invoked : (method : Bool) → Event → ThreadOwners → Owners → ThreadOwners
+after_invoked true Quiet own left = record { current = no_owner; callers = own.current ∷ own.callers }
+after_invoked method event own left = record own { current = left }
+
 -- after the effect of a step within a call
 abbrev pub after_step : Thread → ThreadOwners → Event → Effect → Variables → ThreadOwners
 after_step t own event (Returns given) vs = after_return t.callers own.callers own vs
+after_step t own event (Calls line target f args) vs =
+    after_invoked (calls_method f) event own (after_event event (Calls line target f args) (length t.frames) own.current vs)
 after_step t own event e vs = record own { current = after_event event e (length t.frames) own.current vs }
 
 -- after a step of a thread with these tasks that leaves these variables; a call begins with those that it is given

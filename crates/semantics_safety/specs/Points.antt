@@ -4,13 +4,13 @@ use Rattle.base.specs.Bytes.{Identifier, ByName, lookup}
 use Rattle.syntax.specs.Tree as tree
 use Rattle.syntax.specs.Tree.{PrefixOp, LogicalNot, Complement, ToWord, ToInt, Argument}
 use Rattle.jni.specs.Access.{Access}
-use Rattle.jni.specs.Prototype.{ParameterKind, FieldID, IntNumber, TextBytes, AnyReference, LocalVariable, StaticVariable, WeakVariable, ArrayVariable, BufferVariable, Mode, IsCopy}
+use Rattle.jni.specs.Prototype.{ParameterKind, FieldID, MethodID, Passed, IntNumber, TextBytes, AnyReference, LocalVariable, StaticVariable, WeakVariable, ArrayVariable, BufferVariable, Mode, IsCopy}
 use Rattle.type_rules.specs.Sorts.{Sort, Word, Jint, Flag, Truth, Ref, Global, Weak, FieldId, Buffer, Array, Scope, OperatorGroup, Logic, Equality, Order, OnWords, group, sort_in}
 use Rattle.type_rules.specs.Sorts as sort
 use Rattle.type_rules.specs.SortGroups.{IsIndexSort, IsNumberSort, OperatorFits}
 use Rattle.region_rules.specs.RegionStates.{RegionState, VariableState, ReferenceAt, BufferIn, Usable, state_of}
 use Rattle.semantics.specs.Variable.{Variable, LocalRef, Variables}
-use Rattle.semantics.specs.Task.{Operand, NumberOperand, Given}
+use Rattle.semantics.specs.Task.{Operand, NumberOperand, PassedName, Given}
 use Rattle.semantics.specs.Term as term
 use Rattle.semantics.specs.Term.{Term, Done, Read, IsNull, Prefix, And, Or, Binary}
 use Rattle.semantics.specs.Value as value
@@ -118,6 +118,22 @@ FieldArgumentFits p (tree.Value (tree.Named c)) = Unit {0}
 FieldArgumentFits p (tree.Value (tree.Variable x)) = sort_in p.names x ≡ Some sort.FieldId
 FieldArgumentFits p a = ⊥
 
+-- a constant, or a bare name of a method ID
+abbrev pub MethodArgumentFits : Point → Argument → Type 0
+MethodArgumentFits p (tree.Value (tree.Named c)) = Unit {0}
+MethodArgumentFits p (tree.Value (tree.Variable x)) = sort_in p.names x ≡ Some sort.MethodId
+MethodArgumentFits p a = ⊥
+
+-- NULL, where a method is given something
+abbrev pub NullFits : Argument → Type 0
+NullFits (tree.Value (tree.Named tree.Null)) = Unit {0}
+NullFits a = ⊥
+
+-- a bare name of what a method may be given
+abbrev pub PassedFits : Point → Identifier → Option Sort → Type 0
+PassedFits p x (Some Jint) = Unit {0}
+PassedFits p x s = ReferenceFits p x s
+
 -- a mode: a number or a constant
 abbrev pub ModeFits : Argument → Type 0
 ModeFits (tree.Value (tree.Number n unsigned)) = Unit {0}
@@ -144,6 +160,8 @@ GivenFits p StaticVariable a = NameFits (λ x. sort_in p.names x ≡ Some Global
 GivenFits p WeakVariable a = NameFits (λ x. sort_in p.names x ≡ Some Weak) a
 GivenFits p AnyReference a = AnyReferenceArgumentFits p a
 GivenFits p FieldID a = FieldArgumentFits p a
+GivenFits p MethodID a = MethodArgumentFits p a
+GivenFits p Passed a = NullFits a
 GivenFits p (ArrayVariable t) a = NameFits (λ x. (size : ℕ) × (sort_in p.names x ≡ Some (Array t size))) a
 GivenFits p (BufferVariable access) a = NameFits (IsUsable p) a
 GivenFits p Mode a = ModeFits a
@@ -153,7 +171,10 @@ GivenFits p parameter a = ReferenceArgumentFits p a
 -- an argument; the expression of a number is one of sort Jint
 abbrev pub OperandFits : Point → ParameterKind → Operand → Type 0
 OperandFits p IntNumber (NumberOperand t) = HasSort p t Jint
+OperandFits p Passed (NumberOperand t) = HasSort p t Jint
+OperandFits p Passed (PassedName x) = PassedFits p x (sort_in p.names x)
 OperandFits p parameter (NumberOperand t) = ⊥
+OperandFits p parameter (PassedName x) = ⊥
 OperandFits p parameter (Given a) = GivenFits p parameter a
 
 -- as many arguments as parameters, and each fits

@@ -1,6 +1,6 @@
 -- What it is for a thread to be at a point: its variables are of their sorts, and hold what is known of them.
 use Rattle.std.specs.Prelude.{◌≡◌, ℕ, ◌≤◌, ◌==◌, Bool, true, false, ◌⊎◌, ℤ, List, [], length, Option, Some, None, IsTrue, filter, slice_get}
-use Rattle.std.specs.List.{list_all, AllZip}
+use Rattle.std.specs.List.{list_all, AllByRecursion, AllZip}
 use Rattle.base.specs.Bytes.{Identifier, lookup}
 use Rattle.base.specs.Element.{ElementType}
 use Rattle.syntax.specs.Tree.{SourceUnit}
@@ -9,7 +9,7 @@ use Rattle.class_rules.specs.Fields.{FieldId}
 use Rattle.jni.specs.Access.{Access, is_critical}
 use Rattle.type_rules.specs.Sorts.{Sort, Truth, Ref, Global, Weak, Buffer, Array, sort_in}
 use Rattle.type_rules.specs.Sorts as sort
-use Rattle.jni.specs.Prototype.{ResultKind, NewLocal, GivesInt, GivesNothing}
+use Rattle.jni.specs.Prototype.{NewLocal}
 use Rattle.semantics.specs.Checks.{is_full}
 use Rattle.semantics.specs.Method.{MethodId}
 use Rattle.semantics.specs.Object.{Reference}
@@ -22,7 +22,7 @@ use Rattle.semantics.specs.Value.{Value}
 use Rattle.semantics.specs.Variable.{Variable, Scalar, LocalRef, FieldHandle, MethodHandle, Elements, LocalArray, Buffer as Buffer_, NoBuffer, Copy, View, StaticReference, Variables, Statics}
 use Rattle.semantics_safety.specs.Owners.{Owners, ThreadOwners}
 use Rattle.semantics_safety.specs.Points.{Point, AreOnce, value_sort, owners}
-use Rattle.semantics_safety.specs.StepSafe.{references_at, has_calls}
+use Rattle.semantics_safety.specs.StepSafe.{IsCallable, IsMethodResult, references_at, has_calls}
 use Rattle.semantics_safety.specs.Wanted.{Holds, HasNoView, ResultGoes, GoesOn}
 use Rattle.semantics_safety.specs.WeakNames.{WeakNames, AreOfKind, HoldWeakly, weak_names}
 
@@ -98,13 +98,6 @@ abbrev pub Goes : WeakNames → Owners → Statics → Thread → Option (List T
 Goes weak own statics t None = (t.variables ≡ []) × (is_unfinished t.ending ≡ true → IsTrue (has_calls t.calls)) × HoldWeakly weak statics
 Goes weak own statics t (Some tasks) = (p : Point) × Stands weak own statics t.variables t.frames p × GoesOn tasks p
 
--- what a function of a unit gives
-abbrev pub IsMethodResult : ResultKind → Type 0
-IsMethodResult NewLocal = Unit {0}
-IsMethodResult GivesInt = Unit {0}
-IsMethodResult GivesNothing = Unit {0}
-IsMethodResult kind = ⊥
-
 -- a caller goes on from a point once the result is where it goes; a reference has room in its current frame
 pub record CallerStands (weak : WeakNames) (statics : Statics) (own : Owners) (c : Caller) : Type 0 where
   pub point : Point
@@ -114,8 +107,19 @@ pub record CallerStands (weak : WeakNames) (statics : Statics) (own : Owners) (c
   pub room : c.result ≡ NewLocal → is_full (slice_get c.frames 0) ≡ false
   pub viewless : HasNoView point
 
+-- a method ID that a variable holds can be called
+abbrev pub HoldsCallable : SourceUnit → Classes → Variable → Type 0
+HoldsCallable unit classes (MethodHandle (Some m)) = IsCallable unit classes m
+HoldsCallable unit classes v = Unit {0}
+
+-- each that one of these variables holds
+abbrev pub AreCallable : SourceUnit → Classes → Variables → Type 0
+AreCallable unit classes vs = AllByRecursion (λ (v : Identifier × Variable). HoldsCallable unit classes v.1) vs
+
 -- what holds of a thread before each step
 pub record IsSound (unit : SourceUnit) (classes : Classes) (own : ThreadOwners) (statics : Statics) (t : Thread) : Type 0 where
   pub goes : Goes (weak_names unit) own.current statics t t.tasks
   pub callers : AllZip (CallerStands (weak_names unit) statics) own.callers t.callers
   pub loads : IsTrue (list_all (call_loads unit classes) t.calls)
+  pub methods : AreCallable unit classes t.variables
+  pub below : AllByRecursion (λ (c : Caller). AreCallable unit classes c.variables) t.callers

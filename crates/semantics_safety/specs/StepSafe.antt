@@ -1,27 +1,31 @@
 -- What no thread of an accepted unit ever does, in any replay.
-use Rattle.std.specs.Prelude.{◌≡◌, ◌≢◌, ◌⊎◌, ℕ, ◌-◌, ◌==◌, nat_le, if◌then◌else◌, Bool, true, false, List, [], ◌∷◌, length, slice_get, Option, Some, None, IsTrue}
+use Rattle.std.specs.Prelude.{◌≡◌, ◌≢◌, ◌⊎◌, ℕ, ◌-◌, ◌==◌, nat_le, if◌then◌else◌, Bool, true, false, List, [], ◌∷◌, length, slice_get, Option, Some, None, IsTrue, ◌+◌, ◌≤◌}
 use Rattle.std.specs.List.{list_any, list_all, AllByRecursion}
 use Rattle.base.specs.Bytes.{Identifier, lookup}
 use Rattle.base.specs.Element.{ElementType}
-use Rattle.syntax.specs.Tree.{SourceUnit}
-use Rattle.jni.specs.JniFunction.{JniFunction, GetBuffer, ReleaseBuffer, prototype}
-use Rattle.jni.specs.Prototype.{NewLocal}
+use Rattle.base.specs.Limits.{most_further}
+use Rattle.class_rules.specs.Class.{Classes}
+use Rattle.syntax.specs.Tree.{SourceUnit, Block}
+use Rattle.jni.specs.JniFunction.{JniFunction, GetBuffer, ReleaseBuffer, prototype, calls_method}
+use Rattle.jni.specs.Prototype.{ResultKind, NewLocal, GivesInt, GivesNothing}
 use Rattle.type_rules.specs.SortRules.{IsSorted}
 use Rattle.semantics.specs.Journal.{Journal}
 use Rattle.semantics.specs.World.{Invocation, World}
-use Rattle.semantics.specs.Arguments.{Actual, object_given, variable_given, address_given}
+use Rattle.semantics.specs.Activation.{function_at, class_of_function}
+use Rattle.semantics.specs.Arguments.{Actual, object_given, variable_given, address_given, method_given}
 use Rattle.semantics.specs.CallEffects.{CallResult}
-use Rattle.semantics.specs.Checks.{frames_after}
+use Rattle.semantics.specs.Checks.{frames_after, is_full}
 use Rattle.semantics.specs.Effect.{Effect, Sets, SetsNull, MakesArray, Calls, Returns, NoEffect}
 use Rattle.semantics.specs.Load.{Loads}
+use Rattle.semantics.specs.Method.{MethodId}
 use Rattle.semantics.specs.Object.{Reference}
 use Rattle.region_rules.specs.RegionRules.{is_critical_call}
 use Rattle.region_rules.specs.Regions.{HasRegions}
 use Rattle.semantics.specs.Run.{replay}
 use Rattle.semantics.specs.State.{State, thread_at}
 use Rattle.semantics.specs.Step.{can_step, turn_step}
-use Rattle.semantics.specs.Task.{Task, Assigned, Invoke, Print}
-use Rattle.semantics.specs.Thread.{Thread, Frame, viewed_by}
+use Rattle.semantics.specs.Task.{Task, Assigned, Invoke, Print, Target, Tested}
+use Rattle.semantics.specs.Thread.{Thread, Frame, viewed_by, Caller}
 use Rattle.semantics.specs.ThreadStep.{next_effect}
 use Rattle.semantics.specs.Variable.{Variable, LocalRef, Elements, Buffer, NoBuffer, Copy, View}
 use Rattle.semantics.specs.WeakArguments.{WeakAreTaken}
@@ -91,13 +95,42 @@ SetsWhole x (MakesArray kind y size) = y ≡ x
 SetsWhole x (Calls line target f args) = (is_target target x ≡ true) ⊎ IsTold f args x
 SetsWhole x e = ⊥
 
+-- ---- calls of methods
+
+-- what a function of a unit gives
+abbrev pub IsMethodResult : ResultKind → Type 0
+IsMethodResult NewLocal = Unit {0}
+IsMethodResult GivesInt = Unit {0}
+IsMethodResult GivesNothing = Unit {0}
+IsMethodResult kind = ⊥
+
+-- A caller of an accepted unit can go on once the call that it made returns: it tests no result, wants one that a function of the unit can
+-- give, and has room for a local reference. The variable that takes the result is no buffer that holds something, and one that takes a local
+-- reference was declared at the frame that is current.
+pub record IsResumable (c : Caller) : Type 0 where
+  pub method : IsMethodResult c.result
+  pub untested : (then' else' : Block) → c.target ≡ Tested then' else' → ⊥
+  pub room : c.result ≡ NewLocal → is_full (slice_get c.frames 0) ≡ false
+  pub free : (x : Identifier) → is_target c.target x ≡ true → HoldsNoBuffer (lookup x c.variables)
+  pub declared : (x : Identifier) (level : ℕ) (r : Reference) → c.target ≡ Assigned x → c.result ≡ NewLocal
+      → lookup x c.variables ≡ Some (LocalRef level r) → level ≡ length c.frames
+
+-- a method ID is one of the unit's functions, which is found by its name, as its class is
+pub record IsCallable (unit : SourceUnit) (classes : Classes) (m : MethodId) : Type 0 where
+  pub named : function_at unit m.function.name ≡ Some m.function
+  pub class : ℕ
+  pub of_class : class_of_function classes m.function ≡ Some class
+
 -- ---- each step
 
 -- thread k, which is t, and of which these variables have references of their own, does none of what JNI leaves undefined, and
 -- can go on
 pub record StepSafe (unit : SourceUnit) (w : World) (s : State) (own : Owners) (k : ℕ) (t : Thread) : Type 0 where
-  -- no call makes another yet
-  pub alone : t.callers ≡ []
+  -- the caller that goes on next can
+  pub callers : (c : Caller) (below : List Caller) → t.callers ≡ c ∷ below → IsResumable c
+  -- a call of a method is one of the unit's functions, and gives it few arguments
+  pub methods : (line : ℕ) (target : Target) (f : JniFunction) (args : List Actual) → next_effect s.shared t t.tasks ≡ Calls line target f args
+      → calls_method f ≡ true → (length args ≤ 2 + most_further) × ((m : MethodId) → method_given args 1 ≡ Some m → IsCallable unit w.classes m)
   -- with a view it begins no call but the critical ones, and prints nothing
   pub view : (task : Task) (rest : List Task) → t.tasks ≡ Some (task ∷ rest) → viewed_by t ≢ [] → MayMeetView task
   -- a return finds no copied list, no view and one frame

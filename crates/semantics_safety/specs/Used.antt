@@ -4,7 +4,7 @@ use Rattle.base.specs.Bytes.{Identifier}
 use Rattle.syntax.specs.Parts.{names_in}
 use Rattle.syntax.specs.Tree.{Argument}
 use Rattle.syntax.specs.Tree as tree
-use Rattle.semantics.specs.Task.{Task, SetScalar, SetElement, Invoke, Print, Branch, Loop, ReturnValue, Operand, NumberOperand, Given}
+use Rattle.semantics.specs.Task.{Task, SetScalar, SetElement, Invoke, Print, Branch, Loop, ReturnValue, Operand, NumberOperand, PassedName, Given}
 use Rattle.semantics.specs.Term as term
 use Rattle.semantics.specs.Term.{Term, Read, IsNull, Prefix, And, Or, Binary}
 
@@ -28,6 +28,7 @@ argument_names (tree.AddressOf x) = x ∷ []
 -- those in an argument of which the number may be worked out
 abbrev pub operand_names : Operand → List Identifier
 operand_names (NumberOperand t) = term_names t
+operand_names (PassedName x) = x ∷ []
 operand_names (Given a) = argument_names a
 
 -- those that a task uses; the blocks inside it are later tasks

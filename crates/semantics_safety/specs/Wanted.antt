@@ -1,10 +1,10 @@
 -- What has to be known before a task, so that it and what follows break no rule: the point after it has what follows.
-use Rattle.std.specs.Prelude.{◌≡◌, ℕ, ◌+◌, ◌<◌, ◌≤◌, Bool, true, false, ◌⊎◌, List, [], ◌∷◌, map, Option, Some, None, IsTrue}
+use Rattle.std.specs.Prelude.{◌≡◌, ℕ, ◌+◌, ◌<◌, ◌≤◌, Bool, true, false, ◌⊎◌, List, [], ◌∷◌, length, map, Option, Some, None, IsTrue}
 use Rattle.base.specs.Bytes.{Identifier}
 use Rattle.syntax.specs.Tree as tree
 use Rattle.syntax.specs.Tree.{Stmt, If, IfElse, While, Block, End, Next, Argument, Expr, TestExpr, TestCall}
 use Rattle.jni.specs.Access.{Access, is_critical}
-use Rattle.jni.specs.JniFunction.{JniFunction, GetBuffer, ReleaseBuffer, DeleteLocalRef, PushLocalFrame, PopLocalFrame, prototype}
+use Rattle.jni.specs.JniFunction.{JniFunction, GetBuffer, ReleaseBuffer, DeleteLocalRef, PushLocalFrame, PopLocalFrame, parameters_for, takes_count, prototype}
 use Rattle.jni.specs.Prototype.{ResultKind, NewLocal, NewGlobal, NewWeak, GivesFlag, GivesInt, GivesField, GivesMethod, GivesBuffer}
 use Rattle.type_rules.specs.Sorts.{Sort, Jint, Flag, Truth, Ref, Global, Weak, Buffer, Array, sort_in, is_buffer_for}
 use Rattle.type_rules.specs.Sorts as sort
@@ -13,7 +13,7 @@ use Rattle.region_rules.specs.RegionRules.{is_critical_call}
 use Rattle.region_rules.specs.RegionStates.{RegionState, VariableState, Free, Untested, Usable, ReferenceAt, BufferIn, state_of, with_new, with_changed, made_free, after_call, get_of, buffer_from, has_commit, FunctionCall}
 use Rattle.region_rules.specs.Regions.{made_usable}
 use Rattle.semantics.specs.Task as task
-use Rattle.semantics.specs.Task.{Task, SetScalar, SetElement, SetNull, MakeArray, Invoke, Print, Branch, EndIf, Loop, EndTurn, Target, Declared, Assigned, Tested, Dropped, VariableKind, ScalarKind, ReferenceKind, FieldKind, MethodKind, BufferKind, Operand, NumberOperand, Given, task_of}
+use Rattle.semantics.specs.Task.{Task, SetScalar, SetElement, SetNull, MakeArray, Invoke, Print, Branch, EndIf, Loop, EndTurn, Target, Declared, Assigned, Tested, Dropped, VariableKind, ScalarKind, ReferenceKind, FieldKind, MethodKind, BufferKind, Operand, NumberOperand, PassedName, Given, task_of}
 use Rattle.semantics.specs.Term.{Term, Done, Read, IsNull, term_of}
 use Rattle.semantics.specs.Term as term
 use Rattle.semantics.specs.Value.{Value}
@@ -74,6 +74,7 @@ pub data Teaches (p : Point) : Term → Point → Point → Type 0 where
 abbrev pub operand_argument : Operand → Argument
 operand_argument (Given a) = a
 operand_argument (NumberOperand t) = tree.Text []
+operand_argument (PassedName x) = tree.Text []
 
 -- the call, as the rules see it
 abbrev pub call_seen : JniFunction → List Operand → Option FunctionCall
@@ -205,7 +206,8 @@ ResultGoes Dropped result get k p = MayDrop result × k p
 
 -- a call, its result aside
 pub record CallFits (p : Point) (f : JniFunction) (operands : List Operand) : Type 0 where
-  pub sorts : OperandsFit p (prototype f).parameters operands
+  pub sorts : OperandsFit p (parameters_for f (length operands)) operands
+  pub count : IsTrue (takes_count f (length operands))
   pub views : MeetsViews p f
   pub rules : CallKeeps p f (map operand_argument operands)
 

@@ -1,5 +1,5 @@
 -- What is known of the arguments of a call that no trap stopped.
-use Rattle.std.proofs.Common.{◌≡◌, ℕ, ℤ, zero, suc, Bool, true, false, not, ◌||◌, List, [], ◌∷◌, map, zip, Option, Some, None, refl, subst, arith, if◌then◌else◌}
+use Rattle.std.proofs.Common.{◌≡◌, ℕ, ℤ, zero, suc, Bool, true, false, not, ◌||◌, List, [], ◌∷◌, length, map, zip, Option, Some, None, refl, ap, subst, arith, if◌then◌else◌}
 use Rattle.std.specs.Prelude.{slice_get, is_some, ◌&&◌, ◌==◌}
 use Rattle.std.specs.List.{list_any, AllByRecursion}
 use Rattle.std.specs.Str.{bytes_eq}
@@ -11,18 +11,18 @@ use Rattle.syntax.specs.Tree.{Argument}
 use Rattle.class_rules.specs.BuiltIns.{class_class, string_class, number_array}
 use Rattle.class_rules.specs.Class.{Classes, class_kind, is_object_array}
 use Rattle.class_rules.specs.Fields.{FieldId}
-use Rattle.jni.specs.JniFunction.{JniFunction, prototype, is_allowed_pending}
-use Rattle.jni.specs.Prototype.{ParameterKind, Nullable, NonNull, AnyReference, ClassObject, AnyArray, ObjectArray, StringObject, NumberArray, LocalVariable, StaticVariable, WeakVariable, FieldID, IntNumber, TextBytes, ArrayVariable, BufferVariable, Mode, IsCopy}
+use Rattle.jni.specs.JniFunction.{JniFunction, parameters_for, is_allowed_pending}
+use Rattle.jni.specs.Prototype.{ParameterKind, Nullable, NonNull, AnyReference, ClassObject, AnyArray, ObjectArray, StringObject, NumberArray, LocalVariable, StaticVariable, WeakVariable, FieldID, MethodID, Passed, IntNumber, TextBytes, ArrayVariable, BufferVariable, Mode, IsCopy}
 use Rattle.type_rules.specs.Sorts as sort
 use Rattle.type_rules.specs.Sorts.{Sort, sort_in}
 use Rattle.semantics.specs.Arguments.{Actual, ReferenceActual, FieldActual, look_up, reference_in_actual, name_or_zero, field_in_actual, text_in_actual, variable_in_actual}
 use Rattle.semantics.specs.CallTable.{go_together}
-use Rattle.semantics.specs.Checks.{call_trap, first_trap, is_deleted, is_missing, is_misfit, lacks_room, frames_after}
+use Rattle.semantics.specs.Checks.{call_trap, first_trap, is_deleted, is_missing, is_misfit}
 use Rattle.semantics.specs.Heap.{Heap, class_of}
 use Rattle.semantics.specs.Sight.{Sight, seen, held_field, held_reference}
 use Rattle.semantics.specs.Task.{Operand, Given}
 use Rattle.semantics.specs.Thread.{Thread, Frame}
-use Rattle.semantics.specs.Value.{Trap, ExceptionPending, DeletedReference, NullReference, WrongObject, NoCapacity}
+use Rattle.semantics.specs.Value.{Trap, ExceptionPending, DeletedReference, NullReference, WrongObject}
 use Rattle.semantics.specs.Variable.{Variable, FieldHandle, MethodHandle, Scalar, LocalRef, Elements, LocalArray, StaticReference, Empty, Live, Deleted, Variables, Statics, Weakly, Cleared}
 use Rattle.semantics_safety.specs.Owners.{Owners}
 use Rattle.semantics_safety.specs.Points.{Point, OperandFits, OperandsFit}
@@ -34,12 +34,12 @@ use Rattle.semantics_typing.specs.Texts.{IsText}
 
 -- ---- checks
 
-all_fail : (a b c d e : Bool) (u v w x y : Trap) → first_trap ((a, u) ∷ (b, v) ∷ (c, w) ∷ (d, x) ∷ (e, y) ∷ []) ≡ None → (b ≡ false) × (c ≡ false) × (d ≡ false)
-all_fail true b c d e u v w x y h = absurd (cc)
-all_fail false true c d e u v w x y h = absurd (cc)
-all_fail false false true d e u v w x y h = absurd (cc)
-all_fail false false false true e u v w x y h = absurd (cc)
-all_fail false false false false e u v w x y h = (refl, refl, refl)
+all_fail : (a b c d : Bool) (u v w x : Trap) (further : List (Bool × Trap)) → first_trap ((a, u) ∷ (b, v) ∷ (c, w) ∷ (d, x) ∷ further) ≡ None → (b ≡ false) × (c ≡ false) × (d ≡ false)
+all_fail true b c d u v w x further h = absurd (cc)
+all_fail false true c d u v w x further h = absurd (cc)
+all_fail false false true d u v w x further h = absurd (cc)
+all_fail false false false true u v w x further h = absurd (cc)
+all_fail false false false false u v w x further h = (refl, refl, refl)
 
 or_fails : (a b : Bool) → (a || not b) ≡ false → (a ≡ false) × (b ≡ true)
 or_fails true b h = absurd (cc)
@@ -49,17 +49,17 @@ or_fails false false h = absurd (cc)
 -- what the checks of a call have found
 pub record ArePassed (classes : Classes) (heap : Heap) (buffer : ElementType) (f : JniFunction) (args : List Actual) : Type 0 where
   pub present : list_any is_deleted args ≡ false
-  pub given : list_any is_missing (zip (prototype f).parameters args) ≡ false
-  pub kinds : list_any (is_misfit classes heap) (zip (prototype f).parameters args) ≡ false
+  pub given : list_any is_missing (zip (parameters_for f (length args)) args) ≡ false
+  pub kinds : list_any (is_misfit classes heap) (zip (parameters_for f (length args)) args) ≡ false
   pub together : go_together classes heap buffer args f ≡ true
 
 pub passed : (classes : Classes) (heap : Heap) (t : Thread) (buffer : ElementType) (f : JniFunction) (args : List Actual) → call_trap classes heap t buffer f args ≡ None → ArePassed classes heap buffer f args
 unfolding call_trap
 passed classes heap t buffer f args none =
-    let all = all_fail (is_some t.pending && not (is_allowed_pending f)) (list_any is_deleted args) (list_any is_missing (zip (prototype f).parameters args))
-    (list_any (is_misfit classes heap) (zip (prototype f).parameters args) || not (go_together classes heap buffer args f))
-    (lacks_room (prototype f).result (slice_get (frames_after f t.frames) 0)) ExceptionPending DeletedReference NullReference WrongObject NoCapacity none in
-    let last = or_fails (list_any (is_misfit classes heap) (zip (prototype f).parameters args)) (go_together classes heap buffer args f) all.2 in
+    let all = all_fail (is_some t.pending && not (is_allowed_pending f)) (list_any is_deleted args) (list_any is_missing (zip (parameters_for f (length args)) args))
+    (list_any (is_misfit classes heap) (zip (parameters_for f (length args)) args) || not (go_together classes heap buffer args f))
+    ExceptionPending DeletedReference NullReference WrongObject _ none in
+    let last = or_fails (list_any (is_misfit classes heap) (zip (parameters_for f (length args)) args)) (go_together classes heap buffer args f) all.2 in
     record { present = all.0; given = all.1; kinds = last.0; together = last.1 }
 
 -- ---- one argument
@@ -164,6 +164,13 @@ known_at classes heap vs (c ∷ kinds) [] i kind h e = absurd h
 known_at classes heap vs (c ∷ kinds) (a ∷ args) zero kind h e = let same : c ≡ kind = cc in subst (λ (x : ParameterKind). IsKnownAs classes heap vs x (Some a)) same h.0
 known_at classes heap vs (c ∷ kinds) (a ∷ args) (suc i) kind h e = known_at classes heap vs kinds args i kind h.1 e
 
+-- as many are looked up as there are operands
+pub looked_up : (p : Point) (sight : Sight) (kinds : List ParameterKind) (operands : List Operand) → OperandsFit p kinds operands → length (map (look_up sight) (zip kinds operands)) ≡ length operands
+looked_up p sight [] [] fit = refl
+looked_up p sight [] (o ∷ operands) fit = absurd fit
+looked_up p sight (kind ∷ kinds) [] fit = absurd fit
+looked_up p sight (kind ∷ kinds) (o ∷ operands) fit = ap suc (looked_up p sight kinds operands fit.1)
+
 -- ---- all arguments
 
 module _ (classes : Classes) (heap : Heap) (ss : Statics) (vs : Variables) (frames : List Frame) (p : Point) {weak : WeakNames} {own : Owners} (stands : Stands weak own ss vs frames p) (typed : AreTypedVariables classes heap vs) where
@@ -199,6 +206,8 @@ module _ (classes : Classes) (heap : Heap) (ss : Statics) (vs : Variables) (fram
   one_known FieldID (Given (tree.Value (tree.Named c))) fit text d m f = field_known classes heap vs None m (λ g e. absurd (cc))
   one_known FieldID (Given (tree.Value (tree.Variable x))) fit text d m f = field_known classes heap vs (held_field (lookup x vs)) m (held_declared (lookup x vs) (λ v e. variable_typed classes heap x vs v typed e))
   one_known FieldID o fit text d m f = absurd fit
+  one_known MethodID o fit text d m f = tt
+  one_known Passed o fit text d m f = tt
   one_known (ArrayVariable t) (Given (tree.Value (tree.Variable x))) fit text d m f = let h = stands.sorts x (sort.Array t fit.0) fit.1 in (h.0, h.1)
   one_known (ArrayVariable t) o fit text d m f = absurd fit
   one_known Nullable o fit text d m f = tt

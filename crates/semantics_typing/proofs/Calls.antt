@@ -17,11 +17,11 @@ use Rattle.class_rules.specs.Fields.{FieldId, find_field, find_static}
 use Rattle.class_rules.specs.Grown.{IsGrown}
 use Rattle.jni.specs.Access.{Access, ElementsCopy, ArrayView, CharsCopy, CharsView}
 use Rattle.jni.specs.JniFunction as jni
-use Rattle.jni.specs.JniFunction.{JniFunction, prototype}
+use Rattle.jni.specs.JniFunction.{JniFunction, parameters_for}
 use Rattle.jni.specs.Prototype.{ParameterKind, ClassObject, ObjectArray, StringObject, NumberArray, FieldID, TextBytes, ArrayVariable}
 use Rattle.type_rules.specs.Sorts.{Buffer, is_buffer_for}
-use Rattle.semantics.specs.Arguments.{Actual, ReleaseMode, CopyBackAndFree, CopyBack, FreeUncopied, number_given, reference_given, object_given, text_given, field_given, variable_given, mode_given}
-use Rattle.semantics.specs.CallEffects.{CallResult, NoResult, ScalarResult, ReferenceResult, FieldResult, BufferResult, CallEffect, Throws, Halts, Leaves, with_capacity, frames_effect, ensure_effect, push_effect, delete_local_effect, delete_global_effect, delete_weak_effect, heap_effect, new_effect, found_class_effect, found_field_effect, found_method_effect, new_array_effect, string_object, at_index, at_region, overwritten, local_array, begun_with, get_region_effect, set_region_effect, store_effect, copy_effect, view_effect, copied_elements, freed, with_freed, release_effect, with_message, throw_new_effect, enter_effect, exit_effect}
+use Rattle.semantics.specs.Arguments.{Actual, ReleaseMode, CopyBackAndFree, CopyBack, FreeUncopied, number_given, reference_given, object_given, text_given, field_given, variable_given, mode_given, method_given, passed_value}
+use Rattle.semantics.specs.CallEffects.{CallResult, NoResult, ScalarResult, ReferenceResult, FieldResult, BufferResult, CallEffect, Throws, Halts, Leaves, Enters, method_effect, with_capacity, frames_effect, ensure_effect, push_effect, delete_local_effect, delete_global_effect, delete_weak_effect, heap_effect, new_effect, found_class_effect, found_field_effect, found_method_effect, new_array_effect, string_object, at_index, at_region, overwritten, local_array, begun_with, get_region_effect, set_region_effect, store_effect, copy_effect, view_effect, copied_elements, freed, with_freed, release_effect, with_message, throw_new_effect, enter_effect, exit_effect}
 use Rattle.semantics.specs.CallTable.{go_together, call_effect}
 use Rattle.semantics.specs.Heap.{Heap, object_at, class_of, values_of, next_name, with_value_at, with_numbers, numbers_of, field_place, static_place, is_instance, fits_class, holds_number, fits_type}
 use Rattle.semantics.specs.Method.{MethodId, find_method}
@@ -61,6 +61,7 @@ pub record IsLeft (classes : Classes) (u : ElementType) (old : Heap) (before : V
 abbrev pub EffectFits : Classes → ElementType → Heap → Variables → CallEffect → Type 0
 EffectFits classes u heap before (Throws c) = IsMakeable classes c
 EffectFits classes u heap before (Halts trap) = Unit {0}
+EffectFits classes u heap before (Enters function arguments) = Unit {0}
 EffectFits classes u heap before (Leaves made s t given) = IsLeft classes u heap before (s.heap ++ made) t.variables given
 
 -- what is known of some calls beside their arguments
@@ -336,7 +337,7 @@ module _ (unit : SourceUnit) (classes : Classes) (well : DeclaresWell classes) (
 
   module _ (args : List Actual) where
     abbrev Known : JniFunction → Type 0
-    Known f = AreKnownAs classes s.heap t.variables (prototype f).parameters args
+    Known f = AreKnownAs classes s.heap t.variables (parameters_for f (length args)) args
 
     abbrev Together : JniFunction → Type 0
     Together f = go_together classes s.heap u args f ≡ true
@@ -345,8 +346,8 @@ module _ (unit : SourceUnit) (classes : Classes) (well : DeclaresWell classes) (
     f_given = field_given args 1
 
     -- argument i is of a kind
-    known : (f : JniFunction) (i : ℕ) (kind : ParameterKind) → Known f → slice_get (prototype f).parameters i ≡ Some kind → IsKnownAs classes s.heap t.variables kind (slice_get args i)
-    known f i kind h e = known_at classes s.heap t.variables (prototype f).parameters args i kind h e
+    known : (f : JniFunction) (i : ℕ) (kind : ParameterKind) → Known f → slice_get (parameters_for f (length args)) i ≡ Some kind → IsKnownAs classes s.heap t.variables kind (slice_get args i)
+    known f i kind h e = known_at classes s.heap t.variables (parameters_for f (length args)) args i kind h e
 
     -- ---- what goes together
 
@@ -552,6 +553,12 @@ module _ (unit : SourceUnit) (classes : Classes) (well : DeclaresWell classes) (
     numbers_as : (e : ElementType) (n : ℕ) → u ≡ e → HasNumbers classes s.heap e n → HasNumbers classes s.heap u n
     numbers_as e n is h = subst (λ (x : ElementType). HasNumbers classes s.heap x n) (sym is) h
 
+    -- ---- methods
+
+    called_fits : (o : Option MethodId) (arguments : List ObjectValue) → Fits (method_effect o arguments)
+    called_fits None arguments = tt
+    called_fits (Some m) arguments = tt
+
     -- ---- all functions
 
     pub effect_fits : (f : JniFunction) → Known f → Together f → IsReady classes u t.variables f args → Fits (call_effect unit classes in_use k s t args f)
@@ -604,4 +611,7 @@ module _ (unit : SourceUnit) (classes : Classes) (well : DeclaresWell classes) (
     effect_fits jni.FatalError h together ready = tt
     effect_fits jni.MonitorEnter h together ready = enter_fits (object_given args 0) (monitor_of s.monitors (object_given args 0))
     effect_fits jni.MonitorExit h together ready = exit_fits (object_given args 0) (monitor_of s.monitors (object_given args 0))
+    effect_fits jni.CallStaticVoidMethod h together ready = called_fits (method_given args 1) (map passed_value (drop 2 args))
+    effect_fits jni.CallStaticIntMethod h together ready = called_fits (method_given args 1) (map passed_value (drop 2 args))
+    effect_fits jni.CallStaticObjectMethod h together ready = called_fits (method_given args 1) (map passed_value (drop 2 args))
     effect_fits f h together ready = still _ _ vars tt

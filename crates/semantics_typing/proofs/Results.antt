@@ -9,7 +9,7 @@ use Rattle.class_rules.specs.Class.{Classes}
 use Rattle.jni.specs.JniFunction.{JniFunction, prototype}
 use Rattle.jni.specs.Prototype.{ResultKind, NewLocal, NewGlobal, NewWeak, GivesFlag, GivesInt, GivesField, GivesMethod, GivesNothing, GivesBuffer}
 use Rattle.semantics.specs.Arguments.{Actual, address_given}
-use Rattle.semantics.specs.CallEffects.{CallResult, NoResult, NullResult, ScalarResult, ReferenceResult, WeakResult, FieldResult, MethodResult, BufferResult, CallEffect, Throws, Halts, Leaves, out_of_memory}
+use Rattle.semantics.specs.CallEffects.{CallResult, NoResult, NullResult, ScalarResult, ReferenceResult, WeakResult, FieldResult, MethodResult, BufferResult, CallEffect, Throws, Halts, Leaves, Enters, out_of_memory}
 use Rattle.semantics.specs.CallStep.{blank, filled, is_zero, put, put_assigned, tell_copy, failure, element_type, target_element, resumed, completed, after_call, after_refusal}
 use Rattle.semantics.specs.Effect.{tasks_after}
 use Rattle.semantics.specs.Heap.{Heap, next_name}
@@ -203,6 +203,7 @@ module _ (methods : Bool) (unit : SourceUnit) (classes : Classes) (in_use : Buff
       completed_fits (fresh_object classes c ∷ []) s (record t { pending = Some (next_name s.heap) }) (failure (prototype f).result)
       (record { keeps = keeps; variables = variables_later classes s.heap (s.heap ++ fresh_object classes c ∷ []) keeps.stay t.variables vars; result = failure_fits (prototype f).result (s.heap ++ fresh_object classes c ∷ []) })
   after_fits own (Halts trap) h = (keeps_same classes s.heap typed, vars, own)
+  after_fits own (Enters function arguments) h = (keeps_same classes s.heap typed, tt, tt)
   after_fits own (Leaves made s' t' given) h = completed_fits made s' t' given h
 
   nothing_made : (given : CallResult) → ((heap : Heap) → ResultFits classes u t.variables heap t.variables given) → IsLeft classes u s.heap t.variables (s.heap ++ []) t.variables given

@@ -7,6 +7,7 @@ use Rattle.std.proofs.lemmas.Option.{slice_get_within}
 use Rattle.class_rules.specs.BuiltIns.{no_such_method_error}
 use Rattle.class_rules.specs.Class.{Plain, Class, Classes, class_kind}
 use Rattle.class_rules.specs.Grown.{HasMethodError}
+use Rattle.class_rules.specs.Mangling.{IsInverse}
 use Rattle.jni.specs.JniFunction.{GetStaticMethodID}
 use Rattle.syntax.specs.Tree.{SourceUnit}
 use Rattle.region_rules.specs.Regions.{HasRegions}
@@ -120,7 +121,7 @@ calls_there [] h = refl
 calls_there ([] ∷ threads) h = absurd (cc)
 calls_there ((call ∷ calls) ∷ threads) h = calls_there threads h
 
-module _ (unit : SourceUnit) (w : World) (sorted : IsSorted unit) (regions : HasRegions unit) (all : HasTexts unit) (loads : Loads unit w) (sound : IsSound w) where
+module _ (unit : SourceUnit) (w : World) (sorted : IsSorted unit) (regions : HasRegions unit) (all : HasTexts unit) (loads : Loads unit w) (sound : IsSound w) (inverse : IsInverse) where
   has : HasCalls w
   has = calls_there w.threads sound.calls
 
@@ -152,16 +153,18 @@ module _ (unit : SourceUnit) (w : World) (sorted : IsSorted unit) (regions : Has
     thread_next : (o : Option Thread) → thread_at s k ≡ o → step_of unit w.classes s k refused o ≡ Some next → IsNext w.methods w.classes s next
     thread_next None there e = absurd (cc)
     thread_next (Some t) there e =
-        let stands = unit_is_sound unit w sorted regions loads has journal s k t replayed there in
+        let stands = unit_is_sound inverse unit w sorted regions loads has journal s k t replayed there in
         let typed = thread_in (IsTypedThread w.classes s.shared.heap) s k t h.typed.variables there in
         let texts = thread_in (λ (t : Thread). AllByRecursion (λ (c : Caller). HaveTexts w.methods c.tasks) t.callers) s k t h.below there in
         let below = all_both (λ (c : Caller). AreTypedVariables w.classes s.shared.heap c.variables) (λ (c : Caller). HaveTexts w.methods c.tasks) t.callers typed.1 texts in
+        let own = thread_in (λ (t : Thread). TasksHaveTexts w.methods t.tasks) s k t h.texts there in
         advance_next w.methods w.classes s k (thread_step unit w.classes (in_use s) k s.shared t refused) next h
         (step_fits w.methods unit w.classes sound.declares sound.grown error (in_use s) k s.shared t h.typed.heap
         typed.0
-        (thread_in (λ (t : Thread). TasksHaveTexts w.methods t.tasks) s k t h.texts there) below fits (weak_names unit) (owners_after unit w journal k).current
+        own below fits (weak_names unit) (owners_after unit w journal k).current
         stands.goes refused)
-        (callers_left (CallerFits w.methods w.classes s.shared.heap) unit w.classes (in_use s) k s.shared t below refused) e
+        (callers_left (CallerFits w.methods w.classes s.shared.heap) unit w.classes (in_use s) k s.shared t below
+        (λ task rest line target f args at is method. (typed.0, (subst (TasksHaveTexts w.methods) at own).1)) refused) e
 
     can_next : (b : Bool) → (if b then step_of unit w.classes s k refused (thread_at s k) else None) ≡ Some next → IsNext w.methods w.classes s next
     can_next true e = thread_next (thread_at s k) refl e
@@ -221,5 +224,5 @@ module _ (unit : SourceUnit) (w : World) (sorted : IsSorted unit) (regions : Has
   }
 
 -- an accepted unit's runs are typed
-pub unit_is_typed : AcceptedIsTyped
-unit_is_typed unit w sorted regions all loads sound = runs unit w sorted regions all loads sound
+pub unit_is_typed : IsInverse → AcceptedIsTyped
+unit_is_typed inverse unit w sorted regions all loads sound = runs unit w sorted regions all loads sound inverse

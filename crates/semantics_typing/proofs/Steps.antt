@@ -1,7 +1,7 @@
 -- A step of a thread leaves typed objects and variables.
-use Rattle.std.proofs.Common.{◌≡◌, ℕ, ℤ, zero, suc, pos, Bool, true, false, List, [], ◌∷◌, map, replicate, zip, Option, Some, None, refl, sym, ap, ◌∙◌, subst, if◌then◌else◌}
+use Rattle.std.proofs.Common.{◌≡◌, ℕ, ℤ, zero, suc, pos, Bool, true, false, List, [], ◌∷◌, length, map, replicate, zip, Option, Some, None, refl, sym, ap, ◌∙◌, subst, if◌then◌else◌}
 use Rattle.std.specs.Prelude.{slice_set, IsTrue, find}
-use Rattle.std.specs.List.{AllByRecursion}
+use Rattle.std.specs.List.{AllByRecursion, list_any}
 use Rattle.std.specs.Option.{option_map}
 use Rattle.std.specs.Str.{bytes_eq}
 use lib.ListN.{length-set}
@@ -14,7 +14,7 @@ use Rattle.class_rules.specs.BuiltIns.{no_such_method_error}
 use Rattle.class_rules.specs.Class.{Classes}
 use Rattle.class_rules.specs.Grown.{IsGrown}
 use Rattle.jni.specs.Access.{Access, ElementsCopy, ArrayView, CharsCopy, CharsView}
-use Rattle.jni.specs.JniFunction.{JniFunction, GetBuffer, ReleaseBuffer, PushLocalFrame, GetStaticMethodID, prototype}
+use Rattle.jni.specs.JniFunction.{JniFunction, GetBuffer, ReleaseBuffer, PushLocalFrame, GetStaticMethodID, parameters_for}
 use Rattle.jni.specs.Prototype.{ResultKind, NewLocal, NewGlobal, NewWeak, GivesFlag, GivesInt, GivesField, GivesMethod, GivesNothing, GivesBuffer}
 use Rattle.type_rules.specs.Sorts.{Sort, Buffer, is_buffer_for, sort_in}
 use Rattle.type_rules.specs.Sorts as sort
@@ -23,6 +23,7 @@ use Rattle.semantics.specs.Arguments.{Actual, ReferenceActual, actuals, object_g
 use Rattle.semantics.specs.CallEffects.{CallResult, NoResult, NullResult, ScalarResult, ReferenceResult, WeakResult, FieldResult, MethodResult, BufferResult}
 use Rattle.semantics.specs.CallStep.{blank, put, received, element_type, target_element, trap_of_call, checked, makes_objects, effect_of_call, call_step}
 use Rattle.semantics.specs.CallTable.{call_effect}
+use Rattle.semantics.specs.Checks.{is_missing, is_misfit}
 use Rattle.semantics.specs.Effect.{Effect, Becomes, Sets, SetsNull, SetsElement, MakesArray, Prints, Calls, Returns, TrapsAt, NoEffect, effect_of}
 use Rattle.semantics.specs.Heap.{Heap, with_value_at}
 use Rattle.semantics.specs.Object.{ObjectValue, Number, Refers, Reference}
@@ -45,7 +46,7 @@ use Rattle.semantics_safety.specs.Wanted.{CallFits, CallKeeps, DeclaresResult, A
 use Rattle.semantics_safety.proofs.EffectLaws.{effect_follows, call_fits}
 use Rattle.semantics_typing.specs.Objects.{PlaceFits, type_at, AreTypedObjects, AreInRange, HasNumbers, IsTypedVariable, AreTypedVariables}
 use Rattle.world_values.specs.DeclaredFields.{DeclaresWell}
-use Rattle.semantics_typing.proofs.Arguments.{HasActualText, ArePassed, passed, all_known, variable_typed}
+use Rattle.semantics_typing.proofs.Arguments.{AreKnownAs, HasActualText, ArePassed, passed, all_known, looked_up, variable_typed}
 use Rattle.semantics_typing.proofs.Calls.{EffectFits, IsReady, ResultFits, effect_fits}
 use Rattle.semantics_typing.proofs.Heaps.{Keeps, keeps_same, variables_later}
 use Rattle.semantics_typing.proofs.Lists.{all_append, all_set}
@@ -231,7 +232,11 @@ module _ (methods : Bool) (unit : SourceUnit) (classes : Classes) (well : Declar
         let checks = passed classes s.heap t (target_element t.variables target) f args none in
         let fits = call_fits s.heap s.statics t.variables t.frames p stands rest line target f operands runs in
         let with_args = subst (λ (l : List Actual). AllByRecursion HasActualText l × ArePassed classes s.heap (target_element t.variables target) f l) is (arg_texts, checks) in
-        let known = all_known classes s.heap s.statics t.variables t.frames p stands vars (prototype f).parameters operands fits.sorts with_args.0 with_args.1.present with_args.1.given with_args.1.kinds in
+        let many = looked_up p (sight_of s t) (parameters_for f (length operands)) operands fits.sorts in
+        let asked : List Actual → ℕ → Type 0 = λ l n. (list_any is_missing (zip (parameters_for f n) l) ≡ false) × (list_any (is_misfit classes s.heap) (zip (parameters_for f n) l) ≡ false) in
+        let checked = subst (asked (actuals (sight_of s t) f operands)) many (with_args.1.given, with_args.1.kinds) in
+        let known = subst (λ (n : ℕ). AreKnownAs classes s.heap t.variables (parameters_for f n) (actuals (sight_of s t) f operands)) (sym many)
+        (all_known classes s.heap s.statics t.variables t.frames p stands vars (parameters_for f (length operands)) operands fits.sorts with_args.0 with_args.1.present checked.0 checked.1) in
         subst (λ (l : List Actual). EffectFits classes (target_element t.variables target) s.heap t.variables (call_effect unit classes in_use k s t l f)) (sym is)
         (effect_fits unit classes well g in_use k s t typed vars (target_element t.variables target) (actuals (sight_of s t) f operands) f known with_args.1.together
         (ready s.heap s.statics t.variables t.frames p stands (GoesOn rest) classes line target f operands (can_throw f may) runs fits))))

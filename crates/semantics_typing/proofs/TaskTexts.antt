@@ -1,6 +1,6 @@
 -- The texts that are given in the tasks of a thread are of bytes, and methods are asked for only where they are allowed, from each step
 -- to the next.
-use Rattle.std.proofs.Common.{◌≡◌, ℕ, Bool, true, false, not, ◌||◌, List, [], ◌∷◌, ◌++◌, map, zip, Option, Some, None, refl, sym, ap, ◌∙◌, subst, find, bytes_eq, if◌then◌else◌}
+use Rattle.std.proofs.Common.{◌≡◌, ℕ, Bool, true, false, not, ◌||◌, List, [], ◌∷◌, ◌++◌, length, map, zip, Option, Some, None, refl, sym, ap, ◌∙◌, subst, find, bytes_eq, if◌then◌else◌}
 use Rattle.std.specs.Prelude.{ℤ}
 use Rattle.std.specs.List.{AllByRecursion, list_any}
 use Rattle.std.proofs.lemmas.Bool.{cond_both}
@@ -11,17 +11,17 @@ use Rattle.base.specs.Options.{some_passes}
 use Rattle.syntax.specs.Parts.{functions_of, statements_of, statements_within, own_call, call_of_right_side}
 use Rattle.syntax.specs.Tree as tree
 use Rattle.syntax.specs.Tree.{Argument, Call, RightSide, FromExpr, FromCall, Expr, Test, TestExpr, TestCall, Stmt, Block, End, Next, Function, SourceUnit}
-use Rattle.jni.specs.JniFunction.{JniFunction, GetStaticMethodID, prototype, all_functions, function_named}
-use Rattle.jni.specs.Prototype.{ParameterKind, FieldID, IntNumber, ArrayVariable, BufferVariable, Mode, IsCopy}
-use Rattle.semantics.specs.Arguments.{look_up, look_up_expression, reference_argument, field_argument, actuals}
+use Rattle.jni.specs.JniFunction.{JniFunction, GetStaticMethodID, parameters_for, prototype, all_functions, function_named}
+use Rattle.jni.specs.Prototype.{ParameterKind, FieldID, MethodID, Passed, IntNumber, ArrayVariable, BufferVariable, Mode, IsCopy}
+use Rattle.semantics.specs.Arguments.{look_up, look_up_expression, reference_argument, field_argument, method_argument, actuals}
 use Rattle.semantics.specs.CallEffects.{ScalarResult}
 use Rattle.semantics.specs.Load.{methods_load}
 use Rattle.semantics.specs.Variable.{StaticReference}
 use Rattle.semantics.specs.World.{World}
-use Rattle.semantics.specs.Effect.{Effect, Becomes, Sets, SetsElement, Calls, Returns, at_line, goes_on, with_value, print_effect, branch_effect, loop_effect, element_effect, is_ready, reduce_number, reduce_first, call_effect_of, tasks_after, returned_name, return_effect, effect_of}
+use Rattle.semantics.specs.Effect.{Effect, Becomes, Sets, SetsElement, Calls, Returns, at_line, goes_on, with_value, print_effect, branch_effect, loop_effect, element_effect, is_ready, reduce_number, reduce_name, reduce_first, call_effect_of, tasks_after, returned_name, return_effect, effect_of}
 use Rattle.semantics.specs.Sight.{Sight}
 use Rattle.semantics.specs.Task as task
-use Rattle.semantics.specs.Task.{Task, SetScalar, SetElement, SetNull, MakeArray, Invoke, Print, Branch, EndIf, Loop, EndTurn, Impossible, Target, Declared, Assigned, Tested, Dropped, Operand, NumberOperand, Given, operand, invocation, call_task, set_task, right_side_task, if_task, task_of, tasks_of, kind_of}
+use Rattle.semantics.specs.Task.{Task, SetScalar, SetElement, SetNull, MakeArray, Invoke, Print, Branch, EndIf, Loop, EndTurn, Impossible, Target, Declared, Assigned, Tested, Dropped, Operand, NumberOperand, PassedName, Given, operand, passed_operand, invocation, call_task, set_task, right_side_task, if_task, task_of, tasks_of, kind_of}
 use Rattle.semantics.specs.Term as term
 use Rattle.semantics.specs.Term.{Term, Done, Read, reduce, index_of}
 use Rattle.semantics.specs.Value.{Value, Int, Truth, Outcome, Gives, Traps, Stuck, outcome_map}
@@ -80,10 +80,18 @@ EffectHasTexts methods e = Unit {0}
 
 -- ---- statements
 
+passed_texts : (e : Expr) → HasText (passed_operand e)
+passed_texts (tree.Named tree.Null) = tt
+passed_texts (tree.Variable x) = tt
+passed_texts e = tt
+
 operand_texts : (kind : ParameterKind) (a : Argument) → IsTextual a → HasText (operand (kind, a))
 operand_texts IntNumber (tree.Value e) h = tt
 operand_texts IntNumber (tree.Text bytes) h = h
 operand_texts IntNumber (tree.AddressOf x) h = tt
+operand_texts Passed (tree.Value e) h = passed_texts e
+operand_texts Passed (tree.Text bytes) h = h
+operand_texts Passed (tree.AddressOf x) h = tt
 operand_texts kind a h = h
 
 operands_texts : (kinds : List ParameterKind) (args : List Argument) → AllByRecursion IsTextual args → AllByRecursion HasText (map operand (zip kinds args))
@@ -136,7 +144,7 @@ module _ (methods : Bool) where
 
   invocation_texts : (line : ℕ) (target : Target) (call : Call) (f : Option JniFunction) → function_named call.function ≡ f → CallHasTexts call → (asks call ≡ true → methods ≡ true) → TargetHasTexts methods target → TaskHasTexts methods (invocation line target call f)
   invocation_texts line target call None is h may g = tt
-  invocation_texts line target call (Some f) is h may g = (operands_texts (prototype f).parameters call.arguments h, g, may_call call f (is_named call.function f is) may)
+  invocation_texts line target call (Some f) is h may g = (operands_texts (parameters_for f (length call.arguments)) call.arguments h, g, may_call call f (is_named call.function f is) may)
 
   set_texts : (line : ℕ) (target : Target) (x : Identifier) (e : Expr) → TaskHasTexts methods (set_task line target x e)
   set_texts line target x (tree.Named tree.Null) = tt
@@ -267,8 +275,13 @@ module _ (methods : Bool) (sight : Sight) where
   field_texts (tree.Variable x) = tt
   field_texts e = tt
 
+  method_texts : (e : Expr) → HasActualText (method_argument sight e)
+  method_texts (tree.Variable x) = tt
+  method_texts e = tt
+
   expression_texts : (kind : ParameterKind) (e : Expr) → HasActualText (look_up_expression sight kind e)
   expression_texts FieldID e = field_texts e
+  expression_texts MethodID e = method_texts e
   expression_texts (ArrayVariable t) e = tt
   expression_texts (BufferVariable access) e = tt
   expression_texts Mode e = tt
@@ -278,6 +291,7 @@ module _ (methods : Bool) (sight : Sight) where
   actual_texts : (kind : ParameterKind) (o : Operand) → HasText o → HasActualText (look_up sight (kind, o))
   actual_texts kind (NumberOperand (Done (Int z))) h = tt
   actual_texts kind (NumberOperand t) h = tt
+  actual_texts kind (PassedName x) h = tt
   actual_texts kind (Given (tree.Text bytes)) h = h
   actual_texts kind (Given (tree.AddressOf x)) h = tt
   actual_texts kind (Given (tree.Value e)) h = expression_texts kind e
@@ -305,9 +319,15 @@ module _ (methods : Bool) (sight : Sight) where
   reduced_well (Done v) rest step further h g = further_well (NumberOperand (Done v)) further tt g
   reduced_well t rest step further h g = number_well step rest h
 
+  named_well : (x : Identifier) (rest : List Operand) (o : Outcome Value) (further : Outcome (List Operand)) → AllByRecursion HasText rest → StepsWell further → StepsWell (reduce_name x rest o further)
+  named_well x rest (Gives v) further h g = (tt, h)
+  named_well x rest (Traps trap) further h g = further_well (PassedName x) further tt g
+  named_well x rest Stuck further h g = further_well (PassedName x) further tt g
+
   first_well : (operands : List Operand) → AllByRecursion HasText operands → StepsWell (reduce_first sight operands)
   first_well [] h = tt
   first_well (NumberOperand t ∷ rest) h = reduced_well t rest (reduce sight t) (reduce_first sight rest) h.1 (first_well rest h.1)
+  first_well (PassedName x ∷ rest) h = named_well x rest (sight.number x) (reduce_first sight rest) h.1 (first_well rest h.1)
   first_well (Given a ∷ rest) h = further_well (Given a) (reduce_first sight rest) h.0 (first_well rest h.1)
 
   stepped_texts : (line : ℕ) (target : Target) (f : JniFunction) (o : Outcome (List Operand)) → TargetHasTexts methods target → MayCall methods f → StepsWell o → EffectHasTexts methods (goes_on line (Invoke line target f) o)
@@ -317,8 +337,8 @@ module _ (methods : Bool) (sight : Sight) where
 
   call_texts : (line : ℕ) (target : Target) (f : JniFunction) (operands : List Operand) → AllByRecursion HasText operands → TargetHasTexts methods target → MayCall methods f → EffectHasTexts methods (call_effect_of sight line target f operands)
   call_texts line target f operands h g may =
-      cond_both (is_ready operands) (Calls line target f (actuals sight f operands)) (goes_on line (Invoke line target f) (reduce_first sight operands)) (EffectHasTexts methods)
-      (λ e. (actuals_texts (prototype f).parameters operands h, g, may))
+      cond_both (is_ready sight.number operands) (Calls line target f (actuals sight f operands)) (goes_on line (Invoke line target f) (reduce_first sight operands)) (EffectHasTexts methods)
+      (λ e. (actuals_texts (parameters_for f (length operands)) operands h, g, may))
       (λ e. stepped_texts line target f (reduce_first sight operands) g may (first_well operands h))
 
   -- ---- all tasks

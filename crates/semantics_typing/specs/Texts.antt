@@ -4,7 +4,7 @@ use Rattle.std.specs.List.{AllByRecursion}
 use Rattle.syntax.specs.Parts.{functions_of}
 use Rattle.syntax.specs.Tree as tree
 use Rattle.syntax.specs.Tree.{Argument, Call, RightSide, FromExpr, FromCall, Test, TestExpr, TestCall, Stmt, Block, End, Next, Function, SourceUnit}
-use Rattle.semantics.specs.Task.{Operand, NumberOperand, Given}
+use Rattle.semantics.specs.Task.{Operand, NumberOperand, PassedName, Given}
 
 -- a text of bytes
 abbrev pub IsText : List ℕ → Type 0
@@ -18,6 +18,7 @@ IsTextual a = Unit {0}
 -- the same of an argument of which the number may be worked out
 abbrev pub HasText : Operand → Type 0
 HasText (NumberOperand t) = Unit {0}
+HasText (PassedName x) = Unit {0}
 HasText (Given a) = IsTextual a
 
 -- each argument of a call

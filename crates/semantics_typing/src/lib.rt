@@ -3,6 +3,8 @@
 
 ghost use Rattle.semantics_typing.specs.Law.{AcceptedIsTyped};
 
+use class_rules::unmangling_inverts_mangling;
+
 /// In each replay of an accepted unit in a world that goes with it, objects are typed: the class of each is in the
 /// table; it has a value for each field of its class, or any number of elements, as arrays and strings have, and class
 /// objects have the statics of their classes; a number is in the range of its place's type, and a reference is NULL or
@@ -11,4 +13,6 @@ ghost use Rattle.semantics_typing.specs.Law.{AcceptedIsTyped};
 /// class and its number of values (JNI Specification, chapters 3 and 4).
 pub fn objects_are_typed()
     ensures { AcceptedIsTyped }
-{}
+{
+    unmangling_inverts_mangling();
+}
