@@ -9,7 +9,7 @@ use Rattle.syntax.specs.Tree.{Commit, Abort}
 use Rattle.syntax.specs.Parts.{statements_of, statements_within, line_of, declared_name, right_side, own_call, own_expressions, used_names, assigned_name, written_name, names_declared, parameter_names}
 use Rattle.syntax.specs.Tree.{ResultType, Void, IntResult, ReferenceResult, ParameterType, IntParameter, ReferenceParameter, VariableType, UInt32, JIntVariable, JSize, JBoolean, JFieldId, JMethodId, ReferenceVariable, Expr, Number, Named, Variable, Argument, Value, Call, RightSide, FromExpr, FromCall, Test, TestExpr, TestCall, Stmt, Declare, DeclareBuffer, DeclareChars, DeclareArray, Assign, AssignElement, Perform, PutJint, If, IfElse, While, Return, ReturnValue, Block, End, Next, Function, StaticType, ReferenceStatic, WeakStatic, Static, Item, StaticItem, FunctionItem, SourceUnit}
 use Rattle.class_rules.specs.Mangling.{unmangle}
-use Rattle.jni.specs.JniFunction.{JniFunction, PushLocalFrame, function_named, prototype}
+use Rattle.jni.specs.JniFunction.{JniFunction, PushLocalFrame, function_named, prototype, takes_count}
 use Rattle.jni.specs.Prototype.{ParameterKind, Mode, ResultKind, GivesNothing, GivesInt, GivesFlag, NewLocal, NewGlobal, NewWeak, GivesField, GivesMethod, GivesBuffer}
 use Rattle.type_rules.specs.Sorts.{Sort, Word, Jint, Flag, Ref, Global, Weak, FieldId, MethodId, Buffer, Array, Scope, sort_in, is_unknown, sort_of, is_word, is_jint, is_flag, is_truth, is_ref, is_field, is_method, is_index, has_elements, is_buffer_for, is_read_only, is_null, name_sort, call_arguments_fit}
 
@@ -260,7 +260,7 @@ modes_fit parameters arguments = true
 -- a wrong number of arguments
 abbrev pub has_wrong_count : Call → Option JniFunction → Bool
 has_wrong_count c None = false
-has_wrong_count c (Some f) = not (length c.arguments == length (prototype f).parameters)
+has_wrong_count c (Some f) = not (takes_count f (length c.arguments))
 
 -- a mode that is none
 abbrev pub has_wrong_mode : Call → Option JniFunction → Bool

@@ -1,5 +1,5 @@
 -- The sorts of expressions, and the rules that a unit breaks where its sorts do not fit.
-use Rattle.std.specs.Prelude.{ℕ, Bool, true, false, ◌&&◌, ◌||◌, List, ◌∷◌, Option, Some, None, if◌then◌else◌}
+use Rattle.std.specs.Prelude.{ℕ, Bool, true, false, ◌&&◌, ◌||◌, List, ◌∷◌, length, Option, Some, None, if◌then◌else◌}
 use Rattle.std.specs.Option.{option_or, is_none}
 use Rattle.base.specs.Bytes.{Identifier, ByName, lookup}
 use Rattle.base.specs.Element.{ElementType, JChar, same_element}
@@ -7,8 +7,8 @@ use Rattle.syntax.specs.Tree.{Constant, True, False, Null}
 use Rattle.syntax.specs.Parts.{null_tested}
 use Rattle.syntax.specs.Tree.{PrefixOp, LogicalNot, Complement, ToWord, ToInt, BinaryOp, LogicalOr, LogicalAnd, Equal, NotEqual, Less, LessEqual, Greater, GreaterEqual, Expr, Number, Named, Variable, Element, Prefix, Binary, Paren, Argument, Value, Text, AddressOf, Call}
 use Rattle.jni.specs.Access.{Access, ElementsCopy, ArrayView, CharsCopy, CharsView}
-use Rattle.jni.specs.JniFunction.{JniFunction, prototype}
-use Rattle.jni.specs.Prototype.{ParameterKind, FieldID, IntNumber, TextBytes, IsCopy, Mode, AnyReference, LocalVariable, StaticVariable, WeakVariable, ArrayVariable, BufferVariable}
+use Rattle.jni.specs.JniFunction.{JniFunction, prototype, parameters_for}
+use Rattle.jni.specs.Prototype.{ParameterKind, FieldID, IntNumber, TextBytes, IsCopy, Mode, AnyReference, LocalVariable, StaticVariable, WeakVariable, ArrayVariable, BufferVariable, MethodID, Passed}
 
 -- what a name or an expression is; all reference types are one sort, and a static is of another, or of a third where it is weak
 pub data Sort : Type 0 where
@@ -208,6 +208,8 @@ value_fits scope StaticVariable e = is_global (name_sort scope e)
 value_fits scope WeakVariable e = is_weak (name_sort scope e)
 value_fits scope AnyReference e = is_null e || is_any_reference (name_sort scope e)
 value_fits scope FieldID e = is_null e || is_field (name_sort scope e)
+value_fits scope MethodID e = is_null e || is_method (name_sort scope e)
+value_fits scope Passed e = is_jint (sort_of scope e) || is_null e || is_reference (name_sort scope e)
 value_fits scope (ArrayVariable t) e = is_array_of t (name_sort scope e)
 value_fits scope (BufferVariable a) e = is_buffer_for a (name_sort scope e)
 value_fits scope reference e = is_null e || is_reference (name_sort scope e)
@@ -238,4 +240,4 @@ arguments_fit scope parameters arguments = true
 -- whether the arguments of a call fit the function's parameters; a wrong number of them is a fault of its own
 abbrev pub call_arguments_fit : Scope → Call → Option JniFunction → Bool
 call_arguments_fit scope c None = true
-call_arguments_fit scope c (Some f) = arguments_fit scope (prototype f).parameters c.arguments
+call_arguments_fit scope c (Some f) = arguments_fit scope (parameters_for f (length c.arguments)) c.arguments

@@ -1,10 +1,15 @@
 -- Arguments beside their parameters.
-use Rattle.std.proofs.Common.{◌≡◌, true, List, [], ◌∷◌, refl, sym, map, length, ◌<◌, arith}
+use Rattle.std.proofs.Common.{◌≡◌, ℕ, ◌-◌, Bool, true, false, not, ◌&&◌, ◌||◌, List, [], ◌∷◌, refl, sym, ap, ◌∙◌, map, length, replicate, ◌<◌, arith}
+use Rattle.std.specs.List.{list_all}
 use Rattle.syntax.specs.declared.call.Argument.{Argument}
+use Rattle.syntax.specs.Tree.{Argument as Given}
 use Rattle.syntax.specs.Views.{argument_tree}
-use Rattle.jni.specs.Prototype.{ParameterKind}
-use Rattle.type_rules.specs.Sorts.{Scope, arguments_fit}
+use Rattle.jni.specs.declared.kinds.ParameterKind.{ParameterKind as KindInMemory}
+use Rattle.jni.specs.Prototype.{ParameterKind, Passed}
+use Rattle.jni.specs.Table.{parameter_value}
+use Rattle.type_rules.specs.Sorts.{Scope, argument_fits, arguments_fit}
 use Rattle.type_rules.specs.SortRules.{modes_fit}
+use Rattle.types.specs.Called.{with_passed}
 
 -- no arguments fit all parameters
 none_fit : (scope : Scope) (parameters : List ParameterKind) → arguments_fit scope parameters [] ≡ true
@@ -23,4 +28,21 @@ pub no-modes : (parameters : List ParameterKind) (arguments : List Argument) →
 no-modes parameters [] few = sym (none_modes parameters)
 no-modes parameters (a ∷ arguments) few = absurd (omega (arith, few))
 
-pub ruleset argument_rules = (no-arguments, no-modes)
+-- behind the parameters, each argument is passed
+all_passed : (scope : Scope) (given : List Given) → list_all (argument_fits scope Passed) given ≡ arguments_fit scope (replicate (length given) Passed) given
+all_passed scope [] = refl
+all_passed scope (a ∷ given) = ap (λ b. argument_fits scope Passed a && b) (all_passed scope given)
+
+none_own : (n : ℕ) → n - 0 ≡ n
+none_own n = omega (arith)
+
+none_left : (scope : Scope) (given : List Given) → true ≡ arguments_fit scope [] given
+none_left scope given = refl
+
+pub passed-behind : (scope : Scope) (kinds : List KindInMemory) (passes : Bool) (given : List Given) → length kinds < 1
+    → (not passes || list_all (argument_fits scope Passed) given) ≡ arguments_fit scope (with_passed (map parameter_value kinds) passes (length given)) given
+passed-behind scope [] true given few = all_passed scope given ∙ ap (λ n. arguments_fit scope (replicate n Passed) given) (sym (none_own (length given)))
+passed-behind scope [] false given few = none_left scope given
+passed-behind scope (k ∷ kinds) passes given few = absurd (omega (arith, few))
+
+pub ruleset argument_rules = (no-arguments, no-modes, passed-behind)

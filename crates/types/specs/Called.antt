@@ -1,16 +1,21 @@
 -- What a statement calls and what it declares, looked up once.
-use Rattle.std.specs.Prelude.{true, false, Option, None, Some}
+use Rattle.std.specs.Prelude.{ℕ, ◌-◌, Bool, true, false, if◌then◌else◌, List, [], ◌++◌, length, replicate, Option, None, Some}
 use Rattle.std.specs.Option.{option_and_then}
 use Rattle.base.specs.Bytes.{Identifier}
 use Rattle.base.specs.Element.{JChar}
 use Rattle.syntax.specs.Tree.{Call, Test, TestExpr, TestCall, Stmt, Declare, DeclareBuffer, DeclareChars, DeclareArray}
 use Rattle.jni.specs.JniFunction.{JniFunction, function_named}
+use Rattle.jni.specs.Prototype.{ParameterKind, Passed}
 use Rattle.type_rules.specs.Sorts.{Sort, Buffer, Array}
 use Rattle.type_rules.specs.SortRules.{variable_sort}
 
 -- the function of a call, where there is a call and the table has its name
 abbrev pub function_in : Option Call → Option JniFunction
 function_in call = option_and_then (λ c. function_named c.function) call
+
+-- the parameters of a call with so many arguments, behind which a method may be given more
+abbrev pub with_passed : List ParameterKind → (passes : Bool) → (arguments : ℕ) → List ParameterKind
+with_passed own passes n = own ++ (if passes then replicate (n - length own) Passed else [])
 
 -- the call that a test is
 abbrev pub call_of_test : Test → Option Call

@@ -1,6 +1,6 @@
 //! What fits in a call.
 
-ghost use Rattle.std.specs.Prelude.{◌≡◌, ◌||◌, Some, map};
+ghost use Rattle.std.specs.Prelude.{◌≡◌, ◌||◌, Some, map, length};
 ghost use Rattle.std.specs.List.{list_all};
 ghost use Rattle.std.specs.Option.{option_map};
 ghost use Rattle.syntax.specs.Parts.{call_expressions};
@@ -8,8 +8,11 @@ ghost use Rattle.syntax.specs.Views.{expr_tree, argument_tree, call_tree};
 ghost use Rattle.base.specs.Options.{some_passes};
 ghost use Rattle.type_rules.specs.Sorts.{is_unknown, is_null, is_reference, is_any_reference, name_sort, value_fits, address_fits, text_fits, argument_fits, arguments_fit, call_arguments_fit};
 ghost use Rattle.type_rules.specs.SortRules.{is_formed, is_mode, modes_fit, has_wrong_count, has_wrong_mode, result_fits, is_droppable, is_push, call_fits, may_be_dropped, may_be_tested};
+ghost use Rattle.jni.specs.JniFunction.{calls_method, takes_count};
+ghost use Rattle.jni.specs.Prototype.{Passed};
 ghost use Rattle.jni.specs.Table.{function_value, parameter_value, result_value};
 ghost use Rattle.type_rules.specs.SortViews.{sort_value};
+ghost use Rattle.types.specs.Called.{with_passed};
 ghost use Rattle.types.specs.Faults.{scope_of};
 ghost use Rattle.type_rules.specs.Uses.{argument_uses, call_uses};
 
@@ -21,6 +24,9 @@ use crate::sort::{
 use jni::{JniFunction, ParameterKind, ResultKind};
 use syntax::{Argument, Call, Constant, Expr, Name};
 use type_rules::{Known, Sort};
+
+/// The most arguments of a call of a method, after its class and its method ID.
+pub(crate) const MOST_FURTHER: usize = 16;
 
 /// Whether an expression is NULL or the bare name of a reference.
 fn is_reference(known: &Known<'_, Sort>, e: &Expr) -> bool
@@ -50,6 +56,8 @@ fn value_fits(known: &Known<'_, Sort>, kind: ParameterKind, e: &Expr) -> bool
         ParameterKind::WeakVariable => is_weak(name_sort(known, e)),
         ParameterKind::AnyReference => is_any_reference(known, e),
         ParameterKind::FieldID => is_null(e) || is_field(name_sort(known, e)),
+        ParameterKind::MethodID => is_null(e) || is_method(name_sort(known, e)),
+        ParameterKind::Passed => is_jint(sort_of(known, e)) || is_reference(known, e),
         ParameterKind::ArrayVariable(element) => is_array_of(element, name_sort(known, e)),
         ParameterKind::BufferVariable(access) => is_buffer_for(access, name_sort(known, e)),
         _ => is_reference(known, e),
@@ -89,20 +97,51 @@ pub(crate) fn argument_fits(
     }
 }
 
-/// Whether the arguments fit the parameters, as far as there are both.
+/// Whether each of these arguments may be passed to a method.
+fn all_pass(known: &Known<'_, Sort>, arguments: &[Argument]) -> bool
+    ensures { result ≡ list_all (argument_fits (scope_of known.now) Passed) (map argument_tree arguments.now) }
+{
+    for argument in arguments {
+        if !argument_fits(known, ParameterKind::Passed, argument) {
+            return false;
+        }
+    }
+    true
+}
+
+/// Whether the arguments fit the parameters, as far as there are both. Those behind the parameters may be passed to a
+/// method, where the function calls one.
 #[tactic(auto, using(crate::proofs::ArgumentLemmas::argument_rules))]
-fn arguments_fit(known: &Known<'_, Sort>, kinds: &[ParameterKind], arguments: &[Argument]) -> bool
-    ensures { result ≡ arguments_fit (scope_of known.now) (map parameter_value kinds.now)
+fn arguments_fit(
+    known: &Known<'_, Sort>,
+    kinds: &[ParameterKind],
+    passes: bool,
+    arguments: &[Argument],
+) -> bool
+    ensures { result ≡ arguments_fit (scope_of known.now)
+        (with_passed (map parameter_value kinds.now) passes (length (map argument_tree arguments.now)))
         (map argument_tree arguments.now) }
 {
     match arguments {
         [] => true,
-        [argument, arguments @ ..] => match kinds {
-            [] => true,
+        [argument, others @ ..] => match kinds {
+            [] => !passes || all_pass(known, arguments),
             [kind, kinds @ ..] => argument_fits(known, *kind, argument)
-                && arguments_fit(known, kinds, arguments),
+                && arguments_fit(known, kinds, passes, others),
         },
     }
+}
+
+/// Whether a function calls a method.
+pub(crate) fn calls_method(function: JniFunction) -> bool
+    ensures { result ≡ calls_method (function_value function) }
+{
+    matches!(
+        function,
+        JniFunction::CallStaticVoidMethod
+            | JniFunction::CallStaticIntMethod
+            | JniFunction::CallStaticObjectMethod
+    )
 }
 
 /// Whether an argument is a release mode.
@@ -144,17 +183,30 @@ pub(crate) fn call_arguments_fit(
 {
     match function {
         None => true,
-        Some(f) => arguments_fit(known, f.prototype().parameters, &call.arguments),
+        Some(f) => arguments_fit(
+            known,
+            f.prototype().parameters,
+            calls_method(f),
+            &call.arguments,
+        ),
     }
 }
 
-/// Whether a call has another number of arguments than its function has parameters, as far as that is known.
+/// Whether a function may have so many arguments after `env`.
+fn takes_count(function: JniFunction, count: usize) -> bool
+    ensures { result ≡ takes_count (function_value function) count }
+{
+    let own = function.prototype().parameters.len();
+    count == own || (calls_method(function) && own <= count && count <= own + MOST_FURTHER)
+}
+
+/// Whether a call has a number of arguments that its function doesn't take, as far as that is known.
 pub(crate) fn has_wrong_count(function: Option<JniFunction>, call: &Call) -> bool
     ensures { result ≡ has_wrong_count (call_tree call.now) (option_map function_value function) }
 {
     match function {
         None => false,
-        Some(f) => call.arguments.len() != f.prototype().parameters.len(),
+        Some(f) => !takes_count(f, call.arguments.len()),
     }
 }
 

@@ -1,6 +1,6 @@
 //! What is told of a broken rule: what was found, and what was wanted.
 
-use crate::calls::argument_fits;
+use crate::calls::{MOST_FURTHER, argument_fits, calls_method};
 use crate::expressions::{is_null, sort_of};
 use crate::fault::SortRule;
 use crate::scope::{has_name, is_unknown, sort_in};
@@ -369,6 +369,7 @@ fn with_parameter(detail: Detail, kind: ParameterKind) -> Detail {
         ParameterKind::StaticVariable => detail.words(b"the name of a static"),
         ParameterKind::WeakVariable => detail.words(b"the name of a jweak"),
         ParameterKind::FieldID => detail.words(b"the name of a jfieldID"),
+        ParameterKind::MethodID => detail.words(b"the name of a jmethodID"),
         ParameterKind::IntNumber => detail.words(b"jint"),
         ParameterKind::TextBytes => detail.words(b"a string"),
         ParameterKind::ArrayVariable(element) => detail
@@ -377,6 +378,7 @@ fn with_parameter(detail: Detail, kind: ParameterKind) -> Detail {
         ParameterKind::BufferVariable(access) => with_access(detail, access),
         ParameterKind::Mode => detail.words(b"a release mode"),
         ParameterKind::IsCopy => detail.words(b"NULL or the address of a jboolean"),
+        ParameterKind::Passed => detail.words(b"jint, NULL or the name of a reference"),
     }
 }
 
@@ -388,20 +390,33 @@ fn unformed_argument(known: &Known<'_, Sort>, argument: &Argument) -> Option<Det
     }
 }
 
+/// What an argument of a function has to be, by its number from 0 on.
+fn parameter(function: JniFunction, number: usize) -> Option<ParameterKind> {
+    match function.prototype().parameters.get(number) {
+        Some(kind) => Some(*kind),
+        None if calls_method(function) => Some(ParameterKind::Passed),
+        None => None,
+    }
+}
+
 /// The first argument of a call that doesn't fit, by its number after `env`.
-fn misfit_call(known: &Known<'_, Sort>, call: &Call, kinds: &[ParameterKind]) -> Detail {
+fn misfit_call(known: &Known<'_, Sort>, call: &Call, function: Option<JniFunction>) -> Detail {
     for (number, argument) in call.arguments.iter().enumerate() {
         if let Some(detail) = unformed_argument(known, argument) {
             return detail;
         }
-        if let Some(kind) = kinds.get(number) {
-            if !argument_fits(known, *kind, argument) {
+        let kind = match function {
+            Some(f) => parameter(f, number),
+            None => None,
+        };
+        if let Some(kind) = kind {
+            if !argument_fits(known, kind, argument) {
                 let detail = Detail::of(call.function.as_bytes())
                     .words(b", argument ")
                     .number(number.saturating_add(1))
                     .words(b" after env: found ");
                 let detail = with_argument(detail, known, argument).words(b", wanted ");
-                return with_parameter(detail, *kind);
+                return with_parameter(detail, kind);
             }
         }
     }
@@ -416,10 +431,7 @@ fn misfit_form(known: &Known<'_, Sort>, returns: ResultType, form: &Form) -> Det
     }
     match own_call(form) {
         None => Detail::none(),
-        Some(call) => match function {
-            None => misfit_call(known, call, &[]),
-            Some(f) => misfit_call(known, call, f.prototype().parameters),
-        },
+        Some(call) => misfit_call(known, call, function),
     }
 }
 
@@ -459,16 +471,30 @@ fn declared_name(form: &Form) -> Option<&Name> {
     }
 }
 
+/// Puts how many arguments a function takes after `env`.
+fn with_count(detail: Detail, function: JniFunction) -> Detail {
+    let own = function.prototype().parameters.len();
+    let detail = detail.number(own);
+    if calls_method(function) {
+        return detail
+            .words(b" to ")
+            .number(own.saturating_add(MOST_FURTHER));
+    }
+    detail
+}
+
 /// How many arguments a call has, and how many its function takes.
 fn miscounted(call: &Call) -> Detail {
     let detail = Detail::of(call.function.as_bytes());
     match jni::function_named(call.function.as_bytes()) {
         None => detail,
-        Some(f) => detail
-            .words(b": found ")
-            .number(call.arguments.len())
-            .words(b" after env, wanted ")
-            .number(f.prototype().parameters.len()),
+        Some(f) => with_count(
+            detail
+                .words(b": found ")
+                .number(call.arguments.len())
+                .words(b" after env, wanted "),
+            f,
+        ),
     }
 }
 
