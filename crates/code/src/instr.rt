@@ -96,7 +96,7 @@ pub enum NullableVariable {
 /// Where a call finds an argument, by its kind. Slots of each kind, and statics, are counted from 0.
 #[derive(Clone, Copy)]
 pub enum Operand {
-    /// `NULL` for a reference, a field ID or `isCopy`.
+    /// `NULL` for a reference, a field ID, a method ID or `isCopy`.
     Null,
     /// The local reference in this slot.
     Local(u32),
@@ -104,8 +104,10 @@ pub enum Operand {
     Static(u32),
     /// The topmost word of the stack that no later operand takes: a `jint`.
     Number,
-    /// The field ID in this slot.
+    /// The field ID in this slot of field IDs and method IDs.
     FieldId(u32),
+    /// The method ID in this slot of field IDs and method IDs.
+    MethodId(u32),
     /// The first text of the call that no earlier operand takes.
     Text,
     /// The local array in these number slots.

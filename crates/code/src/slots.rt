@@ -96,7 +96,7 @@ fn operand_within(operand: Operand, slots: SlotCounts) -> bool
         Operand::Null | Operand::Number | Operand::Text | Operand::Mode(_) => true,
         Operand::Local(slot) => slot < slots.references,
         Operand::Static(index) => index < slots.statics,
-        Operand::FieldId(slot) => slot < slots.field_ids,
+        Operand::FieldId(slot) | Operand::MethodId(slot) => slot < slots.field_ids,
         Operand::Array(array) => array_within(array, slots.numbers),
         Operand::Buffer(slot) => slot < slots.buffers,
         Operand::IsCopy(slot) => slot < slots.numbers,

@@ -1,6 +1,6 @@
 //! The operand stack.
 
-ghost use Rattle.std.specs.Prelude.{◌≡◌, ◌==◌, ◌≤◌, ◌<◌, ℕ, List, [], ◌∷◌, length, slice_get};
+ghost use Rattle.std.specs.Prelude.{◌≡◌, ◌==◌, ◌≤◌, ◌<◌, ℕ, List, [], ◌∷◌, length, reverse, slice_get};
 
 use arrayvec::ArrayVec;
 use std::marker::Model;
@@ -70,6 +70,13 @@ impl Stack {
             return None;
         }
         Some(self.words[count - 2])
+    }
+
+    /// All words, the topmost last.
+    pub fn words(&self) -> &[u32]
+        ensures { result.now ≡ reverse self.now }
+    {
+        self.words.as_slice()
     }
 
     /// Another word in place of the topmost.

@@ -4,3 +4,4 @@ pub mod OwnerLaws
 pub mod StaticLaws
 pub mod ElementWords
 pub mod BufferLaws
+pub mod Given

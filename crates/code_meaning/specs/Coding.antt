@@ -1,15 +1,15 @@
 -- Which instructions the parts of a program become. What no accepted program has becomes nothing, and no place of a code
 -- stands for it (Stands).
-use Rattle.std.specs.Prelude.{ℕ, ◌+◌, Bool, true, false, not, List, [], ◌∷◌, ◌++◌, length, map, zip, flat_map, Option, Some, None}
+use Rattle.std.specs.Prelude.{ℕ, ◌+◌, Bool, true, false, not, List, [], ◌∷◌, ◌++◌, length, map, zip, flat_map, Option, Some, None, if◌then◌else◌}
 use Rattle.std.specs.Option.{option_map}
-use Rattle.base.specs.Bytes.{lookup}
+use Rattle.base.specs.Bytes.{Identifier, lookup}
 use Rattle.base.specs.Element.{ElementType, JInt, JShort, JByte, JChar}
 use Rattle.syntax.specs.Tree as tree
 use Rattle.syntax.specs.Tree.{Constant, PrefixOp, LogicalNot, Complement, ToWord, ToInt, BinaryOp, LogicalOr, LogicalAnd, BitOr, BitXor, BitAnd, Equal, NotEqual, Less, LessEqual, Greater, GreaterEqual, ShiftLeft, ShiftRight, Add, Subtract, Multiply, Divide, Remainder, Expr, Argument, RightSide, FromExpr, FromCall, Test, TestExpr, TestCall, Stmt, Block, End, Next, Function}
 use Rattle.type_rules.specs.Sorts.{Sort, Ref, Global, Weak, FieldId, MethodId, Buffer, Array, is_jint}
 use Rattle.type_rules.specs.SortRules.{variable_sort}
-use Rattle.jni.specs.JniFunction.{JniFunction, prototype, function_named}
-use Rattle.jni.specs.Prototype.{ParameterKind, IntNumber, Mode}
+use Rattle.jni.specs.JniFunction.{JniFunction, parameters_for, function_named}
+use Rattle.jni.specs.Prototype.{ParameterKind, IntNumber, Mode, Passed}
 use Rattle.code.specs.declared.instr.Operand.{Operand}
 use Rattle.code.specs.declared.instr.Operand.TheVariants as operand
 use Rattle.jni.specs.declared.mode.ReleaseMode.{ReleaseMode as ModeOfCode}
@@ -171,6 +171,7 @@ variable_operand Ref i = operand.Local i
 variable_operand Global i = operand.Static i
 variable_operand Weak i = operand.Static i
 variable_operand FieldId i = operand.FieldId i
+variable_operand MethodId i = operand.MethodId i
 variable_operand (Array t size) i = operand.Array (record { start = i; len = size })
 variable_operand (Buffer t writable) i = operand.Buffer i
 variable_operand s i = operand.Null
@@ -179,6 +180,11 @@ variable_operand s i = operand.Null
 abbrev pub operand_of : Option Slot → Operand
 operand_of None = operand.Null
 operand_of (Some s) = variable_operand s.sort s.index
+
+-- where what a variable holds is found, where it may be a number
+abbrev pub passed_variable : Option Slot → Operand
+passed_variable None = operand.Null
+passed_variable (Some s) = if is_jint (Some s.sort) then operand.Number else variable_operand s.sort s.index
 
 -- where its address leads to
 abbrev pub address_operand : Option Slot → Operand
@@ -191,19 +197,41 @@ mode_code CopyBackAndFree = mode.CopyBackAndFree
 mode_code CopyBack = mode.CopyBack
 mode_code FreeUncopied = mode.FreeUncopied
 
+-- where what a method is given is found: a number is on the stack, and a reference is a variable or NULL
+abbrev pub passed_code : Known → Expr → Operand
+passed_code known (tree.Named tree.Null) = operand.Null
+passed_code known (tree.Variable x) = passed_variable (lookup x known)
+passed_code known e = operand.Number
+
 -- where an argument is found: a number is on the stack, a text is the call's own, a mode is in the operand, and all else
 -- is a variable or NULL
 abbrev pub operand_code : Known → ParameterKind × Argument → Operand
 operand_code known (IntNumber, tree.Value e) = operand.Number
+operand_code known (Passed, tree.Value e) = passed_code known e
 operand_code known (Mode, tree.Value e) = operand.Mode (mode_code (mode_of e))
 operand_code known (p, tree.Value (tree.Variable x)) = operand_of (lookup x known)
 operand_code known (p, tree.Value e) = operand.Null
 operand_code known (p, tree.Text bytes) = operand.Text
 operand_code known (p, tree.AddressOf x) = address_operand (lookup x known)
 
+-- whether a name is that of a number
+abbrev pub names_number : Known → Identifier → Bool
+names_number known x = is_jint (option_map (λ s. s.sort) (lookup x known))
+
+-- the number that a name may be of; a reference needs no instruction
+abbrev pub number_code : Sort → ℕ → List Instr
+number_code s i = if is_jint (Some s) then load_code s i else []
+
+-- what a method is given, where it is a number
+abbrev pub passed_rest : Known → (line : ℕ) → Expr → List Instr
+passed_rest known line (tree.Named tree.Null) = []
+passed_rest known line (tree.Variable x) = of_slot number_code (lookup x known)
+passed_rest known line e = expr_code known line e
+
 -- an argument that is worked out before the call
 abbrev pub argument_code : Known → (line : ℕ) → ParameterKind × Argument → List Instr
 argument_code known line (IntNumber, tree.Value e) = expr_code known line e
+argument_code known line (Passed, tree.Value e) = passed_rest known line e
 argument_code known line (p, a) = []
 
 -- the arguments that are, in order
@@ -232,7 +260,7 @@ result_target s i = target.Number i
 -- a call of a function, whose result goes there
 abbrev pub call_code : Known → (line : ℕ) → Target → JniFunction → List Argument → List Instr
 call_code known line target f arguments =
-    let given = zip (prototype f).parameters arguments in
+    let given = zip (parameters_for f (length arguments)) arguments in
     arguments_code known line given ++ Call (record {
       line = line;
       target = target;

@@ -8,14 +8,14 @@ use Rattle.base.specs.Bytes.{Identifier, lookup}
 use Rattle.base.specs.Element.{ElementType}
 use Rattle.syntax.specs.Tree.{Block}
 use Rattle.jni.specs.Access.{Access}
-use Rattle.jni.specs.JniFunction.{JniFunction, prototype}
-use Rattle.jni.specs.Prototype.{ParameterKind, FieldID, IntNumber, TextBytes, ArrayVariable, BufferVariable, Mode, IsCopy, ResultKind, NewLocal, GivesInt, GivesField, GivesMethod}
+use Rattle.jni.specs.JniFunction.{JniFunction, prototype, parameters_for}
+use Rattle.jni.specs.Prototype.{ParameterKind, FieldID, MethodID, TextBytes, ArrayVariable, BufferVariable, Mode, IsCopy, ResultKind, NewLocal, GivesInt, GivesField, GivesMethod}
 use Rattle.type_rules.specs.SortRules.{is_droppable}
-use Rattle.type_rules.specs.Sorts.{Sort, Flag, Ref, FieldId, Buffer}
+use Rattle.type_rules.specs.Sorts.{Sort, Flag, Ref, FieldId, MethodId, Buffer}
 use Rattle.class_rules.specs.Fields as source
 use Rattle.semantics.specs.Method as method
 use Rattle.semantics.specs.Object.{Reference}
-use Rattle.semantics.specs.Arguments.{Actual, ReferenceActual, FieldActual, NumberActual, TextActual, VariableActual, ModeActual, NothingActual, ReleaseMode}
+use Rattle.semantics.specs.Arguments.{Actual, ReferenceActual, FieldActual, MethodActual, NumberActual, TextActual, VariableActual, ModeActual, NothingActual, ReleaseMode}
 use Rattle.semantics.specs.Effect.{Effect, Becomes, Sets, SetsNull, SetsElement, MakesArray, Prints, Calls, Returns, TrapsAt, NoEffect}
 use Rattle.semantics.specs.Task.{Task, Branch, Target, Declared, Assigned, Tested, Dropped, VariableKind, ScalarKind, ReferenceKind, FieldKind, MethodKind, BufferKind}
 use Rattle.semantics.specs.Term.{Done}
@@ -42,7 +42,7 @@ use Rattle.code_meaning.specs.Coding.{mode_code, element_of}
 use Rattle.code_meaning.specs.Layout.{Known}
 use Rattle.code_meaning.specs.Slots.{word_of, ValueHasSort, Visible, Slots, Shows, IsSet, IsNulled, IsReferred, IsFieldSet, IsMethodSet, IsBufferSet, IsMade, IsElementSet, IsHeld, OfField, OfMethod, ShowsStatic, elements_in, with_element, slot_elements, holds_null, with_null}
 use Rattle.code_meaning.specs.Stands.{target_name, number_sort, IsBufferResult, IsStaticResult, StandsFor}
-use Rattle.code_meaning.specs.Fits.{IsReferenceKind, TakesNull, TakesLocal, TakesGlobal, IsStaticIn, IsArray, HaveOwnSlots}
+use Rattle.code_meaning.specs.Fits.{IsReferenceKind, TakesNull, TakesLocal, TakesGlobal, TakesInt, IsStaticIn, IsArray, HaveOwnSlots}
 
 -- the instructions that leave a function
 abbrev pub IsReturn : Instr → Type 0
@@ -86,8 +86,9 @@ AtEnd P place (plain.Trap t line) = ⊥
 
 -- an operand fits its parameter
 abbrev pub OperandFits : ParameterKind → Where → Type 0
-OperandFits p operand.Number = p ≡ IntNumber
+OperandFits p operand.Number = TakesInt p
 OperandFits p (operand.FieldId i) = p ≡ FieldID
+OperandFits p (operand.MethodId i) = p ≡ MethodID
 OperandFits p operand.Text = p ≡ TextBytes
 OperandFits p operand.Null = TakesNull p
 OperandFits p (operand.Local i) = TakesLocal p
@@ -108,7 +109,8 @@ IsVariableKind p = ⊥
 abbrev pub ActualFits : ParameterKind → Actual → Type 0
 ActualFits p (ReferenceActual x r) = IsReferenceKind p
 ActualFits p (FieldActual f) = p ≡ FieldID
-ActualFits p (NumberActual z) = p ≡ IntNumber
+ActualFits p (MethodActual m) = p ≡ MethodID
+ActualFits p (NumberActual z) = TakesInt p
 ActualFits p (TextActual bytes) = p ≡ TextBytes
 ActualFits p (VariableActual x) = IsVariableKind p
 ActualFits p (ModeActual m) = p ≡ Mode
@@ -219,10 +221,11 @@ module _ (code : Listing) (known : Known) (place : ℕ) (stack : List ℕ) (slot
     pub is : cast_signed w32 word ≡ number
     pub stands : StandsFor code known (place + 1) [] tasks
 
-  -- An argument is NULL for a reference, a field ID or `isCopy`; the reference or the field ID of a known name; a `jint`; a
-  -- text; a local array, a buffer or a flag with a known name; or a release mode.
+  -- An argument is NULL for a reference, a field ID, a method ID or `isCopy`; the reference, the field ID or the method ID of a known
+  -- name; a `jint`; a text; a local array, a buffer or a flag with a known name; or a release mode.
   abbrev pub IsOperand : Where → Actual → Type 0
-  IsOperand operand.Null actual = ((x : Identifier) × (actual ≡ ReferenceActual x Empty)) ⊎ (actual ≡ FieldActual None) ⊎ (actual ≡ NothingActual)
+  IsOperand operand.Null actual =
+      ((x : Identifier) × (actual ≡ ReferenceActual x Empty)) ⊎ (actual ≡ FieldActual None) ⊎ (actual ≡ MethodActual None) ⊎ (actual ≡ NothingActual)
   IsOperand (operand.Local i) actual =
       (x : Identifier) × (actual ≡ ReferenceActual x (visible.sight.reference x)) × (lookup x known ≡ Some (record { sort = Ref; index = i }))
   IsOperand (operand.Static i) actual =
@@ -230,6 +233,8 @@ module _ (code : Listing) (known : Known) (place : ℕ) (stack : List ℕ) (slot
   IsOperand operand.Number actual = (z : ℤ) × (actual ≡ NumberActual z) × FitsSigned w32 z
   IsOperand (operand.FieldId i) actual =
       (x : Identifier) × (actual ≡ FieldActual (visible.sight.field x)) × (lookup x known ≡ Some (record { sort = FieldId; index = i }))
+  IsOperand (operand.MethodId i) actual =
+      (x : Identifier) × (actual ≡ MethodActual (visible.sight.method x)) × (lookup x known ≡ Some (record { sort = MethodId; index = i }))
   IsOperand operand.Text actual = (bytes : List ℕ) × (actual ≡ TextActual bytes)
   IsOperand (operand.Array array) actual = (x : Identifier) × (actual ≡ VariableActual x) × (t : ElementType) × IsArray known x t array.len array.start
   IsOperand (operand.Buffer i) actual =
@@ -325,9 +330,9 @@ module _ (code : Listing) (known : Known) (place : ℕ) (stack : List ℕ) (slot
     pub same_function : call.function ≡ f
     pub words : stack ≡ words_given args
     pub texts : call.texts ≡ texts_given args
-    pub count : length args ≡ length (prototype f).parameters
-    pub kinds : AllZip OperandFits (prototype f).parameters call.operands
-    pub fit : AllZip ActualFits (prototype f).parameters args
+    pub count : length args ≡ length (parameters_for f (length args))
+    pub kinds : AllZip OperandFits (parameters_for f (length args)) call.operands
+    pub fit : AllZip ActualFits (parameters_for f (length args)) args
     pub given : AllZip IsOperand call.operands args
     pub own_slots : HaveOwnSlots known
     pub goes : TakesResult line call.target (prototype f).result target tasks

@@ -7,8 +7,8 @@ use Rattle.base.specs.Element.{ElementType, JChar}
 use Rattle.syntax.specs.Tree as tree
 use Rattle.syntax.specs.Tree.{LogicalNot, Complement, ToWord, ToInt, Expr, Argument, Call, RightSide, FromExpr, FromCall, Test, TestExpr, TestCall, Stmt, Block, End, Next, Function}
 use Rattle.jni.specs.Access.{Access}
-use Rattle.jni.specs.JniFunction.{JniFunction, function_named, prototype}
-use Rattle.jni.specs.Prototype.{ParameterKind, Nullable, NonNull, AnyReference, ClassObject, AnyArray, ObjectArray, StringObject, NumberArray, LocalVariable, StaticVariable, WeakVariable, FieldID, IntNumber, TextBytes, ArrayVariable, BufferVariable, Mode, IsCopy, ResultKind, NewLocal, NewGlobal, NewWeak, GivesFlag, GivesInt, GivesField, GivesMethod, GivesBuffer, GivesNothing}
+use Rattle.jni.specs.JniFunction.{JniFunction, function_named, prototype, parameters_for, takes_count}
+use Rattle.jni.specs.Prototype.{ParameterKind, Nullable, NonNull, AnyReference, ClassObject, AnyArray, ObjectArray, StringObject, NumberArray, LocalVariable, StaticVariable, WeakVariable, FieldID, MethodID, Passed, IntNumber, TextBytes, ArrayVariable, BufferVariable, Mode, IsCopy, ResultKind, NewLocal, NewGlobal, NewWeak, GivesFlag, GivesInt, GivesField, GivesMethod, GivesBuffer, GivesNothing}
 use Rattle.type_rules.specs.Sorts.{Sort, Word, Jint, Flag, Truth, Ref, Global, Weak, FieldId, MethodId, Buffer, Array, group, is_buffer_for}
 use Rattle.type_rules.specs.SortRules.{variable_sort, is_droppable, is_mode}
 use Rattle.type_rules.specs.SortGroups.{IsIndexSort, IsNumberSort, OperatorFits}
@@ -191,11 +191,13 @@ IsReferenceKind (NumberArray t) = Unit {0}
 IsReferenceKind LocalVariable = Unit {0}
 IsReferenceKind StaticVariable = Unit {0}
 IsReferenceKind WeakVariable = Unit {0}
+IsReferenceKind Passed = Unit {0}
 IsReferenceKind p = ⊥
 
 -- a parameter that `NULL` may stand for
 abbrev pub TakesNull : ParameterKind → Type 0
 TakesNull FieldID = Unit {0}
+TakesNull MethodID = Unit {0}
 TakesNull IsCopy = Unit {0}
 TakesNull LocalVariable = ⊥
 TakesNull StaticVariable = ⊥
@@ -213,10 +215,25 @@ abbrev pub TakesGlobal : ParameterKind → Type 0
 TakesGlobal LocalVariable = ⊥
 TakesGlobal p = IsReferenceKind p
 
+-- a parameter that a `jint` may stand for
+abbrev pub TakesInt : ParameterKind → Type 0
+TakesInt p = (p ≡ IntNumber) ⊎ (p ≡ Passed)
+
 -- NULL, or the name of a field ID
 abbrev pub FieldFits : Known → Expr → Type 0
 FieldFits known (tree.Named tree.Null) = Unit {0}
 FieldFits known e = NameFits known FieldId e
+
+-- NULL, or the name of a method ID
+abbrev pub MethodFits : Known → Expr → Type 0
+MethodFits known (tree.Named tree.Null) = Unit {0}
+MethodFits known e = NameFits known MethodId e
+
+-- what a method is given: NULL, the name of a `jint` or of a reference, or another number
+abbrev pub PassedFits : Known → Expr → Type 0
+PassedFits known (tree.Named tree.Null) = Unit {0}
+PassedFits known (tree.Variable x) = (s : Slot) × (lookup x known ≡ Some s) × ((s.sort ≡ Jint) ⊎ (s.sort ≡ Ref) ⊎ (s.sort ≡ Global))
+PassedFits known e = NumberFits known (term_of e) Jint
 
 -- the name of a local array with elements of this type
 abbrev pub ArrayFits : Known → ElementType → Expr → Type 0
@@ -232,6 +249,8 @@ BufferFits known access e = ⊥
 abbrev pub ArgumentFits : Known → ParameterKind → Argument → Type 0
 ArgumentFits known IntNumber (tree.Value e) = NumberFits known (term_of e) Jint
 ArgumentFits known FieldID (tree.Value e) = FieldFits known e
+ArgumentFits known MethodID (tree.Value e) = MethodFits known e
+ArgumentFits known Passed (tree.Value e) = PassedFits known e
 ArgumentFits known TextBytes (tree.Text bytes) = Unit {0}
 ArgumentFits known TextBytes (tree.Value e) = ⊥
 ArgumentFits known (ArrayVariable t) (tree.Value e) = ArrayFits known t e
@@ -250,7 +269,8 @@ ArgumentFits known p a = ⊥
 pub record CallFits (known : Known) (c : Call) : Type 0 where
   pub function : JniFunction
   pub named : function_named c.function ≡ Some function
-  pub arguments : AllZip (ArgumentFits known) (prototype function).parameters c.arguments
+  pub count : takes_count function (length c.arguments) ≡ true
+  pub arguments : AllZip (ArgumentFits known) (parameters_for function (length c.arguments)) c.arguments
 
 -- a value for a variable of this sort
 abbrev pub ValueFits : Known → Sort → Expr → Type 0

@@ -1,13 +1,13 @@
 -- How many steps a function has, counted on its tree alone. Each place where a step is taken counts once, however often a loop comes
 -- back to it (ISO/IEC 9899:1999, 6.5 and 6.8).
-use Rattle.std.specs.Prelude.{ℕ, ◌+◌, Bool, false, List, zip, nat_lt, Option, Some, None, IsTrue}
+use Rattle.std.specs.Prelude.{ℕ, ◌+◌, Bool, false, List, ◌++◌, filter_map, length, bytes_eq, if◌then◌else◌, zip, nat_lt, Option, Some, None, IsTrue}
 use Rattle.std.specs.List.{list_any, sum_by}
 use Rattle.base.specs.Limits.{most_steps}
 use Rattle.base.specs.Bytes.{Identifier}
-use Rattle.syntax.specs.Parts.{null_tested}
-use Rattle.syntax.specs.Tree.{ResultType, IntResult, Null, Expr, Number, Named, Variable, Element, Prefix, Binary, Paren, Argument, Value, Call, RightSide, FromExpr, FromCall, Test, TestExpr, TestCall, Stmt, Declare, DeclareBuffer, DeclareChars, DeclareArray, Assign, AssignElement, Perform, PutJint, If, IfElse, While, Return, ReturnValue, Block, End, Next, Function, Item, StaticItem, FunctionItem, SourceUnit}
-use Rattle.jni.specs.JniFunction.{JniFunction, prototype, function_named}
-use Rattle.jni.specs.Prototype.{ParameterKind, IntNumber}
+use Rattle.syntax.specs.Parts.{null_tested, statements_of}
+use Rattle.syntax.specs.Tree.{VariableType, JIntVariable, JSize, ParameterType, IntParameter, Parameter, ResultType, IntResult, Null, Expr, Number, Named, Variable, Element, Prefix, Binary, Paren, Argument, Value, Call, RightSide, FromExpr, FromCall, Test, TestExpr, TestCall, Stmt, Declare, DeclareBuffer, DeclareChars, DeclareArray, Assign, AssignElement, Perform, PutJint, If, IfElse, While, Return, ReturnValue, Block, End, Next, Function, Item, StaticItem, FunctionItem, SourceUnit}
+use Rattle.jni.specs.JniFunction.{JniFunction, parameters_for, function_named}
+use Rattle.jni.specs.Prototype.{ParameterKind, IntNumber, Passed}
 
 -- ---- expressions
 
@@ -28,19 +28,26 @@ expr_steps (Paren a) = expr_steps a
 
 -- ---- calls
 
+-- what a method is given: a number, or a reference, which is looked up in the call's own step; these names are of numbers
+abbrev pub passed_steps : (ints : List Identifier) → Expr → ℕ
+passed_steps ints (Named Null) = 0
+passed_steps ints (Variable x) = if list_any (bytes_eq x) ints then 1 else 0
+passed_steps ints e = expr_steps e
+
 -- an argument: a number is worked out before the call, and all else is looked up in the call's own step
-abbrev pub argument_steps : ParameterKind × Argument → ℕ
-argument_steps (IntNumber, Value e) = expr_steps e
-argument_steps (parameter, a) = 0
+abbrev pub argument_steps : (ints : List Identifier) → ParameterKind × Argument → ℕ
+argument_steps ints (IntNumber, Value e) = expr_steps e
+argument_steps ints (Passed, Value e) = passed_steps ints e
+argument_steps ints (parameter, a) = 0
 
 -- the arguments of a function of the JNI
-abbrev pub arguments_steps : Option JniFunction → List Argument → ℕ
-arguments_steps None arguments = 0
-arguments_steps (Some f) arguments = sum_by argument_steps (zip (prototype f).parameters arguments)
+abbrev pub arguments_steps : (ints : List Identifier) → Option JniFunction → List Argument → ℕ
+arguments_steps ints None arguments = 0
+arguments_steps ints (Some f) arguments = sum_by (argument_steps ints) (zip (parameters_for f (length arguments)) arguments)
 
 -- a call after its arguments
-abbrev pub call_steps : Call → ℕ
-call_steps c = arguments_steps (function_named c.function) c.arguments + 1
+abbrev pub call_steps : (ints : List Identifier) → Call → ℕ
+call_steps ints c = arguments_steps ints (function_named c.function) c.arguments + 1
 
 -- ---- statements
 
@@ -50,14 +57,14 @@ value_steps (Named Null) = 1
 value_steps e = expr_steps e + 1
 
 -- a right side; a call stores its result itself
-abbrev pub right_steps : RightSide → ℕ
-right_steps (FromExpr e) = value_steps e
-right_steps (FromCall c) = call_steps c
+abbrev pub right_steps : (ints : List Identifier) → RightSide → ℕ
+right_steps ints (FromExpr e) = value_steps e
+right_steps ints (FromCall c) = call_steps ints c
 
 -- a test, and the choice of a way
-abbrev pub test_steps : Test → ℕ
-test_steps (TestExpr e) = expr_steps e + 1
-test_steps (TestCall c) = call_steps c + 1
+abbrev pub test_steps : (ints : List Identifier) → Test → ℕ
+test_steps ints (TestExpr e) = expr_steps e + 1
+test_steps ints (TestCall c) = call_steps ints c + 1
 
 -- a return of a value: a number is worked out first, and a reference isn't
 abbrev pub return_steps : ResultType → Expr → ℕ
@@ -66,29 +73,48 @@ return_steps returns e = 1
 
 abbrev mutual
   -- a statement; the end of each way of an `if`, and that of a loop's turn, is a step
-  pub stmt_steps : (returns : ResultType) → Stmt → ℕ
-  stmt_steps returns (Declare line t x r) = right_steps r
-  stmt_steps returns (DeclareBuffer line t x r) = right_steps r
-  stmt_steps returns (DeclareChars line x r) = right_steps r
-  stmt_steps returns (DeclareArray line t x size) = 1
-  stmt_steps returns (Assign line x r) = right_steps r
-  stmt_steps returns (AssignElement line x i e) = expr_steps i + expr_steps e + 1
-  stmt_steps returns (Perform line c) = call_steps c
-  stmt_steps returns (PutJint line e) = expr_steps e + 1
-  stmt_steps returns (If line test then') = test_steps test + (block_steps returns then' + 1) + 1
-  stmt_steps returns (IfElse line test then' else') = test_steps test + (block_steps returns then' + 1) + (block_steps returns else' + 1)
-  stmt_steps returns (While line test body) = expr_steps test + 1 + (block_steps returns body + 1)
-  stmt_steps returns (Return line) = 1
-  stmt_steps returns (ReturnValue line e) = return_steps returns e
+  pub stmt_steps : (ints : List Identifier) (returns : ResultType) → Stmt → ℕ
+  stmt_steps ints returns (Declare line t x r) = right_steps ints r
+  stmt_steps ints returns (DeclareBuffer line t x r) = right_steps ints r
+  stmt_steps ints returns (DeclareChars line x r) = right_steps ints r
+  stmt_steps ints returns (DeclareArray line t x size) = 1
+  stmt_steps ints returns (Assign line x r) = right_steps ints r
+  stmt_steps ints returns (AssignElement line x i e) = expr_steps i + expr_steps e + 1
+  stmt_steps ints returns (Perform line c) = call_steps ints c
+  stmt_steps ints returns (PutJint line e) = expr_steps e + 1
+  stmt_steps ints returns (If line test then') = test_steps ints test + (block_steps ints returns then' + 1) + 1
+  stmt_steps ints returns (IfElse line test then' else') = test_steps ints test + (block_steps ints returns then' + 1) + (block_steps ints returns else' + 1)
+  stmt_steps ints returns (While line test body) = expr_steps test + 1 + (block_steps ints returns body + 1)
+  stmt_steps ints returns (Return line) = 1
+  stmt_steps ints returns (ReturnValue line e) = return_steps returns e
 
   -- the statements of a block
-  pub block_steps : (returns : ResultType) → Block → ℕ
-  block_steps returns (End line) = 0
-  block_steps returns (Next s rest) = stmt_steps returns s + block_steps returns rest
+  pub block_steps : (ints : List Identifier) (returns : ResultType) → Block → ℕ
+  block_steps ints returns (End line) = 0
+  block_steps ints returns (Next s rest) = stmt_steps ints returns s + block_steps ints returns rest
+
+-- the name of a parameter of this type, if it is a `jint`
+abbrev pub int_by_type : ParameterType → Identifier → Option Identifier
+int_by_type IntParameter x = Some x
+int_by_type type x = None
+
+-- a parameter that is a `jint`
+abbrev pub int_parameter : Parameter → Option Identifier
+int_parameter p = int_by_type p.type p.name
+
+-- a `jint` that a statement declares
+abbrev pub int_declared : Stmt → Option Identifier
+int_declared (Declare line JIntVariable x r) = Some x
+int_declared (Declare line JSize x r) = Some x
+int_declared s = None
+
+-- the names of a function's variables of type `jint`, of which none is declared twice
+abbrev pub int_names : Function → List Identifier
+int_names f = filter_map int_parameter f.parameters ++ filter_map int_declared (statements_of f.body)
 
 -- a function
 abbrev pub function_steps : Function → ℕ
-function_steps f = block_steps f.result f.body
+function_steps f = block_steps (int_names f) f.result f.body
 
 -- ---- the limit
 

@@ -1,6 +1,8 @@
 -- where names are, and which instructions a statement becomes
 pub mod Layout
 pub mod Coding
+-- what the arguments of a call are given for
+pub mod Arguments
 -- how many steps a function has, on its tree
 pub mod Length
 -- which statements have no blocks

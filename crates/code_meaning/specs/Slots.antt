@@ -44,14 +44,12 @@ ValueHasSort (Truth b) s = s ≡ sort.Truth
 -- ---- what can be seen
 
 -- what can be seen, the element types of local arrays, of what kind the other variables are declared, the levels of the references
--- that are variables' own, what method IDs and buffers hold, what the statics do, in the unit's order, and the numbers of objects, by
--- their names
+-- that are variables' own, what buffers hold, what the statics do, in the unit's order, and the numbers of objects, by their names
 pub record Visible : Type 0 where
   pub sight : Sight
   pub array_type : Identifier → Option ElementType
   pub kind : Identifier → Option VariableKind
   pub owner : Identifier → Option ℕ
-  pub method : Identifier → Option method.MethodId
   pub buffer : Identifier → variable.Buffer
   pub statics : Statics
   pub numbers : ℕ → List ℤ
@@ -71,11 +69,6 @@ kind_of_variable (Some (Elements t b)) = Some (BufferKind t)
 kind_of_variable (Some (LocalArray t zs)) = None
 kind_of_variable None = None
 
--- what a variable holds that is a method ID
-abbrev pub held_method : Option Variable → Option method.MethodId
-held_method (Some (MethodHandle m)) = m
-held_method v = None
-
 -- what a variable holds that is a buffer
 abbrev pub held_buffer : Option Variable → variable.Buffer
 held_buffer (Some (Elements t b)) = b
@@ -88,7 +81,6 @@ visible_to own s t = record {
   array_type = λ x. type_of_array (lookup x t.variables);
   kind = λ x. kind_of_variable (lookup x t.variables);
   owner = own;
-  method = λ x. held_method (lookup x t.variables);
   buffer = λ x. held_buffer (lookup x t.variables);
   statics = s.statics;
   numbers = numbers_of s.heap;
@@ -101,7 +93,7 @@ pub record IsAsBefore (old new : Visible) (x : Identifier) : Type 0 where
   pub element : (t : ElementType) (i : ℕ) → old.array_type x ≡ Some t → new.sight.element x i ≡ old.sight.element x i
   pub reference : new.sight.reference x ≡ old.sight.reference x
   pub field : new.sight.field x ≡ old.sight.field x
-  pub method : new.method x ≡ old.method x
+  pub method : new.sight.method x ≡ old.sight.method x
   pub buffer : new.buffer x ≡ old.buffer x
   pub array_type : new.array_type x ≡ old.array_type x
   pub kind : new.kind x ≡ old.kind x
@@ -129,7 +121,7 @@ pub record IsNulled (old : Visible) (kind : Option VariableKind) (x : Identifier
   pub is_null : new.sight.is_null x ≡ Gives true
   pub reference : new.sight.reference x ≡ Empty
   pub field : new.sight.field x ≡ None
-  pub method : new.method x ≡ None
+  pub method : new.sight.method x ≡ None
   pub buffer : new.buffer x ≡ NoBuffer
   pub array_type : new.array_type x ≡ None
   pub same_kind : new.kind x ≡ kind
@@ -181,7 +173,7 @@ pub record IsFieldSet (old : Visible) (x : Identifier) (f : Option source.FieldI
 pub record IsMethodSet (old : Visible) (x : Identifier) (m : Option method.MethodId) (new : Visible) : Type 0 where
   pub number : new.sight.number x ≡ Stuck
   pub is_null : new.sight.is_null x ≡ Gives (is_none m)
-  pub method : new.method x ≡ m
+  pub method : new.sight.method x ≡ m
   pub kind : new.kind x ≡ Some MethodKind
   pub statics : new.statics ≡ old.statics
   pub others : OthersStay old new x
@@ -262,7 +254,7 @@ pub record ShowsField (visible : Visible) (x : Identifier) (fields : List (Optio
 -- what a method ID holds is in its slot
 pub record ShowsMethod (visible : Visible) (x : Identifier) (fields : List (Option Handle)) (i : ℕ) : Type 0 where
   pub method : Option method.MethodId
-  pub is : visible.method x ≡ method
+  pub is : visible.sight.method x ≡ method
   pub is_null : visible.sight.is_null x ≡ Gives (is_none method)
   pub no_number : visible.sight.number x ≡ Stuck
   pub kind : visible.kind x ≡ Some MethodKind

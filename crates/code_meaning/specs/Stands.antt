@@ -6,14 +6,14 @@ use Rattle.base.specs.Element.{ElementType}
 use Rattle.syntax.specs.Tree as tree
 use Rattle.syntax.specs.Tree.{BitOr, Expr, Stmt, Block, End, Next}
 use Rattle.jni.specs.Access.{Access}
-use Rattle.jni.specs.JniFunction.{JniFunction, prototype}
-use Rattle.jni.specs.Prototype.{ParameterKind, FieldID, IntNumber, TextBytes, ArrayVariable, BufferVariable, Mode, IsCopy, ResultKind, NewLocal, NewGlobal, NewWeak, GivesFlag, GivesInt, GivesField, GivesMethod, GivesBuffer}
+use Rattle.jni.specs.JniFunction.{JniFunction, prototype, parameters_for}
+use Rattle.jni.specs.Prototype.{ParameterKind, FieldID, MethodID, Passed, TextBytes, ArrayVariable, BufferVariable, Mode, IsCopy, ResultKind, NewLocal, NewGlobal, NewWeak, GivesFlag, GivesInt, GivesField, GivesMethod, GivesBuffer}
 use Rattle.type_rules.specs.Sorts.{Sort, Jint, Ref, FieldId, MethodId, Buffer, Array}
 use Rattle.type_rules.specs.Sorts as sort
 use Rattle.type_rules.specs.SortRules.{is_droppable}
 use Rattle.type_rules.specs.SortGroups.{IsIndexSort, IsNumberSort}
 use Rattle.semantics.specs.Arguments.{mode_of}
-use Rattle.semantics.specs.Task.{Task, SetScalar, SetElement, SetNull, MakeArray, Invoke, Print, Branch, EndIf, Loop, EndTurn, Return, ReturnValue, Impossible, Target, Declared, Assigned, Tested, Dropped, VariableKind, ScalarKind, ReferenceKind, FieldKind, MethodKind, BufferKind, Operand, NumberOperand, Given}
+use Rattle.semantics.specs.Task.{Task, SetScalar, SetElement, SetNull, MakeArray, Invoke, Print, Branch, EndIf, Loop, EndTurn, Return, ReturnValue, Impossible, Target, Declared, Assigned, Tested, Dropped, VariableKind, ScalarKind, ReferenceKind, FieldKind, MethodKind, BufferKind, Operand, NumberOperand, PassedName, Given}
 use Rattle.semantics.specs.Term as term
 use Rattle.semantics.specs.Term.{Term, Done, Read, And, Or, Prefix, Binary, term_of}
 use Rattle.semantics.specs.Value.{Truth}
@@ -33,8 +33,8 @@ use Rattle.code.specs.declared.slots.SlotCounts.{SlotCounts}
 use Rattle.code.specs.Depth.{Listing}
 use Rattle.code.specs.Effect.{truth_word}
 use Rattle.code_meaning.specs.Layout.{Slot, Known, Layout, block_layout}
-use Rattle.code_meaning.specs.Coding.{mode_code, nullable_of, element_of, write_code, term_code, expr_code, ways_code, turn_code, block_code}
-use Rattle.code_meaning.specs.Fits.{TakesNull, TakesLocal, TakesGlobal, IsStaticIn, IsArray, HasElements, TermHasSort, IsUntouched, NumberFits, IndexWithin, IsOwn, HaveOwnSlots, IsLaidOut, HasRoomFor, BlockFits}
+use Rattle.code_meaning.specs.Coding.{mode_code, nullable_of, element_of, write_code, of_slot, term_code, expr_code, number_code, names_number, ways_code, turn_code, block_code}
+use Rattle.code_meaning.specs.Fits.{TakesNull, TakesLocal, TakesGlobal, TakesInt, IsStaticIn, IsVariable, IsArray, HasElements, TermHasSort, IsUntouched, NumberFits, IndexWithin, IsOwn, HaveOwnSlots, IsLaidOut, HasRoomFor, BlockFits}
 use Rattle.code_meaning.specs.Slots.{word_of}
 
 -- ---- terms
@@ -187,17 +187,29 @@ pub record BranchStands (code : Listing) (known : Known) (place : ℕ) (stack : 
 
 -- ---- calls
 
--- NULL for a reference, a field ID or `isCopy`
+-- NULL for a reference, a field ID, a method ID or `isCopy`
 pub record NullStands (p : ParameterKind) (given : Operand) : Type 0 where
   pub kind : TakesNull p
   pub is : given ≡ Given (tree.Value (tree.Named tree.Null))
 
+-- a bare name, as it is given for a parameter that takes no number alone
+abbrev pub named_operand : ParameterKind → Identifier → Operand
+named_operand Passed x = PassedName x
+named_operand p x = Given (tree.Value (tree.Variable x))
+
 -- an argument that is a number, on the way to its value or with it
 pub record NumberIsUnderWay (known : Known) (p : ParameterKind) (given : Operand) : Type 0 where
-  pub kind : p ≡ IntNumber
+  pub kind : TakesInt p
   pub term : Term
   pub is : given ≡ NumberOperand term
   pub sort : TermHasSort known term Jint
+
+-- an argument that is the name of a number, whose value isn't on the stack yet
+pub record NumberIsNamed (known : Known) (p : ParameterKind) (given : Operand) : Type 0 where
+  pub kind : p ≡ Passed
+  pub name : Identifier
+  pub is : given ≡ PassedName name
+  pub there : IsVariable known name Jint
 
 -- an argument that is a text
 pub record TextStands (p : ParameterKind) (given : Operand) : Type 0 where
@@ -241,12 +253,14 @@ pub record AddressStands (known : Known) (i : ℕ) (p : ParameterKind) (given : 
 abbrev pub OperandStands : Known → Where → ParameterKind × Operand → Type 0
 OperandStands known operand.Null (p, given) = NullStands p given
 OperandStands known (operand.Local i) (p, given) =
-    (x : Identifier) × TakesLocal p × (given ≡ Given (tree.Value (tree.Variable x))) × (lookup x known ≡ Some (record { sort = Ref; index = i }))
+    (x : Identifier) × TakesLocal p × (given ≡ named_operand p x) × (lookup x known ≡ Some (record { sort = Ref; index = i }))
 OperandStands known (operand.Static i) (p, given) =
-    (x : Identifier) × TakesGlobal p × (given ≡ Given (tree.Value (tree.Variable x))) × IsStaticIn known x i
-OperandStands known operand.Number (p, given) = NumberIsUnderWay known p given
+    (x : Identifier) × TakesGlobal p × (given ≡ named_operand p x) × IsStaticIn known x i
+OperandStands known operand.Number (p, given) = NumberIsUnderWay known p given ⊎ NumberIsNamed known p given
 OperandStands known (operand.FieldId i) (p, given) =
     (x : Identifier) × (p ≡ FieldID) × (given ≡ Given (tree.Value (tree.Variable x))) × (lookup x known ≡ Some (record { sort = FieldId; index = i }))
+OperandStands known (operand.MethodId i) (p, given) =
+    (x : Identifier) × (p ≡ MethodID) × (given ≡ Given (tree.Value (tree.Variable x))) × (lookup x known ≡ Some (record { sort = MethodId; index = i }))
 OperandStands known operand.Text (p, given) = TextStands p given
 OperandStands known (operand.Array array) (p, given) = ArrayStands known array p given
 OperandStands known (operand.Buffer i) (p, given) = BufferStands known i p given
@@ -256,6 +270,7 @@ OperandStands known (operand.IsCopy i) (p, given) = AddressStands known i p give
 -- the instructions of an argument that is still to be worked out
 abbrev pub operand_rest : Known → (line : ℕ) → Operand → List Instr
 operand_rest known line (NumberOperand t) = term_code known line t
+operand_rest known line (PassedName x) = of_slot number_code (lookup x known)
 operand_rest known line (Given a) = []
 
 -- those of several
@@ -265,6 +280,7 @@ operands_rest known line operands = flat_map (operand_rest known line) operands
 -- the words of an argument on the stack
 abbrev pub operand_held : Operand → List ℕ
 operand_held (NumberOperand t) = held t
+operand_held (PassedName x) = []
 operand_held (Given a) = []
 
 -- those of several, the last on top
@@ -276,14 +292,16 @@ operands_held (o ∷ operands) = operands_held operands ++ operand_held o
 abbrev pub AreUntouched : List Operand → Type 0
 AreUntouched [] = Unit {0}
 AreUntouched (NumberOperand t ∷ operands) = IsUntouched t × AreUntouched operands
+AreUntouched (PassedName x ∷ operands) = AreUntouched operands
 AreUntouched (Given a ∷ operands) = AreUntouched operands
 
--- the numbers with their values are the first
-abbrev pub AreBegun : List Operand → Type 0
-AreBegun [] = Unit {0}
-AreBegun (NumberOperand (Done v) ∷ operands) = AreBegun operands
-AreBegun (NumberOperand t ∷ operands) = IsBegun t × AreUntouched operands
-AreBegun (Given a ∷ operands) = AreBegun operands
+-- the numbers with their values are the first; after the name of a number no other has its value
+abbrev pub AreBegun : Known → List Operand → Type 0
+AreBegun known [] = Unit {0}
+AreBegun known (NumberOperand (Done v) ∷ operands) = AreBegun known operands
+AreBegun known (NumberOperand t ∷ operands) = IsBegun t × AreUntouched operands
+AreBegun known (PassedName x ∷ operands) = (names_number known x ≡ true → AreUntouched operands) × AreBegun known operands
+AreBegun known (Given a ∷ operands) = AreBegun known operands
 
 -- the text of an argument
 abbrev pub operand_text : Operand → List (List ℕ)
@@ -363,11 +381,11 @@ pub record InvokeStands (code : Listing) (known : Known) (place : ℕ) (stack : 
   pub at : HasAt code.instrs place (operands_rest known line operands ++ instr.Call call ∷ [])
   pub same_line : call.line ≡ line
   pub same_function : call.function ≡ f
-  pub begun : AreBegun operands
+  pub begun : AreBegun known operands
   pub held : stack ≡ operands_held operands
   pub texts : call.texts ≡ operands_texts operands
-  pub count : length operands ≡ length (prototype f).parameters
-  pub operands_stand : AllZip (OperandStands known) call.operands (zip (prototype f).parameters operands)
+  pub count : length operands ≡ length (parameters_for f (length operands))
+  pub operands_stand : AllZip (OperandStands known) call.operands (zip (parameters_for f (length operands)) operands)
   pub own_slots : HaveOwnSlots known
   pub goes : TargetStands code known after (place + length (operands_rest known line operands) + 1) line call.target (prototype f).result target
 

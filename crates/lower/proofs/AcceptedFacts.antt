@@ -1,5 +1,5 @@
 -- Each function of an accepted unit fits.
-use Rattle.std.proofs.Common.{◌≡◌, ℕ, ◌+◌, ◌≤◌, true, List, [], ◌∷◌, ◌++◌, length, map, nat_le, Some, None, refl, ap, ◌∙◌, subst, arith, leb-true, length-append}
+use Rattle.std.proofs.Common.{◌≡◌, ℕ, ◌+◌, ◌≤◌, true, false, List, [], ◌∷◌, ◌++◌, length, map, nat_le, Some, None, refl, ap, ◌∙◌, subst, arith, leb-true, length-append}
 use Rattle.std.specs.Prelude.{IsTrue}
 use Rattle.std.specs.List.{list_all, AllByRecursion}
 use Rattle.std.specs.Str.{bytes_eq}
@@ -8,13 +8,13 @@ use Rattle.syntax.specs.Limits.{numbers_in_range, block_height, block_well_forme
 use Rattle.syntax.specs.Parts.{functions_of, statements_of, own_expressions, parameter_names}
 use Rattle.syntax.specs.Tree.{ParameterType, IntParameter, ReferenceParameter, Parameter, Function, Void, Item, StaticItem, FunctionItem, SourceUnit}
 use Rattle.type_rules.specs.Sorts.{Sort, Jint, Ref, Global, Weak, Scope}
-use Rattle.type_rules.specs.SortRules.{IsSorted, Place, StaticForm, HeadForm, has_name, parameter_sort, places_of, function_places, item_places, static_sort}
+use Rattle.type_rules.specs.SortRules.{IsSorted, Place, StaticForm, HeadForm, has_name, has_repeated, parameter_sort, places_of, function_places, item_places, static_sort}
 use Rattle.code.specs.declared.instr.Instr.TheVariants as instr
 use Rattle.region_rules.specs.Regions.{AcceptedFunction, HasRegions}
 use Rattle.code_meaning.specs.Layout.{Slot, Known, with_static, parameter_slot, parameter_slots, numbers_after, references_after, entry_layout}
 use Rattle.code_meaning.specs.Coding.{block_code, function_code}
 use Rattle.code_meaning.specs.Fits.{AreStatics, FunctionFits, IsStaticSort}
-use Rattle.code_meaning.specs.Length.{function_steps}
+use Rattle.code_meaning.specs.Length.{function_steps, int_names}
 use Rattle.code_meaning.specs.Stands.{block_returns}
 use Rattle.code_meaning.proofs.SlotLaws.{first_or_after}
 use Rattle.lower.proofs.EntryLayouts.{no_statics, one_static_more}
@@ -25,6 +25,7 @@ use Rattle.lower.proofs.Tests.{and_left, and_right, or_right}
 use Rattle.lower.proofs.NameFacts.{AreTaken, taken_first}
 use Rattle.lower.proofs.BodyFacts.{AreInRange, block_fits}
 use Rattle.lower.proofs.LengthFacts.{block_length}
+use Rattle.lower.proofs.NamesOnce.{head_once, entry_agrees, body_agrees}
 use Rattle.lower.proofs.RegionFacts.{function_returns}
 
 -- each function satisfies what lowering asks for, after the statics before it
@@ -108,10 +109,14 @@ module _ (statics : Known) (f : Function) (known : AreStatics statics) where
       let same : scope ≡ scope_of (entry_layout statics f).known = ap (λ (further : Scope). (f.class_name, Ref) ∷ further) (parameter_scope f.parameters 0 1 statics) in
       subst (λ (s : Scope). AreUnbroken (places_of f.result s taken f.body)) same inside
 
-  function_counted : FunctionFits statics f → BodyIsKept → length (function_code statics f) ≡ function_steps f + 1
-  function_counted fits kept =
+  -- the names that are known at the body's beginning are taken
+  entry_taken : AreTaken (parameter_names f ++ map (λ s. s.0) (scope_of statics)) (entry_layout statics f).known
+  entry_taken = taken_first (map (λ p. p.name) f.parameters ++ map (λ s. s.0) (scope_of statics)) (parameter_slots f.parameters 0 1 ++ statics) f.class_name (record { sort = Ref; index = 0 }) (parameters_taken f.parameters 0 1 statics)
+
+  function_counted : FunctionFits statics f → BodyIsKept → has_repeated (parameter_names f ++ map (λ s. s.0) (scope_of statics)) ≡ false → length (function_code statics f) ≡ function_steps f + 1
+  function_counted fits kept once =
       let l = entry_layout statics f in
-      let body = block_length f.result f.body l (parameter_names f ++ map (λ s. s.0) (scope_of statics)) fits kept in
+      let body = block_length (int_names f) f.result f.body l (parameter_names f ++ map (λ s. s.0) (scope_of statics)) (entry_agrees statics f known once entry_taken kept) (body_agrees statics f known once entry_taken kept) fits kept in
       omega (arith, length-append (block_code l f.body) (instr.Return ∷ []))
 
   function_fits : BodyIsKept → AreInRange (statements_of f.body) → block_well_formed f.body ≡ true → block_height f.body ≤ 32 → FunctionFits statics f
@@ -124,7 +129,7 @@ module _ (statics : Known) (f : Function) (known : AreStatics statics) where
         numbers = numbers;
         formed = formed;
         low = low;
-        names = taken_first (map (λ p. p.name) f.parameters ++ map (λ s. s.0) (scope_of statics)) (parameter_slots f.parameters 0 1 ++ statics) f.class_name (record { sort = Ref; index = 0 }) (parameters_taken f.parameters 0 1 statics);
+        names = entry_taken;
         no_truth = entry_no_truth l.known sorts;
       })
 
@@ -153,7 +158,8 @@ all_fit (StaticItem s ∷ items) names statics known taken sorted h =
 all_fit (FunctionItem f ∷ items) names statics known taken sorted h =
     let further = item_places (f.name ∷ names) (scope_of statics) items in
     let all = functions_in items in
-    let kept = body_kept statics f known names (front_unbroken (function_places names (scope_of statics) f) further sorted) in
+    let whole = front_unbroken (function_places names (scope_of statics) f) further sorted in
+    let kept = body_kept statics f known names whole in
     let fits = function_fits statics f known kept
     (and_left _ (list_all (λ f. list_all (λ s. list_all numbers_in_range (own_expressions s)) (statements_of f.body)) all) h.numbers)
     (and_left _ (list_all (λ f. block_well_formed f.body) all) h.formed)
@@ -161,7 +167,7 @@ all_fit (FunctionItem f ∷ items) names statics known taken sorted h =
       known,
       fits,
       function_returns f h.regions.0,
-      function_counted statics f known fits kept,
+      function_counted statics f known fits kept (head_once names (scope_of statics) f whole),
       all_fit items (f.name ∷ names) statics known (λ x none. taken x (or_right (bytes_eq x f.name) (has_name names x) none)) (back_unbroken (function_places names (scope_of statics) f) further sorted) (record {
         numbers = and_right (list_all (λ s. list_all numbers_in_range (own_expressions s)) (statements_of f.body)) _ h.numbers;
         formed = and_right (block_well_formed f.body) _ h.formed;

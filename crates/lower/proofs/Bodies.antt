@@ -10,8 +10,8 @@ use Rattle.base.specs.Element.{ElementType, JChar}
 use Rattle.syntax.specs.Tree as tree
 use Rattle.syntax.specs.Tree.{Expr, Argument, RightSide, FromExpr, FromCall, Test, TestExpr, TestCall, Stmt, Block, End, Next, VariableType, BitOr, Call}
 use Rattle.jni.specs.Access.{Access, ElementsCopy, ArrayView, CharsCopy, CharsView}
-use Rattle.jni.specs.JniFunction.{function_named, prototype}
-use Rattle.jni.specs.Prototype.{ParameterKind, LocalVariable, StaticVariable, FieldID, IntNumber, TextBytes, ArrayVariable, BufferVariable, Mode, IsCopy, ResultKind, NewLocal, NewGlobal, GivesFlag, GivesInt, GivesField, GivesMethod, GivesBuffer, GivesNothing, AnyReference, WeakVariable, NewWeak}
+use Rattle.jni.specs.JniFunction.{function_named, prototype, parameters_for}
+use Rattle.jni.specs.Prototype.{ParameterKind, LocalVariable, StaticVariable, FieldID, MethodID, Passed, IntNumber, TextBytes, ArrayVariable, BufferVariable, Mode, IsCopy, ResultKind, NewLocal, NewGlobal, GivesFlag, GivesInt, GivesField, GivesMethod, GivesBuffer, GivesNothing, AnyReference, WeakVariable, NewWeak}
 use Rattle.type_rules.specs.Sorts.{Sort, Jint, Ref, Global, Weak, FieldId, MethodId, Buffer, Array, is_buffer_for}
 use Rattle.type_rules.specs.Sorts as sort
 use Rattle.type_rules.specs.SortRules.{variable_sort}
@@ -26,12 +26,13 @@ use Rattle.code.specs.Effect.{truth_word}
 use Rattle.semantics.specs.Value.{Truth}
 use Rattle.semantics.specs.Term as term
 use Rattle.semantics.specs.Term.{Term, Done, Read, Binary, term_of}
-use Rattle.semantics.specs.Task.{Task, SetScalar, Branch, ReturnValue, Target, Declared, Assigned, Tested, Dropped, VariableKind, ScalarKind, ReferenceKind, FieldKind, MethodKind, BufferKind, kind_of, set_task, invocation, call_task, right_side_task, if_task, task_of, tasks_of, operand, Given, Operand}
+use Rattle.semantics.specs.Task.{Task, SetScalar, Branch, ReturnValue, Target, Declared, Assigned, Tested, Dropped, VariableKind, ScalarKind, ReferenceKind, FieldKind, MethodKind, BufferKind, kind_of, set_task, invocation, call_task, right_side_task, if_task, task_of, tasks_of, operand, passed_operand, PassedName, Given, Operand}
 use Rattle.code_meaning.specs.Layout.{Slot, Known, Layout, new_slot, closed, layout_after, block_layout}
-use Rattle.code_meaning.specs.Coding.{nullable_of, store_of, write_code, of_slot, operand_of, address_operand, term_code, expr_code, value_code, right_code, assign_code, returned_code, return_code, ways_code, turn_code, loop_code, if_code, stmt_code, block_code, named_call_code, operand_code, argument_code, arguments_code, argument_text, arguments_texts, result_target}
-use Rattle.code_meaning.specs.Fits.{HasElements, IsUntouched, NumberFits, IndexWithin, IsLaidOut, HaveOwnSlots, HasRoomFor, IsVariable, TakesLocal, TakesGlobal, NameFits, ArrayFits, BufferFits, ArgumentFits, ValueFits, RightFits, TestFits, ReturnFits, StmtFits, BlockFits, CallFits, ReferenceFits, FieldFits, ResultFits, AnyReferenceFits, IsStaticSort}
-use Rattle.code_meaning.specs.Stands.{held, IsBegun, IsUnderWay, HasAt, AreAmong, IsSlotOf, kind_of_sort, GoesTo, ResultStands, ResultGoes, StaticStands, TargetStands, operand_text, operands_texts, target_name, BlockStands, TasksStand, OperandStands, AreUntouched, operand_rest, operands_rest}
+use Rattle.code_meaning.specs.Coding.{nullable_of, store_of, write_code, of_slot, operand_of, passed_variable, passed_code, passed_rest, address_operand, term_code, expr_code, value_code, right_code, assign_code, returned_code, return_code, ways_code, turn_code, loop_code, if_code, stmt_code, block_code, named_call_code, operand_code, argument_code, arguments_code, argument_text, arguments_texts, result_target}
+use Rattle.code_meaning.specs.Fits.{HasElements, IsUntouched, NumberFits, IndexWithin, IsLaidOut, HaveOwnSlots, HasRoomFor, IsVariable, TakesLocal, TakesGlobal, NameFits, ArrayFits, BufferFits, ArgumentFits, ValueFits, RightFits, TestFits, ReturnFits, StmtFits, BlockFits, CallFits, ReferenceFits, FieldFits, MethodFits, PassedFits, ResultFits, AnyReferenceFits, IsStaticSort}
+use Rattle.code_meaning.specs.Stands.{held, IsBegun, IsUnderWay, HasAt, AreAmong, IsSlotOf, kind_of_sort, GoesTo, ResultStands, ResultGoes, StaticStands, TargetStands, operand_text, operands_texts, target_name, BlockStands, TasksStand, named_operand, OperandStands, AreUntouched, operand_rest, operands_rest}
 use Rattle.code_meaning.proofs.SlotLaws.{known_among, known_again, all_among}
+use Rattle.lower.proofs.CallCounts.{parameters_count}
 use Rattle.lower.proofs.CodePlaces.{has_front, has_back}
 use Rattle.lower.proofs.TermSteps.{untouched_held, untouched_begun}
 use Rattle.lower.proofs.Layouts.{block_grows, room_before, room_at_least, index_more, laid_more, declared_slot, variable_size, laid_after, known_after_stmt}
@@ -109,15 +110,15 @@ module _ (code : Listing) (known : Known) (line place : ℕ) (tail : List Task) 
   value_set target x (Array t n) i e names fits name goes at own among further = absurd fits
 
   -- an argument is found where the instruction says
-  local_stands : (p : ParameterKind) (x : Identifier) (i : ℕ) → TakesLocal p → lookup x known ≡ Some (record { sort = Ref; index = i }) → OperandStands known (operand_of (lookup x known)) (p, Given (tree.Value (tree.Variable x)))
-  local_stands p x i kind there = subst (λ o. OperandStands known (operand_of o) (p, Given (tree.Value (tree.Variable x)))) (sym there) (x, kind, refl, there)
+  local_stands : (p : ParameterKind) (x : Identifier) (i : ℕ) → TakesLocal p → lookup x known ≡ Some (record { sort = Ref; index = i }) → OperandStands known (operand_of (lookup x known)) (p, named_operand p x)
+  local_stands p x i kind there = subst (λ o. OperandStands known (operand_of o) (p, named_operand p x)) (sym there) (x, kind, refl, there)
 
-  static_stands : (p : ParameterKind) (x : Identifier) (s : Sort) (i : ℕ) → IsStaticSort s → TakesGlobal p → lookup x known ≡ Some (record { sort = s; index = i }) → OperandStands known (operand_of (lookup x known)) (p, Given (tree.Value (tree.Variable x)))
-  static_stands p x Global i is kind there = subst (λ o. OperandStands known (operand_of o) (p, Given (tree.Value (tree.Variable x)))) (sym there) (x, kind, refl, (Global, tt, there))
-  static_stands p x Weak i is kind there = subst (λ o. OperandStands known (operand_of o) (p, Given (tree.Value (tree.Variable x)))) (sym there) (x, kind, refl, (Weak, tt, there))
+  static_stands : (p : ParameterKind) (x : Identifier) (s : Sort) (i : ℕ) → IsStaticSort s → TakesGlobal p → lookup x known ≡ Some (record { sort = s; index = i }) → OperandStands known (operand_of (lookup x known)) (p, named_operand p x)
+  static_stands p x Global i is kind there = subst (λ o. OperandStands known (operand_of o) (p, named_operand p x)) (sym there) (x, kind, refl, (Global, tt, there))
+  static_stands p x Weak i is kind there = subst (λ o. OperandStands known (operand_of o) (p, named_operand p x)) (sym there) (x, kind, refl, (Weak, tt, there))
   static_stands p x s i is kind there = absurd is
 
-  reference_stands : (p : ParameterKind) (x : Identifier) (s : Slot) → TakesLocal p → TakesGlobal p → lookup x known ≡ Some s → ((s.sort ≡ Ref) ⊎ (s.sort ≡ Global)) → OperandStands known (operand_of (lookup x known)) (p, Given (tree.Value (tree.Variable x)))
+  reference_stands : (p : ParameterKind) (x : Identifier) (s : Slot) → TakesLocal p → TakesGlobal p → lookup x known ≡ Some s → ((s.sort ≡ Ref) ⊎ (s.sort ≡ Global)) → OperandStands known (operand_of (lookup x known)) (p, named_operand p x)
   reference_stands p x s local global found (inl e) = local_stands p x s.index local (found ∙ ap (λ (r : Sort). Some (record { sort = r; index = s.index })) e)
   reference_stands p x s local global found (inr e) = static_stands p x Global s.index tt global (found ∙ ap (λ (r : Sort). Some (record { sort = r; index = s.index })) e)
 
@@ -128,17 +129,24 @@ module _ (code : Listing) (known : Known) (line place : ℕ) (tail : List Task) 
   any_found (tree.Variable x) (s, found, inr is) = static_stands AnyReference x s.sort s.index is tt found
   any_found e h = absurd h
 
-  reference_found : (p : ParameterKind) (e : Expr) → TakesLocal p → TakesGlobal p → ReferenceFits known e → OperandStands known (operand_code known (p, tree.Value e)) (p, operand (p, tree.Value e))
-  reference_found IntNumber e local global h = absurd local
-  reference_found FieldID e local global h = absurd local
-  reference_found Mode e local global h = absurd local
-  reference_found IsCopy e local global h = absurd local
-  reference_found StaticVariable e local global h = absurd local
-  reference_found WeakVariable e local global h = absurd local
-  reference_found LocalVariable e local global h = absurd global
-  reference_found p (tree.Named tree.Null) local global h = record { kind = local; is = refl }
-  reference_found p (tree.Variable x) local global h = reference_stands p x h.0 local global h.1 h.2
-  reference_found p e local global h = absurd h
+  -- a parameter that takes no number
+  abbrev TakesNoNumber : ParameterKind → Type 0
+  TakesNoNumber Passed = ⊥
+  TakesNoNumber p = Unit {0}
+
+  reference_found : (p : ParameterKind) (e : Expr) → TakesLocal p → TakesGlobal p → TakesNoNumber p → ReferenceFits known e → OperandStands known (operand_code known (p, tree.Value e)) (p, operand (p, tree.Value e))
+  reference_found IntNumber e local global plain h = absurd local
+  reference_found FieldID e local global plain h = absurd local
+  reference_found MethodID e local global plain h = absurd local
+  reference_found Passed e local global plain h = absurd plain
+  reference_found Mode e local global plain h = absurd local
+  reference_found IsCopy e local global plain h = absurd local
+  reference_found StaticVariable e local global plain h = absurd local
+  reference_found WeakVariable e local global plain h = absurd local
+  reference_found LocalVariable e local global plain h = absurd global
+  reference_found p (tree.Named tree.Null) local global plain h = record { kind = local; is = refl }
+  reference_found p (tree.Variable x) local global plain h = reference_stands p x h.0 local global h.1 h.2
+  reference_found p e local global plain h = absurd h
 
   local_found : (e : Expr) → NameFits known Ref e → OperandStands known (operand_code known (LocalVariable, tree.Value e)) (LocalVariable, Given (tree.Value e))
   local_found (tree.Variable x) h = local_stands LocalVariable x h.0 tt h.1
@@ -153,12 +161,37 @@ module _ (code : Listing) (known : Known) (line place : ℕ) (tail : List Task) 
   weak_found e h = absurd h
 
   number_found : (e : Expr) → NumberFits known (term_of e) Jint → OperandStands known (operand_code known (IntNumber, tree.Value e)) (IntNumber, operand (IntNumber, tree.Value e))
-  number_found e h = record { kind = refl; term = term_of e; is = refl; sort = h.sort }
+  number_found e h = inl (record { kind = inl refl; term = term_of e; is = refl; sort = h.sort })
 
   field_found : (e : Expr) → FieldFits known e → OperandStands known (operand_code known (FieldID, tree.Value e)) (FieldID, Given (tree.Value e))
   field_found (tree.Named tree.Null) h = record { kind = tt; is = refl }
   field_found (tree.Variable x) h = subst (λ o. OperandStands known (operand_of o) (FieldID, Given (tree.Value (tree.Variable x)))) (sym h.1) (x, refl, refl, h.1)
   field_found e h = absurd h
+
+  method_found : (e : Expr) → MethodFits known e → OperandStands known (operand_code known (MethodID, tree.Value e)) (MethodID, Given (tree.Value e))
+  method_found (tree.Named tree.Null) h = record { kind = tt; is = refl }
+  method_found (tree.Variable x) h = subst (λ o. OperandStands known (operand_of o) (MethodID, Given (tree.Value (tree.Variable x)))) (sym h.1) (x, refl, refl, h.1)
+  method_found e h = absurd h
+
+  -- a slot by its sort
+  slot_is : (x : Identifier) (s : Slot) (r : Sort) → lookup x known ≡ Some s → s.sort ≡ r → lookup x known ≡ Some (record { sort = r; index = s.index })
+  slot_is x s r found e = found ∙ ap (λ (q : Sort). Some (record { sort = q; index = s.index })) e
+
+  passed_name : (x : Identifier) (s : Slot) → lookup x known ≡ Some s → ((s.sort ≡ Jint) ⊎ (s.sort ≡ Ref) ⊎ (s.sort ≡ Global)) → OperandStands known (passed_variable (lookup x known)) (Passed, PassedName x)
+  passed_name x s found (inl e) =
+      let there = slot_is x s Jint found e in
+      subst (λ o. OperandStands known (passed_variable o) (Passed, PassedName x)) (sym there) (inr (record { kind = refl; name = x; is = refl; there = (s.index, there, tt) }))
+  passed_name x s found (inr (inl e)) =
+      let there = slot_is x s Ref found e in
+      subst (λ o. OperandStands known (passed_variable o) (Passed, PassedName x)) (sym there) (x, tt, refl, there)
+  passed_name x s found (inr (inr e)) =
+      let there = slot_is x s Global found e in
+      subst (λ o. OperandStands known (passed_variable o) (Passed, PassedName x)) (sym there) (x, tt, refl, (Global, tt, there))
+
+  passed_found : (e : Expr) → PassedFits known e → OperandStands known (passed_code known e) (Passed, passed_operand e)
+  passed_found (tree.Named tree.Null) h = record { kind = tt; is = refl }
+  passed_found (tree.Variable x) h = passed_name x h.0 h.1 h.2
+  passed_found e h = inl (record { kind = inr refl; term = term_of e; is = refl; sort = h.sort })
 
   array_found : (t : ElementType) (e : Expr) → ArrayFits known t e → OperandStands known (operand_code known (ArrayVariable t, tree.Value e)) (ArrayVariable t, Given (tree.Value e))
   array_found t (tree.Variable x) h =
@@ -179,6 +212,8 @@ module _ (code : Listing) (known : Known) (line place : ℕ) (tail : List Task) 
   argument_found : (p : ParameterKind) (a : Argument) → ArgumentFits known p a → OperandStands known (operand_code known (p, a)) (p, operand (p, a))
   argument_found IntNumber (tree.Value e) h = number_found e h
   argument_found FieldID (tree.Value e) h = field_found e h
+  argument_found MethodID (tree.Value e) h = method_found e h
+  argument_found Passed (tree.Value e) h = passed_found e h
   argument_found TextBytes (tree.Text bytes) h = record { kind = refl; bytes = bytes; is = refl }
   argument_found TextBytes (tree.Value e) h = absurd h
   argument_found (ArrayVariable t) (tree.Value e) h = array_found t e h
@@ -190,7 +225,7 @@ module _ (code : Listing) (known : Known) (line place : ℕ) (tail : List Task) 
   argument_found StaticVariable (tree.Value e) h = static_found e h
   argument_found WeakVariable (tree.Value e) h = weak_found e h
   argument_found AnyReference (tree.Value e) h = any_found e h
-  argument_found p (tree.Value e) h = reference_found p e tt tt h
+  argument_found p (tree.Value e) h = reference_found p e tt tt tt h
   argument_found p a h = absurd h
 
   arguments_found : (parameters : List ParameterKind) (arguments : List Argument) → AllZip (ArgumentFits known) parameters arguments
@@ -201,10 +236,18 @@ module _ (code : Listing) (known : Known) (line place : ℕ) (tail : List Task) 
   arguments_found (p ∷ parameters) (a ∷ arguments) h = (argument_found p a h.0, arguments_found parameters arguments h.1)
 
   -- its code is what is to be worked out
+  passed_same : (e : Expr) → passed_rest known line e ≡ operand_rest known line (passed_operand e)
+  passed_same (tree.Named tree.Null) = refl
+  passed_same (tree.Variable x) = refl
+  passed_same e = refl
+
   same_rest : (p : ParameterKind) (a : Argument) → argument_code known line (p, a) ≡ operand_rest known line (operand (p, a))
   same_rest IntNumber (tree.Value e) = refl
   same_rest IntNumber (tree.Text t) = refl
   same_rest IntNumber (tree.AddressOf x) = refl
+  same_rest Passed (tree.Value e) = passed_same e
+  same_rest Passed (tree.Text t) = refl
+  same_rest Passed (tree.AddressOf x) = refl
   same_rest p a = refl
 
   all_rest : (given : List (ParameterKind × Argument)) → arguments_code known line given ≡ operands_rest known line (map operand given)
@@ -212,9 +255,16 @@ module _ (code : Listing) (known : Known) (line place : ℕ) (tail : List Task) 
   all_rest (g ∷ given) = ap (λ (l : List Instr). l ++ arguments_code known line given) (same_rest g.0 g.1) ∙ ap (λ (l : List Instr). operand_rest known line (operand (g.0, g.1)) ++ l) (all_rest given)
 
   -- no number of it has its value yet
+  passed_untouched : (e : Expr) (operands : List Operand) → PassedFits known e → AreUntouched operands → AreUntouched (passed_operand e ∷ operands)
+  passed_untouched (tree.Named tree.Null) operands h more = more
+  passed_untouched (tree.Variable x) operands h more = more
+  passed_untouched e operands h more = (h.untouched, more)
+
   one_untouched : (p : ParameterKind) (a : Argument) (operands : List Operand) → ArgumentFits known p a → AreUntouched operands → AreUntouched (operand (p, a) ∷ operands)
   one_untouched IntNumber (tree.Value e) operands h more = (h.untouched, more)
   one_untouched IntNumber a operands h more = absurd h
+  one_untouched Passed (tree.Value e) operands h more = passed_untouched e operands h more
+  one_untouched Passed a operands h more = absurd h
   one_untouched p a operands h more = more
 
   all_untouched : (parameters : List ParameterKind) (arguments : List Argument) → AllZip (ArgumentFits known) parameters arguments → AreUntouched (map operand (zip parameters arguments))
@@ -225,10 +275,18 @@ module _ (code : Listing) (known : Known) (line place : ℕ) (tail : List Task) 
       one_untouched p a (map operand (zip parameters arguments)) h.0 (all_untouched parameters arguments h.1)
 
   -- its texts are those of its arguments
+  passed_text : (e : Expr) → [] ≡ operand_text (passed_operand e)
+  passed_text (tree.Named tree.Null) = refl
+  passed_text (tree.Variable x) = refl
+  passed_text e = refl
+
   one_text : (p : ParameterKind) (a : Argument) → argument_text a ≡ operand_text (operand (p, a))
   one_text IntNumber (tree.Value e) = refl
   one_text IntNumber (tree.Text bytes) = refl
   one_text IntNumber (tree.AddressOf x) = refl
+  one_text Passed (tree.Value e) = passed_text e
+  one_text Passed (tree.Text bytes) = refl
+  one_text Passed (tree.AddressOf x) = refl
   one_text p (tree.Value e) = refl
   one_text p (tree.Text bytes) = refl
   one_text p (tree.AddressOf x) = refl
@@ -250,7 +308,7 @@ module _ (code : Listing) (known : Known) (line place : ℕ) (tail : List Task) 
   call_stands : (target : Target) (goes : Destination) (c : Call) → HaveOwnSlots known → (fits : CallFits known c) → HasAt code.instrs place (named_call_code known line goes (function_named c.function) c.arguments)
       → TargetStands code known (λ p names. TasksStand code names p [] tail) (place + length (named_call_code known line goes (function_named c.function) c.arguments)) line goes (prototype fits.function).result target → TasksStand code known place [] (call_task line target c ∷ tail)
   call_stands target goes c own_slots fits at stands =
-      let parameters = (prototype fits.function).parameters in
+      let parameters = parameters_for fits.function (length c.arguments) in
       let given = zip parameters c.arguments in
       let call : calls.Call = record { line = line; target = goes; function = fits.function; operands = map (operand_code known) given; texts = arguments_texts c.arguments } in
       let rest : arguments_code known line given ≡ operands_rest known line (map operand given) = all_rest given in
@@ -258,16 +316,17 @@ module _ (code : Listing) (known : Known) (line place : ℕ) (tail : List Task) 
       let size : place + length (named_call_code known line goes (function_named c.function) c.arguments) ≡ place + length (operands_rest known line (map operand given)) + 1 =
       omega (arith, ap (λ o. length (named_call_code known line goes o c.arguments)) fits.named, length-append (arguments_code known line given) (instr.Call call ∷ []), ap length rest) in
       let untouched = all_untouched parameters c.arguments fits.arguments in
+      let as_many : length c.arguments ≡ length (map operand given) = parameters_count fits.function (length c.arguments) fits.count ∙ sym (operand_count parameters c.arguments fits.arguments) in
       subst (λ o. TasksStand code known place [] (invocation line target c o ∷ tail)) (sym fits.named) (record {
         call = call;
         at = subst (λ (l : List Instr). HasAt code.instrs place (l ++ instr.Call call ∷ [])) rest here;
         same_line = refl;
         same_function = refl;
-        begun = untouched_are_begun (map operand given) untouched;
+        begun = untouched_are_begun known (map operand given) untouched;
         held = sym (untouched_are_held (map operand given) untouched);
         texts = all_texts parameters c.arguments fits.arguments;
-        count = operand_count parameters c.arguments fits.arguments;
-        operands_stand = arguments_found parameters c.arguments fits.arguments;
+        count = subst (λ n. n ≡ length (parameters_for fits.function n)) as_many (parameters_count fits.function (length c.arguments) fits.count);
+        operands_stand = subst (λ n. AllZip (OperandStands known) (map (operand_code known) given) (zip (parameters_for fits.function n) (map operand given))) as_many (arguments_found parameters c.arguments fits.arguments);
         own_slots = own_slots;
         goes = subst (λ p. TargetStands code known (λ q names. TasksStand code names q [] tail) p line goes (prototype fits.function).result target) size stands;
       })

@@ -1,8 +1,8 @@
 -- The steps of a call: its numbers are worked out one after another, and then it is made.
 use Rattle.lower.proofs.Steps.{step_inside}
 use Rattle.lower.proofs.Tests.{and_left, and_right}
-use Rattle.std.proofs.Common.{◌≡◌, ℕ, ◌+◌, Bool, true, List, [], ◌∷◌, ◌++◌, length, Some, None, inl, inr, refl, sym, ap, ◌∙◌, subst, arith, append_assoc, length-append, suc, false, ℤ, pos}
-use Rattle.std.specs.Prelude.{slice_set, IsTrue, zip, map, FitsSigned, ◌||◌}
+use Rattle.std.proofs.Common.{◌≡◌, ℕ, ◌+◌, Bool, true, List, [], ◌∷◌, ◌++◌, length, Option, Some, None, inl, inr, if◌then◌else◌, ◌&&◌, refl, sym, ap, ◌∙◌, subst, arith, append_assoc, length-append, suc, false, ℤ, pos}
+use Rattle.std.specs.Prelude.{slice_set, is_none, IsTrue, zip, map, FitsSigned, ◌||◌}
 use Rattle.std.specs.List.{list_any, AllZip}
 use Rattle.std.specs.Option.{option_map}
 use Rattle.std.specs.Int.{w32}
@@ -11,9 +11,9 @@ use Rattle.base.specs.Bytes.{Identifier, lookup}
 use Rattle.base.specs.Element.{ElementType}
 use Rattle.syntax.specs.Tree as tree
 use Rattle.syntax.specs.Tree.{Expr}
-use Rattle.jni.specs.JniFunction.{JniFunction, prototype}
-use Rattle.jni.specs.Prototype.{ParameterKind, LocalVariable, StaticVariable, FieldID, ArrayVariable, BufferVariable, Mode, IsCopy, IntNumber, ResultKind, GivesInt, GivesFlag, WeakVariable}
-use Rattle.type_rules.specs.Sorts.{Sort, Jint, Ref, Global, Weak, FieldId, MethodId, Buffer, Array}
+use Rattle.jni.specs.JniFunction.{JniFunction, prototype, parameters_for}
+use Rattle.jni.specs.Prototype.{ParameterKind, LocalVariable, StaticVariable, FieldID, MethodID, Passed, ArrayVariable, BufferVariable, Mode, IsCopy, ResultKind, GivesInt, GivesFlag, WeakVariable}
+use Rattle.type_rules.specs.Sorts.{Sort, Jint, Ref, Global, Weak, FieldId, MethodId, Buffer, Array, is_jint}
 use Rattle.type_rules.specs.Sorts as sort
 use Rattle.type_rules.specs.SortGroups.{IsNumberSort}
 use Rattle.code.specs.declared.instr.Operand.{Operand as Where}
@@ -23,114 +23,245 @@ use Rattle.code.specs.declared.instr.Target.TheVariants as destination
 use Rattle.code.specs.declared.instr.Instr.{Instr}
 use Rattle.code.specs.declared.instr.Instr.TheVariants as instr
 use Rattle.code.specs.Depth.{Listing}
-use Rattle.semantics.specs.Effect.{goes_on, is_given, is_ready, call_effect_of, Calls, reduce_first}
-use Rattle.semantics.specs.Arguments.{Actual, ReferenceActual, FieldActual, NumberActual, TextActual, VariableActual, ModeActual, NothingActual, mode_of, reference_argument, look_up_expression, look_up, actuals}
+use Rattle.semantics.specs.Effect.{goes_on, is_no_number, is_given, is_ready, call_effect_of, Calls, reduce_name, reduce_first}
+use Rattle.semantics.specs.Arguments.{Actual, ReferenceActual, FieldActual, MethodActual, NumberActual, TextActual, VariableActual, ModeActual, NothingActual, mode_of, reference_argument, look_up_expression, look_up, actuals}
 use Rattle.semantics.specs.Sight.{Sight}
 use Rattle.semantics.specs.Variable.{Empty}
-use Rattle.semantics.specs.Task.{Task, Invoke, Target, Declared, Assigned, Dropped, VariableKind, ScalarKind, ReferenceKind, FieldKind, MethodKind, BufferKind, Operand, NumberOperand, Given, Tested}
-use Rattle.semantics.specs.Term.{Term, Done, reduce}
-use Rattle.semantics.specs.Value.{Word, Int, Flag, Truth, Gives, Outcome, Traps, Stuck, outcome_map}
+use Rattle.semantics.specs.Task.{Task, Invoke, Target, Declared, Assigned, Dropped, VariableKind, ScalarKind, ReferenceKind, FieldKind, MethodKind, BufferKind, Operand, NumberOperand, PassedName, Given, Tested}
+use Rattle.semantics.specs.Term.{Term, Done, Read, reduce}
+use Rattle.semantics.specs.Value.{Value, Word, Int, Flag, Truth, Gives, Outcome, Traps, Stuck, outcome_map}
 use Rattle.code_meaning.specs.Layout.{Slot, Known}
-use Rattle.code_meaning.specs.Coding.{term_code}
+use Rattle.code_meaning.specs.Coding.{of_slot, load_code, number_code, names_number, term_code}
 use Rattle.code_meaning.specs.Slots.{word_of, Visible, Slots, Shows, SeesBuffers, ShowsStatic, ShowsSlot, OfField, OfMethod}
-use Rattle.code_meaning.specs.Fits.{IsReferenceKind, TakesNull, TakesLocal, TakesGlobal, TermHasSort, IsStaticIn, IsStaticSort}
-use Rattle.code_meaning.specs.Stands.{held, IsBegun, HasAt, operand_text, operands_texts, ResultStands, ResultGoes, StaticStands, TestStands, number_sort, OperandStands, TargetStands, InvokeStands, TasksStand, task_returns, operands_rest, operand_held, operands_held, AreUntouched, AreBegun}
+use Rattle.code_meaning.specs.Fits.{IsReferenceKind, TakesNull, TakesLocal, TakesGlobal, TakesInt, IsVariable, TermHasSort, IsStaticIn, IsStaticSort}
+use Rattle.code_meaning.specs.Stands.{held, IsBegun, HasAt, operand_text, operands_texts, ResultStands, ResultGoes, StaticStands, TestStands, number_sort, named_operand, OperandStands, TargetStands, InvokeStands, TasksStand, task_returns, operand_rest, operands_rest, operand_held, operands_held, AreUntouched, AreBegun}
 use Rattle.code_meaning.specs.Does.{IsOperand, TakesNumber, TakesReference, TakesField, TakesMethod, TakesStatic, TakesBuffer, TakesTest, GoesInto, TakesResult, DoesEffect, word_given, words_given, text_given, texts_given, OperandFits, IsVariableKind, ActualFits}
 use Rattle.code_meaning.proofs.SlotLaws.{fewer_shown, number_below, shows_set, shows_referred, shows_field_set, shows_method_set, shows_buffer_set, static_changes}
 use Rattle.lower.proofs.TermSteps.{IsOpen, untouched_held, untouched_begun, shows_number}
 
 -- ---- the number that is worked out
 
--- the first number that has no value yet
-abbrev open_term : List Operand → Term
-open_term [] = Done (Int (pos 0))
-open_term (Given a ∷ operands) = open_term operands
-open_term (NumberOperand (Done v) ∷ operands) = open_term operands
-open_term (NumberOperand t ∷ operands) = t
+-- the term of an argument that takes a step before the call, if there is one
+abbrev step_of : Known → Operand → Option Term
+step_of known (NumberOperand (Done v)) = None
+step_of known (NumberOperand t) = Some t
+step_of known (PassedName x) = if names_number known x then Some (Read x) else None
+step_of known (Given a) = None
+
+-- no argument takes one
+abbrev are_done : Known → List Operand → Bool
+are_done known [] = true
+are_done known (o ∷ operands) = is_none (step_of known o) && are_done known operands
+
+-- one of two, by whether the argument takes a step
+abbrev by_step : {A : Type 0} → Option Term → (here further : A) → A
+by_step (Some t) here further = here
+by_step None here further = further
+
+-- the term itself, or that of a later argument
+abbrev first_term : Option Term → Term → Term
+first_term (Some t) further = t
+first_term None further = further
+
+-- the first that has no value yet
+abbrev open_term : Known → List Operand → Term
+open_term known [] = Done (Int (pos 0))
+open_term known (o ∷ operands) = first_term (step_of known o) (open_term known operands)
 
 -- the arguments with another term in its place
-abbrev with_open : List Operand → Term → List Operand
-with_open [] u = []
-with_open (Given a ∷ operands) u = Given a ∷ with_open operands u
-with_open (NumberOperand (Done v) ∷ operands) u = NumberOperand (Done v) ∷ with_open operands u
-with_open (NumberOperand t ∷ operands) u = NumberOperand u ∷ operands
+abbrev with_open : Known → List Operand → Term → List Operand
+with_open known [] u = []
+with_open known (o ∷ operands) u = by_step (step_of known o) (NumberOperand u ∷ operands) (o ∷ with_open known operands u)
 
 -- the instructions after its own
 abbrev rest_after : Known → (line : ℕ) → List Operand → List Instr
 rest_after known line [] = []
-rest_after known line (Given a ∷ operands) = rest_after known line operands
-rest_after known line (NumberOperand (Done v) ∷ operands) = rest_after known line operands
-rest_after known line (NumberOperand t ∷ operands) = operands_rest known line operands
+rest_after known line (o ∷ operands) = by_step (step_of known o) (operands_rest known line operands) (rest_after known line operands)
 
 -- the words under its own
-abbrev words_under : List Operand → List ℕ
-words_under [] = []
-words_under (Given a ∷ operands) = words_under operands
-words_under (NumberOperand (Done v) ∷ operands) = words_under operands ++ word_of v ∷ []
-words_under (NumberOperand t ∷ operands) = []
+abbrev words_under : Known → List Operand → List ℕ
+words_under known [] = []
+words_under known (o ∷ operands) = by_step (step_of known o) [] (words_under known operands ++ operand_held o)
 
-same_operands : (operands : List Operand) → is_ready operands ≡ false → with_open operands (open_term operands) ≡ operands
-same_operands [] h = absurd (cc)
-same_operands (Given a ∷ operands) h = ap (λ (l : List Operand). Given a ∷ l) (same_operands operands h)
-same_operands (NumberOperand (Done v) ∷ operands) h = ap (λ (l : List Operand). NumberOperand (Done v) ∷ l) (same_operands operands h)
-same_operands (NumberOperand t ∷ operands) h = refl
+some_same : (t u : Term) → Some t ≡ Some u → t ≡ u
+some_same t u e = cc
 
-open_is_open : (operands : List Operand) → is_ready operands ≡ false → IsOpen (open_term operands)
-open_is_open [] h = cc
-open_is_open (Given a ∷ operands) h = open_is_open operands h
-open_is_open (NumberOperand (Done v) ∷ operands) h = open_is_open operands h
-open_is_open (NumberOperand t ∷ operands) h = tt
+-- ---- one argument
 
-open_is_begun : (operands : List Operand) → is_ready operands ≡ false → AreBegun operands → IsBegun (open_term operands)
-open_is_begun [] h b = absurd (cc)
-open_is_begun (Given a ∷ operands) h b = open_is_begun operands h b
-open_is_begun (NumberOperand (Done v) ∷ operands) h b = open_is_begun operands h b
-open_is_begun (NumberOperand t ∷ operands) h b = b.0
+-- a name that takes a step is that of a number
+passed_open : (b : Bool) (x : Identifier) (t : Term) → (if b then Some (Read x) else None) ≡ Some t → (b ≡ true) × (Read x ≡ t)
+passed_open true x t e = (refl, cc)
+passed_open false x t e = absurd (cc)
 
-count_same : (operands : List Operand) (u : Term) → length (with_open operands u) ≡ length operands
-count_same [] u = refl
-count_same (Given a ∷ operands) u = ap (λ n. suc n) (count_same operands u)
-count_same (NumberOperand (Done v) ∷ operands) u = ap (λ n. suc n) (count_same operands u)
-count_same (NumberOperand t ∷ operands) u = refl
+passed_done : (b : Bool) (x : Identifier) → (if b then Some (Read x) else None) ≡ None → b ≡ false
+passed_done true x e = absurd (cc)
+passed_done false x e = refl
 
-rest_with : (known : Known) (line : ℕ) (operands : List Operand) (u : Term) → is_ready operands ≡ false → operands_rest known line (with_open operands u) ≡ term_code known line u ++ rest_after known line operands
-rest_with known line [] u h = absurd (cc)
-rest_with known line (Given a ∷ operands) u h = rest_with known line operands u h
-rest_with known line (NumberOperand (Done v) ∷ operands) u h = rest_with known line operands u h
-rest_with known line (NumberOperand t ∷ operands) u h = refl
+number_coded : (s : Option Slot) → is_jint (option_map (λ s. s.sort) s) ≡ true → of_slot number_code s ≡ of_slot load_code s
+number_coded None h = refl
+number_coded (Some s) h = ap (λ b. if b then load_code s.sort s.index else []) h
 
-texts_with : (operands : List Operand) (u : Term) → operands_texts (with_open operands u) ≡ operands_texts operands
-texts_with [] u = refl
-texts_with (Given a ∷ operands) u = ap (λ (l : List (List ℕ)). operand_text (Given a) ++ l) (texts_with operands u)
-texts_with (NumberOperand (Done v) ∷ operands) u = texts_with operands u
-texts_with (NumberOperand t ∷ operands) u = refl
+reference_coded : (s : Option Slot) → is_jint (option_map (λ s. s.sort) s) ≡ false → of_slot number_code s ≡ []
+reference_coded None h = refl
+reference_coded (Some s) h = ap (λ b. if b then load_code s.sort s.index else []) h
 
-pub untouched_are_begun : (operands : List Operand) → AreUntouched operands → AreBegun operands
-untouched_are_begun [] h = tt
-untouched_are_begun (Given a ∷ operands) h = untouched_are_begun operands h
-untouched_are_begun (NumberOperand (Done v) ∷ operands) h = absurd h.0
-untouched_are_begun (NumberOperand t ∷ operands) h = (untouched_begun t h.0, h.1)
+module _ (known : Known) where
+  done_rest : (line : ℕ) (o : Operand) → step_of known o ≡ None → operand_rest known line o ≡ []
+  done_rest line (NumberOperand (Done v)) e = refl
+  done_rest line (NumberOperand t) e = absurd (cc)
+  done_rest line (PassedName x) e = reference_coded (lookup x known) (passed_done (names_number known x) x e)
+  done_rest line (Given a) e = refl
+
+  open_rest : (line : ℕ) (o : Operand) (t : Term) → step_of known o ≡ Some t → operand_rest known line o ≡ term_code known line t
+  open_rest line (NumberOperand (Done v)) t e = absurd (cc)
+  open_rest line (NumberOperand u) t e = ap (term_code known line) (some_same u t e)
+  open_rest line (PassedName x) t e =
+      let both = passed_open (names_number known x) x t e in
+      number_coded (lookup x known) both.0 ∙ ap (term_code known line) both.1
+  open_rest line (Given a) t e = absurd (cc)
+
+  open_held : (o : Operand) (t : Term) → step_of known o ≡ Some t → operand_held o ≡ held t
+  open_held (NumberOperand (Done v)) t e = absurd (cc)
+  open_held (NumberOperand u) t e = ap held (some_same u t e)
+  open_held (PassedName x) t e = ap held (passed_open (names_number known x) x t e).1
+  open_held (Given a) t e = absurd (cc)
+
+  open_text : (o : Operand) (t : Term) → step_of known o ≡ Some t → operand_text o ≡ []
+  open_text (NumberOperand u) t e = refl
+  open_text (PassedName x) t e = refl
+  open_text (Given a) t e = absurd (cc)
+
+  open_open : (o : Operand) (t : Term) → step_of known o ≡ Some t → IsOpen t
+  open_open (NumberOperand (Done v)) t e = absurd (cc)
+  open_open (NumberOperand u) t e = subst IsOpen (some_same u t e) tt
+  open_open (PassedName x) t e = subst IsOpen (passed_open (names_number known x) x t e).1 tt
+  open_open (Given a) t e = absurd (cc)
+
+  open_begun : (o : Operand) (operands : List Operand) (t : Term) → step_of known o ≡ Some t → AreBegun known (o ∷ operands) → IsBegun t × AreUntouched operands
+  open_begun (NumberOperand (Done v)) operands t e h = absurd (cc)
+  open_begun (NumberOperand u) operands t e h = subst (λ (v : Term). IsBegun v × AreUntouched operands) (some_same u t e) h
+  open_begun (PassedName x) operands t e h =
+      let both = passed_open (names_number known x) x t e in
+      (subst IsBegun both.1 tt, h.0 both.0)
+  open_begun (Given a) operands t e h = absurd (cc)
+
+  done_begun : (o : Operand) (operands : List Operand) → step_of known o ≡ None → AreBegun known (o ∷ operands) → AreBegun known operands
+  done_begun (NumberOperand (Done v)) operands e h = h
+  done_begun (NumberOperand t) operands e h = absurd (cc)
+  done_begun (PassedName x) operands e h = h.1
+  done_begun (Given a) operands e h = h
+
+  begun_done : (o : Operand) (operands : List Operand) → step_of known o ≡ None → AreBegun known operands → AreBegun known (o ∷ operands)
+  begun_done (NumberOperand (Done v)) operands e h = h
+  begun_done (NumberOperand t) operands e h = absurd (cc)
+  begun_done (PassedName x) operands e h = (λ number. absurd (let none = passed_done (names_number known x) x e in let c : true ≡ false = sym number ∙ none in cc), h)
+  begun_done (Given a) operands e h = h
+
+pub untouched_are_begun : (known : Known) (operands : List Operand) → AreUntouched operands → AreBegun known operands
+untouched_are_begun known [] h = tt
+untouched_are_begun known (Given a ∷ operands) h = untouched_are_begun known operands h
+untouched_are_begun known (PassedName x ∷ operands) h = (λ number. h, untouched_are_begun known operands h)
+untouched_are_begun known (NumberOperand (Done v) ∷ operands) h = absurd h.0
+untouched_are_begun known (NumberOperand t ∷ operands) h = (untouched_begun t h.0, h.1)
 
 pub untouched_are_held : (operands : List Operand) → AreUntouched operands → operands_held operands ≡ []
 untouched_are_held [] h = refl
 untouched_are_held (Given a ∷ operands) h = append-nil (operands_held operands) ∙ untouched_are_held operands h
+untouched_are_held (PassedName x ∷ operands) h = append-nil (operands_held operands) ∙ untouched_are_held operands h
 untouched_are_held (NumberOperand t ∷ operands) h = rw (untouched_are_held operands h.1, untouched_held t h.0) refl
 
-front_begun : (u : Term) (operands : List Operand) → IsBegun u → AreUntouched operands → AreBegun (NumberOperand u ∷ operands)
-front_begun (Done v) operands b h = untouched_are_begun operands h
-front_begun u operands b h = (b, h)
+front_begun : (known : Known) (u : Term) (operands : List Operand) → IsBegun u → AreUntouched operands → AreBegun known (NumberOperand u ∷ operands)
+front_begun known (Done v) operands b h = untouched_are_begun known operands h
+front_begun known u operands b h = (b, h)
 
-begun_with : (operands : List Operand) (u : Term) → is_ready operands ≡ false → AreBegun operands → IsBegun u → AreBegun (with_open operands u)
-begun_with [] u h b k = absurd (cc)
-begun_with (Given a ∷ operands) u h b k = begun_with operands u h b k
-begun_with (NumberOperand (Done v) ∷ operands) u h b k = begun_with operands u h b k
-begun_with (NumberOperand t ∷ operands) u h b k = front_begun u operands k b.1
+-- ---- all arguments
 
-held_with : (operands : List Operand) (u : Term) → is_ready operands ≡ false → AreBegun operands → operands_held (with_open operands u) ≡ held u ++ words_under operands
-held_with [] u h b = absurd (cc)
-held_with (Given a ∷ operands) u h b = append-nil (operands_held (with_open operands u)) ∙ held_with operands u h b
-held_with (NumberOperand (Done v) ∷ operands) u h b = ap (λ (l : List ℕ). l ++ word_of v ∷ []) (held_with operands u h b) ∙ append_assoc (held u) (words_under operands) (word_of v ∷ [])
-held_with (NumberOperand t ∷ operands) u h b = ap (λ (l : List ℕ). l ++ held u) (untouched_are_held operands b.1) ∙ sym (append-nil (held u))
+module _ (known : Known) where
+  open_is_open : (operands : List Operand) → are_done known operands ≡ false → IsOpen (open_term known operands)
+  open_is_open [] h = absurd (cc)
+  open_is_open (o ∷ operands) h = by (step_of known o) refl h (open_is_open operands)
+    where
+      by : (s : Option Term) → step_of known o ≡ s → (is_none s && are_done known operands) ≡ false → (are_done known operands ≡ false → IsOpen (open_term known operands)) → IsOpen (first_term s (open_term known operands))
+      by None e h further = further h
+      by (Some t) e h further = open_open known o t e
+
+  open_is_begun : (operands : List Operand) → are_done known operands ≡ false → AreBegun known operands → IsBegun (open_term known operands)
+  open_is_begun [] h b = absurd (cc)
+  open_is_begun (o ∷ operands) h b = by (step_of known o) refl h (open_is_begun operands)
+    where
+      by : (s : Option Term) → step_of known o ≡ s → (is_none s && are_done known operands) ≡ false → (are_done known operands ≡ false → AreBegun known operands → IsBegun (open_term known operands)) → IsBegun (first_term s (open_term known operands))
+      by None e h further = further h (done_begun known o operands e b)
+      by (Some t) e h further = (open_begun known o operands t e b).0
+
+  count_same : (operands : List Operand) (u : Term) → length (with_open known operands u) ≡ length operands
+  count_same [] u = refl
+  count_same (o ∷ operands) u = by (step_of known o) (count_same operands u)
+    where
+      by : (s : Option Term) → length (with_open known operands u) ≡ length operands → length (by_step s (NumberOperand u ∷ operands) (o ∷ with_open known operands u)) ≡ suc (length operands)
+      by None further = ap (λ n. suc n) further
+      by (Some t) further = refl
+
+  rest_open : (line : ℕ) (operands : List Operand) → are_done known operands ≡ false → operands_rest known line operands ≡ term_code known line (open_term known operands) ++ rest_after known line operands
+  rest_open line [] h = absurd (cc)
+  rest_open line (o ∷ operands) h = by (step_of known o) refl h (rest_open line operands)
+    where
+      by : (s : Option Term) → step_of known o ≡ s → (is_none s && are_done known operands) ≡ false → (are_done known operands ≡ false → operands_rest known line operands ≡ term_code known line (open_term known operands) ++ rest_after known line operands)
+          → operand_rest known line o ++ operands_rest known line operands ≡ term_code known line (first_term s (open_term known operands)) ++ by_step s (operands_rest known line operands) (rest_after known line operands)
+      by None e h further = ap (λ (l : List Instr). l ++ operands_rest known line operands) (done_rest known line o e) ∙ further h
+      by (Some t) e h further = ap (λ (l : List Instr). l ++ operands_rest known line operands) (open_rest known line o t e)
+
+  rest_with : (line : ℕ) (operands : List Operand) (u : Term) → are_done known operands ≡ false → operands_rest known line (with_open known operands u) ≡ term_code known line u ++ rest_after known line operands
+  rest_with line [] u h = absurd (cc)
+  rest_with line (o ∷ operands) u h = by (step_of known o) refl h (rest_with line operands u)
+    where
+      by : (s : Option Term) → step_of known o ≡ s → (is_none s && are_done known operands) ≡ false → (are_done known operands ≡ false → operands_rest known line (with_open known operands u) ≡ term_code known line u ++ rest_after known line operands)
+          → operands_rest known line (by_step s (NumberOperand u ∷ operands) (o ∷ with_open known operands u)) ≡ term_code known line u ++ by_step s (operands_rest known line operands) (rest_after known line operands)
+      by None e h further = ap (λ (l : List Instr). l ++ operands_rest known line (with_open known operands u)) (done_rest known line o e) ∙ further h
+      by (Some t) e h further = refl
+
+  texts_with : (operands : List Operand) (u : Term) → operands_texts (with_open known operands u) ≡ operands_texts operands
+  texts_with [] u = refl
+  texts_with (o ∷ operands) u = by (step_of known o) refl (texts_with operands u)
+    where
+      by : (s : Option Term) → step_of known o ≡ s → operands_texts (with_open known operands u) ≡ operands_texts operands → operands_texts (by_step s (NumberOperand u ∷ operands) (o ∷ with_open known operands u)) ≡ operand_text o ++ operands_texts operands
+      by None e further = ap (λ (l : List (List ℕ)). operand_text o ++ l) further
+      by (Some t) e further = ap (λ (l : List (List ℕ)). l ++ operands_texts operands) (sym (open_text known o t e))
+
+  begun_with : (operands : List Operand) (u : Term) → are_done known operands ≡ false → AreBegun known operands → IsBegun u → AreBegun known (with_open known operands u)
+  begun_with [] u h b k = absurd (cc)
+  begun_with (o ∷ operands) u h b k = by (step_of known o) refl h (begun_with operands u)
+    where
+      by : (s : Option Term) → step_of known o ≡ s → (is_none s && are_done known operands) ≡ false → (are_done known operands ≡ false → AreBegun known operands → IsBegun u → AreBegun known (with_open known operands u))
+          → AreBegun known (by_step s (NumberOperand u ∷ operands) (o ∷ with_open known operands u))
+      by None e h further = begun_done known o (with_open known operands u) e (further h (done_begun known o operands e b) k)
+      by (Some t) e h further = front_begun known u operands k (open_begun known o operands t e b).1
+
+  held_with : (operands : List Operand) (u : Term) → are_done known operands ≡ false → AreBegun known operands → operands_held (with_open known operands u) ≡ held u ++ words_under known operands
+  held_with [] u h b = absurd (cc)
+  held_with (o ∷ operands) u h b = by (step_of known o) refl h (held_with operands u)
+    where
+      by : (s : Option Term) → step_of known o ≡ s → (is_none s && are_done known operands) ≡ false → (are_done known operands ≡ false → AreBegun known operands → operands_held (with_open known operands u) ≡ held u ++ words_under known operands)
+          → operands_held (by_step s (NumberOperand u ∷ operands) (o ∷ with_open known operands u)) ≡ held u ++ by_step s [] (words_under known operands ++ operand_held o)
+      by None e h further = ap (λ (l : List ℕ). l ++ operand_held o) (further h (done_begun known o operands e b)) ∙ append_assoc (held u) (words_under known operands) (operand_held o)
+      by (Some t) e h further = ap (λ (l : List ℕ). l ++ held u) (untouched_are_held operands (open_begun known o operands t e b).1) ∙ sym (append-nil (held u))
+
+  held_open : (operands : List Operand) → are_done known operands ≡ false → AreBegun known operands → operands_held operands ≡ held (open_term known operands) ++ words_under known operands
+  held_open [] h b = absurd (cc)
+  held_open (o ∷ operands) h b = by (step_of known o) refl h (held_open operands)
+    where
+      by : (s : Option Term) → step_of known o ≡ s → (is_none s && are_done known operands) ≡ false → (are_done known operands ≡ false → AreBegun known operands → operands_held operands ≡ held (open_term known operands) ++ words_under known operands)
+          → operands_held operands ++ operand_held o ≡ held (first_term s (open_term known operands)) ++ by_step s [] (words_under known operands ++ operand_held o)
+      by None e h further = ap (λ (l : List ℕ). l ++ operand_held o) (further h (done_begun known o operands e b)) ∙ append_assoc (held (open_term known operands)) (words_under known operands) (operand_held o)
+      by (Some t) e h further = ap (λ (l : List ℕ). l ++ operand_held o) (untouched_are_held operands (open_begun known o operands t e b).1) ∙ open_held known o t e ∙ sym (append-nil (held t))
+
+  -- nothing is left to be worked out
+  ready_rest : (line : ℕ) (operands : List Operand) → are_done known operands ≡ true → operands_rest known line operands ≡ []
+  ready_rest line [] h = refl
+  ready_rest line (o ∷ operands) h = by (step_of known o) refl h (ready_rest line operands)
+    where
+      by : (s : Option Term) → step_of known o ≡ s → (is_none s && are_done known operands) ≡ true → (are_done known operands ≡ true → operands_rest known line operands ≡ []) → operand_rest known line o ++ operands_rest known line operands ≡ []
+      by None e h further = ap (λ (l : List Instr). l ++ operands_rest known line operands) (done_rest known line o e) ∙ further h
+      by (Some t) e h further = absurd (cc)
 
 -- ---- the source's step
 
@@ -139,12 +270,68 @@ mapped_twice f g (Gives x) = refl
 mapped_twice f g (Traps t) = refl
 mapped_twice f g Stuck = refl
 
-reduced : (sight : Sight) (operands : List Operand) → is_ready operands ≡ false → reduce_first sight operands ≡ outcome_map (with_open operands) (reduce sight (open_term operands))
-reduced sight [] h = absurd (cc)
-reduced sight (Given a ∷ operands) h = ap (outcome_map (λ (l : List Operand). Given a ∷ l)) (reduced sight operands h) ∙ mapped_twice (with_open operands) (λ (l : List Operand). Given a ∷ l) (reduce sight (open_term operands))
-reduced sight (NumberOperand (Done v) ∷ operands) h =
-    ap (outcome_map (λ (l : List Operand). NumberOperand (Done v) ∷ l)) (reduced sight operands h) ∙ mapped_twice (with_open operands) (λ (l : List Operand). NumberOperand (Done v) ∷ l) (reduce sight (open_term operands))
-reduced sight (NumberOperand t ∷ operands) h = refl
+-- a name has a value where it is that of a number
+abbrev IsSeenAs : Bool → Outcome Value → Type 0
+IsSeenAs true number = (v : Value) × (number ≡ Gives v)
+IsSeenAs false number = number ≡ Stuck
+
+-- so has the name that an argument is
+abbrev IsSeen : Known → Sight → Operand → Type 0
+IsSeen known sight (PassedName x) = IsSeenAs (names_number known x) (sight.number x)
+IsSeen known sight o = Unit {0}
+
+abbrev AreSeen : Known → Sight → List Operand → Type 0
+AreSeen known sight [] = Unit {0}
+AreSeen known sight (o ∷ operands) = IsSeen known sight o × AreSeen known sight operands
+
+module _ (known : Known) (sight : Sight) where
+  given_by : (b : Bool) (number : Outcome Value) (x : Identifier) → IsSeenAs b number → is_no_number number ≡ is_none (if b then Some (Read x) else None)
+  given_by true number x h = ap is_no_number h.1
+  given_by false number x h = ap is_no_number h
+
+  given_alike : (o : Operand) → IsSeen known sight o → is_given sight.number o ≡ is_none (step_of known o)
+  given_alike (NumberOperand (Done v)) h = refl
+  given_alike (NumberOperand t) h = refl
+  given_alike (PassedName x) h = given_by (names_number known x) (sight.number x) x h
+  given_alike (Given a) h = refl
+
+  ready_alike : (operands : List Operand) → AreSeen known sight operands → is_ready sight.number operands ≡ are_done known operands
+  ready_alike [] h = refl
+  ready_alike (o ∷ operands) h = ap (λ b. b && is_ready sight.number operands) (given_alike o h.0) ∙ ap (λ b. is_none (step_of known o) && b) (ready_alike operands h.1)
+
+  passed_reduced : (b : Bool) (x : Identifier) (operands : List Operand) (further : Outcome (List Operand)) → b ≡ false → IsSeenAs b (sight.number x) → reduce_name x operands (sight.number x) further ≡ outcome_map (λ (l : List Operand). PassedName x ∷ l) further
+  passed_reduced true x operands further e h = absurd (cc)
+  passed_reduced false x operands further e h = ap (λ (n : Outcome Value). reduce_name x operands n further) h
+
+  number_reduced : (b : Bool) (x : Identifier) (operands : List Operand) (further : Outcome (List Operand)) → b ≡ true → IsSeenAs b (sight.number x)
+      → reduce_name x operands (sight.number x) further ≡ outcome_map (λ (u : Term). NumberOperand u ∷ operands) (reduce sight (Read x))
+  number_reduced true x operands further e h =
+      ap (λ (n : Outcome Value). reduce_name x operands n further) h.1 ∙ sym (ap (λ (n : Outcome Value). outcome_map (λ (u : Term). NumberOperand u ∷ operands) (outcome_map Done n)) h.1)
+  number_reduced false x operands further e h = absurd (cc)
+
+  done_reduced : (o : Operand) (operands : List Operand) → step_of known o ≡ None → IsSeen known sight o → reduce_first sight (o ∷ operands) ≡ outcome_map (λ (l : List Operand). o ∷ l) (reduce_first sight operands)
+  done_reduced (NumberOperand (Done v)) operands e h = refl
+  done_reduced (NumberOperand t) operands e h = absurd (cc)
+  done_reduced (PassedName x) operands e h = passed_reduced (names_number known x) x operands (reduce_first sight operands) (passed_done (names_number known x) x e) h
+  done_reduced (Given a) operands e h = refl
+
+  open_reduced : (o : Operand) (operands : List Operand) (t : Term) → step_of known o ≡ Some t → IsSeen known sight o → reduce_first sight (o ∷ operands) ≡ outcome_map (λ (u : Term). NumberOperand u ∷ operands) (reduce sight t)
+  open_reduced (NumberOperand (Done v)) operands t e h = absurd (cc)
+  open_reduced (NumberOperand u) operands t e h = ap (λ (v : Term). outcome_map (λ (w : Term). NumberOperand w ∷ operands) (reduce sight v)) (some_same u t e)
+  open_reduced (PassedName x) operands t e h =
+      let both = passed_open (names_number known x) x t e in
+      number_reduced (names_number known x) x operands (reduce_first sight operands) both.0 h ∙ ap (λ (v : Term). outcome_map (λ (w : Term). NumberOperand w ∷ operands) (reduce sight v)) both.1
+  open_reduced (Given a) operands t e h = absurd (cc)
+
+  reduced : (operands : List Operand) → are_done known operands ≡ false → AreSeen known sight operands → reduce_first sight operands ≡ outcome_map (with_open known operands) (reduce sight (open_term known operands))
+  reduced [] h seen = absurd (cc)
+  reduced (o ∷ operands) h seen = by (step_of known o) refl h (λ k. reduced operands k seen.1)
+    where
+      by : (s : Option Term) → step_of known o ≡ s → (is_none s && are_done known operands) ≡ false → (are_done known operands ≡ false → reduce_first sight operands ≡ outcome_map (with_open known operands) (reduce sight (open_term known operands)))
+          → reduce_first sight (o ∷ operands) ≡ outcome_map (λ (u : Term). by_step s (NumberOperand u ∷ operands) (o ∷ with_open known operands u)) (reduce sight (first_term s (open_term known operands)))
+      by None e h further =
+          done_reduced o operands e seen.0 ∙ ap (outcome_map (λ (l : List Operand). o ∷ l)) (further h) ∙ mapped_twice (with_open known operands) (λ (l : List Operand). o ∷ l) (reduce sight (open_term known operands))
+      by (Some t) e h further = open_reduced o operands t e seen.0
 
 goes_on_inside : {A B : Type 0} (line : ℕ) (f : A → B) (task : B → Task) (o : Outcome A) → goes_on line task (outcome_map f o) ≡ goes_on line (λ x. task (f x)) o
 goes_on_inside line f task (Gives x) = refl
@@ -162,50 +349,101 @@ global_kind : (p : ParameterKind) → TakesGlobal p → IsReferenceKind p
 global_kind LocalVariable h = absurd h
 global_kind p h = h
 
+-- a bare name is no number, and has neither word nor text
+name_is_no_number : (p : ParameterKind) (x : Identifier) (t : Term) → NumberOperand t ≡ named_operand p x → ⊥
+name_is_no_number Passed x t e = cc
+name_is_no_number p x t e = cc
+
+name_is : (p : ParameterKind) (x y : Identifier) → PassedName x ≡ named_operand p y → x ≡ y
+name_is Passed x y e = cc
+name_is p x y e = absurd (cc)
+
+named_held : (p : ParameterKind) (x : Identifier) → operand_held (named_operand p x) ≡ []
+named_held Passed x = refl
+named_held p x = refl
+
+named_text : (p : ParameterKind) (x : Identifier) → operand_text (named_operand p x) ≡ []
+named_text Passed x = refl
+named_text p x = refl
+
+-- a number has a slot, and no other name
+named_alike : (known : Known) (x y : Identifier) (s : Slot) → x ≡ y → lookup y known ≡ Some s → names_number known x ≡ is_jint (Some s.sort)
+named_alike known x y s same there = ap (λ z. names_number known z) same ∙ ap (λ o. is_jint (option_map (λ s. s.sort) o)) there
+
+static_number : (s : Sort) → IsStaticSort s → is_jint (Some s) ≡ false
+static_number Global h = refl
+static_number Weak h = refl
+static_number s h = absurd h
+
+none_open : (known : Known) (x : Identifier) (t : Term) → names_number known x ≡ false → step_of known (PassedName x) ≡ Some t → ⊥
+none_open known x t none e = let both = passed_open (names_number known x) x t e in let c : true ≡ false = sym both.0 ∙ none in cc
+
 module _ (known : Known) where
   -- an argument that is a number is on the stack
-  number_there : (w : Where) (p : ParameterKind) (t : Term) → OperandStands known w (p, NumberOperand t) → (w ≡ operand.Number) × (p ≡ IntNumber) × TermHasSort known t Jint
+  number_there : (w : Where) (p : ParameterKind) (t : Term) → OperandStands known w (p, NumberOperand t) → (w ≡ operand.Number) × TakesInt p × TermHasSort known t Jint
   number_there operand.Null p t h = absurd (let e = h.is in cc)
-  number_there (operand.Local i) p t h = absurd (let e = h.2 in cc)
-  number_there (operand.Static i) p t h = absurd (let e = h.2 in cc)
+  number_there (operand.Local i) p t h = absurd (name_is_no_number p h.0 t h.2)
+  number_there (operand.Static i) p t h = absurd (name_is_no_number p h.0 t h.2)
   number_there (operand.FieldId i) p t h = absurd (let e = h.2 in cc)
+  number_there (operand.MethodId i) p t h = absurd (let e = h.2 in cc)
   number_there operand.Text p t h = absurd (let e = h.is in cc)
   number_there (operand.Array array) p t h = absurd (let e = h.is in cc)
   number_there (operand.Buffer i) p t h = absurd (let e = h.is in cc)
   number_there (operand.Mode mode) p t h = absurd (let e = h.is in cc)
   number_there (operand.IsCopy i) p t h = absurd (let e = h.is in cc)
-  number_there operand.Number p t h = (refl, h.kind, let same : h.term ≡ t = let e : NumberOperand h.term ≡ NumberOperand t = sym h.is in cc in subst (λ (u : Term). TermHasSort known u Jint) same h.sort)
+  number_there operand.Number p t (inl h) = (refl, h.kind, let same : h.term ≡ t = let e : NumberOperand h.term ≡ NumberOperand t = sym h.is in cc in subst (λ (u : Term). TermHasSort known u Jint) same h.sort)
+  number_there operand.Number p t (inr h) = absurd (let e = h.is in cc)
 
-  other_number : (w : Where) (p : ParameterKind) (t u : Term) → OperandStands known w (p, NumberOperand t) → TermHasSort known u Jint → OperandStands known w (p, NumberOperand u)
-  other_number w p t u h sorted =
-      let there = number_there w p t h in
-      subst (λ (x : Where). OperandStands known x (p, NumberOperand u)) (sym there.0) (record { kind = there.1; term = u; is = refl; sort = sorted })
+  -- so is a name of a number once it is worked out
+  name_there : (w : Where) (p : ParameterKind) (x : Identifier) (t : Term) → OperandStands known w (p, PassedName x) → step_of known (PassedName x) ≡ Some t → (w ≡ operand.Number) × TakesInt p × TermHasSort known t Jint
+  name_there operand.Null p x t h e = absurd (let e = h.is in cc)
+  name_there (operand.Local i) p x t h e = absurd (none_open known x t (named_alike known x h.0 (record { sort = Ref; index = i }) (name_is p x h.0 h.2) h.3) e)
+  name_there (operand.Static i) p x t h e =
+      absurd (none_open known x t (named_alike known x h.0 (record { sort = h.3.0; index = i }) (name_is p x h.0 h.2) h.3.2 ∙ static_number h.3.0 h.3.1) e)
+  name_there (operand.FieldId i) p x t h e = absurd (let e = h.2 in cc)
+  name_there (operand.MethodId i) p x t h e = absurd (let e = h.2 in cc)
+  name_there operand.Text p x t h e = absurd (let e = h.is in cc)
+  name_there (operand.Array array) p x t h e = absurd (let e = h.is in cc)
+  name_there (operand.Buffer i) p x t h e = absurd (let e = h.is in cc)
+  name_there (operand.Mode mode) p x t h e = absurd (let e = h.is in cc)
+  name_there (operand.IsCopy i) p x t h e = absurd (let e = h.is in cc)
+  name_there operand.Number p x t (inl h) e = absurd (let e = h.is in cc)
+  name_there operand.Number p x t (inr h) e =
+      let same : h.name ≡ x = let e : PassedName h.name ≡ PassedName x = sym h.is in cc in
+      (refl, inr h.kind, subst (λ (u : Term). TermHasSort known u Jint) (passed_open (names_number known x) x t e).1 (subst (λ y. IsVariable known y Jint) same h.there))
 
-  stand_with : (found : List Where) (parameters : List ParameterKind) (operands : List Operand) (u : Term) → TermHasSort known u Jint → AllZip (OperandStands known) found (zip parameters operands) → AllZip (OperandStands known) found (zip parameters (with_open operands u))
-  stand_with found [] [] u sorted h = h
-  stand_with found [] (Given a ∷ operands) u sorted h = h
-  stand_with found [] (NumberOperand (Done v) ∷ operands) u sorted h = h
-  stand_with found [] (NumberOperand t ∷ operands) u sorted h = h
+  open_there : (w : Where) (p : ParameterKind) (o : Operand) (t : Term) → OperandStands known w (p, o) → step_of known o ≡ Some t → (w ≡ operand.Number) × TakesInt p × TermHasSort known t Jint
+  open_there w p (NumberOperand (Done v)) t h e = absurd (cc)
+  open_there w p (NumberOperand u) t h e = number_there w p t (subst (λ (v : Term). OperandStands known w (p, NumberOperand v)) (some_same u t e) h)
+  open_there w p (PassedName x) t h e = name_there w p x t h e
+  open_there w p (Given a) t h e = absurd (cc)
+
+  other_number : (w : Where) (p : ParameterKind) (o : Operand) (t u : Term) → OperandStands known w (p, o) → step_of known o ≡ Some t → TermHasSort known u Jint → OperandStands known w (p, NumberOperand u)
+  other_number w p o t u h e sorted =
+      let there = open_there w p o t h e in
+      subst (λ (x : Where). OperandStands known x (p, NumberOperand u)) (sym there.0) (inl (record { kind = there.1; term = u; is = refl; sort = sorted }))
+
+  stand_with : (found : List Where) (parameters : List ParameterKind) (operands : List Operand) (u : Term) → TermHasSort known u Jint → AllZip (OperandStands known) found (zip parameters operands)
+      → AllZip (OperandStands known) found (zip parameters (with_open known operands u))
+  stand_with found [] operands u sorted h = h
   stand_with found (p ∷ parameters) [] u sorted h = h
   stand_with [] (p ∷ parameters) (o ∷ operands) u sorted h = absurd h
-  stand_with (w ∷ found) (p ∷ parameters) (Given a ∷ operands) u sorted h = (h.0, stand_with found parameters operands u sorted h.1)
-  stand_with (w ∷ found) (p ∷ parameters) (NumberOperand (Done v) ∷ operands) u sorted h = (h.0, stand_with found parameters operands u sorted h.1)
-  stand_with (w ∷ found) (p ∷ parameters) (NumberOperand t ∷ operands) u sorted h = (other_number w p t u h.0 sorted, h.1)
+  stand_with (w ∷ found) (p ∷ parameters) (o ∷ operands) u sorted h = by (step_of known o) refl (stand_with found parameters operands u sorted h.1)
+    where
+      by : (s : Option Term) → step_of known o ≡ s → AllZip (OperandStands known) found (zip parameters (with_open known operands u))
+          → AllZip (OperandStands known) (w ∷ found) (zip (p ∷ parameters) (by_step s (NumberOperand u ∷ operands) (o ∷ with_open known operands u)))
+      by None e further = (h.0, further)
+      by (Some t) e further = (other_number w p o t u h.0 e sorted, h.1)
 
-  open_is_sorted : (found : List Where) (parameters : List ParameterKind) (operands : List Operand) → length operands ≡ length parameters → is_ready operands ≡ false → AllZip (OperandStands known) found (zip parameters operands) → TermHasSort known (open_term operands) Jint
+  open_is_sorted : (found : List Where) (parameters : List ParameterKind) (operands : List Operand) → length operands ≡ length parameters → are_done known operands ≡ false → AllZip (OperandStands known) found (zip parameters operands) → TermHasSort known (open_term known operands) Jint
   open_is_sorted found parameters [] count unready h = absurd (cc)
   open_is_sorted found [] (o ∷ operands) count unready h = absurd (omega (arith, count))
   open_is_sorted [] (p ∷ parameters) (o ∷ operands) count unready h = absurd h
-  open_is_sorted (w ∷ found) (p ∷ parameters) (Given a ∷ operands) count unready h = open_is_sorted found parameters operands (omega (arith, count)) unready h.1
-  open_is_sorted (w ∷ found) (p ∷ parameters) (NumberOperand (Done v) ∷ operands) count unready h = open_is_sorted found parameters operands (omega (arith, count)) unready h.1
-  open_is_sorted (w ∷ found) (p ∷ parameters) (NumberOperand t ∷ operands) count unready h = (number_there w p t h.0).2
-
--- nothing is left to be worked out
-ready_rest : (known : Known) (line : ℕ) (operands : List Operand) → is_ready operands ≡ true → operands_rest known line operands ≡ []
-ready_rest known line [] h = refl
-ready_rest known line (Given a ∷ operands) h = ready_rest known line operands h
-ready_rest known line (NumberOperand (Done v) ∷ operands) h = ready_rest known line operands h
-ready_rest known line (NumberOperand t ∷ operands) h = absurd (cc)
+  open_is_sorted (w ∷ found) (p ∷ parameters) (o ∷ operands) count unready h = by (step_of known o) refl unready (λ k. open_is_sorted found parameters operands (omega (arith, count)) k h.1)
+    where
+      by : (s : Option Term) → step_of known o ≡ s → (is_none s && are_done known operands) ≡ false → (are_done known operands ≡ false → TermHasSort known (open_term known operands) Jint) → TermHasSort known (first_term s (open_term known operands)) Jint
+      by None e k further = further k
+      by (Some t) e k further = (open_there w p o t h.0 e).2
 
 -- whether each way of a call returns goes by its target
 returns_alike : (line : ℕ) (target : Target) (f : JniFunction) (a b : List Operand) → task_returns (Invoke line target f a) ≡ task_returns (Invoke line target f b)
@@ -338,14 +576,55 @@ module _ (code : Listing) (known : Known) (place : ℕ) (stack : List ℕ) (slot
   -- a reference is looked up in the call's own step
   looked_up : (p : ParameterKind) (e : Expr) → IsReferenceKind p → look_up_expression visible.sight p e ≡ reference_argument visible.sight e
   looked_up FieldID e kind = absurd kind
+  looked_up MethodID e kind = absurd kind
   looked_up (ArrayVariable t) e kind = absurd kind
   looked_up (BufferVariable a) e kind = absurd kind
   looked_up Mode e kind = absurd kind
   looked_up IsCopy e kind = absurd kind
   looked_up p e kind = refl
 
+  looked_up_named : (p : ParameterKind) (x : Identifier) → IsReferenceKind p → look_up visible.sight (p, named_operand p x) ≡ ReferenceActual x (visible.sight.reference x)
+  looked_up_named Passed x kind = refl
+  looked_up_named p x kind = looked_up p (tree.Variable x) kind
+
+  -- a name has a value where it is that of a number
+  seen_name : (w : Where) (p : ParameterKind) (x : Identifier) → OperandStands known w (p, PassedName x) → IsSeenAs (names_number known x) (visible.sight.number x)
+  seen_name operand.Null p x h = absurd (let e = h.is in cc)
+  seen_name (operand.Local i) p x h =
+      let s : Slot = record { sort = Ref; index = i } in
+      let same = name_is p x h.0 h.2 in
+      subst (λ b. IsSeenAs b (visible.sight.number x)) (sym (named_alike known x h.0 s same h.3)) (ap (λ y. visible.sight.number y) same ∙ (shows.each h.0 s h.3).no_number)
+  seen_name (operand.Static i) p x h =
+      let same = name_is p x h.0 h.2 in
+      subst (λ b. IsSeenAs b (visible.sight.number x)) (sym (named_alike known x h.0 (record { sort = h.3.0; index = i }) same h.3.2 ∙ static_number h.3.0 h.3.1))
+      (ap (λ y. visible.sight.number y) same ∙ (shown_static h.0 i h.3).no_variable.number)
+  seen_name (operand.FieldId i) p x h = absurd (let e = h.2 in cc)
+  seen_name (operand.MethodId i) p x h = absurd (let e = h.2 in cc)
+  seen_name operand.Text p x h = absurd (let e = h.is in cc)
+  seen_name (operand.Array array) p x h = absurd (let e = h.is in cc)
+  seen_name (operand.Buffer i) p x h = absurd (let e = h.is in cc)
+  seen_name (operand.Mode mode) p x h = absurd (let e = h.is in cc)
+  seen_name (operand.IsCopy i) p x h = absurd (let e = h.is in cc)
+  seen_name operand.Number p x (inl h) = absurd (let e = h.is in cc)
+  seen_name operand.Number p x (inr h) =
+      let same : x ≡ h.name = let e : PassedName x ≡ PassedName h.name = h.is in cc in
+      let s : Slot = record { sort = Jint; index = h.there.0 } in
+      let shown = shows.each h.name s h.there.1 in
+      subst (λ b. IsSeenAs b (visible.sight.number x)) (sym (named_alike known x h.name s same h.there.1)) (shown.value, ap (λ y. visible.sight.number y) same ∙ shown.is)
+
+  seen_operand : (w : Where) (p : ParameterKind) (o : Operand) → OperandStands known w (p, o) → IsSeen known visible.sight o
+  seen_operand w p (NumberOperand t) h = tt
+  seen_operand w p (PassedName x) h = seen_name w p x h
+  seen_operand w p (Given a) h = tt
+
+  are_seen : (found : List Where) (parameters : List ParameterKind) (operands : List Operand) → length operands ≡ length parameters → AllZip (OperandStands known) found (zip parameters operands) → AreSeen known visible.sight operands
+  are_seen found parameters [] count h = tt
+  are_seen found [] (o ∷ operands) count h = absurd (omega (arith, count))
+  are_seen [] (p ∷ parameters) (o ∷ operands) count h = absurd h
+  are_seen (w ∷ found) (p ∷ parameters) (o ∷ operands) count h = (seen_operand w p o h.0, are_seen found parameters operands (omega (arith, count)) h.1)
+
   -- a number that is worked out
-  number_is : (p : ParameterKind) (t : Term) → is_given (NumberOperand t) ≡ true → TermHasSort known t Jint → (z : ℤ) × (look_up visible.sight (p, NumberOperand t) ≡ NumberActual z) × FitsSigned w32 z × (held t ≡ word_of (Int z) ∷ [])
+  number_is : (p : ParameterKind) (t : Term) → step_of known (NumberOperand t) ≡ None → TermHasSort known t Jint → (z : ℤ) × (look_up visible.sight (p, NumberOperand t) ≡ NumberActual z) × FitsSigned w32 z × (held t ≡ word_of (Int z) ∷ [])
   number_is p (Done (Int z)) ready h = (z, refl, h.0, refl)
   number_is p (Done (Word n)) ready h = absurd (let e : Jint ≡ sort.Word = h.1 in cc)
   number_is p (Done (Flag b)) ready h = absurd (let e : Jint ≡ sort.Flag = h in cc)
@@ -371,7 +650,8 @@ module _ (code : Listing) (known : Known) (place : ℕ) (stack : List ℕ) (slot
 
   null_found : (p : ParameterKind) (given : Operand) → given ≡ Given (tree.Value (tree.Named tree.Null)) → TakesNull p → IsFound operand.Null p given
   null_found FieldID given is kind = found_as operand.Null FieldID given (Given (tree.Value (tree.Named tree.Null))) (FieldActual None) is refl (inr (inl refl)) refl refl refl
-  null_found IsCopy given is kind = found_as operand.Null IsCopy given (Given (tree.Value (tree.Named tree.Null))) NothingActual is refl (inr (inr refl)) refl refl refl
+  null_found MethodID given is kind = found_as operand.Null MethodID given (Given (tree.Value (tree.Named tree.Null))) (MethodActual None) is refl (inr (inr (inl refl))) refl refl refl
+  null_found IsCopy given is kind = found_as operand.Null IsCopy given (Given (tree.Value (tree.Named tree.Null))) NothingActual is refl (inr (inr (inr refl))) refl refl refl
   null_found LocalVariable given is kind = absurd kind
   null_found StaticVariable given is kind = absurd kind
   null_found WeakVariable given is kind = absurd kind
@@ -381,12 +661,16 @@ module _ (code : Listing) (known : Known) (place : ℕ) (stack : List ℕ) (slot
   looked_up_at : (p q : ParameterKind) (e : Expr) → p ≡ q → look_up_expression visible.sight p e ≡ look_up_expression visible.sight q e
   looked_up_at p q e same = ap (λ (k : ParameterKind). look_up_expression visible.sight k e) same
 
-  is_found : (o : Where) (p : ParameterKind) (given : Operand) → is_given given ≡ true → OperandStands known o (p, given) → IsFound o p given
+  is_found : (o : Where) (p : ParameterKind) (given : Operand) → step_of known given ≡ None → OperandStands known o (p, given) → IsFound o p given
   is_found operand.Null p given ready h = null_found p given h.is h.kind
-  is_found (operand.Local i) p given ready h = found_as (operand.Local i) p given (Given (tree.Value (tree.Variable h.0))) (ReferenceActual h.0 (visible.sight.reference h.0)) h.2 (looked_up p (tree.Variable h.0) (local_kind p h.1)) (h.0, refl, h.3) (local_kind p h.1) refl refl
-  is_found (operand.Static i) p given ready h = found_as (operand.Static i) p given (Given (tree.Value (tree.Variable h.0))) (ReferenceActual h.0 (visible.sight.reference h.0)) h.2 (looked_up p (tree.Variable h.0) (global_kind p h.1)) (h.0, refl, h.3) (global_kind p h.1) refl refl
+  is_found (operand.Local i) p given ready h =
+      found_as (operand.Local i) p given (named_operand p h.0) (ReferenceActual h.0 (visible.sight.reference h.0)) h.2 (looked_up_named p h.0 (local_kind p h.1)) (h.0, refl, h.3) (local_kind p h.1) (named_held p h.0) (named_text p h.0)
+  is_found (operand.Static i) p given ready h =
+      found_as (operand.Static i) p given (named_operand p h.0) (ReferenceActual h.0 (visible.sight.reference h.0)) h.2 (looked_up_named p h.0 (global_kind p h.1)) (h.0, refl, h.3) (global_kind p h.1) (named_held p h.0) (named_text p h.0)
   is_found (operand.FieldId i) p given ready h =
       found_as (operand.FieldId i) p given (Given (tree.Value (tree.Variable h.0))) (FieldActual (visible.sight.field h.0)) h.2 (looked_up_at p FieldID (tree.Variable h.0) h.1) (h.0, refl, h.3) h.1 refl refl
+  is_found (operand.MethodId i) p given ready h =
+      found_as (operand.MethodId i) p given (Given (tree.Value (tree.Variable h.0))) (MethodActual (visible.sight.method h.0)) h.2 (looked_up_at p MethodID (tree.Variable h.0) h.1) (h.0, refl, h.3) h.1 refl refl
   is_found operand.Text p given ready h = found_as operand.Text p given (Given (tree.Text h.bytes)) (TextActual h.bytes) h.is refl (h.bytes, refl) h.kind refl refl
   is_found (operand.Array array) p given ready h =
       found_as (operand.Array array) p given (Given (tree.Value (tree.Variable h.name))) (VariableActual h.name) h.is (looked_up_at p (ArrayVariable h.type) (tree.Variable h.name) h.kind) (h.name, refl, h.type, h.there) (subst IsVariableKind (sym h.kind) tt) refl refl
@@ -396,14 +680,22 @@ module _ (code : Listing) (known : Known) (place : ℕ) (stack : List ℕ) (slot
       found_as (operand.Mode mode) p given (Given (tree.Value h.written)) (ModeActual (mode_of h.written)) h.is (looked_up_at p Mode h.written h.kind) (mode_of h.written, refl, h.same) h.kind refl refl
   is_found (operand.IsCopy i) p given ready h =
       found_as (operand.IsCopy i) p given (Given (tree.AddressOf h.name)) (VariableActual h.name) h.is refl (h.name, refl, h.there) (subst IsVariableKind (sym h.kind) tt) refl refl
-  is_found operand.Number p given ready h =
-      let number = number_is p h.term (ap is_given (sym h.is) ∙ ready) h.sort in
+  is_found operand.Number p given ready (inr h) =
+      let number : names_number known h.name ≡ true = named_alike known h.name h.name (record { sort = Jint; index = h.there.0 }) refl h.there.1 in
+      let none = passed_done (names_number known h.name) h.name (ap (step_of known) (sym h.is) ∙ ready) in
+      absurd (let c : true ≡ false = sym number ∙ none in cc)
+  is_found operand.Number p given ready (inl h) =
+      let number = number_is p h.term (ap (step_of known) (sym h.is) ∙ ready) h.sort in
       found_as operand.Number p given (NumberOperand h.term) (NumberActual number.0) h.is number.1 (number.0, refl, number.2) h.kind number.3 refl
 
-  both_ready : (o : Operand) (operands : List Operand) → is_ready (o ∷ operands) ≡ true → (is_given o ≡ true) × (is_ready operands ≡ true)
-  both_ready o operands h = (and_left (is_given o) (is_ready operands) h, and_right (is_given o) (is_ready operands) h)
+  none_is : (s : Option Term) → is_none s ≡ true → s ≡ None
+  none_is None h = refl
+  none_is (Some t) h = absurd (cc)
 
-  are_operands : (found : List Where) (parameters : List ParameterKind) (operands : List Operand) → is_ready operands ≡ true → AllZip (OperandStands known) found (zip parameters operands)
+  both_ready : (o : Operand) (operands : List Operand) → are_done known (o ∷ operands) ≡ true → (step_of known o ≡ None) × (are_done known operands ≡ true)
+  both_ready o operands h = (none_is (step_of known o) (and_left (is_none (step_of known o)) (are_done known operands) h), and_right (is_none (step_of known o)) (are_done known operands) h)
+
+  are_operands : (found : List Where) (parameters : List ParameterKind) (operands : List Operand) → are_done known operands ≡ true → AllZip (OperandStands known) found (zip parameters operands)
       → AllZip (IsOperand code known place stack slots visible) found (map (look_up visible.sight) (zip parameters operands))
   are_operands [] [] operands ready h = h
   are_operands (w ∷ found) [] operands ready h = absurd h
@@ -414,7 +706,7 @@ module _ (code : Listing) (known : Known) (place : ℕ) (stack : List ℕ) (slot
       let both = both_ready o operands ready in
       ((is_found w p o both.0 h.0).found, are_operands found parameters operands both.1 h.1)
 
-  are_fit : (found : List Where) (parameters : List ParameterKind) (operands : List Operand) → length operands ≡ length parameters → is_ready operands ≡ true → AllZip (OperandStands known) found (zip parameters operands)
+  are_fit : (found : List Where) (parameters : List ParameterKind) (operands : List Operand) → length operands ≡ length parameters → are_done known operands ≡ true → AllZip (OperandStands known) found (zip parameters operands)
       → AllZip ActualFits parameters (map (look_up visible.sight) (zip parameters operands))
   are_fit found [] operands count ready h = tt
   are_fit found (p ∷ parameters) [] count ready h = absurd (omega (arith, count))
@@ -423,7 +715,7 @@ module _ (code : Listing) (known : Known) (place : ℕ) (stack : List ℕ) (slot
       let both = both_ready o operands ready in
       ((is_found w p o both.0 h.0).fits, are_fit found parameters operands (omega (arith, count)) both.1 h.1)
 
-  are_words : (found : List Where) (parameters : List ParameterKind) (operands : List Operand) → length operands ≡ length parameters → is_ready operands ≡ true → AllZip (OperandStands known) found (zip parameters operands)
+  are_words : (found : List Where) (parameters : List ParameterKind) (operands : List Operand) → length operands ≡ length parameters → are_done known operands ≡ true → AllZip (OperandStands known) found (zip parameters operands)
       → operands_held operands ≡ words_given (map (look_up visible.sight) (zip parameters operands))
   are_words found [] [] count ready h = refl
   are_words found [] (o ∷ operands) count ready h = absurd (omega (arith, count))
@@ -434,7 +726,7 @@ module _ (code : Listing) (known : Known) (place : ℕ) (stack : List ℕ) (slot
       ap (λ (l : List ℕ). l ++ operand_held o) (are_words found parameters operands (omega (arith, count)) both.1 h.1)
       ∙ ap (λ (l : List ℕ). words_given (map (look_up visible.sight) (zip parameters operands)) ++ l) (is_found w p o both.0 h.0).word
 
-  are_texts : (found : List Where) (parameters : List ParameterKind) (operands : List Operand) → length operands ≡ length parameters → is_ready operands ≡ true → AllZip (OperandStands known) found (zip parameters operands)
+  are_texts : (found : List Where) (parameters : List ParameterKind) (operands : List Operand) → length operands ≡ length parameters → are_done known operands ≡ true → AllZip (OperandStands known) found (zip parameters operands)
       → operands_texts operands ≡ texts_given (map (look_up visible.sight) (zip parameters operands))
   are_texts found [] [] count ready h = refl
   are_texts found [] (o ∷ operands) count ready h = absurd (omega (arith, count))
@@ -450,8 +742,10 @@ module _ (code : Listing) (known : Known) (place : ℕ) (stack : List ℕ) (slot
   operand_fits (operand.Local i) p given h = h.1
   operand_fits (operand.Static i) p given h = h.1
   operand_fits (operand.FieldId i) p given h = h.1
+  operand_fits (operand.MethodId i) p given h = h.1
   operand_fits operand.Text p given h = h.kind
-  operand_fits operand.Number p given h = h.kind
+  operand_fits operand.Number p given (inl h) = h.kind
+  operand_fits operand.Number p given (inr h) = inr h.kind
   operand_fits (operand.Array array) p given h = (h.type, h.kind)
   operand_fits (operand.Buffer i) p given h = (h.access, h.kind)
   operand_fits (operand.Mode mode) p given h = h.kind
@@ -473,60 +767,70 @@ module _ (code : Listing) (known : Known) (place : ℕ) (stack : List ℕ) (slot
   -- ---- the call
 
   module _ (line : ℕ) (target : Target) (f : JniFunction) (operands : List Operand) (rest : List Task) (c : InvokeStands code known place stack (λ p names. TasksStand code names p [] rest) line target f operands) (returns : IsTrue (list_any task_returns (Invoke line target f operands ∷ rest))) where
+    -- the parameters of the arguments
+    abbrev parameters : List ParameterKind
+    parameters = parameters_for f (length operands)
+
+    seen : AreSeen known visible.sight operands
+    seen = are_seen c.call.operands parameters operands c.count c.operands_stand
+
     -- all is worked out
-    made : is_ready operands ≡ true → DoesEffect code known place stack slots visible rest (Calls line target f (actuals visible.sight f operands))
+    made : are_done known operands ≡ true → DoesEffect code known place stack slots visible rest (Calls line target f (actuals visible.sight f operands))
     made ready =
         let none = ready_rest known line operands ready in
         let here = subst (λ (l : List Instr). HasAt code.instrs place (l ++ instr.Call c.call ∷ [])) none c.at in
         let next : place + length (operands_rest known line operands) + 1 ≡ place + 1 = omega (arith, ap length none) in
+        let as_many : length operands ≡ length (actuals visible.sight f operands) = c.count ∙ sym (actual_count parameters operands c.count) in
         record {
           call = c.call;
           at = here.0;
           same_line = c.same_line;
           same_function = c.same_function;
-          words = c.held ∙ are_words c.call.operands (prototype f).parameters operands c.count ready c.operands_stand;
-          texts = c.texts ∙ are_texts c.call.operands (prototype f).parameters operands c.count ready c.operands_stand;
-          count = actual_count (prototype f).parameters operands c.count;
-          fit = are_fit c.call.operands (prototype f).parameters operands c.count ready c.operands_stand;
-          kinds = operands_fit c.call.operands (prototype f).parameters operands c.count c.operands_stand;
+          words = c.held ∙ are_words c.call.operands parameters operands c.count ready c.operands_stand;
+          texts = c.texts ∙ are_texts c.call.operands parameters operands c.count ready c.operands_stand;
+          count = subst (λ n. n ≡ length (parameters_for f n)) as_many c.count;
+          fit = subst (λ n. AllZip ActualFits (parameters_for f n) (actuals visible.sight f operands)) as_many (are_fit c.call.operands parameters operands c.count ready c.operands_stand);
+          kinds = subst (λ n. AllZip OperandFits (parameters_for f n) c.call.operands) as_many (operands_fit c.call.operands parameters operands c.count c.operands_stand);
           own_slots = c.own_slots;
-          given = are_operands c.call.operands (prototype f).parameters operands ready c.operands_stand;
+          given = are_operands c.call.operands parameters operands ready c.operands_stand;
           goes = takes_result line f operands c.call.target (prototype f).result target rest (subst (λ p. TargetStands code known (λ q names. TasksStand code names q [] rest) p line c.call.target (prototype f).result target) next c.goes) returns;
         }
 
     -- a number takes its step
-    worked_out : is_ready operands ≡ false → DoesEffect code known place stack slots visible rest (goes_on line (Invoke line target f) (reduce_first visible.sight operands))
+    worked_out : are_done known operands ≡ false → DoesEffect code known place stack slots visible rest (goes_on line (Invoke line target f) (reduce_first visible.sight operands))
     worked_out unready =
-        let t = open_term operands in
-        let whole : operands_rest known line operands ≡ term_code known line t ++ rest_after known line operands = ap (operands_rest known line) (sym (same_operands operands unready)) ∙ rest_with known line operands t unready in
+        let t = open_term known operands in
+        let whole : operands_rest known line operands ≡ term_code known line t ++ rest_after known line operands = rest_open known line operands unready in
         let at : HasAt code.instrs place (term_code known line t ++ (rest_after known line operands ++ instr.Call c.call ∷ [])) =
         subst (HasAt code.instrs place) (ap (λ (l : List Instr). l ++ instr.Call c.call ∷ []) whole ∙ append_assoc (term_code known line t) (rest_after known line operands) (instr.Call c.call ∷ [])) c.at in
-        let under : stack ≡ held t ++ words_under operands = c.held ∙ ap operands_held (sym (same_operands operands unready)) ∙ held_with operands t unready c.begun in
+        let under : stack ≡ held t ++ words_under known operands = c.held ∙ held_open known operands unready c.begun in
         subst (DoesEffect code known place stack slots visible rest)
-        (sym (ap (goes_on line (Invoke line target f)) (reduced visible.sight operands unready) ∙ goes_on_inside line (with_open operands) (Invoke line target f) (reduce visible.sight t)))
-        (step_inside code known place stack slots visible shows sees line t Jint (words_under operands) (rest_after known line operands ++ instr.Call c.call ∷ []) (λ u. Invoke line target f (with_open operands u)) rest
-        (open_is_open operands unready) (open_is_sorted known c.call.operands (prototype f).parameters operands c.count unready c.operands_stand) (open_is_begun operands unready c.begun) under at (λ u. subst (λ (b : Bool). IsTrue (b || list_any task_returns rest)) (returns_alike line target f operands (with_open operands u)) returns)
+        (sym (ap (goes_on line (Invoke line target f)) (reduced known visible.sight operands unready seen) ∙ goes_on_inside line (with_open known operands) (Invoke line target f) (reduce visible.sight t)))
+        (step_inside code known place stack slots visible shows sees line t Jint (words_under known operands) (rest_after known line operands ++ instr.Call c.call ∷ []) (λ u. Invoke line target f (with_open known operands u)) rest
+        (open_is_open known operands unready) (open_is_sorted known c.call.operands parameters operands c.count unready c.operands_stand) (open_is_begun known operands unready c.begun) under at
+        (λ u. subst (λ (b : Bool). IsTrue (b || list_any task_returns rest)) (returns_alike line target f operands (with_open known operands u)) returns)
         (λ p u sorted begun there size.
-        let same : operands_rest known line (with_open operands u) ≡ term_code known line u ++ rest_after known line operands = rest_with known line operands u unready in
-        let end : place + length (operands_rest known line operands) + 1 ≡ p + length (operands_rest known line (with_open operands u)) + 1 =
+        let same : operands_rest known line (with_open known operands u) ≡ term_code known line u ++ rest_after known line operands = rest_with known line operands u unready in
+        let end : place + length (operands_rest known line operands) + 1 ≡ p + length (operands_rest known line (with_open known operands u)) + 1 =
         omega (arith, size, ap length whole, ap length same, length-append (term_code known line t) (rest_after known line operands), length-append (term_code known line u) (rest_after known line operands)) in
+        let as_many : length operands ≡ length (with_open known operands u) = sym (count_same known operands u) in
         record {
           call = c.call;
           at = subst (HasAt code.instrs p) (sym (ap (λ (l : List Instr). l ++ instr.Call c.call ∷ []) same ∙ append_assoc (term_code known line u) (rest_after known line operands) (instr.Call c.call ∷ []))) there;
           same_line = c.same_line;
           same_function = c.same_function;
-          begun = begun_with operands u unready c.begun begun;
-          held = sym (held_with operands u unready c.begun);
-          texts = c.texts ∙ sym (texts_with operands u);
-          count = count_same operands u ∙ c.count;
+          begun = begun_with known operands u unready c.begun begun;
+          held = sym (held_with known operands u unready c.begun);
+          texts = c.texts ∙ sym (texts_with known operands u);
+          count = subst (λ n. n ≡ length (parameters_for f n)) as_many c.count;
           own_slots = c.own_slots;
-          operands_stand = stand_with known c.call.operands (prototype f).parameters operands u sorted c.operands_stand;
+          operands_stand = subst (λ n. AllZip (OperandStands known) c.call.operands (zip (parameters_for f n) (with_open known operands u))) as_many (stand_with known c.call.operands parameters operands u sorted c.operands_stand);
           goes = subst (λ q. TargetStands code known (λ r names. TasksStand code names r [] rest) q line c.call.target (prototype f).result target) end c.goes;
         }))
 
-    by_ready : (b : Bool) → is_ready operands ≡ b → DoesEffect code known place stack slots visible rest (call_effect_of visible.sight line target f operands)
-    by_ready true ready = rw ready (made ready)
-    by_ready false unready = rw unready (worked_out unready)
+    by_ready : (b : Bool) → are_done known operands ≡ b → DoesEffect code known place stack slots visible rest (call_effect_of visible.sight line target f operands)
+    by_ready true ready = rw (ready_alike known visible.sight operands seen ∙ ready) (made ready)
+    by_ready false unready = rw (ready_alike known visible.sight operands seen ∙ unready) (worked_out unready)
 
     pub call_step : DoesEffect code known place stack slots visible rest (call_effect_of visible.sight line target f operands)
-    call_step = by_ready (is_ready operands) refl
+    call_step = by_ready (are_done known operands) refl

@@ -1,5 +1,5 @@
 -- The code of an accepted function has one instruction for each step, and a return at its end.
-use Rattle.std.proofs.Common.{◌≡◌, ℕ, ◌+◌, Bool, true, false, ◌||◌, List, [], ◌∷◌, ◌++◌, length, Option, Some, None, refl, sym, ap, ◌∙◌, subst, arith, length-append, map}
+use Rattle.std.proofs.Common.{◌≡◌, ℕ, ◌+◌, Bool, true, false, ◌||◌, List, [], ◌∷◌, ◌++◌, length, Option, Some, None, refl, sym, ap, ◌∙◌, subst, arith, length-append, map, if◌then◌else◌}
 use Rattle.std.specs.Prelude.{zip}
 use Rattle.std.specs.List.{AllZip, sum_by}
 use Rattle.std.proofs.lemmas.List.Sums.{sum_by-cons}
@@ -8,9 +8,9 @@ use Rattle.syntax.specs.Parts.{null_tested, names_declared, statements_of, state
 use Rattle.syntax.specs.Tree as tree
 use Rattle.syntax.specs.Tree.{ResultType, Void, IntResult, ReferenceResult, LogicalNot, Complement, ToWord, ToInt, BinaryOp, LogicalOr, LogicalAnd, Equal, NotEqual, Expr, Argument, Call, RightSide, FromExpr, FromCall, Test, TestExpr, TestCall, Stmt, Block, End, Next}
 use Rattle.base.specs.Element.{JChar}
-use Rattle.jni.specs.JniFunction.{function_named, prototype}
-use Rattle.jni.specs.Prototype.{ParameterKind, IntNumber}
-use Rattle.type_rules.specs.Sorts.{Sort, Jint, Ref, Global, Weak, FieldId, MethodId, Buffer, Array, constant_sort, sort_in, sort_of, is_ref, is_null, name_sort}
+use Rattle.jni.specs.JniFunction.{function_named, parameters_for}
+use Rattle.jni.specs.Prototype.{ParameterKind, IntNumber, Passed}
+use Rattle.type_rules.specs.Sorts.{Sort, Jint, Ref, Global, Weak, FieldId, MethodId, Buffer, Array, constant_sort, sort_in, sort_of, is_jint, is_ref, is_null, name_sort}
 use Rattle.type_rules.specs.Sorts as sort
 use Rattle.type_rules.specs.SortRules.{variable_sort, return_fits, places_within, places_of}
 use Rattle.code.specs.declared.instr.Target.{Target}
@@ -20,15 +20,16 @@ use Rattle.code.specs.declared.instr.Instr.TheVariants as instr
 use Rattle.semantics.specs.Term as term
 use Rattle.semantics.specs.Term.{Term, Done, Read, IsNull, Prefix, And, Or, Binary, binary_term, term_of}
 use Rattle.code_meaning.specs.Layout.{Slot, Known, Layout, new_slot, closed, layout_after, block_layout}
-use Rattle.code_meaning.specs.Coding.{arguments_texts, result_target, nullable_of, test_of, store_of, null_code, element_code, write_code, of_slot, load_code, prefix_code, operator_code, is_signed, skip_code, term_code, expr_code, named_call_code, value_code, right_code, assign_code, returned_code, return_code, test_code, ways_code, if_code, turn_code, loop_code, stmt_code, block_code, argument_code, arguments_code, operand_code}
-use Rattle.code_meaning.specs.Fits.{IsNullable, HasElements, TermHasSort, NumberFits, ArgumentFits, CallFits, ValueFits, RightFits, TestFits, ReturnFits, StmtFits, BlockFits}
-use Rattle.code_meaning.specs.Length.{binary_steps, expr_steps, argument_steps, arguments_steps, call_steps, value_steps, right_steps, test_steps, return_steps, stmt_steps, block_steps}
+use Rattle.code_meaning.specs.Coding.{arguments_texts, result_target, nullable_of, test_of, store_of, null_code, element_code, write_code, of_slot, load_code, prefix_code, operator_code, is_signed, skip_code, term_code, expr_code, named_call_code, value_code, right_code, assign_code, returned_code, return_code, test_code, ways_code, if_code, turn_code, loop_code, stmt_code, block_code, argument_code, arguments_code, passed_rest, number_code, operand_code}
+use Rattle.code_meaning.specs.Fits.{IsNullable, HasElements, TermHasSort, NumberFits, PassedFits, ArgumentFits, CallFits, ValueFits, RightFits, TestFits, ReturnFits, StmtFits, BlockFits}
+use Rattle.code_meaning.specs.Length.{binary_steps, expr_steps, passed_steps, argument_steps, arguments_steps, call_steps, value_steps, right_steps, test_steps, return_steps, stmt_steps, block_steps}
 use Rattle.lower.proofs.Bodies.{one_write}
 use Rattle.lower.proofs.SortFacts.{scope_of, slot_of_name}
 use Rattle.lower.proofs.StatementFacts.{jint_is, ref_is}
 use Rattle.type_rules.proofs.PlaceLists.{AreUnbroken}
 use Rattle.type_rules.proofs.KeptPlaces.{own_kept, inside_kept, block_kept, ways_kept}
 use Rattle.lower.proofs.BodyFacts.{scope_after}
+use Rattle.lower.proofs.NamesOnce.{IntsAgree, StmtsAgree, both_agree, own_agrees, agree_after}
 
 -- ---- expressions
 
@@ -119,28 +120,44 @@ expr_length known line e s h = term_length known line (term_of e) s h.sort ∙ s
 
 -- ---- right sides
 
-argument_length : (known : Known) (line : ℕ) (p : ParameterKind) (a : Argument) → ArgumentFits known p a → length (argument_code known line (p, a)) ≡ argument_steps (p, a)
-argument_length known line IntNumber (tree.Value e) h = expr_length known line e Jint h
-argument_length known line IntNumber a h = absurd h
-argument_length known line p a h = refl
+number_length : (b : Bool) (s : Sort) (i : ℕ) → length (if b then load_code s i else []) ≡ (if b then 1 else 0)
+number_length true s i = refl
+number_length false s i = refl
 
-arguments_length : (known : Known) (line : ℕ) (parameters : List ParameterKind) (arguments : List Argument) → AllZip (ArgumentFits known) parameters arguments → length (arguments_code known line (zip parameters arguments)) ≡ sum_by argument_steps (zip parameters arguments)
-arguments_length known line [] [] h = refl
-arguments_length known line [] (a ∷ arguments) h = absurd h
-arguments_length known line (p ∷ parameters) [] h = absurd h
-arguments_length known line (p ∷ parameters) (a ∷ arguments) h =
-    let one = argument_length known line p a h.0 in
-    let others = arguments_length known line parameters arguments h.1 in
-    omega (arith, one, others, sum_by-cons argument_steps (p, a) (zip parameters arguments), length-append (argument_code known line (p, a)) (arguments_code known line (zip parameters arguments)))
+-- the names of `jint`s are these
+module _ (ints : List Identifier) where
+  passed_length : (known : Known) (line : ℕ) (e : Expr) → IntsAgree ints known → PassedFits known e → length (passed_rest known line e) ≡ passed_steps ints e
+  passed_length known line (tree.Named tree.Null) agree h = refl
+  passed_length known line (tree.Variable x) agree h =
+      ap (λ o. length (of_slot number_code o)) h.1 ∙ number_length (is_jint (Some h.0.sort)) h.0.sort h.0.index ∙ ap (λ b. if b then 1 else 0) (sym (agree x h.0 h.1))
+  passed_length known line e agree h = expr_length known line e Jint h
 
-call_length : (known : Known) (line : ℕ) (target : Target) (c : Call) → CallFits known c → length (named_call_code known line target (function_named c.function) c.arguments) ≡ call_steps c
-call_length known line target c h =
-    let given = zip (prototype h.function).parameters c.arguments in
-    let steps = arguments_length known line (prototype h.function).parameters c.arguments h.arguments in
-    let call = instr.Call (record { line = line; target = target; function = h.function; operands = map (operand_code known) given; texts = arguments_texts c.arguments }) ∷ [] in
-    ap (λ o. length (named_call_code known line target o c.arguments)) h.named
-    ∙ omega (arith, steps, length-append (arguments_code known line given) call)
-    ∙ sym (ap (λ o. arguments_steps o c.arguments + 1) h.named)
+  argument_length : (known : Known) (line : ℕ) (p : ParameterKind) (a : Argument) → IntsAgree ints known → ArgumentFits known p a → length (argument_code known line (p, a)) ≡ argument_steps ints (p, a)
+  argument_length known line IntNumber (tree.Value e) agree h = expr_length known line e Jint h
+  argument_length known line IntNumber a agree h = absurd h
+  argument_length known line Passed (tree.Value e) agree h = passed_length known line e agree h
+  argument_length known line Passed a agree h = absurd h
+  argument_length known line p a agree h = refl
+
+  arguments_length : (known : Known) (line : ℕ) (parameters : List ParameterKind) (arguments : List Argument) → IntsAgree ints known → AllZip (ArgumentFits known) parameters arguments
+      → length (arguments_code known line (zip parameters arguments)) ≡ sum_by (argument_steps ints) (zip parameters arguments)
+  arguments_length known line [] [] agree h = refl
+  arguments_length known line [] (a ∷ arguments) agree h = absurd h
+  arguments_length known line (p ∷ parameters) [] agree h = absurd h
+  arguments_length known line (p ∷ parameters) (a ∷ arguments) agree h =
+      let one = argument_length known line p a agree h.0 in
+      let others = arguments_length known line parameters arguments agree h.1 in
+      omega (arith, one, others, sum_by-cons (argument_steps ints) (p, a) (zip parameters arguments), length-append (argument_code known line (p, a)) (arguments_code known line (zip parameters arguments)))
+
+  call_length : (known : Known) (line : ℕ) (target : Target) (c : Call) → IntsAgree ints known → CallFits known c → length (named_call_code known line target (function_named c.function) c.arguments) ≡ call_steps ints c
+  call_length known line target c agree h =
+      let parameters = parameters_for h.function (length c.arguments) in
+      let given = zip parameters c.arguments in
+      let steps = arguments_length known line parameters c.arguments agree h.arguments in
+      let call = instr.Call (record { line = line; target = target; function = h.function; operands = map (operand_code known) given; texts = arguments_texts c.arguments }) ∷ [] in
+      ap (λ o. length (named_call_code known line target o c.arguments)) h.named
+      ∙ omega (arith, steps, length-append (arguments_code known line given) call)
+      ∙ sym (ap (λ o. arguments_steps ints o c.arguments + 1) h.named)
 
 number_set : (known : Known) (line : ℕ) (slot : Slot) (e : Expr) (s : Sort) → NumberFits known (term_of e) s → length (value_code known line slot e) ≡ value_steps e
 number_set known line slot (tree.Named tree.Null) s h = absurd h.sort
@@ -161,9 +178,9 @@ value_length known line MethodId i e h = null_set known line (record { sort = Me
 value_length known line (Buffer t w) i e h = null_set known line (record { sort = Buffer t w; index = i }) e refl h
 value_length known line s i e h = absurd h
 
-right_length : (known : Known) (line : ℕ) (s : Slot) (r : RightSide) → RightFits known s.sort r → length (right_code known line s r) ≡ right_steps r
-right_length known line s (FromExpr e) h = value_length known line s.sort s.index e h
-right_length known line s (FromCall c) h = call_length known line (result_target s.sort s.index) c h.fits
+right_length : (ints : List Identifier) (known : Known) (line : ℕ) (s : Slot) (r : RightSide) → IntsAgree ints known → RightFits known s.sort r → length (right_code known line s r) ≡ right_steps ints r
+right_length ints known line s (FromExpr e) agree h = value_length known line s.sort s.index e h
+right_length ints known line s (FromCall c) agree h = call_length ints known line (result_target s.sort s.index) c agree h.fits
 
 -- ---- returns
 
@@ -209,13 +226,14 @@ return_length known line (ReferenceResult r) e h fits = reference_returned known
 
 -- ---- statements
 
-test_length : (known : Known) (line : ℕ) (test : Test) → TestFits known test → length (test_code known line test) + 1 ≡ test_steps test
-test_length known line (TestExpr e) h = let inside = expr_length known line e sort.Truth h in omega arith
-test_length known line (TestCall c) h = ap (λ n. n + 1) (call_length known line destination.Test c h.fits)
+test_length : (ints : List Identifier) (known : Known) (line : ℕ) (test : Test) → IntsAgree ints known → TestFits known test → length (test_code known line test) + 1 ≡ test_steps ints test
+test_length ints known line (TestExpr e) agree h = let inside = expr_length known line e sort.Truth h in omega arith
+test_length ints known line (TestCall c) agree h = ap (λ n. n + 1) (call_length ints known line destination.Test c agree h.fits)
 
-if_length : (known : Known) (line : ℕ) (test : Test) (then' else' : List Instr) (m n : ℕ) → TestFits known test → length then' ≡ m → length else' ≡ n → length (if_code known line test then' else') ≡ test_steps test + (m + 1) + (n + 1)
-if_length known line test then' else' m n h first second =
-    let inside = test_length known line test h in
+if_length : (ints : List Identifier) (known : Known) (line : ℕ) (test : Test) (then' else' : List Instr) (m n : ℕ) → IntsAgree ints known → TestFits known test → length then' ≡ m → length else' ≡ n
+    → length (if_code known line test then' else') ≡ test_steps ints test + (m + 1) + (n + 1)
+if_length ints known line test then' else' m n agree h first second =
+    let inside = test_length ints known line test agree h in
     let last = after_one else' (instr.Jump 0) n second in
     omega (arith, length-append (test_code known line test) (ways_code then' (else' ++ instr.Jump 0 ∷ [])), length-append then' (instr.Jump (length (else' ++ instr.Jump 0 ∷ [])) ∷ (else' ++ instr.Jump 0 ∷ [])))
 
@@ -231,36 +249,38 @@ write_length l line x i e h =
     let last : length (of_slot (write_code line) (lookup x l.known)) ≡ 1 = ap (λ o. length (of_slot (write_code line) o)) h.0.1 ∙ one_write line h.0.0.sort h.0.0.index h.0.2 in
     omega (arith, length-append (expr_code l.known line i) (expr_code l.known line e ++ of_slot (write_code line) (lookup x l.known)), length-append (expr_code l.known line e) (of_slot (write_code line) (lookup x l.known)))
 
-module _ (returns : ResultType) where
+module _ (ints : List Identifier) (returns : ResultType) where
   mutual
-    stmt_length : (s : Stmt) (l : Layout) (taken : List Identifier) → StmtFits l s → AreUnbroken (places_within returns (scope_of l.known) taken s) → length (stmt_code l s) ≡ stmt_steps returns s
-    stmt_length (tree.Declare line t x r) l taken fits kept = right_length l.known line (new_slot (variable_sort t) l) r fits.1
-    stmt_length (tree.DeclareBuffer line t x r) l taken fits kept = right_length l.known line (new_slot (Buffer t true) l) r fits.1
-    stmt_length (tree.DeclareChars line x r) l taken fits kept = right_length l.known line (new_slot (Buffer JChar false) l) r fits.1
-    stmt_length (tree.DeclareArray line t x size) l taken fits kept = refl
-    stmt_length (tree.Assign line x r) l taken fits kept = ap (λ o. length (assign_code l.known line o r)) fits.1 ∙ right_length l.known line fits.0 r fits.2
-    stmt_length (tree.AssignElement line x i e) l taken fits kept = write_length l line x i e fits
-    stmt_length (tree.Perform line c) l taken fits kept = call_length l.known line destination.Dropped c fits.fits
-    stmt_length (tree.PutJint line e) l taken fits kept = after_one (expr_code l.known line e) instr.PutJint (expr_steps e) (expr_length l.known line e Jint fits)
-    stmt_length (tree.If line test then') l taken fits kept =
-        let inside = block_length then' l taken fits.1 (inside_kept returns (scope_of l.known) taken (tree.If line test then') kept) in
-        if_length l.known line test (block_code l then') [] (block_steps returns then') 0 fits.0 inside refl
-    stmt_length (tree.IfElse line test then' else') l taken fits kept =
+    stmt_length : (s : Stmt) (l : Layout) (taken : List Identifier) → IntsAgree ints l.known → StmtsAgree ints (statements_within s) → StmtFits l s → AreUnbroken (places_within returns (scope_of l.known) taken s) → length (stmt_code l s) ≡ stmt_steps ints returns s
+    stmt_length (tree.Declare line t x r) l taken agree declared fits kept = right_length ints l.known line (new_slot (variable_sort t) l) r agree fits.1
+    stmt_length (tree.DeclareBuffer line t x r) l taken agree declared fits kept = right_length ints l.known line (new_slot (Buffer t true) l) r agree fits.1
+    stmt_length (tree.DeclareChars line x r) l taken agree declared fits kept = right_length ints l.known line (new_slot (Buffer JChar false) l) r agree fits.1
+    stmt_length (tree.DeclareArray line t x size) l taken agree declared fits kept = refl
+    stmt_length (tree.Assign line x r) l taken agree declared fits kept = ap (λ o. length (assign_code l.known line o r)) fits.1 ∙ right_length ints l.known line fits.0 r agree fits.2
+    stmt_length (tree.AssignElement line x i e) l taken agree declared fits kept = write_length l line x i e fits
+    stmt_length (tree.Perform line c) l taken agree declared fits kept = call_length ints l.known line destination.Dropped c agree fits.fits
+    stmt_length (tree.PutJint line e) l taken agree declared fits kept = after_one (expr_code l.known line e) instr.PutJint (expr_steps e) (expr_length l.known line e Jint fits)
+    stmt_length (tree.If line test then') l taken agree declared fits kept =
+        let inside = block_length then' l taken agree declared.1 fits.1 (inside_kept returns (scope_of l.known) taken (tree.If line test then') kept) in
+        if_length ints l.known line test (block_code l then') [] (block_steps ints returns then') 0 agree fits.0 inside refl
+    stmt_length (tree.IfElse line test then' else') l taken agree declared fits kept =
         let both = ways_kept returns (scope_of l.known) taken line test then' else' kept in
-        let first = block_length then' l taken fits.1 both.0 in
-        let second = block_length else' (closed l (block_layout l then')) (taken ++ names_declared (statements_of then')) fits.2 both.1 in
-        if_length l.known line test (block_code l then') (block_code (closed l (block_layout l then')) else') (block_steps returns then') (block_steps returns else') fits.0 first second
-    stmt_length (tree.While line test body) l taken fits kept =
-        let inside = block_length body l taken fits.1 (inside_kept returns (scope_of l.known) taken (tree.While line test body) kept) in
-        loop_length (expr_code l.known line test) (block_code l body) (expr_steps test) (block_steps returns body) (expr_length l.known line test sort.Truth fits.0) inside
-    stmt_length (tree.Return line) l taken fits kept = refl
-    stmt_length (tree.ReturnValue line e) l taken fits kept = return_length l.known line returns e (own_kept returns (scope_of l.known) taken (tree.ReturnValue line e) kept).fits fits
+        let ways = both_agree ints (statements_of then') (statements_of else') declared.1 in
+        let first = block_length then' l taken agree ways.0 fits.1 both.0 in
+        let second = block_length else' (closed l (block_layout l then')) (taken ++ names_declared (statements_of then')) agree ways.1 fits.2 both.1 in
+        if_length ints l.known line test (block_code l then') (block_code (closed l (block_layout l then')) else') (block_steps ints returns then') (block_steps ints returns else') agree fits.0 first second
+    stmt_length (tree.While line test body) l taken agree declared fits kept =
+        let inside = block_length body l taken agree declared.1 fits.1 (inside_kept returns (scope_of l.known) taken (tree.While line test body) kept) in
+        loop_length (expr_code l.known line test) (block_code l body) (expr_steps test) (block_steps ints returns body) (expr_length l.known line test sort.Truth fits.0) inside
+    stmt_length (tree.Return line) l taken agree declared fits kept = refl
+    stmt_length (tree.ReturnValue line e) l taken agree declared fits kept = return_length l.known line returns e (own_kept returns (scope_of l.known) taken (tree.ReturnValue line e) kept).fits fits
 
-    pub block_length : (b : Block) (l : Layout) (taken : List Identifier) → BlockFits l b → AreUnbroken (places_of returns (scope_of l.known) taken b) → length (block_code l b) ≡ block_steps returns b
-    block_length (End line) l taken fits kept = refl
-    block_length (Next s rest) l taken fits kept =
+    pub block_length : (b : Block) (l : Layout) (taken : List Identifier) → IntsAgree ints l.known → StmtsAgree ints (statements_of b) → BlockFits l b → AreUnbroken (places_of returns (scope_of l.known) taken b) → length (block_code l b) ≡ block_steps ints returns b
+    block_length (End line) l taken agree declared fits kept = refl
+    block_length (Next s rest) l taken agree declared fits kept =
         let both = block_kept returns (scope_of l.known) taken s rest kept in
+        let parts = both_agree ints (statements_within s) (statements_of rest) declared in
         let more = taken ++ names_declared (statements_within s) in
-        let first = stmt_length s l taken fits.0 both.0 in
-        let second = block_length rest (layout_after l s) more fits.1 (subst (λ scope. AreUnbroken (places_of returns scope more rest)) (scope_after s l) both.1) in
+        let first = stmt_length s l taken agree parts.0 fits.0 both.0 in
+        let second = block_length rest (layout_after l s) more (agree_after ints s l (own_agrees ints s parts.0) agree) parts.1 fits.1 (subst (λ scope. AreUnbroken (places_of returns scope more rest)) (scope_after s l) both.1) in
         omega (arith, length-append (stmt_code l s) (block_code (layout_after l s) rest))

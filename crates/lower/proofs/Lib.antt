@@ -15,6 +15,8 @@ pub mod RegionFacts
 pub mod SortFacts
 pub mod Tests
 pub mod NameFacts
+pub mod CallCounts
+pub mod NamesOnce
 pub mod StatementFacts
 pub mod BodyFacts
 pub mod LengthFacts

@@ -1,5 +1,5 @@
 -- A statement that is sorted fits.
-use Rattle.std.proofs.Common.{◌≡◌, ℕ, ◌<◌, ◌≤◌, ◌⊎◌, inl, inr, Bool, true, false, not, ◌&&◌, ◌||◌, ◌==◌, List, [], ◌∷◌, ◌++◌, map, flat_map, length, nat_le, Option, Some, None, is_some, refl, sym, ap, ◌∙◌, subst, arith, eqb-true, leb-true}
+use Rattle.std.proofs.Common.{◌≡◌, ℕ, ◌<◌, ◌≤◌, ◌⊎◌, inl, inr, Bool, true, false, not, ◌&&◌, ◌||◌, List, [], ◌∷◌, ◌++◌, map, flat_map, length, nat_le, Option, Some, None, is_some, refl, sym, ap, ◌∙◌, subst, arith, leb-true}
 use Rattle.std.specs.List.{list_all, AllZip}
 use Rattle.std.specs.Option.{is_none}
 use Rattle.base.specs.Bytes.{Identifier, lookup}
@@ -10,18 +10,19 @@ use Rattle.syntax.specs.Parts.{call_of_right_side, argument_expressions, call_ex
 use Rattle.syntax.specs.Tree as tree
 use Rattle.syntax.specs.Tree.{ResultType, Void, IntResult, ReferenceResult, Expr, Argument, Call, RightSide, FromExpr, FromCall, Test, TestExpr, TestCall}
 use Rattle.jni.specs.Access.{Access, ElementsCopy, ArrayView, CharsCopy, CharsView}
-use Rattle.jni.specs.JniFunction.{JniFunction, PushLocalFrame, function_named, prototype}
-use Rattle.jni.specs.Prototype.{ParameterKind, Nullable, NonNull, ClassObject, AnyArray, ObjectArray, StringObject, NumberArray, LocalVariable, StaticVariable, FieldID, IntNumber, TextBytes, ArrayVariable, BufferVariable, Mode, IsCopy, ResultKind, NewLocal, NewGlobal, GivesFlag, GivesInt, GivesField, GivesMethod, GivesBuffer, GivesNothing, AnyReference, WeakVariable, NewWeak}
+use Rattle.jni.specs.JniFunction.{JniFunction, PushLocalFrame, function_named, prototype, parameters_for, takes_count}
+use Rattle.jni.specs.Prototype.{ParameterKind, Nullable, NonNull, ClassObject, AnyArray, ObjectArray, StringObject, NumberArray, LocalVariable, StaticVariable, FieldID, MethodID, Passed, IntNumber, TextBytes, ArrayVariable, BufferVariable, Mode, IsCopy, ResultKind, NewLocal, NewGlobal, GivesFlag, GivesInt, GivesField, GivesMethod, GivesBuffer, GivesNothing, AnyReference, WeakVariable, NewWeak}
 use Rattle.type_rules.specs.Sorts.{Sort, Word, Jint, Flag, Truth, Ref, Global, Weak, FieldId, MethodId, Buffer, Array, sort_in, sort_of, is_word, is_jint, is_flag, is_truth, is_index, has_elements, is_null, is_ref, is_global, is_field, is_method, is_reference, is_array_of, is_buffer_for, name_sort, text_fits, address_fits, argument_fits, arguments_fit, call_arguments_fit, is_weak, is_any_reference}
 use Rattle.type_rules.specs.SortRules.{result_fits, is_push, call_fits, may_be_tested, value_sets, right_side_sets, buffer_begins, test_fits, return_fits, has_wrong_count, has_wrong_mode, is_mode, is_mode_parameter, modes_fit, copies_reference}
 use Rattle.type_rules.specs.SortGroups.{IsIndexSort}
 use Rattle.semantics.specs.Term as term
 use Rattle.semantics.specs.Term.{Term, Read, term_of}
 use Rattle.code_meaning.specs.Layout.{Slot, Known}
-use Rattle.code_meaning.specs.Fits.{IsVariable, HasElements, NumberFits, TakesLocal, TakesGlobal, NameFits, ReferenceFits, FieldFits, ArrayFits, BufferFits, ArgumentFits, CallFits, ResultFits, CallGives, ValueFits, RightFits, TestFits, ReturnFits, AnyReferenceFits, IsStaticSort}
+use Rattle.code_meaning.specs.Fits.{IsVariable, HasElements, NumberFits, TakesLocal, TakesGlobal, NameFits, ReferenceFits, FieldFits, MethodFits, PassedFits, ArrayFits, BufferFits, ArgumentFits, CallFits, ResultFits, CallGives, ValueFits, RightFits, TestFits, ReturnFits, AnyReferenceFits, IsStaticSort}
 use Rattle.type_rules.proofs.SortCases.{indexed, index_is_value}
 use Rattle.lower.proofs.SortFacts.{scope_of, slot_of_name, HasNoTruth, IsFine, elements, number_fits}
 use Rattle.lower.proofs.Tests.{and_left, and_right, not_false}
+use Rattle.lower.proofs.CallCounts.{parameters_count, passed_no_mode}
 
 -- ---- sorts by their tests
 
@@ -66,6 +67,12 @@ reference_is (Some Ref) h = (Ref, refl, inl refl)
 reference_is (Some Global) h = (Global, refl, inr refl)
 reference_is o h = absurd (cc)
 
+passed_is : (o : Option Sort) → (is_jint o || false || is_reference o) ≡ true → (s : Sort) × (o ≡ Some s) × ((s ≡ Jint) ⊎ (s ≡ Ref) ⊎ (s ≡ Global))
+passed_is (Some Jint) h = (Jint, refl, inl refl)
+passed_is (Some Ref) h = (Ref, refl, inr (inl refl))
+passed_is (Some Global) h = (Global, refl, inr (inr refl))
+passed_is o h = absurd (cc)
+
 any_reference_is : (o : Option Sort) → is_any_reference o ≡ true → (s : Sort) × (o ≡ Some s) × ((s ≡ Ref) ⊎ IsStaticSort s)
 any_reference_is (Some Ref) h = (Ref, refl, inl refl)
 any_reference_is (Some Global) h = (Global, refl, inr tt)
@@ -97,6 +104,10 @@ null_is e h = absurd (cc)
 or_only : (a b : Bool) → (a || b) ≡ true → b ≡ false → a ≡ true
 or_only true b h k = refl
 or_only false b h k = absurd (let c : true ≡ false = sym h ∙ k in cc)
+
+first_only : (b : Bool) → (b || false || false) ≡ true → b ≡ true
+first_only true h = refl
+first_only false h = absurd (cc)
 
 all_three : (a b c : Bool) → (a && b && c) ≡ true → (a ≡ true) × (b ≡ true) × (c ≡ true)
 all_three true true true h = (refl, refl, refl)
@@ -169,12 +180,13 @@ module _ (known : Known) where
       (record { sort = r.0; index = at.0 }, at.1, r.2)
   any_reference_fits e h = absurd (cc)
 
-  -- a parameter that takes no weak reference
-  abbrev TakesNoWeak : ParameterKind → Type 0
-  TakesNoWeak AnyReference = ⊥
-  TakesNoWeak p = Unit {0}
+  -- a parameter that takes no weak reference, and no number beside references
+  abbrev TakesNoOther : ParameterKind → Type 0
+  TakesNoOther AnyReference = ⊥
+  TakesNoOther Passed = ⊥
+  TakesNoOther p = Unit {0}
 
-  value_is_reference : (p : ParameterKind) (e : Expr) → TakesLocal p → TakesGlobal p → TakesNoWeak p → argument_fits (scope_of known) p (tree.Value e) ≡ true → ReferenceFits known e
+  value_is_reference : (p : ParameterKind) (e : Expr) → TakesLocal p → TakesGlobal p → TakesNoOther p → argument_fits (scope_of known) p (tree.Value e) ≡ true → ReferenceFits known e
   value_is_reference Nullable e local global plain h = reference_fits e h
   value_is_reference NonNull e local global plain h = reference_fits e h
   value_is_reference ClassObject e local global plain h = reference_fits e h
@@ -185,6 +197,7 @@ module _ (known : Known) where
   value_is_reference StaticVariable e local global plain h = absurd local
   value_is_reference WeakVariable e local global plain h = absurd local
   value_is_reference AnyReference e local global plain h = absurd plain
+  value_is_reference Passed e local global plain h = absurd plain
   value_is_reference p e local global plain h = absurd global
 
   name_fits : (s : Sort) (e : Expr) → name_sort (scope_of known) e ≡ Some s → NameFits known s e
@@ -195,6 +208,11 @@ module _ (known : Known) where
   field_fits (tree.Named tree.Null) h = tt
   field_fits (tree.Variable x) h = slot_of_name x known FieldId (field_is (sort_in (scope_of known) x) h)
   field_fits e h = absurd (cc)
+
+  method_fits : (e : Expr) → (is_null e || is_method (name_sort (scope_of known) e)) ≡ true → MethodFits known e
+  method_fits (tree.Named tree.Null) h = tt
+  method_fits (tree.Variable x) h = slot_of_name x known MethodId (method_is (sort_in (scope_of known) x) h)
+  method_fits e h = absurd (cc)
 
   array_fits : (t : ElementType) (e : Expr) → is_array_of t (name_sort (scope_of known) e) ≡ true → ArrayFits known t e
   array_fits t (tree.Variable x) h =
@@ -228,9 +246,19 @@ module _ (known : Known) where
   address_kept p x h mode = absurd (cc)
 
   module _ (no_truth : HasNoTruth known) where
+    passed_fits : (e : Expr) → IsFine e → (is_jint (sort_of (scope_of known) e) || is_null e || is_reference (name_sort (scope_of known) e)) ≡ true → PassedFits known e
+    passed_fits (tree.Named tree.Null) fine h = tt
+    passed_fits (tree.Variable x) fine h =
+        let r = passed_is (sort_in (scope_of known) x) h in
+        let at = slot_of_name x known r.0 r.1 in
+        (record { sort = r.0; index = at.0 }, at.1, r.2)
+    passed_fits e fine h = number_fits known e Jint no_truth fine (jint_is (sort_of (scope_of known) e) (first_only (is_jint (sort_of (scope_of known) e)) h)) tt
+
     value_kept : (p : ParameterKind) (e : Expr) → IsFine e → argument_fits (scope_of known) p (tree.Value e) ≡ true → ModeIsKept p (tree.Value e) → ArgumentFits known p (tree.Value e)
     value_kept IntNumber e fine h mode = number_fits known e Jint no_truth fine (jint_is (sort_of (scope_of known) e) h) tt
     value_kept FieldID e fine h mode = field_fits e h
+    value_kept MethodID e fine h mode = method_fits e h
+    value_kept Passed e fine h mode = passed_fits e fine h
     value_kept TextBytes e fine h mode = absurd (cc)
     value_kept (ArrayVariable t) e fine h mode = array_fits t e h
     value_kept (BufferVariable access) e fine h mode = buffer_named access e h
@@ -260,14 +288,15 @@ module _ (known : Known) where
     -- a call of a function that is known
     fits_with : (c : Call) → CallHolds known (Some c) → (is : KnownCall c) → (fits : CallFits known c) × (fits.function ≡ is.function)
     fits_with c holds is =
-        let parameters = (prototype is.function).parameters in
+        let parameters = parameters_for is.function (length c.arguments) in
         let arguments : call_arguments_fit (scope_of known) c (Some is.function) ≡ true = sym (ap (call_arguments_fit (scope_of known) c) is.named) ∙ not_false (call_arguments_fit (scope_of known) c (function_named c.function)) holds.arguments in
-        let count : not (length c.arguments == length parameters) ≡ false = sym (ap (has_wrong_count c) is.named) ∙ holds.count in
-        let modes : not (modes_fit parameters c.arguments) ≡ false = sym (ap (has_wrong_mode c) is.named) ∙ holds.modes in (
+        let count : takes_count is.function (length c.arguments) ≡ true = not_false (takes_count is.function (length c.arguments)) (sym (ap (has_wrong_count c) is.named) ∙ holds.count) in
+        let modes : not (modes_fit (prototype is.function).parameters c.arguments) ≡ false = sym (ap (has_wrong_mode c) is.named) ∙ holds.modes in (
           record {
             function = is.function;
             named = is.named;
-            arguments = all_fit parameters c.arguments holds.fine arguments (not_false (modes_fit parameters c.arguments) modes) (eqb-true (length c.arguments) (length parameters) (not_false (length c.arguments == length parameters) count));
+            count = count;
+            arguments = all_fit parameters c.arguments holds.fine arguments (passed_no_mode is.function c.arguments (not_false (modes_fit (prototype is.function).parameters c.arguments) modes)) (parameters_count is.function (length c.arguments) count);
           },
           refl,
         )

@@ -1,11 +1,11 @@
 -- The code of a body keeps the stack in its range, and its jumps lead inside.
 use Rattle.code.specs.declared.instr.Operand.{Operand as Where}
+use Rattle.code.specs.declared.instr.Operand.TheVariants as operand
 use Rattle.std.specs.List.{AllZip}
 use Rattle.std.specs.Prelude.{zip, map}
-use Rattle.jni.specs.Access.{ArrayView, CharsCopy, CharsView, ElementsCopy}
-use Rattle.jni.specs.JniFunction.{JniFunction, FindClass, ReleaseBuffer, function_named, prototype}
-use Rattle.jni.specs.Prototype.{ParameterKind, IntNumber, Mode}
-use Rattle.std.proofs.Common.{◌≡◌, ℕ, suc, ◌+◌, ◌<◌, ◌≤◌, inl, inr, Bool, true, false, List, [], ◌∷◌, ◌++◌, length, Option, Some, refl, sym, ap, ◌∙◌, subst, arith, None, ◌-◌}
+use Rattle.jni.specs.JniFunction.{JniFunction, function_named, parameters_for}
+use Rattle.jni.specs.Prototype.{ParameterKind, IntNumber, Mode, Passed}
+use Rattle.std.proofs.Common.{◌≡◌, ℕ, suc, ◌+◌, ◌<◌, ◌≤◌, ◌⊎◌, inl, inr, Bool, true, false, List, [], ◌∷◌, ◌++◌, length, Option, Some, refl, sym, ap, ◌∙◌, subst, arith, None, ◌-◌}
 use Rattle.std.proofs.lemmas.Bool.{lt-ltb, le-leb}
 use Rattle.base.specs.Bytes.{Identifier, lookup}
 use Rattle.syntax.specs.Tree as tree
@@ -23,9 +23,10 @@ use Rattle.code.proofs.Pieces.{IsPiece, piece_none, piece_append, piece_one, pie
 use Rattle.semantics.specs.Term as term
 use Rattle.semantics.specs.Term.{Term, Done, Read, IsNull, Prefix, And, Or, Binary, term_of}
 use Rattle.code_meaning.specs.Layout.{Slot, Known, Layout, new_slot, closed, layout_after, block_layout}
-use Rattle.code_meaning.specs.Coding.{nullable_of, test_of, null_code, element_of, element_code, write_code, of_slot, load_code, prefix_code, operator_code, is_signed, skip_code, term_code, expr_code, named_call_code, value_code, right_code, assign_code, returned_code, return_code, test_code, ways_code, if_code, stmt_code, block_code, argument_code, arguments_code, operand_code, operand_of, address_operand, variable_operand, arguments_texts, result_target}
-use Rattle.code_meaning.specs.Fits.{IsNullable, HasElements, TermHasSort, IsUntouched, term_height, NumberFits, ValueFits, RightFits, TestFits, ReturnFits, StmtFits, BlockFits, CallFits, ArgumentFits}
+use Rattle.code_meaning.specs.Coding.{nullable_of, test_of, null_code, element_of, element_code, write_code, of_slot, load_code, prefix_code, operator_code, is_signed, skip_code, term_code, expr_code, named_call_code, value_code, right_code, assign_code, returned_code, return_code, test_code, ways_code, if_code, stmt_code, block_code, argument_code, arguments_code, operand_code, operand_of, passed_variable, passed_code, passed_rest, number_code, address_operand, variable_operand, arguments_texts, result_target}
+use Rattle.code_meaning.specs.Fits.{IsNullable, HasElements, TermHasSort, IsUntouched, term_height, NumberFits, ValueFits, RightFits, TestFits, ReturnFits, StmtFits, BlockFits, CallFits, PassedFits, ArgumentFits}
 use Rattle.lower.proofs.Bodies.{value_is}
+use Rattle.lower.proofs.CallCounts.{few_arguments}
 
 -- ---- instructions
 
@@ -127,76 +128,94 @@ taken_piece known line t s last h piece = piece_append (term_code known line t) 
 
 -- ---- statements
 
--- how many arguments are numbers
-abbrev numbers_among : List ParameterKind → ℕ
-numbers_among [] = 0
-numbers_among (IntNumber ∷ parameters) = suc (numbers_among parameters)
-numbers_among (p ∷ parameters) = numbers_among parameters
+-- the words that an argument puts onto the stack
+abbrev one_word : Where → ℕ
+one_word operand.Number = 1
+one_word o = 0
 
-numbers_step : (p : ParameterKind) (parameters : List ParameterKind) → numbers_among (p ∷ parameters) ≤ 1 + numbers_among parameters
-numbers_step IntNumber parameters = omega arith
-numbers_step p parameters = omega arith
+words_first : (o : Where) (operands : List Where) → words_taken (o ∷ operands) ≡ one_word o + words_taken operands
+words_first operand.Number operands = omega arith
+words_first o operands = omega arith
+
+one_at_most : (o : Where) → one_word o ≤ 1
+one_at_most operand.Number = omega arith
+one_at_most o = omega arith
 
 -- no variable is a word
-taken_slot : (o : Option Slot) (operands : List Where) → words_taken (operand_of o ∷ operands) ≡ words_taken operands
-taken_slot None operands = refl
-taken_slot (Some s) operands = by_sort s.sort s.index
+slot_word : (o : Option Slot) → one_word (operand_of o) ≡ 0
+slot_word None = refl
+slot_word (Some s) = by_sort s.sort s.index
   where
-    by_sort : (s : Sort) (i : ℕ) → words_taken (variable_operand s i ∷ operands) ≡ words_taken operands
+    by_sort : (s : Sort) (i : ℕ) → one_word (variable_operand s i) ≡ 0
     by_sort Ref i = refl
     by_sort Global i = refl
     by_sort Weak i = refl
     by_sort FieldId i = refl
+    by_sort MethodId i = refl
     by_sort (Array t n) i = refl
     by_sort (Buffer t w) i = refl
     by_sort s i = refl
 
 -- and no address
-taken_address : (o : Option Slot) (operands : List Where) → words_taken (address_operand o ∷ operands) ≡ words_taken operands
-taken_address None operands = refl
-taken_address (Some s) operands = refl
+address_word : (o : Option Slot) → one_word (address_operand o) ≡ 0
+address_word None = refl
+address_word (Some s) = refl
 
-few_parameters : (f : JniFunction) → length (prototype f).parameters ≤ 4
-few_parameters FindClass = omega arith
-few_parameters (ReleaseBuffer ArrayView) = omega arith
-few_parameters (ReleaseBuffer CharsCopy) = omega arith
-few_parameters (ReleaseBuffer CharsView) = omega arith
-few_parameters (ReleaseBuffer (ElementsCopy t)) = omega arith
-few_parameters f = omega arith
+-- an argument that is no number
+abbrev TakesNoNumber : ParameterKind → Type 0
+TakesNoNumber IntNumber = ⊥
+TakesNoNumber Passed = ⊥
+TakesNoNumber p = Unit {0}
 
-argument_piece : (known : Known) (line : ℕ) (p : ParameterKind) (parameters : List ParameterKind) (a : Argument) (d : ℕ) → ArgumentFits known p a → d ≤ 31 → (m : ℕ) × IsPiece (argument_code known line (p, a)) d m × (m + numbers_among parameters ≡ d + numbers_among (p ∷ parameters))
-argument_piece known line IntNumber parameters (tree.Value e) d h few = (suc d, number_piece known line (term_of e) Jint d h few, omega arith)
-argument_piece known line IntNumber parameters a d h few = absurd h
-argument_piece known line p parameters a d h few = (d, piece_none d, refl)
+no_word : (known : Known) (p : ParameterKind) (a : Argument) → TakesNoNumber p → one_word (operand_code known (p, a)) ≡ 0
+no_word known IntNumber a h = absurd h
+no_word known Passed a h = absurd h
+no_word known Mode (tree.Value e) h = refl
+no_word known p (tree.Value (tree.Variable x)) h = slot_word (lookup x known)
+no_word known p (tree.Value e) h = refl
+no_word known p (tree.Text bytes) h = refl
+no_word known p (tree.AddressOf x) h = address_word (lookup x known)
 
+empty_piece : (d n : ℕ) → n ≡ 0 → IsPiece [] d (d + n)
+empty_piece d n e = subst (IsPiece [] d) (let same : d ≡ d + n = omega (arith, e) in same) (piece_none d)
+
+one_more : (code : List Instr) (d : ℕ) → IsPiece code d (suc d) → IsPiece code d (d + 1)
+one_more code d h = subst (IsPiece code d) (let same : suc d ≡ d + 1 = omega arith in same) h
+
+-- what a method is given is a number, or a reference that needs no instruction
+passed_slot : (s : Sort) (i d : ℕ) → ((s ≡ Jint) ⊎ (s ≡ Ref) ⊎ (s ≡ Global)) → d ≤ 31 → IsPiece (number_code s i) d (d + one_word (passed_variable (Some (record { sort = s; index = i }))))
+passed_slot s i d (inl e) few =
+    subst (λ (r : Sort). IsPiece (number_code r i) d (d + one_word (passed_variable (Some (record { sort = r; index = i }))))) (sym e) (one_more (instr.Load i ∷ []) d (load_piece i d (omega (arith, few))))
+passed_slot s i d (inr (inl e)) few = subst (λ (r : Sort). IsPiece (number_code r i) d (d + one_word (passed_variable (Some (record { sort = r; index = i }))))) (sym e) (empty_piece d 0 refl)
+passed_slot s i d (inr (inr e)) few = subst (λ (r : Sort). IsPiece (number_code r i) d (d + one_word (passed_variable (Some (record { sort = r; index = i }))))) (sym e) (empty_piece d 0 refl)
+
+passed_piece : (known : Known) (line : ℕ) (e : Expr) (d : ℕ) → PassedFits known e → d ≤ 31 → IsPiece (passed_rest known line e) d (d + one_word (passed_code known e))
+passed_piece known line (tree.Named tree.Null) d h few = empty_piece d 0 refl
+passed_piece known line (tree.Variable x) d h few = subst (λ o. IsPiece (of_slot number_code o) d (d + one_word (passed_variable o))) (sym h.1) (passed_slot h.0.sort h.0.index d h.2 few)
+passed_piece known line e d h few = one_more (expr_code known line e) d (number_piece known line (term_of e) Jint d h few)
+
+argument_piece : (known : Known) (line : ℕ) (p : ParameterKind) (a : Argument) (d : ℕ) → ArgumentFits known p a → d ≤ 31 → IsPiece (argument_code known line (p, a)) d (d + one_word (operand_code known (p, a)))
+argument_piece known line IntNumber (tree.Value e) d h few = one_more (expr_code known line e) d (number_piece known line (term_of e) Jint d h few)
+argument_piece known line IntNumber a d h few = absurd h
+argument_piece known line Passed (tree.Value e) d h few = passed_piece known line e d h few
+argument_piece known line Passed a d h few = absurd h
+argument_piece known line p a d h few = empty_piece d (one_word (operand_code known (p, a))) (no_word known p a tt)
+
+-- the arguments put as many words onto the stack as the call takes
 arguments_piece : (known : Known) (line : ℕ) (parameters : List ParameterKind) (arguments : List Argument) (d : ℕ) → AllZip (ArgumentFits known) parameters arguments → d + length parameters ≤ 31
-    → IsPiece (arguments_code known line (zip parameters arguments)) d (d + numbers_among parameters)
-arguments_piece known line [] [] d h few = subst (IsPiece [] d) (let e : d ≡ d + 0 = omega arith in e) (piece_none d)
+    → IsPiece (arguments_code known line (zip parameters arguments)) d (d + words_taken (map (operand_code known) (zip parameters arguments)))
+arguments_piece known line [] [] d h few = empty_piece d 0 refl
 arguments_piece known line [] (a ∷ arguments) d h few = absurd h
 arguments_piece known line (p ∷ parameters) [] d h few = absurd h
 arguments_piece known line (p ∷ parameters) (a ∷ arguments) d h few =
-    let one = argument_piece known line p parameters a d h.0 (omega (arith, few)) in
-    let low : one.0 + length parameters ≤ 31 = omega (arith, few, one.2, numbers_step p parameters) in
-    piece_append (argument_code known line (p, a)) (arguments_code known line (zip parameters arguments)) d one.0 (d + numbers_among (p ∷ parameters)) one.1
-    (subst (IsPiece (arguments_code known line (zip parameters arguments)) one.0) one.2 (arguments_piece known line parameters arguments one.0 h.1 low))
+    let o = operand_code known (p, a) in
+    let further = map (operand_code known) (zip parameters arguments) in
+    let one = one_at_most o in
+    let low : d + one_word o + length parameters ≤ 31 = omega (arith, few, one) in
+    let whole : d + one_word o + words_taken further ≡ d + words_taken (o ∷ further) = omega (arith, words_first o further) in
+    piece_append (argument_code known line (p, a)) (arguments_code known line (zip parameters arguments)) d (d + one_word o) (d + words_taken (o ∷ further)) (argument_piece known line p a d h.0 (omega (arith, few)))
+    (subst (IsPiece (arguments_code known line (zip parameters arguments)) (d + one_word o)) whole (arguments_piece known line parameters arguments (d + one_word o) h.1 low))
 
--- the call takes as many words
-word_is : (known : Known) (p : ParameterKind) (parameters : List ParameterKind) (a : Argument) (operands : List Where) → ArgumentFits known p a → words_taken operands ≡ numbers_among parameters → words_taken (operand_code known (p, a) ∷ operands) ≡ numbers_among (p ∷ parameters)
-word_is known IntNumber parameters (tree.Value e) operands h more = ap (λ n. suc n) more
-word_is known IntNumber parameters a operands h more = absurd h
-word_is known Mode parameters (tree.Value e) operands h more = more
-word_is known p parameters (tree.Value (tree.Variable x)) operands h more = taken_slot (lookup x known) operands ∙ more
-word_is known p parameters (tree.Value e) operands h more = more
-word_is known p parameters (tree.Text bytes) operands h more = more
-word_is known p parameters (tree.AddressOf x) operands h more = taken_address (lookup x known) operands ∙ more
-
-words_are : (known : Known) (parameters : List ParameterKind) (arguments : List Argument) → AllZip (ArgumentFits known) parameters arguments → words_taken (map (operand_code known) (zip parameters arguments)) ≡ numbers_among parameters
-words_are known [] [] h = refl
-words_are known [] (a ∷ arguments) h = absurd h
-words_are known (p ∷ parameters) [] h = absurd h
-words_are known (p ∷ parameters) (a ∷ arguments) h = word_is known p parameters a (map (operand_code known) (zip parameters arguments)) h.0 (words_are known parameters arguments h.1)
-
--- no function has more than four parameters
 call_instr : (line : ℕ) (target : Target) (f : JniFunction) (operands : List Where) (texts : List (List ℕ)) (n m : ℕ) → words_taken operands ≡ n → with_result target 0 ≡ Some m → IsPiece (instr.Call (record { line = line; target = target; function = f; operands = operands; texts = texts }) ∷ []) n m
 call_instr line target f operands texts n m same gives =
     let none : n - n ≡ 0 = omega arith in
@@ -205,12 +224,15 @@ call_instr line target f operands texts n m same gives =
 -- a call, which leaves the truth on the stack if it is tested
 call_piece : (known : Known) (line : ℕ) (target : Target) (c : Call) (m : ℕ) → CallFits known c → with_result target 0 ≡ Some m → IsPiece (named_call_code known line target (function_named c.function) c.arguments) 0 m
 call_piece known line target c m fits gives =
-    let parameters = (prototype fits.function).parameters in
-    let few = few_parameters fits.function in
+    let parameters = parameters_for fits.function (length c.arguments) in
+    let few = few_arguments fits.function (length c.arguments) fits.count in
     let given = zip parameters c.arguments in
-    let call = instr.Call (record { line = line; target = target; function = fits.function; operands = map (operand_code known) given; texts = arguments_texts c.arguments }) ∷ [] in
+    let operands = map (operand_code known) given in
+    let call = instr.Call (record { line = line; target = target; function = fits.function; operands = operands; texts = arguments_texts c.arguments }) ∷ [] in
+    let none : words_taken operands ≡ 0 + words_taken operands = omega arith in
     subst (λ o. IsPiece (named_call_code known line target o c.arguments) 0 m) (sym fits.named)
-    (piece_append (arguments_code known line given) call 0 (0 + numbers_among parameters) m (arguments_piece known line parameters c.arguments 0 fits.arguments (omega (arith, few))) (call_instr line target fits.function (map (operand_code known) given) (arguments_texts c.arguments) (0 + numbers_among parameters) m (words_are known parameters c.arguments fits.arguments ∙ sym (let e : 0 + numbers_among parameters ≡ numbers_among parameters = omega arith in e)) gives))
+    (piece_append (arguments_code known line given) call 0 (0 + words_taken operands) m (arguments_piece known line parameters c.arguments 0 fits.arguments (omega (arith, few)))
+    (call_instr line target fits.function operands (arguments_texts c.arguments) (0 + words_taken operands) m none gives))
 
 value_piece : (known : Known) (line : ℕ) (kind : Sort) (i : ℕ) (e : Expr) → ValueFits known kind e → IsPiece (value_code known line (record { sort = kind; index = i }) e) 0 0
 value_piece known line sort.Word i e fits = subst (λ c. IsPiece c 0 0) (sym (value_is known line (record { sort = sort.Word; index = i }) e sort.Word fits)) (taken_piece known line (term_of e) sort.Word (instr.Store i) fits (piece_one (instr.Store i) 1 0 refl tt))

@@ -1,22 +1,23 @@
 -- Each instruction of a body finds its slots.
 use Rattle.std.specs.Prelude.{zip}
-use Rattle.std.proofs.Common.{◌≡◌, ℕ, ◌+◌, ◌<◌, inl, inr, Bool, true, false, List, [], ◌∷◌, ◌++◌, length, Option, Some, refl, sym, ap, ◌∙◌, subst, map}
+use Rattle.std.proofs.Common.{◌≡◌, ℕ, ◌+◌, ◌<◌, ◌⊎◌, inl, inr, Bool, true, false, if◌then◌else◌, List, [], ◌∷◌, ◌++◌, length, Option, Some, refl, sym, ap, ◌∙◌, subst, map}
 use Rattle.std.specs.List.{list_all, AllZip}
 use Rattle.std.proofs.lemmas.List.Folds.{list_all-append}
 use Rattle.std.proofs.lemmas.Bool.{lt-ltb, le-leb}
 use Rattle.base.specs.Bytes.{Identifier, lookup}
 use Rattle.syntax.specs.Tree as tree
 use Rattle.syntax.specs.Tree.{BinaryOp, LogicalOr, LogicalAnd, BitOr, BitXor, BitAnd, Equal, NotEqual, Less, LessEqual, Greater, GreaterEqual, ShiftLeft, ShiftRight, Add, Subtract, Multiply, Divide, Remainder, PrefixOp, LogicalNot, Complement, ToWord, ToInt, Expr, Argument, RightSide, FromExpr, FromCall, Test, TestExpr, TestCall, Stmt, Block, End, Next, Call}
-use Rattle.type_rules.specs.Sorts.{Sort, Jint, Ref, Global, Weak, FieldId, MethodId, Buffer, Array}
+use Rattle.type_rules.specs.Sorts.{Sort, Jint, Ref, Global, Weak, FieldId, MethodId, Buffer, Array, is_jint}
 use Rattle.type_rules.specs.Sorts as sort
 use Rattle.type_rules.specs.SortRules.{variable_sort}
 use Rattle.type_rules.specs.SortGroups.{IsNumberSort}
 use Rattle.base.specs.Element.{ElementType, JChar}
+use Rattle.code.specs.declared.instr.Operand.TheVariants as operand
 use Rattle.code.specs.declared.instr.Target.{Target}
 use Rattle.code.specs.declared.instr.Target.TheVariants as destination
 use Rattle.jni.specs.Access.{Access}
-use Rattle.jni.specs.JniFunction.{function_named, prototype}
-use Rattle.jni.specs.Prototype.{ParameterKind, LocalVariable, StaticVariable, FieldID, IntNumber, TextBytes, ArrayVariable, BufferVariable, Mode, IsCopy, ResultKind, NewLocal, NewGlobal, GivesFlag, GivesInt, GivesField, GivesMethod, GivesBuffer, GivesNothing, AnyReference, WeakVariable, NewWeak}
+use Rattle.jni.specs.JniFunction.{function_named, prototype, parameters_for}
+use Rattle.jni.specs.Prototype.{ParameterKind, LocalVariable, StaticVariable, FieldID, MethodID, Passed, IntNumber, TextBytes, ArrayVariable, BufferVariable, Mode, IsCopy, ResultKind, NewLocal, NewGlobal, GivesFlag, GivesInt, GivesField, GivesMethod, GivesBuffer, GivesNothing, AnyReference, WeakVariable, NewWeak}
 use Rattle.code.specs.declared.instr.Instr.{Instr}
 use Rattle.code.specs.declared.instr.Instr.TheVariants as instr
 use Rattle.code.specs.declared.slots.SlotCounts.{SlotCounts}
@@ -24,8 +25,8 @@ use Rattle.code.specs.Depth.{operand_within, within_slots, target_within}
 use Rattle.semantics.specs.Term as term
 use Rattle.semantics.specs.Term.{Term, Done, Read, IsNull, Prefix, And, Or, Binary, term_of}
 use Rattle.code_meaning.specs.Layout.{Slot, Known, Layout, next_index, slots_after, new_slot, closed, layout_after, block_layout}
-use Rattle.code_meaning.specs.Coding.{nullable_of, test_of, null_code, element_code, write_code, of_slot, load_code, prefix_code, operator_code, is_signed, skip_code, term_code, expr_code, variable_operand, operand_of, address_operand, arguments_texts, result_target, operand_code, named_call_code, value_code, right_code, assign_code, returned_code, return_code, test_code, ways_code, turn_code, if_code, stmt_code, block_code, argument_code, arguments_code}
-use Rattle.code_meaning.specs.Fits.{IsNullable, HasElements, TermHasSort, NumberFits, IndexWithin, IsLaidOut, HasRoomFor, ArgumentFits, ValueFits, RightFits, TestFits, ReturnFits, StmtFits, BlockFits, CallFits, IsReferenceKind, NameFits, ReferenceFits, FieldFits, ArrayFits, BufferFits, ResultFits, AnyReferenceFits}
+use Rattle.code_meaning.specs.Coding.{nullable_of, test_of, null_code, element_code, write_code, of_slot, load_code, prefix_code, operator_code, is_signed, skip_code, term_code, expr_code, variable_operand, operand_of, passed_variable, passed_code, passed_rest, number_code, address_operand, arguments_texts, result_target, operand_code, named_call_code, value_code, right_code, assign_code, returned_code, return_code, test_code, ways_code, turn_code, if_code, stmt_code, block_code, argument_code, arguments_code}
+use Rattle.code_meaning.specs.Fits.{IsNullable, HasElements, TermHasSort, NumberFits, IndexWithin, IsLaidOut, HasRoomFor, ArgumentFits, ValueFits, RightFits, TestFits, ReturnFits, StmtFits, BlockFits, CallFits, IsReferenceKind, NameFits, ReferenceFits, FieldFits, MethodFits, PassedFits, ArrayFits, BufferFits, ResultFits, AnyReferenceFits}
 use Rattle.lower.proofs.Bodies.{value_is, buffer_sort}
 use Rattle.lower.proofs.Layouts.{SizeFits, index_more, room_before, room_at_least, declared_slot, laid_after, laid_more, variable_size, block_grows, stmt_grows}
 
@@ -140,7 +141,7 @@ module _ (slots : SlotCounts) where
   slot_within Global i h = lt-ltb i slots.statics h
   slot_within Weak i h = lt-ltb i slots.statics h
   slot_within FieldId i h = lt-ltb i slots.field_ids h
-  slot_within MethodId i h = refl
+  slot_within MethodId i h = lt-ltb i slots.field_ids h
   slot_within (Buffer t w) i h = lt-ltb i slots.buffers h
   slot_within (Array t n) i h = rw (lt-ltb 0 n h.0, le-leb n 1024 h.1, le-leb (i + n) slots.numbers h.2) refl
 
@@ -148,9 +149,25 @@ module _ (slots : SlotCounts) where
   name_within : (known : Known) (x : Identifier) (s : Slot) → AllThere known → lookup x known ≡ Some s → operand_within slots (operand_of (lookup x known)) ≡ true
   name_within known x s all found = ap (λ (o : Option Slot). operand_within slots (operand_of o)) found ∙ slot_within s.sort s.index (all x s found)
 
+  -- so is that of a name that a method is given
+  passed_slot_within : (b : Bool) (s : Sort) (i : ℕ) → IndexWithin slots s i → operand_within slots (if b then operand.Number else variable_operand s i) ≡ true
+  passed_slot_within true s i h = refl
+  passed_slot_within false s i h = slot_within s i h
+
+  passed_name_within : (known : Known) (x : Identifier) (s : Slot) → AllThere known → lookup x known ≡ Some s → operand_within slots (passed_variable (lookup x known)) ≡ true
+  passed_name_within known x s all found = ap (λ (o : Option Slot). operand_within slots (passed_variable o)) found ∙ passed_slot_within (is_jint (Some s.sort)) s.sort s.index (all x s found)
+
+  passed_within : (known : Known) (e : Expr) → AllThere known → PassedFits known e → operand_within slots (passed_code known e) ≡ true
+  passed_within known (tree.Named tree.Null) all h = refl
+  passed_within known (tree.Variable x) all h = passed_name_within known x h.0 all h.1
+  passed_within known e all h = refl
+
   reference_within : (known : Known) (p : ParameterKind) (e : Expr) → IsReferenceKind p → AllThere known → ReferenceFits known e → operand_within slots (operand_code known (p, tree.Value e)) ≡ true
   reference_within known IntNumber e kind all h = absurd kind
   reference_within known Mode e kind all h = absurd kind
+  reference_within known Passed (tree.Named tree.Null) kind all h = refl
+  reference_within known Passed (tree.Variable x) kind all h = passed_name_within known x h.0 all h.1
+  reference_within known Passed e kind all h = absurd h
   reference_within known p (tree.Named tree.Null) kind all h = refl
   reference_within known p (tree.Variable x) kind all h = name_within known x h.0 all h.1
   reference_within known p e kind all h = absurd h
@@ -163,6 +180,8 @@ module _ (slots : SlotCounts) where
   named_within : (known : Known) (p : ParameterKind) (s : Sort) (e : Expr) → IsReferenceKind p → AllThere known → NameFits known s e → operand_within slots (operand_code known (p, tree.Value e)) ≡ true
   named_within known IntNumber s e kind all h = absurd kind
   named_within known Mode s e kind all h = absurd kind
+  named_within known Passed s (tree.Variable x) kind all h = passed_name_within known x (record { sort = s; index = h.0 }) all h.1
+  named_within known Passed s e kind all h = absurd h
   named_within known p s (tree.Variable x) kind all h = name_within known x (record { sort = s; index = h.0 }) all h.1
   named_within known p s e kind all h = absurd h
 
@@ -170,6 +189,11 @@ module _ (slots : SlotCounts) where
   field_within known (tree.Named tree.Null) all h = refl
   field_within known (tree.Variable x) all h = name_within known x (record { sort = FieldId; index = h.0 }) all h.1
   field_within known e all h = absurd h
+
+  method_within : (known : Known) (e : Expr) → AllThere known → MethodFits known e → operand_within slots (operand_code known (MethodID, tree.Value e)) ≡ true
+  method_within known (tree.Named tree.Null) all h = refl
+  method_within known (tree.Variable x) all h = name_within known x (record { sort = MethodId; index = h.0 }) all h.1
+  method_within known e all h = absurd h
 
   array_within : (known : Known) (t : ElementType) (e : Expr) → AllThere known → ArrayFits known t e → operand_within slots (operand_code known (ArrayVariable t, tree.Value e)) ≡ true
   array_within known t (tree.Variable x) all h = name_within known x (record { sort = Array t h.0; index = h.1 }) all h.2
@@ -182,6 +206,8 @@ module _ (slots : SlotCounts) where
   operand_fits : (known : Known) (p : ParameterKind) (a : Argument) → AllThere known → ArgumentFits known p a → operand_within slots (operand_code known (p, a)) ≡ true
   operand_fits known IntNumber (tree.Value e) all h = refl
   operand_fits known FieldID (tree.Value e) all h = field_within known e all h
+  operand_fits known MethodID (tree.Value e) all h = method_within known e all h
+  operand_fits known Passed (tree.Value e) all h = passed_within known e all h
   operand_fits known TextBytes (tree.Text bytes) all h = refl
   operand_fits known TextBytes (tree.Value e) all h = absurd h
   operand_fits known (ArrayVariable t) (tree.Value e) all h = array_within known t e all h
@@ -196,9 +222,21 @@ module _ (slots : SlotCounts) where
   operand_fits known p (tree.Value e) all h = reference_within known p e tt all h
   operand_fits known p a all h = absurd h
 
+  number_within : (s : Sort) (i : ℕ) → ((s ≡ Jint) ⊎ (s ≡ Ref) ⊎ (s ≡ Global)) → IndexWithin slots s i → AllWithin (number_code s i)
+  number_within s i (inl e) h = subst (λ (r : Sort). IndexWithin slots r i → AllWithin (number_code r i)) (sym e) (λ k. load_within i k) h
+  number_within s i (inr (inl e)) h = subst (λ (r : Sort). AllWithin (number_code r i)) (sym e) refl
+  number_within s i (inr (inr e)) h = subst (λ (r : Sort). AllWithin (number_code r i)) (sym e) refl
+
+  passed_code_within : (known : Known) (line : ℕ) (e : Expr) → AllThere known → PassedFits known e → AllWithin (passed_rest known line e)
+  passed_code_within known line (tree.Named tree.Null) all h = refl
+  passed_code_within known line (tree.Variable x) all h = subst AllWithin (sym (ap (of_slot number_code) h.1)) (number_within h.0.sort h.0.index h.2 (all x h.0 h.1))
+  passed_code_within known line e all h = term_within known line (term_of e) Jint all h.sort
+
   argument_within : (known : Known) (line : ℕ) (p : ParameterKind) (a : Argument) → AllThere known → ArgumentFits known p a → AllWithin (argument_code known line (p, a))
   argument_within known line IntNumber (tree.Value e) all h = term_within known line (term_of e) Jint all h.sort
   argument_within known line IntNumber a all h = absurd h
+  argument_within known line Passed (tree.Value e) all h = passed_code_within known line e all h
+  argument_within known line Passed a all h = absurd h
   argument_within known line p a all h = refl
 
   operands_fit : (known : Known) (parameters : List ParameterKind) (arguments : List Argument) → AllThere known → AllZip (ArgumentFits known) parameters arguments → list_all (operand_within slots) (map (operand_code known) (zip parameters arguments)) ≡ true
@@ -216,7 +254,7 @@ module _ (slots : SlotCounts) where
 
   call_within : (known : Known) (line : ℕ) (target : Target) (c : Call) → target_within slots target ≡ true → AllThere known → CallFits known c → AllWithin (named_call_code known line target (function_named c.function) c.arguments)
   call_within known line target c there all h =
-      let parameters = (prototype h.function).parameters in
+      let parameters = parameters_for h.function (length c.arguments) in
       let call : AllWithin (instr.Call (record { line = line; target = target; function = h.function; operands = map (operand_code known) (zip parameters c.arguments); texts = arguments_texts c.arguments }) ∷ []) = rw (there, operands_fit known parameters c.arguments all h.arguments) refl in
       subst (λ o. AllWithin (named_call_code known line target o c.arguments)) (sym h.named) (both_within (arguments_code known line (zip parameters c.arguments)) _ (arguments_within known line parameters c.arguments all h.arguments) call)
 

@@ -1,6 +1,6 @@
 //! The code of statements and blocks.
 
-ghost use Rattle.std.specs.Prelude.{◌≡◌, ◌+◌, ◌-◌, ◌<◌, ◌≤◌, [], ◌∷◌, ◌++◌, slice_set, vec_len, map, zip, IfOk, OnOk, IsTrue};
+ghost use Rattle.std.specs.Prelude.{◌≡◌, ◌+◌, ◌-◌, ◌<◌, ◌≤◌, [], ◌∷◌, ◌++◌, slice_set, vec_len, map, IfOk, OnOk, IsTrue};
 ghost use Rattle.base.specs.Bytes.{lookup};
 ghost use Rattle.syntax.specs.Views.{expr_tree, argument_tree, call_tree, right_side_tree, test_tree, form_tree, block_tree};
 ghost use Rattle.jni.specs.JniFunction.{function_named};
@@ -9,7 +9,8 @@ ghost use Rattle.type_rules.specs.SortViews.{sort_value};
 ghost use Rattle.semantics.specs.Arguments.{mode_of};
 ghost use Rattle.semantics.specs.Term.{term_of};
 ghost use Rattle.code_meaning.specs.Layout.{closed, layout_after, block_layout, with_name, new_slot};
-ghost use Rattle.code_meaning.specs.Coding.{mode_code, operand_code, argument_code, arguments_code, arguments_texts, variable_operand, result_target, named_call_code, right_code, assign_code, write_code, of_slot, return_code, returned_code, test_code, first_code, loop_code, expr_code, stmt_code, block_code};
+ghost use Rattle.code_meaning.specs.Arguments.{paired};
+ghost use Rattle.code_meaning.specs.Coding.{mode_code, operand_code, passed_code, passed_rest, number_code, argument_code, arguments_code, arguments_texts, variable_operand, result_target, named_call_code, right_code, assign_code, write_code, of_slot, return_code, returned_code, test_code, first_code, loop_code, expr_code, stmt_code, block_code};
 ghost use Rattle.lower_statements.specs.Names.{slot_view};
 ghost use Rattle.code_meaning.specs.Plain.{is_declaring, is_plain};
 
@@ -18,6 +19,7 @@ use crate::names::{Names, Slot};
 use crate::terms::{emit_expr, nullable};
 use code::instr;
 use code::instr::{BoxedCall, Instr, LocalArray, Operand, ReferenceOperand, ReleaseMode, Target};
+use code_meaning::Parameters;
 use jni::{JniFunction, ParameterKind, function_named};
 use std::alloc::{AllocError, Global};
 use syntax::{Argument, Block, Call, Constant, ElementType, Expr, Form, Name, RightSide, Test};
@@ -391,7 +393,7 @@ fn emit_call(
     let Some(function) = function_named(call.function.as_bytes()) else {
         return Ok(());
     };
-    let parameters = function.prototype().parameters;
+    let parameters = Parameters::of(function);
     emit_arguments(code, names, line, parameters, &call.arguments)?;
     let operands = operands_of(*code.allocator(), names, parameters, &call.arguments)?;
     emit_prepared(code, line, target, function, operands, &call.arguments)
@@ -427,21 +429,20 @@ fn emit_arguments(
     code: &mut Vec<Instr>,
     names: &Names<'_>,
     line: u32,
-    parameters: &[ParameterKind],
+    parameters: Parameters,
     arguments: &[Argument],
 ) -> Result<(), AllocError>
     ensures { OnOk result (code.new.items ≡ code.old.items
-        ++ arguments_code names.now.known line (zip (map parameter_value parameters.now)
-        (map argument_tree arguments.now))) }
+        ++ arguments_code names.now.known line (paired parameters (map argument_tree arguments.now))) }
 {
-    match parameters {
+    match arguments {
         [] => Ok(()),
-        [parameter, parameters @ ..] => match arguments {
-            [] => Ok(()),
-            [argument, arguments @ ..] => {
-                emit_argument(code, names, line, *parameter, argument)?;
+        [argument, arguments @ ..] => match parameters.first() {
+            Some((parameter, parameters)) => {
+                emit_argument(code, names, line, parameter, argument)?;
                 emit_arguments(code, names, line, parameters, arguments)
             }
+            None => Ok(()),
         },
     }
 }
@@ -460,6 +461,38 @@ fn emit_argument(
         (ParameterKind::IntNumber, Argument::Value(number)) => {
             emit_expr(code, names, line, number)
         }
+        (ParameterKind::Passed, Argument::Value(given)) => { emit_passed(code, names, line, given) }
+        _ => Ok(()),
+    }
+}
+
+/// What a method is given, where it is a number.
+fn emit_passed(
+    code: &mut Vec<Instr>,
+    names: &Names<'_>,
+    line: u32,
+    given: &Expr,
+) -> Result<(), AllocError>
+    ensures { OnOk result (code.new.items ≡ code.old.items ++ passed_rest names.now.known line (expr_tree given.now)) }
+{
+    match given {
+        Expr::Named(Constant::Null) => Ok(()),
+        Expr::Variable(name) => emit_number(code, names, name),
+        number => emit_expr(code, names, line, number),
+    }
+}
+
+/// A variable's value, where it is a `jint`.
+fn emit_number(code: &mut Vec<Instr>, names: &Names<'_>, name: &Name) -> Result<(), AllocError>
+    ensures { OnOk result (code.new.items ≡ code.old.items ++ of_slot number_code (lookup name.now names.now.known)) }
+{
+    match names.slot_of(name) {
+        Some(
+            Slot {
+                sort: Sort::Jint,
+                index,
+            },
+        ) => emit(code, Instr::Load(index)),
         _ => Ok(()),
     }
 }
@@ -468,21 +501,20 @@ fn emit_argument(
 fn push_operands(
     operands: &mut Vec<Operand>,
     names: &Names<'_>,
-    parameters: &[ParameterKind],
+    parameters: Parameters,
     arguments: &[Argument],
 ) -> Result<(), AllocError>
     ensures { OnOk result (operands.new.items ≡ operands.old.items
-        ++ map (operand_code names.now.known) (zip (map parameter_value parameters.now)
-        (map argument_tree arguments.now))) }
+        ++ map (operand_code names.now.known) (paired parameters (map argument_tree arguments.now))) }
 {
-    match parameters {
+    match arguments {
         [] => Ok(()),
-        [parameter, parameters @ ..] => match arguments {
-            [] => Ok(()),
-            [argument, arguments @ ..] => {
-                operands.push(operand_of(names, *parameter, argument))?;
+        [argument, arguments @ ..] => match parameters.first() {
+            Some((parameter, parameters)) => {
+                operands.push(operand_of(names, parameter, argument))?;
                 push_operands(operands, names, parameters, arguments)
             }
+            None => Ok(()),
         },
     }
 }
@@ -491,12 +523,11 @@ fn push_operands(
 fn operands_of(
     alloc: Global,
     names: &Names<'_>,
-    parameters: &[ParameterKind],
+    parameters: Parameters,
     arguments: &[Argument],
 ) -> Result<Vec<Operand>, AllocError>
     ensures { IfOk result (λ operands. operands.items
-        ≡ map (operand_code names.now.known) (zip (map parameter_value parameters.now)
-        (map argument_tree arguments.now))) }
+        ≡ map (operand_code names.now.known) (paired parameters (map argument_tree arguments.now))) }
 {
     let mut operands = Vec::new(alloc);
     push_operands(&mut operands, names, parameters, arguments)?;
@@ -509,6 +540,7 @@ fn operand_of(names: &Names<'_>, parameter: ParameterKind, argument: &Argument) 
 {
     match (parameter, argument) {
         (ParameterKind::IntNumber, Argument::Value(_)) => Operand::Number,
+        (ParameterKind::Passed, Argument::Value(given)) => passed_operand(names, given),
         (ParameterKind::Mode, Argument::Value(mode)) => Operand::Mode(release_mode(mode)),
         (_, Argument::Value(Expr::Variable(name))) => match names.slot_of(name) {
             Some(Slot { sort, index }) => variable_operand(sort, index),
@@ -520,6 +552,26 @@ fn operand_of(names: &Names<'_>, parameter: ParameterKind, argument: &Argument) 
             Some(Slot { sort: _, index }) => Operand::IsCopy(index),
             None => Operand::Null,
         },
+    }
+}
+
+/// Where what a method is given is found.
+fn passed_operand(names: &Names<'_>, given: &Expr) -> Operand
+    ensures { result ≡ passed_code names.now.known (expr_tree given.now) }
+{
+    match given {
+        Expr::Named(Constant::Null) => Operand::Null,
+        Expr::Variable(name) => match names.slot_of(name) {
+            Some(
+                Slot {
+                    sort: Sort::Jint,
+                    index: _,
+                },
+            ) => Operand::Number,
+            Some(Slot { sort, index }) => variable_operand(sort, index),
+            None => Operand::Null,
+        },
+        _ => Operand::Number,
     }
 }
 
@@ -542,6 +594,7 @@ fn variable_operand(sort: Sort, index: u32) -> Operand
         Sort::Ref => Operand::Local(index),
         Sort::Global | Sort::Weak => Operand::Static(index),
         Sort::FieldId => Operand::FieldId(index),
+        Sort::MethodId => Operand::MethodId(index),
         Sort::Array(_, len) => Operand::Array(LocalArray { start: index, len }),
         Sort::Buffer(..) => Operand::Buffer(index),
         _ => Operand::Null,

@@ -1,15 +1,19 @@
 //! Which functions are too long, told from the tree alone. A walk counts down from the limit, and stops where nothing is left.
 
-ghost use Rattle.std.specs.Prelude.{◌≡◌, ℕ, ◌+◌, ◌<◌, nat_lt, IfSome, IfNone, IsTrue, map, zip};
+ghost use Rattle.std.specs.Prelude.{◌≡◌, ℕ, ◌+◌, ◌<◌, nat_lt, if◌then◌else◌, IfSome, IfNone, IsTrue, map};
 ghost use Rattle.std.specs.List.{list_any, sum_by};
 ghost use Rattle.base.specs.Limits.{most_steps};
 ghost use Rattle.syntax.specs.Views.{expr_tree, argument_tree, call_tree, right_side_tree, test_tree, result_tree, form_tree, block_tree, function_tree, item_tree, unit_tree};
 ghost use Rattle.jni.specs.JniFunction.{function_named};
 ghost use Rattle.jni.specs.Table.{parameter_value};
 ghost use Rattle.code_meaning.specs.Plain.{is_plain};
-ghost use Rattle.code_meaning.specs.Length.{expr_steps, argument_steps, call_steps, value_steps, right_steps, test_steps, return_steps, stmt_steps, block_steps, function_steps, is_long};
+ghost use Rattle.code_meaning.specs.Arguments.{paired};
+ghost use Rattle.code_meaning.specs.Length.{expr_steps, passed_steps, argument_steps, call_steps, value_steps, right_steps, test_steps, return_steps, stmt_steps, block_steps, function_steps, is_long};
+ghost use Rattle.step_counts.specs.Names.{HasFewNames, has_few_names};
 
+use crate::int_names::IntNames;
 use base::limits::MOST_STEPS;
+use code_meaning::Parameters;
 use jni::{ParameterKind, function_named};
 use region_rules::Checked;
 use syntax::{
@@ -51,31 +55,59 @@ fn after_number(left: usize, e: &Expr) -> Option<usize>
 }
 
 /// What is left of `left` after the steps of an argument before the call.
-fn after_argument(left: usize, parameter: ParameterKind, argument: &Argument) -> Option<usize>
-    ensures some { IfSome result (λ rest. rest + argument_steps (parameter_value parameter, argument_tree argument.now) ≡ left) }
-    ensures none { IfNone result (left < argument_steps (parameter_value parameter, argument_tree argument.now)) }
+fn after_argument(
+    left: usize,
+    ints: &IntNames<'_>,
+    parameter: ParameterKind,
+    argument: &Argument,
+) -> Option<usize>
+    ensures some { IfSome result (λ rest. rest + argument_steps ints.now (parameter_value parameter, argument_tree argument.now) ≡ left) }
+    ensures none { IfNone result (left < argument_steps ints.now (parameter_value parameter, argument_tree argument.now)) }
 {
     match (parameter, argument) {
         (ParameterKind::IntNumber, Argument::Value(e)) => after_expr(left, e),
+        (ParameterKind::Passed, Argument::Value(e)) => after_passed(left, ints, e),
         _ => Some(left),
     }
+}
+
+/// What is left of `left` after the steps of what a method is given.
+fn after_passed(left: usize, ints: &IntNames<'_>, e: &Expr) -> Option<usize>
+    ensures some { IfSome result (λ rest. rest + passed_steps ints.now (expr_tree e.now) ≡ left) }
+    ensures none { IfNone result (left < passed_steps ints.now (expr_tree e.now)) }
+{
+    match e {
+        Expr::Named(Constant::Null) => Some(left),
+        Expr::Variable(name) => after_name(left, ints.has(name)),
+        e => after_expr(left, e),
+    }
+}
+
+/// What is left of `left` after a name that a method is given: a number takes a step.
+fn after_name(left: usize, number: bool) -> Option<usize>
+    ensures some { IfSome result (λ rest. rest + (if number then 1 else 0) ≡ left) }
+    ensures none { IfNone result (left < (if number then 1 else 0)) }
+{
+    if number { after_one(left) } else { Some(left) }
 }
 
 /// What is left of `left` after the steps of several arguments before the call.
 fn after_arguments(
     left: usize,
-    parameters: &[ParameterKind],
+    ints: &IntNames<'_>,
+    parameters: Parameters,
     arguments: &[Argument],
 ) -> Option<usize>
-    ensures some { IfSome result (λ rest. rest + sum_by argument_steps (zip (map parameter_value parameters.now) (map argument_tree arguments.now)) ≡ left) }
-    ensures none { IfNone result (left < sum_by argument_steps (zip (map parameter_value parameters.now) (map argument_tree arguments.now))) }
+    ensures some { IfSome result (λ rest. rest + sum_by (argument_steps ints.now) (paired parameters (map argument_tree arguments.now)) ≡ left) }
+    ensures none { IfNone result (left < sum_by (argument_steps ints.now) (paired parameters (map argument_tree arguments.now))) }
 {
-    match parameters {
+    match arguments {
         [] => Some(left),
-        [parameter, parameters_left @ ..] => match arguments {
-            [] => Some(left),
-            [argument, arguments_left @ ..] => after_arguments(
-                after_argument(left, *parameter, argument)?,
+        [argument, arguments_left @ ..] => match parameters.first() {
+            None => Some(left),
+            Some((parameter, parameters_left)) => after_arguments(
+                after_argument(left, ints, parameter, argument)?,
+                ints,
                 parameters_left,
                 arguments_left,
             ),
@@ -84,14 +116,15 @@ fn after_arguments(
 }
 
 /// What is left of `left` after the steps of a call.
-fn after_call(left: usize, call: &Call) -> Option<usize>
-    ensures some { IfSome result (λ rest. rest + call_steps (call_tree call.now) ≡ left) }
-    ensures none { IfNone result (left < call_steps (call_tree call.now)) }
+fn after_call(left: usize, ints: &IntNames<'_>, call: &Call) -> Option<usize>
+    ensures some { IfSome result (λ rest. rest + call_steps ints.now (call_tree call.now) ≡ left) }
+    ensures none { IfNone result (left < call_steps ints.now (call_tree call.now)) }
 {
     match function_named(call.function.as_bytes()) {
         Some(function) => after_one(after_arguments(
             left,
-            function.prototype().parameters,
+            ints,
+            Parameters::of(function),
             &call.arguments,
         )?),
         None => after_one(left),
@@ -110,24 +143,24 @@ fn after_value(left: usize, e: &Expr) -> Option<usize>
 }
 
 /// What is left of `left` after the steps of a right side.
-fn after_right(left: usize, right: &RightSide) -> Option<usize>
-    ensures some { IfSome result (λ rest. rest + right_steps (right_side_tree right.now) ≡ left) }
-    ensures none { IfNone result (left < right_steps (right_side_tree right.now)) }
+fn after_right(left: usize, ints: &IntNames<'_>, right: &RightSide) -> Option<usize>
+    ensures some { IfSome result (λ rest. rest + right_steps ints.now (right_side_tree right.now) ≡ left) }
+    ensures none { IfNone result (left < right_steps ints.now (right_side_tree right.now)) }
 {
     match right {
         RightSide::Expr(e) => after_value(left, e),
-        RightSide::Call(call) => after_call(left, call),
+        RightSide::Call(call) => after_call(left, ints, call),
     }
 }
 
 /// What is left of `left` after the steps of a test and the choice of a way.
-fn after_test(left: usize, test: &Test) -> Option<usize>
-    ensures some { IfSome result (λ rest. rest + test_steps (test_tree test.now) ≡ left) }
-    ensures none { IfNone result (left < test_steps (test_tree test.now)) }
+fn after_test(left: usize, ints: &IntNames<'_>, test: &Test) -> Option<usize>
+    ensures some { IfSome result (λ rest. rest + test_steps ints.now (test_tree test.now) ≡ left) }
+    ensures none { IfNone result (left < test_steps ints.now (test_tree test.now)) }
 {
     match test {
         Test::Expr(e) => after_number(left, e),
-        Test::Call(call) => after_one(after_call(left, call)?),
+        Test::Call(call) => after_one(after_call(left, ints, call)?),
     }
 }
 
@@ -144,43 +177,55 @@ fn after_return(left: usize, returns: ResultType, e: &Expr) -> Option<usize>
 
 /// What is left of `left` after the steps of a statement.
 #[cycle(statements)]
-fn after_form(left: usize, returns: ResultType, form: &Form) -> Option<usize>
-    ensures some { (line : ℕ) → IfSome result (λ rest. rest + stmt_steps (result_tree returns) (form_tree line form.now) ≡ left) }
-    ensures none { (line : ℕ) → IfNone result (left < stmt_steps (result_tree returns) (form_tree line form.now)) }
+fn after_form(left: usize, ints: &IntNames<'_>, returns: ResultType, form: &Form) -> Option<usize>
+    ensures some { (line : ℕ) → IfSome result (λ rest. rest + stmt_steps ints.now (result_tree returns) (form_tree line form.now) ≡ left) }
+    ensures none { (line : ℕ) → IfNone result (left < stmt_steps ints.now (result_tree returns) (form_tree line form.now)) }
 {
     match form {
-        Form::If(test, block) => after_one(after_first(left, returns, test, block)?),
+        Form::If(test, block) => after_one(after_first(left, ints, returns, test, block)?),
         Form::IfElse(test, block, other) => {
-            after_way(after_first(left, returns, test, block)?, returns, other)
+            after_way(
+                after_first(left, ints, returns, test, block)?,
+                ints,
+                returns,
+                other,
+            )
         }
-        Form::While(test, body) => after_way(after_number(left, test)?, returns, body),
-        _ => after_plain(left, returns, form),
+        Form::While(test, body) => after_way(after_number(left, test)?, ints, returns, body),
+        _ => after_plain(left, ints, returns, form),
     }
 }
 
 /// What is left of `left` after the steps of a test and of the way that is taken where it holds.
 #[cycle(statements)]
-fn after_first(left: usize, returns: ResultType, test: &Test, block: &Block) -> Option<usize>
-    ensures some { IfSome result (λ rest. rest + (test_steps (test_tree test.now) + (block_steps (result_tree returns) (block_tree block.now) + 1)) ≡ left) }
-    ensures none { IfNone result (left < test_steps (test_tree test.now) + (block_steps (result_tree returns) (block_tree block.now) + 1)) }
+fn after_first(
+    left: usize,
+    ints: &IntNames<'_>,
+    returns: ResultType,
+    test: &Test,
+    block: &Block,
+) -> Option<usize>
+    ensures some { IfSome result (λ rest. rest
+        + (test_steps ints.now (test_tree test.now) + (block_steps ints.now (result_tree returns) (block_tree block.now) + 1)) ≡ left) }
+    ensures none { IfNone result (left < test_steps ints.now (test_tree test.now) + (block_steps ints.now (result_tree returns) (block_tree block.now) + 1)) }
 {
-    after_way(after_test(left, test)?, returns, block)
+    after_way(after_test(left, ints, test)?, ints, returns, block)
 }
 
 /// What is left of `left` after the steps of a statement without blocks.
-fn after_plain(left: usize, returns: ResultType, form: &Form) -> Option<usize>
+fn after_plain(left: usize, ints: &IntNames<'_>, returns: ResultType, form: &Form) -> Option<usize>
     requires { IsTrue (is_plain form.now) }
-    ensures some { (line : ℕ) → IfSome result (λ rest. rest + stmt_steps (result_tree returns) (form_tree line form.now) ≡ left) }
-    ensures none { (line : ℕ) → IfNone result (left < stmt_steps (result_tree returns) (form_tree line form.now)) }
+    ensures some { (line : ℕ) → IfSome result (λ rest. rest + stmt_steps ints.now (result_tree returns) (form_tree line form.now) ≡ left) }
+    ensures none { (line : ℕ) → IfNone result (left < stmt_steps ints.now (result_tree returns) (form_tree line form.now)) }
 {
     match form {
-        Form::Declare(_, _, right) => after_right(left, right),
-        Form::DeclareBuffer(_, _, right) => after_right(left, right),
-        Form::DeclareChars(_, right) => after_right(left, right),
+        Form::Declare(_, _, right) => after_right(left, ints, right),
+        Form::DeclareBuffer(_, _, right) => after_right(left, ints, right),
+        Form::DeclareChars(_, right) => after_right(left, ints, right),
         Form::DeclareArray(..) => after_one(left),
-        Form::Assign(_, right) => after_right(left, right),
+        Form::Assign(_, right) => after_right(left, ints, right),
         Form::AssignElement(_, i, e) => after_number(after_expr(left, i)?, e),
-        Form::Perform(call) => after_call(left, call),
+        Form::Perform(call) => after_call(left, ints, call),
         Form::PutJint(e) => after_number(left, e),
         Form::Return(None) => after_one(left),
         Form::Return(Some(e)) => after_return(left, returns, e),
@@ -190,34 +235,42 @@ fn after_plain(left: usize, returns: ResultType, form: &Form) -> Option<usize>
 
 /// What is left of `left` after the steps of a block and the one at its end.
 #[cycle(statements)]
-fn after_way(left: usize, returns: ResultType, block: &Block) -> Option<usize>
-    ensures some { IfSome result (λ rest. rest + (block_steps (result_tree returns) (block_tree block.now) + 1) ≡ left) }
-    ensures none { IfNone result (left < block_steps (result_tree returns) (block_tree block.now) + 1) }
+fn after_way(left: usize, ints: &IntNames<'_>, returns: ResultType, block: &Block) -> Option<usize>
+    ensures some { IfSome result (λ rest. rest + (block_steps ints.now (result_tree returns) (block_tree block.now) + 1) ≡ left) }
+    ensures none { IfNone result (left < block_steps ints.now (result_tree returns) (block_tree block.now) + 1) }
 {
-    after_one(after_block(left, returns, block)?)
+    after_one(after_block(left, ints, returns, block)?)
 }
 
 /// What is left of `left` after the steps of a block's statements.
 #[cycle(statements)]
-fn after_block(left: usize, returns: ResultType, block: &Block) -> Option<usize>
-    ensures some { IfSome result (λ rest. rest + block_steps (result_tree returns) (block_tree block.now) ≡ left) }
-    ensures none { IfNone result (left < block_steps (result_tree returns) (block_tree block.now)) }
+fn after_block(
+    left: usize,
+    ints: &IntNames<'_>,
+    returns: ResultType,
+    block: &Block,
+) -> Option<usize>
+    ensures some { IfSome result (λ rest. rest + block_steps ints.now (result_tree returns) (block_tree block.now) ≡ left) }
+    ensures none { IfNone result (left < block_steps ints.now (result_tree returns) (block_tree block.now)) }
 {
     let mut rest = left;
     for stmt in &block.statements {
-        rest = after_form(rest, returns, &stmt.form)?;
+        rest = after_form(rest, ints, returns, &stmt.form)?;
     }
     Some(rest)
 }
 
 /// Whether a function has more than 65,535 steps.
 fn is_long_function(function: &Function) -> bool
+    requires { HasFewNames (function_tree function.now) }
     ensures { result ≡ nat_lt most_steps (function_steps (function_tree function.now)) }
 {
-    after_block(MOST_STEPS, function.result, &function.body).is_none()
+    let ints = IntNames::of(function);
+    after_block(MOST_STEPS, &ints, function.result, &function.body).is_none()
 }
 
 fn is_long(item: &Item) -> bool
+    requires { IsTrue (has_few_names (item_tree item.now)) }
     ensures { result ≡ is_long (item_tree item.now) }
 {
     match item {
@@ -241,8 +294,8 @@ pub fn has_long_function(checked: &Checked) -> bool
 /// The first function that has more than 65,535 steps, for the reader of the fault.
 pub fn long_function(checked: &Checked) -> Option<&Function> {
     for item in checked.items() {
-        if let Item::Function(function) = item {
-            if is_long_function(function) {
+        if is_long(item) {
+            if let Item::Function(function) = item {
                 return Some(function);
             }
         }

@@ -2,4 +2,4 @@ use Rattle.std.proofs.Common.{length}
 use Rattle.lower_statements.proofs.statements.+push_operands.Given as goal
 
 abbrev pub decreases-push_operands : goal.decreases-push_operands
-decreases-push_operands l = length l.parameters.now
+decreases-push_operands l = length l.arguments.now

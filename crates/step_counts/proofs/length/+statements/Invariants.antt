@@ -7,4 +7,4 @@ use Rattle.step_counts.proofs.length.+statements.Given as goal
 
 abbrev pub invariant-after_block-loop-stmt : goal.invariant-after_block-loop-stmt
 invariant-after_block-loop-stmt l =
-    block_steps (result_tree l.fn.returns) (block_tree l.block) + l.rest ≡ l.fn.left + block_steps (result_tree l.fn.returns) (statements_tree (drop l.stmt-index l.stmt-items) (out-Block l.block).end_line)
+    block_steps l.fn.ints (result_tree l.fn.returns) (block_tree l.block) + l.rest ≡ l.fn.left + block_steps l.fn.ints (result_tree l.fn.returns) (statements_tree (drop l.stmt-index l.stmt-items) (out-Block l.block).end_line)

@@ -1,0 +1,17 @@
+-- The arguments of a call, each with the kind of its parameter.
+use Rattle.std.specs.Prelude.{Bool, true, false, List, [], ◌∷◌, map}
+use Rattle.syntax.specs.Tree.{Argument}
+use Rattle.jni.specs.Prototype.{ParameterKind, Passed}
+use Rattle.jni.specs.Table.{parameter_value}
+use Rattle.code_meaning.specs.declared.parameters.Parameters.{Parameters}
+
+-- the arguments with a function's own parameters, and, where it calls a method, what is left as what that is given
+abbrev pub given_for : (calls : Bool) (own : List ParameterKind) → List Argument → List (ParameterKind × Argument)
+given_for calls own [] = []
+given_for calls (p ∷ own) (a ∷ arguments) = (p, a) ∷ given_for calls own arguments
+given_for true [] (a ∷ arguments) = (Passed, a) ∷ given_for true [] arguments
+given_for false [] arguments = []
+
+-- the same with parameters in memory
+abbrev pub paired : Parameters → List Argument → List (ParameterKind × Argument)
+paired parameters arguments = given_for parameters.calls (map parameter_value parameters.own.now) arguments
