@@ -27,8 +27,8 @@ use Rattle.machine_answers.specs.WorkedOut.{held_reference, count_there, element
 use Rattle.machine_answers.proofs.CallChecks.{class_given_is, fits_is}
 use Rattle.machine_answers.proofs.CallTraps.{has_passed}
 use Rattle.machine_answers.proofs.LongTables.{class_is_plain}
-use Rattle.machine_answers.proofs.CallOperands.{only_text}
-use Rattle.machine_answers.proofs.TwoCalls.{TwoCalls, references, fields, all, brought, Asked, Works, Does, at, agrees, name_of, built_in_class, object_given_at, number_of, class_given, counted, reference_read, value_written, held_agrees}
+use Rattle.machine_answers.proofs.CallOperands.{no_number, only_text}
+use Rattle.machine_answers.proofs.TwoCalls.{TwoCalls, unit, references, fields, all, brought, Asked, Works, Does, at, agrees, name_of, built_in_class, object_given_at, number_of, class_given, counted, reference_read, value_written, held_agrees}
 
 module _ (both : TwoCalls) where
   open both use {p, w, store, pending, activation, call, others, k, owner, shared, s, target, sound, args}
@@ -70,7 +70,7 @@ module _ (both : TwoCalls) where
       let makeable : IsMakeable w.classes array.0 = record { low = known.0; high = known.1; no_class = λ e. absurd (let clash : Plain ≡ ArrayOfObjects (object_given args 1) = sym (class_is_plain w.classes sound.grown) ∙ ap (class_kind w.classes) (sym e) ∙ array.2 in cc) } in
       let found : unwrap_or (array_class_of w.classes (name_there store.heap (at both 1))) 0 ≡ array.0 = ap (λ (c : ℕ). unwrap_or (array_class_of w.classes c) 0) name ∙ ap (λ (o : Option ℕ). unwrap_or o 0) array.1 in
       let given : option_map_or (λ (c : ℕ). c) (array_class_of w.classes (object_given args 1)) 0 ≡ array.0 = ap (λ (o : Option ℕ). option_map_or (λ (c : ℕ). c) o 0) array.1 in
-      subst (λ (x : Answer). Does both NewObjectArray x) (sym (is ∙ (λ i. new_array (found i) (number_of both NewObjectArray [] (ClassObject ∷ Nullable ∷ []) tt (λ e. cc, (λ e. cc, tt)) refl h i) (held_reference (at both 2)))))
+      subst (λ (x : Answer). Does both NewObjectArray x) (sym (is ∙ (λ i. new_array (found i) (number_of both NewObjectArray [] (ClassObject ∷ Nullable ∷ []) tt (no_number ClassObject (λ e. cc) (λ e. cc), (no_number Nullable (λ e. cc) (λ e. cc), tt)) refl h i) (held_reference (at both 2)))))
       (subst (λ (c : ℕ). IsAnswer w.classes (brought both) store.heap activation.locals NewLocal shared s (new_array array.0 (number_given args 0) (held_reference (at both 2))) (new_array_effect shared s c (number_given args 0) (Refers (reference_given args 2)))) (sym given)
       (made_array array.0 (held_reference (at both 2)) (Refers (reference_given args 2)) makeable (held_agrees both (at both 2) (reference_given args 2) (agrees both NewObjectArray h 2)) (number_given args 0)))
     where
@@ -120,7 +120,7 @@ module _ (both : TwoCalls) where
   unfolding call_effect
   answers_element h free answer is =
       let first = object_given_at both GetObjectArrayElement [] ObjectArray (IntNumber ∷ []) tt refl refl h free in
-      let number = number_of both GetObjectArrayElement (ObjectArray ∷ []) [] (λ e. cc, tt) tt refl h in
+      let number = number_of both GetObjectArrayElement (ObjectArray ∷ []) [] (no_number ObjectArray (λ e. cc) (λ e. cc), tt) tt refl h in
       subst (λ (x : Answer). Does both GetObjectArrayElement x) (sym (is ∙ (λ i. element_there store.heap (first.at i) (index_there store.heap (first.at i) (number i)))))
       (element_read first.address first.name (object_given args 0) (length (values_of shared.heap (object_given args 0))) first.named (ap name_or_zero first.is) (ap (count_there store.heap) (sym first.at) ∙ (counted both GetObjectArrayElement h).0) h.store_agrees (number_given args 1))
 
@@ -129,11 +129,11 @@ module _ (both : TwoCalls) where
   answers_store h free answer is =
       let first = object_given_at both SetObjectArrayElement [] ObjectArray (IntNumber ∷ Nullable ∷ []) tt refl refl h free in
       let blocks = h.store_agrees.heap.blocks in
-      let class = class_given_is w.classes store.heap (references both) (fields both) shared.heap blocks (at both 0) (reference_given args 0) (agrees both SetObjectArrayElement h 0) in
+      let class = class_given_is (unit both) w.classes store.heap (references both) (fields both) shared.heap blocks (at both 0) (reference_given args 0) (agrees both SetObjectArrayElement h 0) in
       let element = element_class (class_kind w.classes (class_of shared.heap (object_given args 0))) in
       let fits : fits_there w.classes store.heap (at both 2) (element_class (class_kind w.classes (class_of_given store.heap (at both 0)))) ≡ fits_class w.classes shared.heap (reference_given args 2) element =
-      ap (λ (c : ℕ). fits_there w.classes store.heap (at both 2) (element_class (class_kind w.classes c))) class ∙ fits_is w.classes store.heap (references both) (fields both) shared.heap blocks (at both 2) (reference_given args 2) element (agrees both SetObjectArrayElement h 2) in
-      let number = number_of both SetObjectArrayElement (ObjectArray ∷ []) (Nullable ∷ []) (λ e. cc, tt) (λ e. cc, tt) refl h in
+      ap (λ (c : ℕ). fits_there w.classes store.heap (at both 2) (element_class (class_kind w.classes c))) class ∙ fits_is (unit both) w.classes store.heap (references both) (fields both) shared.heap blocks (at both 2) (reference_given args 2) element (agrees both SetObjectArrayElement h 2) in
+      let number = number_of both SetObjectArrayElement (ObjectArray ∷ []) (Nullable ∷ []) (no_number ObjectArray (λ e. cc) (λ e. cc), tt) (no_number Nullable (λ e. cc) (λ e. cc), tt) refl h in
       subst (λ (x : Answer). Does both SetObjectArrayElement x) (sym (is ∙ (λ i. stores_there store.heap (first.at i) (fits i) (index_there store.heap (first.at i) (number i)) (held_reference (at both 2)))))
       (element_written first.address first.name (object_given args 0) (length (values_of shared.heap (object_given args 0))) first.named (ap name_or_zero first.is) (ap (count_there store.heap) (sym first.at) ∙ (counted both SetObjectArrayElement h).0) h.store_agrees
       (fits_class w.classes shared.heap (reference_given args 2) element) (held_reference (at both 2)) (reference_given args 2) (held_agrees both (at both 2) (reference_given args 2) (agrees both SetObjectArrayElement h 2)) (number_given args 1))
@@ -141,5 +141,5 @@ module _ (both : TwoCalls) where
   pub answers_string : Asked both NewStringUTF → (answer : Answer) → Works both NewStringUTF answer → Does both NewStringUTF answer
   unfolding call_effect
   answers_string h answer is =
-      let text : text_in call.texts 0 ≡ text_given args 0 = ap (λ (l : List (List ℕ)). text_in l 0) h.texts ∙ only_text w.classes store.heap (references both) (fields both) call.operands args h.kinds h.given in
+      let text : text_in call.texts 0 ≡ text_given args 0 = ap (λ (l : List (List ℕ)). text_in l 0) h.texts ∙ only_text (unit both) w.classes store.heap (references both) (fields both) call.operands args h.kinds h.given in
       subst (λ (x : Answer). Does both NewStringUTF x) (sym is) (refl, refl, refl, refl, record { object = ap string_object (sym text); makeable = built_in_class both string_class (omega arith) (omega arith) })

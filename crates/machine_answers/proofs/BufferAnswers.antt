@@ -5,7 +5,7 @@ use Rattle.std.specs.List.{AllZip}
 use Rattle.code.specs.declared.instr.Operand.TheVariants as operand
 use Rattle.heap.specs.Heap.{values_at}
 use Rattle.jni.specs.Access.{Access, ElementsCopy, ArrayView, CharsCopy, CharsView}
-use Rattle.jni.specs.JniFunction.{GetBuffer, ReleaseBuffer, JniFunction, prototype}
+use Rattle.jni.specs.JniFunction.{GetBuffer, ReleaseBuffer, JniFunction, parameters_for}
 use Rattle.jni.specs.Prototype.{owner, BufferVariable, IsCopy, Mode, NumberArray, StringObject, ParameterKind, NonNull, GivesNothing}
 use Rattle.semantics.specs.Arguments.{ReleaseMode, FreeUncopied, mode_given, variable_given, object_given}
 use Rattle.semantics.specs.CallEffects.{copy_effect, view_effect, release_effect}
@@ -32,13 +32,13 @@ use Rattle.machine_answers.proofs.RegionOperands.{all_words}
 use Rattle.machine_answers.specs.Answers.{IsCopyAcquired, IsViewAcquired, IsAnswer}
 use Rattle.machine_answers.specs.WorkedOut.{acquires, releases}
 use Rattle.machine_answers.proofs.CallOperands.{GivenObject}
-use Rattle.machine_answers.proofs.TwoCalls.{TwoCalls, references, fields, all, in_use, brought, Asked, Works, Does, object_given_at, object_there}
+use Rattle.machine_answers.proofs.TwoCalls.{TwoCalls, unit, references, fields, all, in_use, brought, Asked, Works, Does, object_given_at, object_there}
 
 module _ (both : TwoCalls) where
   open both use {p, w, store, pending, activation, call, others, k, shared, s, target, sound, args}
 
   -- the object of argument 0
-  module _ (f : JniFunction) (h : Asked both f) (g : GivenObject w.classes store.heap (references both) (fields both) call.operands args 0) where
+  module _ (f : JniFunction) (h : Asked both f) (g : GivenObject (unit both) w.classes store.heap (references both) (fields both) call.operands args 0) where
     copy_acquired : IsCopyAcquired (brought both) store.heap shared s g.address (copy_effect (in_use both) shared s (object_given args 0) (numbers_of shared.heap (object_given args 0)))
     copy_acquired = record {
       name = object_given args 0;
@@ -97,7 +97,7 @@ module _ (both : TwoCalls) where
           (numbers_fit t zs typed.1, typed.2 ∙ ap (λ (m : ℕ). length (values_of shared.heap m)) same)
 
   -- what is released
-  buffer_given : (access : Access) (more : List ParameterKind) → (prototype (ReleaseBuffer access)).parameters ≡ owner access ∷ BufferVariable access ∷ more → Asked both (ReleaseBuffer access) → GivenBuffer store.heap (brought both).buffers s.variables call.operands args
+  buffer_given : (access : Access) (more : List ParameterKind) → parameters_for (ReleaseBuffer access) (length args) ≡ owner access ∷ BufferVariable access ∷ more → Asked both (ReleaseBuffer access) → GivenBuffer store.heap (brought both).buffers s.variables call.operands args
   buffer_given access more are h = given_buffer store.heap (brought both).buffers s.variables access (owner access) more call.operands args (subst (λ (l : List ParameterKind). AllZip OperandFits l call.operands) are h.kinds) h.buffers
 
   pub answers_release : (access : Access) → Asked both (ReleaseBuffer access) → trap_of_call w.classes shared s target (ReleaseBuffer access) args ≡ None → (answer : Answer) → Works both (ReleaseBuffer access) answer → Does both (ReleaseBuffer access) answer
@@ -106,7 +106,7 @@ module _ (both : TwoCalls) where
       let f = ReleaseBuffer (ElementsCopy T) in
       let g = object_given_at both f [] (NumberArray T) (BufferVariable (ElementsCopy T) ∷ Mode ∷ []) tt refl refl h free in
       let b = buffer_given (ElementsCopy T) (Mode ∷ []) refl h in
-      let mode = given_mode w.classes store.heap (references both) (fields both) T (NumberArray T) (BufferVariable (ElementsCopy T)) call.operands args h.kinds h.given in
+      let mode = given_mode (unit both) w.classes store.heap (references both) (fields both) T (NumberArray T) (BufferVariable (ElementsCopy T)) call.operands args h.kinds h.given in
       subst (λ (x : Answer). Does both f x) (sym (is ∙ (λ i. releases activation.slots.buffers.items (g.at i) (b.at i) (mode i)))) (released f h g b (mode_given args 2) (λ back. copy_there T h b))
   answers_release ArrayView h free answer is =
       let f = ReleaseBuffer ArrayView in

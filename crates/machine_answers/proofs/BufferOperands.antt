@@ -1,5 +1,5 @@
 -- What the operands of a function of buffers give: a buffer, and the mode of its release.
-use Rattle.std.proofs.Common.{◌≡◌, ℕ, ℤ, pos, negsuc, ◌<◌, List, [], ◌∷◌, map, Option, Some, refl, sym, ap, ◌∙◌, subst, arith}
+use Rattle.std.proofs.Common.{inl, inr, ◌≡◌, ℕ, ℤ, pos, negsuc, ◌<◌, List, [], ◌∷◌, map, Option, Some, refl, sym, ap, ◌∙◌, subst, arith}
 use Rattle.std.specs.Prelude.{FitsSigned, IsTrue}
 use Rattle.std.specs.Int.{w32, cast_signed, cast_unsigned}
 use Rattle.std.specs.List.{AllByRecursion, AllZip}
@@ -7,6 +7,7 @@ use Rattle.std.proofs.Math.Facts.{to_z-of_z}
 use Rattle.std.proofs.lemmas.Bool.Decides.{nat_tests}
 use Rattle.base.specs.Bytes.{Identifier, lookup}
 use Rattle.base.specs.Element.{ElementType, JInt, JShort, JByte, JChar}
+use Rattle.syntax.specs.Tree.{SourceUnit}
 use Rattle.class_rules.specs.Class.{Classes}
 use Rattle.code.specs.declared.instr.Operand.{Operand}
 use Rattle.code.specs.declared.instr.Operand.TheVariants as operand
@@ -37,7 +38,9 @@ pub record GivenBuffer (space : Space) (buffers : HeldBuffers) (vs : Variables) 
 
 buffer_operand : (access : Access) (o : Operand) → OperandFits (BufferVariable access) o → (i : ℕ) × (o ≡ operand.Buffer i)
 buffer_operand access (operand.Buffer i) fits = (i, refl)
-buffer_operand access operand.Number fits = absurd (cc)
+buffer_operand access operand.Number (inl e) = absurd (cc)
+buffer_operand access operand.Number (inr e) = absurd (cc)
+buffer_operand access (operand.MethodId i) fits = absurd (cc)
 buffer_operand access (operand.FieldId i) fits = absurd (cc)
 buffer_operand access operand.Text fits = absurd (cc)
 buffer_operand access operand.Null fits = absurd fits
@@ -64,7 +67,9 @@ module _ (space : Space) (buffers : HeldBuffers) (vs : Variables) (access : Acce
 mode_operand : (o : Operand) → OperandFits Mode o → (m : ModeOfCode) × (o ≡ operand.Mode m)
 mode_operand (operand.Mode mode) fits = (mode, refl)
 mode_operand (operand.Buffer i) fits = absurd (let e = fits.1 in cc)
-mode_operand operand.Number fits = absurd (cc)
+mode_operand operand.Number (inl e) = absurd (cc)
+mode_operand operand.Number (inr e) = absurd (cc)
+mode_operand (operand.MethodId i) fits = absurd (cc)
 mode_operand (operand.FieldId i) fits = absurd (cc)
 mode_operand operand.Text fits = absurd (cc)
 mode_operand operand.Null fits = absurd fits
@@ -73,8 +78,8 @@ mode_operand (operand.Static i) fits = absurd fits
 mode_operand (operand.Array array) fits = absurd (let e = fits.1 in cc)
 mode_operand (operand.IsCopy i) fits = absurd (cc)
 
-module _ (classes : Classes) (space : Space) (references : References) (fields : List (Option Handle)) (t : ElementType) (p q : ParameterKind) where
-  pub given_mode : (operands : List Operand) (args : List Actual) → AllZip OperandFits (p ∷ q ∷ Mode ∷ []) operands → AllZip (IsGiven classes space references fields) operands args → mode_of (ElementsCopy t) (operand_of operands 2) ≡ mode_code (mode_given args 2)
+module _ (unit : SourceUnit) (classes : Classes) (space : Space) (references : References) (fields : List (Option Handle)) (t : ElementType) (p q : ParameterKind) where
+  pub given_mode : (operands : List Operand) (args : List Actual) → AllZip OperandFits (p ∷ q ∷ Mode ∷ []) operands → AllZip (IsGiven unit classes space references fields) operands args → mode_of (ElementsCopy t) (operand_of operands 2) ≡ mode_code (mode_given args 2)
   given_mode [] args kinds given = absurd kinds
   given_mode (o ∷ []) args kinds given = absurd kinds.1
   given_mode (o ∷ x ∷ []) args kinds given = absurd kinds.1.1
@@ -83,7 +88,7 @@ module _ (classes : Classes) (space : Space) (references : References) (fields :
   given_mode (o ∷ x ∷ m ∷ more) (a ∷ b ∷ []) kinds given = absurd given.1.1
   given_mode (o ∷ x ∷ m ∷ more) (a ∷ b ∷ c ∷ args) kinds given =
       let mode = mode_operand m kinds.1.1.0 in
-      let is = subst (λ (y : Operand). IsGiven classes space references fields y c) mode.1 given.1.1.0 in
+      let is = subst (λ (y : Operand). IsGiven unit classes space references fields y c) mode.1 given.1.1.0 in
       ap (mode_of (ElementsCopy t)) mode.1 ∙ is.2 ∙ ap (λ (y : Actual). mode_code (mode_in_actual (Some y))) (sym is.1)
 
 -- ---- numbers

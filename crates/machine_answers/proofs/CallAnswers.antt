@@ -1,7 +1,7 @@
 -- What the machine works out of calls is what the source's calls do.
 use Rattle.std.proofs.Common.{◌≡◌, ℕ, List, Option, None}
 use Rattle.code.specs.Call.{Call}
-use Rattle.jni.specs.JniFunction.{GetBuffer, ReleaseBuffer, JniFunction, FindClass, AllocObject, NewLocalRef, NewGlobalRef, NewWeakGlobalRef, DeleteLocalRef, DeleteGlobalRef, DeleteWeakGlobalRef, IsSameObject, EnsureLocalCapacity, PushLocalFrame, PopLocalFrame, GetFieldID, GetStaticFieldID, GetArrayLength, NewArray, NewObjectArray, GetObjectArrayElement, SetObjectArrayElement, NewStringUTF, GetStringLength, Throw, ThrowNew, ExceptionOccurred, ExceptionCheck, ExceptionClear, FatalError, GetSuperclass, GetObjectClass, IsInstanceOf, IsAssignableFrom, GetField, SetField, GetObjectField, SetObjectField, GetStaticField, SetStaticField, GetStaticObjectField, SetStaticObjectField, MonitorEnter, MonitorExit, GetArrayRegion, SetArrayRegion, GetStringRegion, GetStaticMethodID}
+use Rattle.jni.specs.JniFunction.{GetBuffer, ReleaseBuffer, JniFunction, FindClass, AllocObject, NewLocalRef, NewGlobalRef, NewWeakGlobalRef, DeleteLocalRef, DeleteGlobalRef, DeleteWeakGlobalRef, IsSameObject, EnsureLocalCapacity, PushLocalFrame, PopLocalFrame, GetFieldID, GetStaticFieldID, GetArrayLength, NewArray, NewObjectArray, GetObjectArrayElement, SetObjectArrayElement, NewStringUTF, GetStringLength, Throw, ThrowNew, ExceptionOccurred, ExceptionCheck, ExceptionClear, FatalError, GetSuperclass, GetObjectClass, IsInstanceOf, IsAssignableFrom, GetField, SetField, GetObjectField, SetObjectField, GetStaticField, SetStaticField, GetStaticObjectField, SetStaticObjectField, MonitorEnter, MonitorExit, GetArrayRegion, SetArrayRegion, GetStringRegion, GetStaticMethodID, CallStaticVoidMethod, CallStaticIntMethod, CallStaticObjectMethod}
 use Rattle.semantics.specs.Arguments.{Actual}
 use Rattle.semantics.specs.CallStep.{trap_of_call}
 use Rattle.semantics.specs.Task.{Target}
@@ -20,6 +20,7 @@ use Rattle.machine_answers.proofs.ArrayAnswers.{answers_length, answers_string_l
 use Rattle.machine_answers.proofs.RegionAnswers.{answers_get_region, answers_string_region, answers_set_region}
 use Rattle.machine_answers.proofs.BufferAnswers.{answers_get_buffer, answers_release}
 use Rattle.machine_answers.proofs.ExceptionAnswers.{answers_throw, answers_throw_new, answers_occurred, answers_check, answers_clear, answers_fatal}
+use Rattle.machine_answers.proofs.MethodAnswers.{answers_int, answers_object, answers_void}
 use Rattle.machine_answers.proofs.MonitorAnswers.{answers_enter, answers_exit}
 
 module _ (p : Lowered) (w : World) (store : Store) (pending : Option ℕ) (activation : Activation) (call : Call) (others : Acquired) (k owner : ℕ) (shared : Shared) (s : Thread) (target : Target) (sound : IsSound w) (args : List Actual) where
@@ -75,3 +76,6 @@ module _ (p : Lowered) (w : World) (store : Store) (pending : Option ℕ) (activ
   answers (ReleaseBuffer access) h free answer is keyed held = answers_release both access h free answer is
   answers MonitorEnter h free answer is keyed held = answers_enter both h free answer is
   answers MonitorExit h free answer is keyed held = answers_exit both h free answer is
+  answers CallStaticVoidMethod h free answer is keyed held = answers_void both h free answer is
+  answers CallStaticIntMethod h free answer is keyed held = answers_int both h free answer is
+  answers CallStaticObjectMethod h free answer is keyed held = answers_object both h free answer is

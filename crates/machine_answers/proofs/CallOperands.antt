@@ -1,11 +1,12 @@
 -- What is known of a call's operands, by the kinds of its parameters.
 use Rattle.std.proofs.Common.{inl, inr, ◌≡◌, ℕ, zero, suc, ◌+◌, ◌-◌, ◌<◌, ◌≤◌, ◌^◌, Bool, true, false, not, List, [], ◌∷◌, ◌++◌, length, Option, Some, None, is_none, slice_get, refl, sym, ap, ◌∙◌, subst, arith, eqb, ⊎_elim, ℤ}
-use Rattle.std.specs.Prelude.{◌||◌, ◌==◌, unwrap_or, FitsSigned, ◌&&◌}
+use Rattle.std.specs.Prelude.{◌⊎◌, ◌||◌, ◌==◌, unwrap_or, FitsSigned, ◌&&◌}
 use Rattle.std.specs.Int.{w32}
 use Rattle.std.specs.List.{AllByRecursion, AllZip, list_any}
 use Rattle.std.specs.Option.{option_map_or}
 use Rattle.std.proofs.lemmas.Bool.Decides.{eqb_tells}
 use Rattle.base.specs.Element.{ElementType}
+use Rattle.syntax.specs.Tree.{SourceUnit}
 use Rattle.class_rules.specs.BuiltIns.{class_class, has_own_making, number_array, string_class}
 use Rattle.class_rules.specs.Class.{Class, Classes, class_at, class_kind, is_plain, superclass}
 use Rattle.class_rules.proofs.GrownTables.{IsOrdered}
@@ -13,8 +14,8 @@ use Rattle.classes.specs.declared.class.FieldHandle.{FieldHandle}
 use Rattle.code.specs.declared.instr.Operand.{Operand}
 use Rattle.code.specs.declared.instr.Operand.TheVariants as operand
 use Rattle.heap.specs.Heap.{Space, IsLaidOut, name_at}
-use Rattle.jni.specs.Prototype.{ParameterKind, StaticVariable, WeakVariable, ClassObject, FieldID, IntNumber, NumberArray, TextBytes}
-use Rattle.semantics.specs.Arguments.{Actual, ReferenceActual, FieldActual, TextActual, VariableActual, ModeActual, NothingActual, reference_given, name_or_zero, text_given, text_in_actual, NumberActual, number_given, number_in_actual}
+use Rattle.jni.specs.Prototype.{ParameterKind, StaticVariable, WeakVariable, Passed, ClassObject, FieldID, IntNumber, NumberArray, TextBytes}
+use Rattle.semantics.specs.Arguments.{Actual, ReferenceActual, FieldActual, MethodActual, TextActual, VariableActual, ModeActual, NothingActual, reference_given, name_or_zero, text_given, text_in_actual, NumberActual, number_given, number_in_actual}
 use Rattle.semantics.specs.Heap.{Heap, values_of}
 use Rattle.semantics.specs.Object.{Reference}
 use Rattle.code_meaning.specs.Does.{ActualFits, OperandFits, texts_given, words_given}
@@ -84,10 +85,22 @@ same_number n m same =
     (λ (t : (eqb n m ≡ false) × (n ≡ m → ⊥)). absurd (let clash : not false ≡ false = ap not (sym t.0) ∙ same in cc))
     (eqb_tells n m)
 
-module _ (classes : Classes) (space : Space) (references : References) (fields : List (Option Handle)) where
-  no_text : (o : Operand) (a : Actual) → OperandFits ClassObject o → IsGiven classes space references fields o a → does.text_given a ≡ []
-  no_text operand.Number a fits h = absurd (cc)
+-- a parameter of no number
+pub no_number : (p : ParameterKind) → (p ≡ IntNumber → ⊥) → (p ≡ Passed → ⊥) → (p ≡ IntNumber) ⊎ (p ≡ Passed) → ⊥
+no_number p int passed (inl e) = int e
+no_number p int passed (inr e) = passed e
+
+-- as is one of an object
+pub no_word : (p : ParameterKind) → IsReferenceKind p → may_be_null p ≡ false → (p ≡ IntNumber) ⊎ (p ≡ Passed) → ⊥
+no_word p kind never (inl e) = subst IsReferenceKind e kind
+no_word p kind never (inr e) = let clash : true ≡ false = ap may_be_null (sym e) ∙ never in absurd (cc)
+
+module _ (unit : SourceUnit) (classes : Classes) (space : Space) (references : References) (fields : List (Option Handle)) where
+  no_text : (o : Operand) (a : Actual) → OperandFits ClassObject o → IsGiven unit classes space references fields o a → does.text_given a ≡ []
+  no_text operand.Number a (inl e) h = absurd (cc)
+  no_text operand.Number a (inr e) h = absurd (cc)
   no_text (operand.FieldId i) a fits h = absurd (cc)
+  no_text (operand.MethodId i) a fits h = absurd (cc)
   no_text operand.Text a fits h = absurd (cc)
   no_text (operand.Array array) a fits h = ap does.text_given h.1
   no_text (operand.Buffer i) a fits h = ap does.text_given h.1
@@ -95,13 +108,16 @@ module _ (classes : Classes) (space : Space) (references : References) (fields :
   no_text (operand.IsCopy i) a fits h = ap does.text_given h.1
   no_text operand.Null a fits (inl h) = ap does.text_given h.is
   no_text operand.Null a fits (inr (inl h)) = ap does.text_given h.is
-  no_text operand.Null a fits (inr (inr h)) = ap does.text_given h
+  no_text operand.Null a fits (inr (inr (inl h))) = ap does.text_given h.is
+  no_text operand.Null a fits (inr (inr (inr h))) = ap does.text_given h
   no_text (operand.Local i) a fits h = ap does.text_given h.is
   no_text (operand.Static i) a fits h = ap does.text_given h.is
 
-  one_text : (o : Operand) (a : Actual) → OperandFits TextBytes o → IsGiven classes space references fields o a → does.text_given a ≡ text_in_actual (Some a) ∷ []
-  one_text operand.Number a fits h = absurd (cc)
+  one_text : (o : Operand) (a : Actual) → OperandFits TextBytes o → IsGiven unit classes space references fields o a → does.text_given a ≡ text_in_actual (Some a) ∷ []
+  one_text operand.Number a (inl e) h = absurd (cc)
+  one_text operand.Number a (inr e) h = absurd (cc)
   one_text (operand.FieldId i) a fits h = absurd (cc)
+  one_text (operand.MethodId i) a fits h = absurd (cc)
   one_text operand.Text a fits h = ap does.text_given h.1 ∙ ap (λ (b : Actual). text_in_actual (Some b) ∷ []) (sym h.1)
   one_text operand.Null a fits h = absurd fits
   one_text (operand.Array array) a fits h = absurd (let e = fits.1 in cc)
@@ -112,7 +128,7 @@ module _ (classes : Classes) (space : Space) (references : References) (fields :
   one_text (operand.Static i) a fits h = absurd fits
 
   -- the text of a call that takes one
-  pub only_text : (operands : List Operand) (args : List Actual) → AllZip OperandFits (TextBytes ∷ []) operands → AllZip (IsGiven classes space references fields) operands args
+  pub only_text : (operands : List Operand) (args : List Actual) → AllZip OperandFits (TextBytes ∷ []) operands → AllZip (IsGiven unit classes space references fields) operands args
       → unwrap_or (slice_get (texts_given args) 0) [] ≡ text_given args 0
   only_text [] args fits given = absurd fits
   only_text (x ∷ y ∷ more) args fits given = absurd fits.1
@@ -121,7 +137,7 @@ module _ (classes : Classes) (space : Space) (references : References) (fields :
   only_text (x ∷ []) (a ∷ []) fits given = ap (λ (l : List (List ℕ)). unwrap_or (slice_get (l ++ []) 0) []) (one_text x a fits.0 given.0)
 
   -- the text of a call that takes a class and a text
-  pub second_text : (operands : List Operand) (args : List Actual) → AllZip OperandFits (ClassObject ∷ TextBytes ∷ []) operands → AllZip (IsGiven classes space references fields) operands args
+  pub second_text : (operands : List Operand) (args : List Actual) → AllZip OperandFits (ClassObject ∷ TextBytes ∷ []) operands → AllZip (IsGiven unit classes space references fields) operands args
       → unwrap_or (slice_get (texts_given args) 0) [] ≡ text_given args 1
   second_text [] args fits given = absurd fits
   second_text (c ∷ []) args fits given = absurd fits.1
@@ -136,7 +152,7 @@ module _ (classes : Classes) (space : Space) (references : References) (fields :
       ap (λ (l : List (List ℕ)). unwrap_or (slice_get l 0) []) all
 
   -- the texts of a call that takes a class and two texts
-  pub two_texts : (operands : List Operand) (args : List Actual) → AllZip OperandFits (ClassObject ∷ TextBytes ∷ TextBytes ∷ []) operands → AllZip (IsGiven classes space references fields) operands args
+  pub two_texts : (operands : List Operand) (args : List Actual) → AllZip OperandFits (ClassObject ∷ TextBytes ∷ TextBytes ∷ []) operands → AllZip (IsGiven unit classes space references fields) operands args
       → (unwrap_or (slice_get (texts_given args) 0) [] ≡ text_given args 1) × (unwrap_or (slice_get (texts_given args) 1) [] ≡ text_given args 2)
   two_texts [] args fits given = absurd fits
   two_texts (c ∷ []) args fits given = absurd fits.1
@@ -182,17 +198,18 @@ module _ (classes : Classes) (space : Space) (references : References) (fields :
   some_held held.Cleared whole h = absurd (cc)
   some_held held.Deleted whole h = absurd (cc)
 
-  object_in : (p : ParameterKind) → IsReferenceKind p → (o : Operand) → OperandFits p o → gives_deleted references o ≡ false → gives_null references fields o ≡ false → (a : ℕ) × (operand_at references o ≡ Some a)
-  object_in p kind operand.Number fits whole h = absurd (subst IsReferenceKind fits kind)
-  object_in p kind (operand.FieldId i) fits whole h = absurd (subst IsReferenceKind fits kind)
-  object_in p kind operand.Text fits whole h = absurd (subst IsReferenceKind fits kind)
-  object_in p kind (operand.Array array) fits whole h = absurd (subst IsReferenceKind fits.1 kind)
-  object_in p kind (operand.Buffer i) fits whole h = absurd (subst IsReferenceKind fits.1 kind)
-  object_in p kind (operand.Mode mode) fits whole h = absurd (subst IsReferenceKind fits kind)
-  object_in p kind (operand.IsCopy i) fits whole h = absurd (subst IsReferenceKind fits kind)
-  object_in p kind operand.Null fits whole h = absurd (cc)
-  object_in p kind (operand.Static i) fits whole h = some_held (static_at references i) whole h
-  object_in p kind (operand.Local i) fits whole h = some_address (operand_at references (operand.Local i)) h
+  object_in : (p : ParameterKind) → IsReferenceKind p → may_be_null p ≡ false → (o : Operand) → OperandFits p o → gives_deleted references o ≡ false → gives_null references fields o ≡ false → (a : ℕ) × (operand_at references o ≡ Some a)
+  object_in p kind never operand.Number fits whole h = absurd (no_word p kind never fits)
+  object_in p kind never (operand.MethodId i) fits whole h = absurd (subst IsReferenceKind fits kind)
+  object_in p kind never (operand.FieldId i) fits whole h = absurd (subst IsReferenceKind fits kind)
+  object_in p kind never operand.Text fits whole h = absurd (subst IsReferenceKind fits kind)
+  object_in p kind never (operand.Array array) fits whole h = absurd (subst IsReferenceKind fits.1 kind)
+  object_in p kind never (operand.Buffer i) fits whole h = absurd (subst IsReferenceKind fits.1 kind)
+  object_in p kind never (operand.Mode mode) fits whole h = absurd (subst IsReferenceKind fits kind)
+  object_in p kind never (operand.IsCopy i) fits whole h = absurd (subst IsReferenceKind fits kind)
+  object_in p kind never operand.Null fits whole h = absurd (cc)
+  object_in p kind never (operand.Static i) fits whole h = some_held (static_at references i) whole h
+  object_in p kind never (operand.Local i) fits whole h = some_address (operand_at references (operand.Local i)) h
 
   by_reference : (operands : List Operand) (args : List Actual) (i a : ℕ) (q : Reference) → operand_at references (operand_of operands i) ≡ Some a → reference_given args i ≡ q → ReferenceAgrees space (Some a) q → GivenObject operands args i
   by_reference operands args i a None at is h = absurd h
@@ -200,14 +217,14 @@ module _ (classes : Classes) (space : Space) (references : References) (fields :
 
   -- an argument that may not be NULL
   pub object_at_place : (before : List ParameterKind) (p : ParameterKind) (after : List ParameterKind) → IsReferenceKind p → may_be_null p ≡ false → (operands : List Operand) (args : List Actual) → AllZip OperandFits (before ++ p ∷ after) operands
-      → AllZip (IsGiven classes space references fields) operands args → list_any (gives_deleted references) operands ≡ false → some_missing references fields (before ++ p ∷ after) operands ≡ false → GivenObject operands args (length before)
+      → AllZip (IsGiven unit classes space references fields) operands args → list_any (gives_deleted references) operands ≡ false → some_missing references fields (before ++ p ∷ after) operands ≡ false → GivenObject operands args (length before)
   object_at_place [] p after kind never [] args fits given whole missing = absurd fits
   object_at_place [] p after kind never (o ∷ operands) [] fits given whole missing = absurd given
   object_at_place [] p after kind never (o ∷ operands) (a ∷ args) fits given whole missing =
       let no_null : (not (may_be_null p) && gives_null references fields o) ≡ false = first_of (not (may_be_null p) && gives_null references fields o) (some_missing references fields after operands) missing in
-      let found = object_in p kind o fits.0 (first_of (gives_deleted references o) (list_any (gives_deleted references) operands) whole) (subst (λ (b : Bool). (not b && gives_null references fields o) ≡ false) never no_null) in
+      let found = object_in p kind never o fits.0 (first_of (gives_deleted references o) (list_any (gives_deleted references) operands) whole) (subst (λ (b : Bool). (not b && gives_null references fields o) ≡ false) never no_null) in
       by_reference (o ∷ operands) (a ∷ args) 0 found.0 (reference_given (a ∷ args) 0) found.1 refl
-      (subst (λ (x : Option ℕ). ReferenceAgrees space x (reference_given (a ∷ args) 0)) found.1 (reference_at_place classes space references fields (o ∷ operands) (a ∷ args) 0 given))
+      (subst (λ (x : Option ℕ). ReferenceAgrees space x (reference_given (a ∷ args) 0)) found.1 (reference_at_place unit classes space references fields (o ∷ operands) (a ∷ args) 0 given))
   object_at_place (q ∷ before) p after kind never [] args fits given whole missing = absurd fits
   object_at_place (q ∷ before) p after kind never (o ∷ operands) [] fits given whole missing = absurd given
   object_at_place (q ∷ before) p after kind never (o ∷ operands) (a ∷ args) fits given whole missing =
@@ -221,7 +238,9 @@ module _ (classes : Classes) (space : Space) (references : References) (fields :
   some_handle (Some x) h = (x, refl)
 
   handle_in : (o : Operand) → OperandFits FieldID o → gives_null references fields o ≡ false → (h : FieldHandle) × (field_at fields o ≡ Some h)
-  handle_in operand.Number fits h = absurd (cc)
+  handle_in operand.Number (inl e) h = absurd (cc)
+  handle_in operand.Number (inr e) h = absurd (cc)
+  handle_in (operand.MethodId i) fits h = absurd (cc)
   handle_in operand.Text fits h = absurd (cc)
   handle_in operand.Null fits h = absurd (cc)
   handle_in (operand.Array array) fits h = absurd (let e = fits.1 in cc)
@@ -240,7 +259,7 @@ module _ (classes : Classes) (space : Space) (references : References) (fields :
       let later = second_of (not (may_be_null p) && gives_null references fields o) (some_missing references fields (FieldID ∷ parameters) (x ∷ operands)) missing in
       handle_in x fits.1.0 (first_of (gives_null references fields x) (some_missing references fields parameters operands) later)
 
-  pub is_number : (o : Operand) (a : Actual) → OperandFits IntNumber o → IsGiven classes space references fields o a → (z : ℤ) × (a ≡ NumberActual z) × FitsSigned w32 z
+  pub is_number : (o : Operand) (a : Actual) → OperandFits IntNumber o → IsGiven unit classes space references fields o a → (z : ℤ) × (a ≡ NumberActual z) × FitsSigned w32 z
   is_number operand.Number a fits h = h
   is_number operand.Text a fits h = absurd (cc)
   is_number operand.Null a fits h = absurd fits
@@ -251,17 +270,19 @@ module _ (classes : Classes) (space : Space) (references : References) (fields :
   is_number (operand.Local i) a fits h = absurd fits
   is_number (operand.Static i) a fits h = absurd fits
   is_number (operand.FieldId i) a fits h = absurd (cc)
+  is_number (operand.MethodId i) a fits h = absurd (cc)
 
   -- ---- the number on top of the stack
 
   -- a parameter of no number
   abbrev pub IsWordless : ParameterKind → Type 0
-  IsWordless p = p ≡ IntNumber → ⊥
+  IsWordless p = (p ≡ IntNumber) ⊎ (p ≡ Passed) → ⊥
 
   pub wordless : (p : ParameterKind) (a : Actual) → IsWordless p → ActualFits p a → does.word_given a ≡ []
   wordless p (NumberActual z) none fits = absurd (none fits)
   wordless p (ReferenceActual x r) none fits = refl
   wordless p (FieldActual f) none fits = refl
+  wordless p (MethodActual m) none fits = refl
   wordless p (TextActual bytes) none fits = refl
   wordless p (VariableActual x) none fits = refl
   wordless p (ModeActual m) none fits = refl
@@ -284,7 +305,7 @@ module _ (classes : Classes) (space : Space) (references : References) (fields :
     pub words : words_given args ≡ word_of (Int number) ∷ []
 
   pub on_top : (before after : List ParameterKind) (operands : List Operand) (args : List Actual) → AllByRecursion IsWordless before → AllByRecursion IsWordless after
-      → AllZip OperandFits (before ++ IntNumber ∷ after) operands → AllZip ActualFits (before ++ IntNumber ∷ after) args → AllZip (IsGiven classes space references fields) operands args → OnTop args (length before)
+      → AllZip OperandFits (before ++ IntNumber ∷ after) operands → AllZip ActualFits (before ++ IntNumber ∷ after) args → AllZip (IsGiven unit classes space references fields) operands args → OnTop args (length before)
   on_top [] after [] args none later kinds fit given = absurd kinds
   on_top [] after (o ∷ operands) [] none later kinds fit given = absurd given
   on_top [] after (o ∷ operands) (a ∷ args) none later kinds fit given =
@@ -324,7 +345,9 @@ module _ (classes : Classes) (space : Space) (references : References) (fields :
 -- an argument for a static is one
 static_operand : (o : Operand) → OperandFits StaticVariable o → (i : ℕ) × (o ≡ operand.Static i)
 static_operand (operand.Static i) fits = (i, refl)
-static_operand operand.Number fits = absurd (cc)
+static_operand operand.Number (inl e) = absurd (cc)
+static_operand operand.Number (inr e) = absurd (cc)
+static_operand (operand.MethodId i) fits = absurd (cc)
 static_operand operand.Text fits = absurd (cc)
 static_operand operand.Null fits = absurd fits
 static_operand (operand.Local i) fits = absurd fits
@@ -340,7 +363,9 @@ only_static (o ∷ operands) fits = static_operand o fits.0
 
 weak_operand : (o : Operand) → OperandFits WeakVariable o → (i : ℕ) × (o ≡ operand.Static i)
 weak_operand (operand.Static i) fits = (i, refl)
-weak_operand operand.Number fits = absurd (cc)
+weak_operand operand.Number (inl e) = absurd (cc)
+weak_operand operand.Number (inr e) = absurd (cc)
+weak_operand (operand.MethodId i) fits = absurd (cc)
 weak_operand operand.Text fits = absurd (cc)
 weak_operand operand.Null fits = absurd fits
 weak_operand (operand.Local i) fits = absurd fits

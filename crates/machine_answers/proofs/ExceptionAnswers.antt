@@ -17,7 +17,7 @@ use Rattle.machine_scenes.specs.NewObjects.{IsMakeable, text_in}
 use Rattle.machine_answers.proofs.CallTraps.{same_pending, has_passed}
 use Rattle.machine_answers.proofs.LongTables.{class_is_no_throwable}
 use Rattle.machine_answers.proofs.CallOperands.{second_text}
-use Rattle.machine_answers.proofs.TwoCalls.{TwoCalls, references, fields, Asked, Works, Does, agrees, name_of, built_in_class, class_given}
+use Rattle.machine_answers.proofs.TwoCalls.{TwoCalls, unit, references, fields, Asked, Works, Does, agrees, name_of, built_in_class, class_given}
 
 module _ (both : TwoCalls) where
   open both use {p, w, store, pending, activation, call, others, k, owner, shared, s, target, sound, args}
@@ -31,7 +31,7 @@ module _ (both : TwoCalls) where
   answers_throw_new h free answer is =
       let class = class_given both ThrowNew [] (TextBytes ∷ []) refl h free in
       let name = name_of both ThrowNew h 0 in
-      let text : text_in call.texts 0 ≡ text_given args 1 = ap (λ (l : List (List ℕ)). text_in l 0) h.texts ∙ second_text w.classes store.heap (references both) (fields both) call.operands args h.kinds h.given in
+      let text : text_in call.texts 0 ≡ text_given args 1 = ap (λ (l : List (List ℕ)). text_in l 0) h.texts ∙ second_text (unit both) w.classes store.heap (references both) (fields both) call.operands args h.kinds h.given in
       let passed = has_passed p w store pending activation call others k owner shared s target ThrowNew args h free in
       let below : assignable w.classes (object_given args 0) throwable_class ≡ true = ap (λ (c : ℕ). assignable w.classes c throwable_class) (sym name) ∙ passed in
       let makeable : IsMakeable w.classes (object_given args 0) = record { low = class.low; high = class.high; no_class = λ e. absurd (let clash : false ≡ true = sym (class_is_no_throwable w.classes sound.grown) ∙ ap (λ (c : ℕ). assignable w.classes c throwable_class) (sym e) ∙ below in cc) } in

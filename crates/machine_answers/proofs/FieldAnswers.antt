@@ -1,5 +1,5 @@
 -- What calls of functions of fields and statics do.
-use Rattle.std.proofs.Common.{◌≡◌, ℕ, false, List, [], ◌∷◌, Option, Some, None, slice_get, refl, sym, ap, ◌∙◌, subst, arith, ℤ}
+use Rattle.std.proofs.Common.{length, ◌≡◌, ℕ, false, List, [], ◌∷◌, Option, Some, None, slice_get, refl, sym, ap, ◌∙◌, subst, arith, ℤ}
 use Rattle.std.specs.Prelude.{unwrap_or}
 use Rattle.std.specs.Int.{w32, cast_unsigned}
 use Rattle.std.specs.List.{AllZip}
@@ -8,7 +8,7 @@ use Rattle.class_rules.specs.Fields.{FieldId, find_field, find_static, layout, o
 use Rattle.classes.specs.declared.class.FieldHandle.{FieldHandle}
 use Rattle.code.specs.Effect.{element_word}
 use Rattle.heap.specs.Heap.{name_at}
-use Rattle.jni.specs.JniFunction.{JniFunction, GetFieldID, GetStaticFieldID, GetStaticMethodID, GetField, SetField, GetObjectField, SetObjectField, GetStaticField, SetStaticField, GetStaticObjectField, SetStaticObjectField, prototype}
+use Rattle.jni.specs.JniFunction.{JniFunction, GetFieldID, GetStaticFieldID, GetStaticMethodID, GetField, SetField, GetObjectField, SetObjectField, GetStaticField, SetStaticField, GetStaticObjectField, SetStaticObjectField, parameters_for}
 use Rattle.jni.specs.Prototype.{ParameterKind, ClassObject, FieldID, IntNumber, NonNull, GivesField, GivesMethod, Nullable}
 use Rattle.semantics.specs.Arguments.{reference_given, object_given, name_or_zero, text_given, field_given, number_given}
 use Rattle.semantics.specs.CallEffects.{found_field_effect, found_method_effect}
@@ -35,7 +35,7 @@ use Rattle.machine_answers.specs.WorkedOut.{class_object, IsFoundField, IsFoundM
 use Rattle.machine_answers.proofs.CallChecks.{class_given_is, field_at_place}
 use Rattle.machine_scenes.proofs.OperandsThere.{handle_of}
 use Rattle.machine_answers.proofs.CallTraps.{none_lacking, handles_there}
-use Rattle.machine_answers.proofs.CallOperands.{two_texts, second_field}
+use Rattle.machine_answers.proofs.CallOperands.{no_number, no_word, two_texts, second_field}
 use Rattle.machine_answers.proofs.TwoCalls.{TwoCalls, references, fields, brought, Asked, Works, Does, at, agrees, name_of, table_of, built_in_class, method_error, object_given_at, unit, top_of, number_read, reference_read, value_written, held_agrees}
 
 module _ (both : TwoCalls) where
@@ -48,7 +48,7 @@ module _ (both : TwoCalls) where
   pub answers_field : Asked both GetFieldID → (answer : Answer) → Works both GetFieldID answer → Does both GetFieldID answer
   unfolding call_effect
   answers_field h answer is =
-      let texts = two_texts w.classes store.heap (references both) (fields both) call.operands args h.kinds h.given in
+      let texts = two_texts (unit both) w.classes store.heap (references both) (fields both) call.operands args h.kinds h.given in
       let one : unwrap_or (slice_get call.texts 0) [] ≡ text_given args 1 = ap (λ (l : List (List ℕ)). unwrap_or (slice_get l 0) []) h.texts ∙ texts.0 in
       let two : unwrap_or (slice_get call.texts 1) [] ≡ text_given args 2 = ap (λ (l : List (List ℕ)). unwrap_or (slice_get l 1) []) h.texts ∙ texts.1 in
       let same : find_field w.classes (name_there store.heap (at both 0)) (unwrap_or (slice_get call.texts 0) []) (unwrap_or (slice_get call.texts 1) []) ≡ find_field w.classes (object_given args 0) (text_given args 1) (text_given args 2) =
@@ -62,7 +62,7 @@ module _ (both : TwoCalls) where
   pub answers_method : Asked both GetStaticMethodID → (answer : Answer) → Works both GetStaticMethodID answer → Does both GetStaticMethodID answer
   unfolding call_effect
   answers_method h answer is =
-      let texts = two_texts w.classes store.heap (references both) (fields both) call.operands args h.kinds h.given in
+      let texts = two_texts (unit both) w.classes store.heap (references both) (fields both) call.operands args h.kinds h.given in
       let one : unwrap_or (slice_get call.texts 0) [] ≡ text_given args 1 = ap (λ (l : List (List ℕ)). unwrap_or (slice_get l 0) []) h.texts ∙ texts.0 in
       let two : unwrap_or (slice_get call.texts 1) [] ≡ text_given args 2 = ap (λ (l : List (List ℕ)). unwrap_or (slice_get l 1) []) h.texts ∙ texts.1 in
       let same : find_method (unit both) w.classes (name_there store.heap (at both 0)) (unwrap_or (slice_get call.texts 0) []) (unwrap_or (slice_get call.texts 1) []) ≡ find_method (unit both) w.classes (object_given args 0) (text_given args 1) (text_given args 2) =
@@ -72,7 +72,7 @@ module _ (both : TwoCalls) where
   pub answers_static : Asked both GetStaticFieldID → (answer : Answer) → Works both GetStaticFieldID answer → Does both GetStaticFieldID answer
   unfolding call_effect
   answers_static h answer is =
-      let texts = two_texts w.classes store.heap (references both) (fields both) call.operands args h.kinds h.given in
+      let texts = two_texts (unit both) w.classes store.heap (references both) (fields both) call.operands args h.kinds h.given in
       let one : unwrap_or (slice_get call.texts 0) [] ≡ text_given args 1 = ap (λ (l : List (List ℕ)). unwrap_or (slice_get l 0) []) h.texts ∙ texts.0 in
       let two : unwrap_or (slice_get call.texts 1) [] ≡ text_given args 2 = ap (λ (l : List (List ℕ)). unwrap_or (slice_get l 1) []) h.texts ∙ texts.1 in
       let same : find_static w.classes (name_there store.heap (at both 0)) (unwrap_or (slice_get call.texts 0) []) (unwrap_or (slice_get call.texts 1) []) ≡ find_static w.classes (object_given args 0) (text_given args 1) (text_given args 2) =
@@ -87,13 +87,13 @@ module _ (both : TwoCalls) where
     pub at_handle : field_at (fields both) (operand_of call.operands 1) ≡ Some handle
     pub is_field : field_there w.classes (Some handle) ≡ field_given args 1
 
-  fielded : (f : JniFunction) (parameters : List ParameterKind) (p : ParameterKind) → Asked both f → may_be_null p ≡ false → (prototype f).parameters ≡ p ∷ FieldID ∷ parameters → some_missing (references both) (fields both) (prototype f).parameters call.operands ≡ false → Fielded f
+  fielded : (f : JniFunction) (parameters : List ParameterKind) (p : ParameterKind) → Asked both f → may_be_null p ≡ false → parameters_for f (length args) ≡ p ∷ FieldID ∷ parameters → some_missing (references both) (fields both) (parameters_for f (length args)) call.operands ≡ false → Fielded f
   fielded f parameters q h never are missing =
-      let found = second_field w.classes store.heap (references both) (fields both) q parameters call.operands never (subst (λ (l : List ParameterKind). AllZip OperandFits l call.operands) are h.kinds) (subst (λ (l : List ParameterKind). some_missing (references both) (fields both) l call.operands ≡ false) are missing) in
+      let found = second_field (unit both) w.classes store.heap (references both) (fields both) q parameters call.operands never (subst (λ (l : List ParameterKind). AllZip OperandFits l call.operands) are h.kinds) (subst (λ (l : List ParameterKind). some_missing (references both) (fields both) l call.operands ≡ false) are missing) in
       record {
         handle = found.0;
         at_handle = found.1;
-        is_field = ap (field_there w.classes) (sym found.1) ∙ field_at_place w.classes store.heap (references both) (fields both) call.operands args 1 h.given;
+        is_field = ap (field_there w.classes) (sym found.1) ∙ field_at_place (unit both) w.classes store.heap (references both) (fields both) call.operands args 1 h.given;
       }
 
   -- the place of the field in the object of argument 0
@@ -101,7 +101,7 @@ module _ (both : TwoCalls) where
   place_of f h found =
       ap (λ (o : Option FieldHandle). place_there w.classes o (layout w.classes (class_of_given store.heap (at both 0)))) found.at_handle
       ∙ ap (λ (x : FieldId). place_in x (layout w.classes (class_of_given store.heap (at both 0)))) found.is_field
-      ∙ ap (λ (c : ℕ). place_in (field_given args 1) (layout w.classes c)) (class_given_is w.classes store.heap (references both) (fields both) shared.heap h.store_agrees.heap.blocks (at both 0) (reference_given args 0) (agrees both f h 0))
+      ∙ ap (λ (c : ℕ). place_in (field_given args 1) (layout w.classes c)) (class_given_is (unit both) w.classes store.heap (references both) (fields both) shared.heap h.store_agrees.heap.blocks (at both 0) (reference_given args 0) (agrees both f h 0))
 
   -- what is worked out and done of an object's field
   abbrev memory_place : ℕ
@@ -116,9 +116,9 @@ module _ (both : TwoCalls) where
     pub is : number_given args 2 ≡ number
     pub word : element_word (element_of T) (top_word activation.stack) ≡ cast_unsigned w32 (convert T number)
 
-  kept : (f : JniFunction) (q : ParameterKind) (T : ElementType) → IsReferenceKind q → (prototype f).parameters ≡ q ∷ FieldID ∷ IntNumber ∷ [] → Asked both f → Kept T
-  kept f q T kind are h =
-      let third = top_of both f (q ∷ FieldID ∷ []) [] (λ e. subst IsReferenceKind e kind, (λ e. cc, tt)) tt are h in
+  kept : (f : JniFunction) (q : ParameterKind) (T : ElementType) → IsReferenceKind q → may_be_null q ≡ false → parameters_for f (length args) ≡ q ∷ FieldID ∷ IntNumber ∷ [] → Asked both f → Kept T
+  kept f q T kind never are h =
+      let third = top_of both f (q ∷ FieldID ∷ []) [] (no_word q kind never, (no_number FieldID (λ e. cc) (λ e. cc), tt)) tt are h in
       record {
         number = third.number;
         is = third.is;
@@ -141,7 +141,7 @@ module _ (both : TwoCalls) where
       let first = object_given_at both (SetField T) [] NonNull (FieldID ∷ IntNumber ∷ []) tt refl refl h free in
       let place = place_of (SetField T) h (fielded (SetField T) (IntNumber ∷ []) NonNull h refl refl missing) in
       let name : object_given args 0 ≡ first.name = ap name_or_zero first.is in
-      let it = kept (SetField T) NonNull T tt refl h in
+      let it = kept (SetField T) NonNull T tt refl refl h in
       subst (λ (x : Answer). Does both (SetField T) x) (sym is)
       (value_written both (at both 0) first.address first.name (object_given args 0) memory_place (source_place (object_given args 0)) (cell.Number (element_word (element_of T) (top_word activation.stack))) (cell.Number (cast_unsigned w32 (convert T it.number))) (Number (convert T (number_given args 2))) (Number (convert T it.number))
       first.at first.named name place (ap cell.Number it.word) (ap (λ (z : ℤ). Number (convert T z)) it.is) (convert_fits T it.number, refl) h.store_agrees)
@@ -178,7 +178,7 @@ module _ (both : TwoCalls) where
   holder : (f : JniFunction) → Asked both f → Fielded f → Holder
   holder f h found =
       let there = handle_of w.classes (fields both) call.operands 1 (handles_there p w store pending activation call others k owner shared s target f args h) found.handle found.at_handle in
-      let same : (field_there w.classes (field_at (fields both) (operand_of call.operands 1))).class ≡ (field_given args 1).class = ap (λ (x : FieldId). x.class) (field_at_place w.classes store.heap (references both) (fields both) call.operands args 1 h.given) in
+      let same : (field_there w.classes (field_at (fields both) (operand_of call.operands 1))).class ≡ (field_given args 1).class = ap (λ (x : FieldId). x.class) (field_at_place (unit both) w.classes store.heap (references both) (fields both) call.operands args 1 h.given) in
       let class : (field_given args 1).class ≡ found.handle.class.number = ap (λ (x : FieldId). x.class) (sym found.is_field) ∙ sym (class_of_field w.classes found.handle there) in
       let within = class_within w.classes found.handle there in
       let agrees_so = table_of both f h found.handle.class.number within.0 within.1 in
@@ -209,7 +209,7 @@ module _ (both : TwoCalls) where
   answers_set_static T h free answer is =
       let missing = none_lacking p w store pending activation call others k owner shared s target (SetStaticField T) args h free in
       let it = holder (SetStaticField T) h (fielded (SetStaticField T) (IntNumber ∷ []) ClassObject h refl refl missing) in
-      let number = kept (SetStaticField T) ClassObject T tt refl h in
+      let number = kept (SetStaticField T) ClassObject T tt refl refl h in
       subst (λ (x : Answer). Does both (SetStaticField T) x) (sym is)
       (value_written both (class_object store.loaded.items (Some (field_there w.classes (field_at (fields both) (operand_of call.operands 1))).class)) it.address (field_given args 1).class (field_given args 1).class (place_there w.classes (field_at (fields both) (operand_of call.operands 1)) (own_statics w.classes (field_there w.classes (field_at (fields both) (operand_of call.operands 1))).class)) (static_place w.classes (field_given args 1)) (cell.Number (element_word (element_of T) (top_word activation.stack))) (cell.Number (cast_unsigned w32 (convert T number.number))) (Number (convert T (number_given args 2))) (Number (convert T number.number))
       it.at_holder it.named_holder refl it.place (ap cell.Number number.word) (ap (λ (z : ℤ). Number (convert T z)) number.is) (convert_fits T number.number, refl) h.store_agrees)

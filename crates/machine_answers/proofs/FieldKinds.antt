@@ -1,6 +1,7 @@
 -- Which fields a call names that has passed its checks: a function of fields no static, and one of statics a static.
 use Rattle.std.proofs.Common.{◌≡◌, Bool, true, false, not, ◌&&◌, List, Option, refl, sym, true≢false}
 use Rattle.base.specs.Element.{ElementType}
+use Rattle.syntax.specs.Tree.{SourceUnit}
 use Rattle.class_rules.specs.Class.{Classes}
 use Rattle.code.specs.declared.instr.Operand.{Operand}
 use Rattle.heap.specs.Heap.{Space}
@@ -20,18 +21,18 @@ first_holds : (static there fits : Bool) → ((static && there) && fits) ≡ tru
 first_holds true there fits h = refl
 first_holds false there fits h = absurd (true≢false (sym h))
 
-module _ (classes : Classes) (space : Space) (references : References) (fields : List (Option Handle)) (operands : List Operand) (wanted : ElementType) where
+module _ (unit : SourceUnit) (classes : Classes) (space : Space) (references : References) (fields : List (Option Handle)) (operands : List Operand) (wanted : ElementType) where
   abbrev pub names_static : Bool
   names_static = (field_there classes (field_at fields (operand_of operands 1))).is_static
 
-  pub no_static : (f : JniFunction) → subject_of f ≡ subject.Fields → fit_together classes space references fields operands wanted f ≡ true → names_static ≡ false
+  pub no_static : (f : JniFunction) → subject_of f ≡ subject.Fields → fit_together unit classes space references fields operands wanted f ≡ true → names_static ≡ false
   no_static (GetField T) of h = first_denied _ _ _ h
   no_static (SetField T) of h = first_denied _ _ _ h
   no_static GetObjectField of h = first_denied _ _ _ h
   no_static SetObjectField of h = first_denied _ _ _ h
   no_static f of h = absurd (cc)
 
-  pub a_static : (f : JniFunction) → subject_of f ≡ subject.Statics → fit_together classes space references fields operands wanted f ≡ true → names_static ≡ true
+  pub a_static : (f : JniFunction) → subject_of f ≡ subject.Statics → fit_together unit classes space references fields operands wanted f ≡ true → names_static ≡ true
   a_static (GetStaticField T) of h = first_holds _ _ _ h
   a_static (SetStaticField T) of h = first_holds _ _ _ h
   a_static GetStaticObjectField of h = first_holds _ _ _ h

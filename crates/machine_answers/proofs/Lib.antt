@@ -11,9 +11,12 @@ pub mod FewValues
 pub mod FieldAnswers
 pub mod FieldKinds
 pub mod FieldValues
+pub mod ItemPlaces
 pub mod LongTables
+pub mod MethodAnswers
 pub mod MonitorAnswers
 pub mod Overlays
+pub mod PassedValues
 pub mod ReferenceAnswers
 pub mod RegionAnswers
 pub mod RegionOperands

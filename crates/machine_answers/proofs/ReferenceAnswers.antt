@@ -39,7 +39,7 @@ use Rattle.machine_answers.proofs.CallChecks.{class_is, fits_is}
 use Rattle.machine_scenes.proofs.BlocksOfNames.{name_within}
 use Rattle.machine_answers.proofs.CallTraps.{has_passed}
 use Rattle.machine_answers.proofs.CallOperands.{super_known, only_text, only_static, only_weak, own_making}
-use Rattle.machine_answers.proofs.TwoCalls.{TwoCalls, references, fields, brought, Asked, Works, Does, at, agrees, name_of, table_of, object_of, built_in_class, object_given_at, number_of, class_given}
+use Rattle.machine_answers.proofs.TwoCalls.{TwoCalls, unit, references, fields, brought, Asked, Works, Does, at, agrees, name_of, table_of, object_of, built_in_class, object_given_at, number_of, class_given}
 
 -- the static of a name is at this place, where what is held stands for what it holds in the source
 pub record HeldStatic (space : Space) (references : References) (s : Shared) (x : Identifier) (i : ℕ) : Type 0 where
@@ -60,7 +60,7 @@ module _ (both : TwoCalls) where
   pub answers_find : Asked both FindClass → (answer : Answer) → Works both FindClass answer → Does both FindClass answer
   unfolding call_effect
   answers_find h answer is =
-      let text : unwrap_or (slice_get call.texts 0) [] ≡ text_given args 0 = ap (λ (l : List (List ℕ)). unwrap_or (slice_get l 0) []) h.texts ∙ only_text w.classes store.heap (references both) (fields both) call.operands args h.kinds h.given in
+      let text : unwrap_or (slice_get call.texts 0) [] ≡ text_given args 0 = ap (λ (l : List (List ℕ)). unwrap_or (slice_get l 0) []) h.texts ∙ only_text (unit both) w.classes store.heap (references both) (fields both) call.operands args h.kinds h.given in
       subst (λ (x : Answer). Does both FindClass x) (sym (is ∙ ap (λ (l : List ℕ). found_class store.loaded.items (class_named w.classes l)) text)) (by_class (class_named w.classes (text_given args 0)) refl)
     where
       by_class : (o : Option ℕ) → class_named w.classes (text_given args 0) ≡ o → IsAnswer w.classes (brought both) store.heap activation.locals NewLocal shared s (found_class store.loaded.items o) (found_class_effect shared s no_class_def_found_error o)
@@ -85,7 +85,7 @@ module _ (both : TwoCalls) where
       let object = object_of both GetObjectClass h first.address first.name first.named in
       let known = h.typed.objects first.name object.0 object.1 in
       let class : class_of shared.heap first.name ≡ object.0.class = ap (λ (o : Option Object). option_map_or (λ (x : Object). x.class) o 0) object.1 in
-      let there : class_of_given store.heap (at both 0) ≡ object.0.class = ap (class_of_given store.heap) first.at ∙ class_is w.classes store.heap (references both) (fields both) shared.heap h.store_agrees.heap.blocks first.address first.name first.named ∙ class in
+      let there : class_of_given store.heap (at both 0) ≡ object.0.class = ap (class_of_given store.heap) first.at ∙ class_is (unit both) w.classes store.heap (references both) (fields both) shared.heap h.store_agrees.heap.blocks first.address first.name first.named ∙ class in
       let given : class_of shared.heap (object_given args 0) ≡ object.0.class = ap (λ (q : Reference). class_of shared.heap (name_or_zero q)) first.is ∙ class in
       subst (λ (x : Answer). Does both GetObjectClass x) (sym is) (
         refl,
@@ -98,7 +98,7 @@ module _ (both : TwoCalls) where
   unfolding call_effect
   answers_instance h answer is =
       subst (λ (x : Answer). Does both IsInstanceOf x) (sym is)
-      (refl, refl, ap truth_word (ap (fits_there w.classes store.heap (at both 0)) (name_of both IsInstanceOf h 1) ∙ fits_is w.classes store.heap (references both) (fields both) shared.heap h.store_agrees.heap.blocks (at both 0) (reference_given args 0) (object_given args 1) (agrees both IsInstanceOf h 0)))
+      (refl, refl, ap truth_word (ap (fits_there w.classes store.heap (at both 0)) (name_of both IsInstanceOf h 1) ∙ fits_is (unit both) w.classes store.heap (references both) (fields both) shared.heap h.store_agrees.heap.blocks (at both 0) (reference_given args 0) (object_given args 1) (agrees both IsInstanceOf h 0)))
 
   pub answers_assignable : Asked both IsAssignableFrom → (answer : Answer) → Works both IsAssignableFrom answer → Does both IsAssignableFrom answer
   unfolding call_effect

@@ -1,14 +1,12 @@
 -- What calls of functions of regions do.
 use Rattle.std.proofs.Common.{◌≡◌, ℕ, pos, negsuc, ◌<◌, ◌≤◌, true, false, List, [], ◌∷◌, length, map, take, drop, ◌+◌, Option, Some, None, refl, sym, ap, ◌∙◌, subst, arith, ℤ, Bool}
 use Rattle.std.specs.Prelude.{nat_le, if◌then◌else◌}
-use Rattle.std.specs.Int.{w32}
 use Rattle.std.specs.List.{AllZip}
 use Rattle.std.specs.Option.{option_map_or}
-use Rattle.std.proofs.Math.Facts.{to_z-of_z}
 use Rattle.class_rules.specs.ClassIds.{class_id}
 use Rattle.class_rules.specs.BuiltIns.{array_index_out_of_bounds, number_array, string_index_out_of_bounds}
 use Rattle.heap.specs.Heap.{name_at, values_at}
-use Rattle.jni.specs.JniFunction.{JniFunction, prototype, GetArrayRegion, SetArrayRegion, GetStringRegion}
+use Rattle.jni.specs.JniFunction.{parameters_for, JniFunction, GetArrayRegion, SetArrayRegion, GetStringRegion}
 use Rattle.jni.specs.Prototype.{ArrayVariable, NumberArray, StringObject, ParameterKind, IntNumber, GivesNothing}
 use Rattle.semantics.specs.Arguments.{variable_given, object_given, name_or_zero, number_given}
 use Rattle.semantics.specs.CallEffects.{Halts, at_region, get_region_effect, local_array, set_region_effect, Throws, CallEffect}
@@ -30,7 +28,7 @@ use Rattle.semantics.specs.declared.trap.Trap.TheVariants.{OutOfRange}
 use Rattle.machine_answers.specs.Copies.{words_from}
 use Rattle.code.specs.declared.instr.LocalArray.{LocalArray as ArraySlots}
 use Rattle.semantics_typing.specs.Objects.{HasNumbers, element_type_of}
-use Rattle.machine_answers.proofs.RegionOperands.{GivenArray, TwoNumbers, array_numbers, numbers_alone, slots_there, two_numbers, words_brought, words_there, local_array as given_array}
+use Rattle.machine_answers.proofs.RegionOperands.{GivenArray, TwoNumbers, array_numbers, count_on, start_on, numbers_alone, slots_there, two_numbers, words_brought, words_there, local_array as given_array}
 use Rattle.std.proofs.lemmas.Bool.{leb-true}
 use Rattle.machine_answers.specs.Answers.{AreWordsOf, IsAnswer}
 use Rattle.machine_scenes.specs.NewObjects.{IsMakeable}
@@ -39,8 +37,8 @@ use Rattle.machine_scenes.specs.Given.{HasElements, operand_of, class_there}
 use Rattle.machine_answers.specs.WorkedOut.{array_in, copies_in, copies_out, next_number, region_in, count_there, stack_number}
 use Rattle.machine_answers.proofs.CallChecks.{class_is}
 use Rattle.machine_answers.proofs.CallTraps.{none_unfit}
-use Rattle.machine_answers.proofs.CallOperands.{GivenObject, is_number_array}
-use Rattle.machine_answers.proofs.TwoCalls.{TwoCalls, references, fields, all, brought, Asked, Works, Does, at, object_of, built_in_class, object_given_at, object_there, counted}
+use Rattle.machine_answers.proofs.CallOperands.{no_number, no_word, GivenObject, is_number_array}
+use Rattle.machine_answers.proofs.TwoCalls.{TwoCalls, unit, references, fields, all, brought, Asked, Works, Does, at, object_of, built_in_class, object_given_at, object_there, counted}
 
 module _ (both : TwoCalls) where
   open both use {p, w, store, pending, activation, call, others, k, owner, shared, s, target, sound, args}
@@ -136,20 +134,20 @@ module _ (both : TwoCalls) where
 
   -- what a function of regions is given
   record GivenRegion : Type 0 where
-    pub object : GivenObject w.classes store.heap (references both) (fields both) call.operands args 0
+    pub object : GivenObject (unit both) w.classes store.heap (references both) (fields both) call.operands args 0
     pub two : TwoNumbers args
     pub array : GivenArray activation.slots.numbers.items s.variables call.operands args
     pub is : region_in store.heap (at both 0) (next_number activation.stack) (stack_number activation.stack) (array_in (operand_of call.operands 3)) ≡ region_in store.heap (Some object.address) (number_given args 1) (number_given args 2) array.array
 
-  region_given : (f : JniFunction) (q : ParameterKind) (T : ElementType) → IsReferenceKind q → may_be_null q ≡ false → (prototype f).parameters ≡ q ∷ IntNumber ∷ IntNumber ∷ ArrayVariable T ∷ [] → Asked both f → trap_of_call w.classes shared s target f args ≡ None → GivenRegion
+  region_given : (f : JniFunction) (q : ParameterKind) (T : ElementType) → IsReferenceKind q → may_be_null q ≡ false → parameters_for f (length args) ≡ q ∷ IntNumber ∷ IntNumber ∷ ArrayVariable T ∷ [] → Asked both f → trap_of_call w.classes shared s target f args ≡ None → GivenRegion
   region_given f q T kind never are h free =
       let kinds = subst (λ (l : List ParameterKind). AllZip OperandFits l call.operands) are h.kinds in
       let fit = subst (λ (l : List ParameterKind). AllZip ActualFits l args) are h.fit in
       let first = object_given_at both f [] q (IntNumber ∷ IntNumber ∷ ArrayVariable T ∷ []) kind never are h free in
-      let numbers = two_numbers w.classes store.heap (references both) (fields both) q (ArrayVariable T) (λ e. subst IsReferenceKind e kind) (λ e. cc) call.operands args kinds fit h.given in
+      let numbers = two_numbers (unit both) w.classes store.heap (references both) (fields both) q (ArrayVariable T) (no_word q kind never) (no_number (ArrayVariable T) (λ e. cc) (λ e. cc)) call.operands args kinds fit h.given in
       let given = given_array activation.slots.numbers.items s.variables q IntNumber IntNumber T call.operands args kinds h.arrays in
-      let start : next_number activation.stack ≡ number_given args 1 = ap next_number (h.words ∙ numbers.words) ∙ to_z-of_z {w = w32} numbers.start_fits ∙ sym numbers.start_is in
-      let count : stack_number activation.stack ≡ number_given args 2 = ap stack_number (h.words ∙ numbers.words) ∙ to_z-of_z {w = w32} numbers.count_fits ∙ sym numbers.count_is in
+      let start : next_number activation.stack ≡ number_given args 1 = ap next_number h.words ∙ start_on args numbers in
+      let count : stack_number activation.stack ≡ number_given args 2 = ap stack_number h.words ∙ count_on args numbers in
       record { object = first; two = numbers; array = given; is = (λ i. region_in store.heap (first.at i) (start i) (count i) (array_in (given.at i))) }
 
   object_long : (f : JniFunction) → Asked both f → (g : GivenRegion) → length (values_at store.heap g.object.address) ≡ length (values_of shared.heap (object_given args 0))
@@ -174,9 +172,9 @@ module _ (both : TwoCalls) where
   array_of_numbers T h free g =
       let object = object_of both (SetArrayRegion T) h g.object.address g.object.name g.object.named in
       let class : class_of shared.heap g.object.name ≡ object.0.class = ap (λ (o : Option Object). option_map_or (λ (x : Object). x.class) o 0) object.1 in
-      let of_class : class_there store.heap g.object.address ≡ number_array T = is_number_array w.classes store.heap (references both) (fields both) T [] (IntNumber ∷ IntNumber ∷ ArrayVariable T ∷ []) call.operands g.object.address g.object.at
+      let of_class : class_there store.heap g.object.address ≡ number_array T = is_number_array (unit both) w.classes store.heap (references both) (fields both) T [] (IntNumber ∷ IntNumber ∷ ArrayVariable T ∷ []) call.operands g.object.address g.object.at
       h.kinds (none_unfit p w store pending activation call others k owner shared s target (SetArrayRegion T) args h free) in
-      let same : object.0.class ≡ number_array T = sym class ∙ sym (class_is w.classes store.heap (references both) (fields both) shared.heap h.store_agrees.heap.blocks g.object.address g.object.name g.object.named) ∙ of_class in
+      let same : object.0.class ≡ number_array T = sym class ∙ sym (class_is (unit both) w.classes store.heap (references both) (fields both) shared.heap h.store_agrees.heap.blocks g.object.address g.object.name g.object.named) ∙ of_class in
       (object.0, object.1, ap (element_type_of w.classes) same ∙ array_numbers w.classes sound.grown T)
 
   pub answers_set_region : (T : ElementType) → Asked both (SetArrayRegion T) → trap_of_call w.classes shared s target (SetArrayRegion T) args ≡ None → (answer : Answer) → Works both (SetArrayRegion T) answer → Does both (SetArrayRegion T) answer

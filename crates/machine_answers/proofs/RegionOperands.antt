@@ -1,12 +1,14 @@
 -- What the operands of a function of regions give: two numbers, a local array, and an object that holds nothing but numbers.
-use Rattle.std.proofs.Common.{◌≡◌, ℕ, ℤ, zero, suc, ◌+◌, ◌<◌, ◌≤◌, List, [], ◌∷◌, ◌++◌, length, map, take, drop, Option, Some, refl, sym, ap, ◌∙◌, subst, arith}
+use Rattle.std.proofs.Common.{inl, inr, ◌≡◌, ℕ, ℤ, zero, suc, ◌+◌, ◌<◌, ◌≤◌, List, [], ◌∷◌, ◌++◌, length, map, take, drop, Option, Some, refl, sym, ap, ◌∙◌, subst, arith}
 use Rattle.std.specs.Prelude.{slice_get, FitsSigned}
 use Rattle.std.specs.Int.{w32, cast_unsigned}
 use Rattle.std.specs.List.{AllZip}
+use Rattle.std.proofs.Math.Facts.{to_z-of_z}
 use Rattle.std.proofs.lemmas.List.{take-map}
 use Rattle.std.proofs.lemmas.Option.{slice_get-get_or, slice_get_within}
 use Rattle.base.specs.Bytes.{Identifier, lookup}
 use Rattle.base.specs.Element.{ElementType}
+use Rattle.syntax.specs.Tree.{SourceUnit}
 use Rattle.class_rules.specs.BuiltIns.{number_array}
 use Rattle.class_rules.specs.Class.{Classes, NumberField}
 use Rattle.class_rules.specs.Grown.{IsGrown}
@@ -30,6 +32,7 @@ use Rattle.semantics_typing.proofs.TableKinds.{kind_numbers}
 use Rattle.semantics_typing.proofs.Heaps.{values_there}
 use Rattle.machine_answers.specs.Answers.{AreWordsOf, array_given}
 use Rattle.machine_answers.specs.Copies.{word_of as word_in_cell}
+use Rattle.machine_answers.specs.WorkedOut.{next_number, stack_number}
 use Rattle.machine_scenes.specs.declared.handle.Handle.{Handle}
 use Rattle.machine_scenes.specs.Given.{HasArray, HasElements, IsGiven, operand_of}
 use Rattle.machine_scenes.specs.HeapAgrees.{ValueAgrees, ValuesAgree}
@@ -49,9 +52,9 @@ pub record TwoNumbers (args : List Actual) : Type 0 where
   pub count_fits : FitsSigned w32 count
   pub words : words_given args ≡ word_of (Int count) ∷ word_of (Int start) ∷ []
 
-module _ (classes : Classes) (space : Space) (references : References) (fields : List (Option Handle)) (p q : ParameterKind) (first : IsWordless classes space references fields p) (last : IsWordless classes space references fields q) where
+module _ (unit : SourceUnit) (classes : Classes) (space : Space) (references : References) (fields : List (Option Handle)) (p q : ParameterKind) (first : IsWordless unit classes space references fields p) (last : IsWordless unit classes space references fields q) where
   pub two_numbers : (operands : List Operand) (args : List Actual) → AllZip OperandFits (p ∷ IntNumber ∷ IntNumber ∷ q ∷ []) operands → AllZip ActualFits (p ∷ IntNumber ∷ IntNumber ∷ q ∷ []) args
-      → AllZip (IsGiven classes space references fields) operands args → TwoNumbers args
+      → AllZip (IsGiven unit classes space references fields) operands args → TwoNumbers args
   two_numbers [] args kinds fit given = absurd kinds
   two_numbers (o ∷ []) args kinds fit given = absurd kinds.1
   two_numbers (o ∷ m ∷ []) args kinds fit given = absurd kinds.1.1
@@ -63,10 +66,10 @@ module _ (classes : Classes) (space : Space) (references : References) (fields :
   two_numbers (o ∷ m ∷ n ∷ x ∷ []) (a ∷ b ∷ c ∷ []) kinds fit given = absurd fit.1.1.1
   two_numbers (o ∷ m ∷ n ∷ x ∷ []) (a ∷ b ∷ c ∷ d ∷ e ∷ more) kinds fit given = absurd fit.1.1.1.1
   two_numbers (o ∷ m ∷ n ∷ x ∷ []) (a ∷ b ∷ c ∷ d ∷ []) kinds fit given =
-      let start = is_number classes space references fields m b kinds.1.0 given.1.0 in
-      let count = is_number classes space references fields n c kinds.1.1.0 given.1.1.0 in
-      let none = wordless classes space references fields p a first fit.0 in
-      let no_more = wordless classes space references fields q d last fit.1.1.1.0 in
+      let start = is_number unit classes space references fields m b kinds.1.0 given.1.0 in
+      let count = is_number unit classes space references fields n c kinds.1.1.0 given.1.1.0 in
+      let none = wordless unit classes space references fields p a first fit.0 in
+      let no_more = wordless unit classes space references fields q d last fit.1.1.1.0 in
       let one : does.word_given b ≡ word_of (Int start.0) ∷ [] = ap does.word_given start.1 in
       let two : does.word_given c ≡ word_of (Int count.0) ∷ [] = ap does.word_given count.1 in
       record {
@@ -79,6 +82,13 @@ module _ (classes : Classes) (space : Space) (references : References) (fields :
         words = λ i. ((([] ++ no_more i) ++ two i) ++ one i) ++ none i;
       }
 
+-- what they are on the stack
+pub start_on : (args : List Actual) (two : TwoNumbers args) → next_number (words_given args) ≡ number_given args 1
+start_on args two = ap next_number two.words ∙ to_z-of_z {w = w32} two.start_fits ∙ sym two.start_is
+
+pub count_on : (args : List Actual) (two : TwoNumbers args) → stack_number (words_given args) ≡ number_given args 2
+count_on args two = ap stack_number two.words ∙ to_z-of_z {w = w32} two.count_fits ∙ sym two.count_is
+
 -- ---- a local array
 
 -- the fourth argument is a local array, which has these elements
@@ -90,7 +100,9 @@ pub record GivenArray (numbers : List ℕ) (vs : Variables) (operands : List Ope
 
 array_operand : (t : ElementType) (o : Operand) → OperandFits (ArrayVariable t) o → (array : ArraySlots) × (o ≡ operand.Array array)
 array_operand t (operand.Array array) fits = (array, refl)
-array_operand t operand.Number fits = absurd (cc)
+array_operand t operand.Number (inl e) = absurd (cc)
+array_operand t operand.Number (inr e) = absurd (cc)
+array_operand t (operand.MethodId i) fits = absurd (cc)
 array_operand t (operand.FieldId i) fits = absurd (cc)
 array_operand t operand.Text fits = absurd (cc)
 array_operand t operand.Null fits = absurd fits

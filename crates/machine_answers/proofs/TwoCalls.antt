@@ -11,7 +11,7 @@ use Rattle.class_rules.specs.BuiltIns.{class_class, no_such_method_error}
 use Rattle.class_rules.specs.Grown.{HasMethodError}
 use Rattle.code.specs.Call.{Call}
 use Rattle.heap.specs.Heap.{name_at}
-use Rattle.jni.specs.JniFunction.{JniFunction, prototype}
+use Rattle.jni.specs.JniFunction.{JniFunction, parameters_for, prototype}
 use Rattle.jni.specs.Prototype.{ParameterKind, ClassObject, IntNumber, GivesNothing}
 use Rattle.semantics.specs.Arguments.{Actual, reference_given, object_given, name_or_zero, number_given}
 use Rattle.semantics.specs.CallEffects.{heap_effect, CallEffect}
@@ -106,10 +106,10 @@ module _ (both : TwoCalls) where
   at i = operand_at references (operand_of call.operands i)
 
   pub agrees : (f : JniFunction) → Asked f → (i : ℕ) → ReferenceAgrees store.heap (at i) (reference_given args i)
-  agrees f h i = reference_at_place w.classes store.heap references fields call.operands args i h.given
+  agrees f h i = reference_at_place unit w.classes store.heap references fields call.operands args i h.given
 
   pub name_of : (f : JniFunction) → Asked f → (i : ℕ) → name_there store.heap (at i) ≡ object_given args i
-  name_of f h i = name_is w.classes store.heap references fields shared.heap h.store_agrees.heap.blocks (at i) (reference_given args i) (agrees f h i)
+  name_of f h i = name_is unit w.classes store.heap references fields shared.heap h.store_agrees.heap.blocks (at i) (reference_given args i) (agrees f h i)
 
   pub table_of : (f : JniFunction) → Asked f → (c : ℕ) → 0 < c → c ≤ length w.classes → ReferenceAgrees store.heap (class_object store.loaded.items (Some c)) (Some c)
   table_of f h c low high = class_object_is store.heap store.loaded.items (length (loaded_objects w)) c h.store_agrees.table low (omega (arith, high, classes_loaded w))
@@ -133,26 +133,26 @@ module _ (both : TwoCalls) where
   method_error has = record { low = omega arith; high = (class_known w.classes no_such_method_error has.class has.there).1; no_class = λ e. let is : 43 ≡ 2 = e in omega (arith, is) }
 
   -- the object of argument i
-  pub object_given_at : (f : JniFunction) (before : List ParameterKind) (q : ParameterKind) (after : List ParameterKind) → IsReferenceKind q → may_be_null q ≡ false → (prototype f).parameters ≡ before ++ q ∷ after → Asked f
-      → trap_of_call w.classes shared s target f args ≡ None → GivenObject w.classes store.heap references fields call.operands args (length before)
+  pub object_given_at : (f : JniFunction) (before : List ParameterKind) (q : ParameterKind) (after : List ParameterKind) → IsReferenceKind q → may_be_null q ≡ false → parameters_for f (length args) ≡ before ++ q ∷ after → Asked f
+      → trap_of_call w.classes shared s target f args ≡ None → GivenObject unit w.classes store.heap references fields call.operands args (length before)
   object_given_at f before q after kind never are h free =
-      object_at_place w.classes store.heap references fields before q after kind never call.operands args (subst (λ (l : List ParameterKind). AllZip OperandFits l call.operands) are h.kinds) h.given
+      object_at_place unit w.classes store.heap references fields before q after kind never call.operands args (subst (λ (l : List ParameterKind). AllZip OperandFits l call.operands) are h.kinds) h.given
       (none_deleted p w store pending activation call others k owner shared s target f args h free)
       (subst (λ (l : List ParameterKind). some_missing references fields l call.operands ≡ false) are (none_lacking p w store pending activation call others k owner shared s target f args h free))
 
-  pub object_there : (g : GivenObject w.classes store.heap references fields call.operands args 0) → name_at store.heap g.address ≡ Some (object_given args 0)
+  pub object_there : (g : GivenObject unit w.classes store.heap references fields call.operands args 0) → name_at store.heap g.address ≡ Some (object_given args 0)
   object_there g = g.named ∙ ap (λ (q : Reference). Some (name_or_zero q)) (sym g.is)
 
   -- the number of an argument, which is the only one
-  pub top_of : (f : JniFunction) (before after : List ParameterKind) → AllByRecursion (IsWordless w.classes store.heap references fields) before → AllByRecursion (IsWordless w.classes store.heap references fields) after
-      → (prototype f).parameters ≡ before ++ IntNumber ∷ after → Asked f → OnTop w.classes store.heap references fields args (length before)
+  pub top_of : (f : JniFunction) (before after : List ParameterKind) → AllByRecursion (IsWordless unit w.classes store.heap references fields) before → AllByRecursion (IsWordless unit w.classes store.heap references fields) after
+      → parameters_for f (length args) ≡ before ++ IntNumber ∷ after → Asked f → OnTop unit w.classes store.heap references fields args (length before)
   top_of f before after none later are h =
-      on_top w.classes store.heap references fields before after call.operands args none later (subst (λ (l : List ParameterKind). AllZip OperandFits l call.operands) are h.kinds)
+      on_top unit w.classes store.heap references fields before after call.operands args none later (subst (λ (l : List ParameterKind). AllZip OperandFits l call.operands) are h.kinds)
       (subst (λ (l : List ParameterKind). AllZip ActualFits l args) are h.fit) h.given
 
   -- it is on the stack
-  pub number_of : (f : JniFunction) (before after : List ParameterKind) → AllByRecursion (IsWordless w.classes store.heap references fields) before → AllByRecursion (IsWordless w.classes store.heap references fields) after
-      → (prototype f).parameters ≡ before ++ IntNumber ∷ after → Asked f → stack_number activation.stack ≡ number_given args (length before)
+  pub number_of : (f : JniFunction) (before after : List ParameterKind) → AllByRecursion (IsWordless unit w.classes store.heap references fields) before → AllByRecursion (IsWordless unit w.classes store.heap references fields) after
+      → parameters_for f (length args) ≡ before ++ IntNumber ∷ after → Asked f → stack_number activation.stack ≡ number_given args (length before)
   number_of f before after none later are h =
       let top = top_of f before after none later are h in
       ap stack_number (h.words ∙ top.words) ∙ to_z-of_z {w = w32} top.fits ∙ sym top.is
@@ -162,15 +162,15 @@ module _ (both : TwoCalls) where
     pub low : 0 < object_given args i
     pub high : object_given args i ≤ length w.classes
 
-  pub class_given : (f : JniFunction) (before after : List ParameterKind) → (prototype f).parameters ≡ before ++ ClassObject ∷ after → Asked f → trap_of_call w.classes shared s target f args ≡ None → GivenClass (length before)
+  pub class_given : (f : JniFunction) (before after : List ParameterKind) → parameters_for f (length args) ≡ before ++ ClassObject ∷ after → Asked f → trap_of_call w.classes shared s target f args ≡ None → GivenClass (length before)
   class_given f before after are h free =
       let given = object_given_at f before ClassObject after tt refl are h free in
       let object = object_of f h given.address given.name given.named in
       let class : class_of shared.heap given.name ≡ object.0.class = ap (λ (o : Option Object). option_map_or (λ (x : Object). x.class) o 0) object.1 in
-      let of_class : class_there store.heap given.address ≡ class_class = is_class w.classes store.heap references fields before after call.operands given.address given.at
+      let of_class : class_there store.heap given.address ≡ class_class = is_class unit w.classes store.heap references fields before after call.operands given.address given.at
       (subst (λ (l : List ParameterKind). AllZip OperandFits l call.operands) are h.kinds)
       (subst (λ (l : List ParameterKind). some_misfit w.classes store.heap references l call.operands ≡ false) are (none_unfit p w store pending activation call others k owner shared s target f args h free)) in
-      let same : object.0.class ≡ class_class = sym class ∙ sym (class_is w.classes store.heap references fields shared.heap h.store_agrees.heap.blocks given.address given.name given.named) ∙ of_class in
+      let same : object.0.class ≡ class_class = sym class ∙ sym (class_is unit w.classes store.heap references fields shared.heap h.store_agrees.heap.blocks given.address given.name given.named) ∙ of_class in
       let name : object_given args (length before) ≡ given.name = ap name_or_zero given.is in
       let low = low_name given.name object.0 object.1 in
       let high : given.name ≤ length w.classes = (h.typed.objects given.name object.0 object.1).of_class same in

@@ -2,13 +2,14 @@
 use Rattle.std.proofs.Common.{◌≡◌, ℕ, Bool, true, false, not, ◌&&◌, ◌||◌, List, [], ◌∷◌, ◌++◌, Option, Some, None, refl, ap, ◌∙◌}
 use Rattle.std.specs.List.{list_all, list_any}
 use Rattle.base.specs.Element.{ElementType}
+use Rattle.syntax.specs.Tree.{SourceUnit}
 use Rattle.class_rules.specs.Class.{Classes}
 use Rattle.code.specs.Call.{asks, is_static, takes_any}
 use Rattle.code.specs.declared.instr.Operand.{Operand}
 use Rattle.code.specs.declared.instr.Operand.TheVariants as operand
 use Rattle.heap.specs.Heap.{Space}
 use Rattle.jni.specs.Access.{ArrayView}
-use Rattle.jni.specs.JniFunction.{GetBuffer, JniFunction, AllocObject, GetField, SetField, GetStaticField, SetStaticField, GetObjectField, SetObjectField, GetStaticObjectField, SetStaticObjectField, NewObjectArray, Throw, ThrowNew, prototype}
+use Rattle.jni.specs.JniFunction.{GetBuffer, JniFunction, AllocObject, GetField, SetField, GetStaticField, SetStaticField, GetObjectField, SetObjectField, GetStaticObjectField, SetStaticObjectField, NewObjectArray, Throw, ThrowNew, CallStaticVoidMethod, CallStaticIntMethod, CallStaticObjectMethod, prototype}
 use Rattle.jni.specs.Prototype.{ParameterKind, Nullable, LocalVariable}
 use Rattle.semantics.specs.Checks.{first_trap}
 use Rattle.semantics.specs.Value.{Trap}
@@ -71,21 +72,24 @@ module _ (references : References) where
       ap (λ b. b || some_misfit classes space references parameters operands) (fits classes space p (operand_at references o) h'.0) ∙ none_unfit classes space parameters operands h'.1
 
 -- a function that asks something of its arguments together asks something of each
-together : (classes : Classes) (space : Space) (references : References) (fields : List (Option Handle)) (operands : List Operand) (wanted : ElementType) (f : JniFunction) → list_all takes_any (prototype f).parameters ≡ true → fit_together classes space references fields operands wanted f ≡ true
-together classes space references fields operands wanted AllocObject h = absurd (cc)
-together classes space references fields operands wanted (GetField t) h = absurd (cc)
-together classes space references fields operands wanted (SetField t) h = absurd (cc)
-together classes space references fields operands wanted GetObjectField h = absurd (cc)
-together classes space references fields operands wanted SetObjectField h = absurd (cc)
-together classes space references fields operands wanted (GetStaticField t) h = absurd (cc)
-together classes space references fields operands wanted (SetStaticField t) h = absurd (cc)
-together classes space references fields operands wanted GetStaticObjectField h = absurd (cc)
-together classes space references fields operands wanted SetStaticObjectField h = absurd (cc)
-together classes space references fields operands wanted NewObjectArray h = absurd (cc)
-together classes space references fields operands wanted (GetBuffer ArrayView) h = absurd (cc)
-together classes space references fields operands wanted Throw h = absurd (cc)
-together classes space references fields operands wanted ThrowNew h = absurd (cc)
-together classes space references fields operands wanted f h = refl
+together : (unit : SourceUnit) (classes : Classes) (space : Space) (references : References) (fields : List (Option Handle)) (operands : List Operand) (wanted : ElementType) (f : JniFunction) → list_all takes_any (prototype f).parameters ≡ true → fit_together unit classes space references fields operands wanted f ≡ true
+together unit classes space references fields operands wanted AllocObject h = absurd (cc)
+together unit classes space references fields operands wanted (GetField t) h = absurd (cc)
+together unit classes space references fields operands wanted (SetField t) h = absurd (cc)
+together unit classes space references fields operands wanted GetObjectField h = absurd (cc)
+together unit classes space references fields operands wanted SetObjectField h = absurd (cc)
+together unit classes space references fields operands wanted (GetStaticField t) h = absurd (cc)
+together unit classes space references fields operands wanted (SetStaticField t) h = absurd (cc)
+together unit classes space references fields operands wanted GetStaticObjectField h = absurd (cc)
+together unit classes space references fields operands wanted SetStaticObjectField h = absurd (cc)
+together unit classes space references fields operands wanted NewObjectArray h = absurd (cc)
+together unit classes space references fields operands wanted (GetBuffer ArrayView) h = absurd (cc)
+together unit classes space references fields operands wanted Throw h = absurd (cc)
+together unit classes space references fields operands wanted ThrowNew h = absurd (cc)
+together unit classes space references fields operands wanted CallStaticVoidMethod h = absurd (cc)
+together unit classes space references fields operands wanted CallStaticIntMethod h = absurd (cc)
+together unit classes space references fields operands wanted CallStaticObjectMethod h = absurd (cc)
+together unit classes space references fields operands wanted f h = refl
 
 -- three tests that don't hold
 passed : (a b c : Bool) (x y z : Trap) (rest : List (Bool × Trap)) → a ≡ false → b ≡ false → c ≡ false → first_trap ((a, x) ∷ (b, y) ∷ (c, z) ∷ rest) ≡ first_trap rest
@@ -100,12 +104,12 @@ pub is_first : (b : Bool) (x : Trap) (rest : List (Bool × Trap)) → b ≡ true
 is_first true x rest h = refl
 is_first false x rest h = absurd (cc)
 
-pub nothing_asked : (classes : Classes) (space : Space) (references : References) (fields : List (Option Handle)) (wanted : ElementType) (f : JniFunction) (operands : List Operand) → asks (prototype f).parameters operands ≡ false
-    → (rest : List (Bool × Trap)) → first_trap (arguments_asked classes space references fields wanted f operands ++ rest) ≡ first_trap rest
-nothing_asked classes space references fields wanted f operands h rest =
+pub nothing_asked : (unit : SourceUnit) (classes : Classes) (space : Space) (references : References) (fields : List (Option Handle)) (wanted : ElementType) (f : JniFunction) (operands : List Operand) → asks (prototype f).parameters operands ≡ false
+    → (rest : List (Bool × Trap)) → first_trap (arguments_asked unit classes space references fields wanted f operands ++ rest) ≡ first_trap rest
+nothing_asked unit classes space references fields wanted f operands h rest =
     let parts = neither (not (list_all takes_any (prototype f).parameters)) (list_any is_static operands) h in
     let any = undenied (list_all takes_any (prototype f).parameters) parts.0 in
-    passed (list_any (gives_deleted references) operands) (some_missing references fields (prototype f).parameters operands) (some_misfit classes space references (prototype f).parameters operands || not (fit_together classes space references fields operands wanted f)) _ _ _ rest
+    passed (list_any (gives_deleted references) operands) (some_missing references fields (prototype f).parameters operands) (some_misfit classes space references (prototype f).parameters operands || not (fit_together unit classes space references fields operands wanted f)) _ _ _ rest
     (none_deleted references operands parts.1)
     (none_missing references fields (prototype f).parameters operands any)
-    (ap (λ b. b || not (fit_together classes space references fields operands wanted f)) (none_unfit references classes space (prototype f).parameters operands any) ∙ ap not (together classes space references fields operands wanted f any))
+    (ap (λ b. b || not (fit_together unit classes space references fields operands wanted f)) (none_unfit references classes space (prototype f).parameters operands any) ∙ ap not (together unit classes space references fields operands wanted f any))

@@ -11,7 +11,7 @@ use Rattle.class_rules.specs.Class.{Classes}
 use Rattle.heap.specs.Heap.{Space, name_at, values_at}
 use Rattle.heap.specs.declared.value.Value.{Value}
 use Rattle.jni.specs.Prototype.{ResultKind, NewLocal, NewGlobal, GivesFlag, GivesInt, GivesField, GivesMethod, GivesNothing, NewWeak}
-use Rattle.semantics.specs.CallEffects.{CallResult, NoResult, NullResult, ScalarResult, ReferenceResult, WeakResult, FieldResult, MethodResult, CallEffect, copy_effect, view_effect, release_effect, enter_effect, exit_effect, Halts, Leaves, Throws, throw_new_effect, delete_global_effect, delete_weak_effect, frames_effect, refuses_frames, with_capacity, without_local, begun_with, heap_effect, overwritten}
+use Rattle.semantics.specs.CallEffects.{CallResult, NoResult, NullResult, ScalarResult, ReferenceResult, WeakResult, FieldResult, MethodResult, CallEffect, copy_effect, view_effect, release_effect, enter_effect, exit_effect, Halts, Enters, Leaves, Throws, throw_new_effect, delete_global_effect, delete_weak_effect, frames_effect, refuses_frames, with_capacity, without_local, begun_with, heap_effect, overwritten}
 use Rattle.semantics.specs.Heap.{next_name, numbers_of, values_of, with_numbers, with_value_at}
 use Rattle.semantics.specs.Object.{ObjectValue, Number, Reference}
 use Rattle.semantics.specs.Thread.{BuffersInUse, Monitor, Shared, Thread, monitor_of}
@@ -62,10 +62,11 @@ pub record WritesAt (space : Space) (s : Shared) (s' : Shared) (a place : ℕ) (
   pub within : place < length (values_at space a)
   pub is : s' ≡ record s { heap = with_value_at s.heap name place value }
 
--- the machine stops
-abbrev pub is_halt : Answer → Bool
-is_halt (answer.Halts trap) = true
-is_halt a = false
+-- an answer is carried out, as all are but a stop of the machine and a call of a method
+abbrev pub is_carried : Answer → Bool
+is_carried (answer.Halts trap) = false
+is_carried answer.Calls = false
+is_carried a = true
 
 -- the static at this place holds the object of this name
 pub record HoldsObject (s : Shared) (x : Identifier) (i n : ℕ) : Type 0 where
@@ -228,4 +229,6 @@ IsAnswer classes brought space locals kind s t (answer.Releases r) effect = (kin
 IsAnswer classes brought space locals kind s t (answer.Enters o) effect = (kind ≡ GivesInt) × IsEntered brought.thread space s t o effect
 IsAnswer classes brought space locals kind s t (answer.Exits n) effect = (kind ≡ GivesInt) × IsExited brought.thread s t n effect
 IsAnswer classes brought space locals kind s t answer.RefusesFrames effect = (kind ≡ GivesInt) × (effect ≡ refuses_frames classes s t)
+IsAnswer classes brought space locals kind s t answer.Calls effect =
+    (function : Identifier) × (arguments : List ObjectValue) × (effect ≡ Enters function arguments)
 IsAnswer classes brought space locals kind s t answer effect = ⊥

@@ -3,11 +3,12 @@ use Rattle.std.specs.Prelude.{◌≡◌, ◌≢◌, ℕ, false, true, List, [], 
 use Rattle.std.specs.List.{AllZip}
 use Rattle.base.specs.Bytes.{lookup}
 use Rattle.syntax.specs.Tree.{SourceUnit}
+use Rattle.syntax.specs.Views.{unit_tree}
 use Rattle.class_rules.specs.Class.{Classes}
 use Rattle.class_rules.specs.Grown.{HasMethodError}
 use Rattle.code.specs.Call.{Call}
 use Rattle.jni.specs.Access.{Access}
-use Rattle.jni.specs.JniFunction.{JniFunction, GetStaticMethodID, ReleaseBuffer, prototype}
+use Rattle.jni.specs.JniFunction.{JniFunction, GetStaticMethodID, ReleaseBuffer, parameters_for}
 use Rattle.region_rules.specs.RegionRules.{is_critical_call}
 use Rattle.semantics.specs.Arguments.{Actual, object_given, variable_given}
 use Rattle.semantics.specs.CallStep.{target_element, waits_with}
@@ -76,10 +77,10 @@ pub record IsAsked (p : Lowered) (w : World) (store : Store) (pending : Option �
   pub pending_agrees : ReferenceAgrees store.heap pending s.pending
   pub frames_agree : FramesAgree store.heap activation.locals s.frames
   pub same_function : call.function ≡ f
-  pub count : length args ≡ length (prototype f).parameters
-  pub kinds : AllZip OperandFits (prototype f).parameters call.operands
-  pub fit : AllZip ActualFits (prototype f).parameters args
-  pub given : AllZip (IsGiven w.classes store.heap (references_of store activation) activation.slots.fields.items) call.operands args
+  pub count : length args ≡ length (parameters_for f (length args))
+  pub kinds : AllZip OperandFits (parameters_for f (length args)) call.operands
+  pub fit : AllZip ActualFits (parameters_for f (length args)) args
+  pub given : AllZip (IsGiven (unit_tree p.unit) w.classes store.heap (references_of store activation) activation.slots.fields.items) call.operands args
   pub arrays : AllZip (HasArray activation.slots.numbers.items s.variables) call.operands args
   pub buffers : AllZip (HasBuffer store.heap (buffers_of store activation owner) s.variables) call.operands args
   pub wanted : element_wanted call.target ≡ target_element s.variables target

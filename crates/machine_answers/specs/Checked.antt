@@ -1,7 +1,9 @@
 -- What is checked of a call before it does anything, by what is in memory.
-use Rattle.std.specs.Prelude.{◌≡◌, ℕ, Bool, true, false, not, ◌&&◌, ◌||◌, ◌==◌, List, [], ◌∷◌, ◌++◌, is_none, is_some, Option, Some, None}
+use Rattle.std.specs.Prelude.{◌≡◌, ℕ, ◌+◌, nat_le, if◌then◌else◌, drop, slice_get, Bool, true, false, not, ◌&&◌, ◌||◌, ◌==◌, List, [], ◌∷◌, ◌++◌, is_none, is_some, Option, Some, None}
 use Rattle.std.specs.List.{list_any}
+use Rattle.base.specs.Limits.{most_activations}
 use Rattle.base.specs.Element.{ElementType, JInt, element_value}
+use Rattle.syntax.specs.Tree.{Function, FunctionItem, IntParameter, Item, Parameter, ParameterType, ReferenceParameter, ResultType, SourceUnit}
 use Rattle.class_queries.specs.Kinds.{class_misfits}
 use Rattle.class_rules.specs.BuiltIns.{has_own_making, throwable_class, number_array}
 use Rattle.class_rules.specs.Class.{Classes, FieldType, NumberField, ReferenceField, class_kind, is_plain, assignable}
@@ -13,13 +15,15 @@ use Rattle.code.specs.declared.instr.Target.{Target}
 use Rattle.code.specs.declared.instr.Target.TheVariants.{Buffer}
 use Rattle.heap.specs.Heap.{Space}
 use Rattle.jni.specs.Access.{ArrayView}
-use Rattle.jni.specs.JniFunction.{is_allowed_pending, JniFunction, GetBuffer, AllocObject, GetField, SetField, GetStaticField, SetStaticField, GetObjectField, SetObjectField, GetStaticObjectField, SetStaticObjectField, NewObjectArray, Throw, ThrowNew, prototype}
-use Rattle.jni.specs.Prototype.{ParameterKind, Nullable, AnyReference, LocalVariable, StaticVariable, WeakVariable, IsCopy, ResultKind, NewLocal}
+use Rattle.jni.specs.JniFunction.{is_allowed_pending, JniFunction, GetBuffer, AllocObject, GetField, SetField, GetStaticField, SetStaticField, GetObjectField, SetObjectField, GetStaticObjectField, SetStaticObjectField, NewObjectArray, Throw, ThrowNew, CallStaticVoidMethod, CallStaticIntMethod, CallStaticObjectMethod, calls_method, prototype}
+use Rattle.jni.specs.Prototype.{ParameterKind, Nullable, AnyReference, LocalVariable, StaticVariable, WeakVariable, IsCopy, Passed, ResultKind, NewLocal}
+use Rattle.semantics.specs.CallTable.{is_int, is_reference_result, is_void}
 use Rattle.semantics.specs.Checks.{first_trap}
 use Rattle.semantics.specs.Heap.{holds_number, holds_reference}
-use Rattle.semantics.specs.Value.{Trap, NullReference, ExceptionPending, WrongObject, DeletedReference, NoCapacity}
+use Rattle.semantics.specs.Value.{Trap, NullReference, ExceptionPending, WrongObject, DeletedReference, NoCapacity, CallsTooDeep}
 use Rattle.machine_scenes.specs.declared.handle.Handle.{Handle}
-use Rattle.machine_scenes.specs.Given.{operand_at, field_at, operand_of, class_there, class_of_given, name_there, fits_there, field_there}
+use Rattle.machine_scenes.specs.declared.handle.MethodHandle.{MethodHandle}
+use Rattle.machine_scenes.specs.Given.{operand_at, field_at, method_at, operand_of, class_there, class_of_given, name_there, fits_there, field_there}
 use Rattle.machine_scenes.specs.Scenes.{Scene}
 use Rattle.machine_scenes.specs.Statics.{References, holds_deleted, holds_null, static_at}
 
@@ -29,6 +33,7 @@ gives_null references fields operand.Null = true
 gives_null references fields (operand.Static i) = holds_null (static_at references i)
 gives_null references fields (operand.Local i) = is_none (operand_at references (operand.Local i))
 gives_null references fields (operand.FieldId i) = is_none (field_at fields (operand.FieldId i))
+gives_null references fields (operand.MethodId i) = is_none (method_at fields (operand.MethodId i))
 gives_null references fields operand.Number = false
 gives_null references fields operand.Text = false
 gives_null references fields (operand.Array array) = false
@@ -49,6 +54,7 @@ may_be_null LocalVariable = true
 may_be_null StaticVariable = true
 may_be_null WeakVariable = true
 may_be_null IsCopy = true
+may_be_null Passed = true
 may_be_null p = false
 
 -- some operand gives NULL where that isn't allowed
@@ -78,8 +84,37 @@ abbrev pub element_wanted : Target → ElementType
 element_wanted (Buffer element i) = element_value element
 element_wanted target = JInt
 
--- a call with these operands
-module _ (classes : Classes) (space : Space) (references : References) (fields : List (Option Handle)) (operands : List Operand) where
+-- ---- calls of methods
+
+-- the function that an item is
+abbrev pub function_in : Option Item → Option Function
+function_in (Some (FunctionItem f)) = Some f
+function_in item = None
+
+-- a method with this result gives what a function that calls methods asks for
+abbrev pub returns : JniFunction → ResultType → Bool
+returns CallStaticVoidMethod result = is_void result
+returns CallStaticIntMethod result = is_int result
+returns f result = is_reference_result result
+
+-- what an operand gives may be passed to a parameter: a number, or a reference, as it asks
+abbrev pub takes : ParameterType → Operand → Bool
+takes IntParameter operand.Number = true
+takes (ReferenceParameter type) operand.Null = true
+takes (ReferenceParameter type) (operand.Local i) = true
+takes (ReferenceParameter type) (operand.Static i) = true
+takes type o = false
+
+-- there are as many operands as parameters, and each may be passed to its own
+abbrev pub takes_all : List Parameter → List Operand → Bool
+takes_all [] [] = true
+takes_all (p ∷ parameters) (o ∷ operands) = takes p.type o && takes_all parameters operands
+takes_all parameters operands = false
+
+-- ---- arguments together
+
+-- a call with these operands, of a unit
+module _ (unit : SourceUnit) (classes : Classes) (space : Space) (references : References) (fields : List (Option Handle)) (operands : List Operand) where
   -- the reference of an operand
   abbrev pub reference : ℕ → Option ℕ
   reference i = operand_at references (operand_of operands i)
@@ -95,6 +130,20 @@ module _ (classes : Classes) (space : Space) (references : References) (fields :
   -- operand 0 is a class that has the static
   abbrev pub has_static : Bool
   has_static = field.is_static && assignable classes (name_there space (reference 0)) field.class
+
+  -- the method ID of operand 1
+  abbrev pub method : Option MethodHandle
+  method = method_at fields (operand_of operands 1)
+
+  -- the function of a method ID, where the ID was got from the class of operand 0
+  abbrev pub called : Option MethodHandle → Option Function
+  called None = None
+  called (Some h) = if h.class.number == name_there space (reference 0) then function_in (slice_get unit.items h.item) else None
+
+  -- it gives what is asked for, and takes what it is passed
+  abbrev pub calls_well : JniFunction → Option Function → Bool
+  calls_well f None = false
+  calls_well f (Some method) = returns f method.result && takes_all method.parameters (drop 2 operands)
 
   -- the arguments of a function, each of its kind, go together; a critical buffer has the element type of its variable
   abbrev pub fit_together : (wanted : ElementType) → JniFunction → Bool
@@ -112,11 +161,14 @@ module _ (classes : Classes) (space : Space) (references : References) (fields :
   fit_together wanted (GetBuffer ArrayView) = class_of_given space (reference 0) == number_array wanted
   fit_together wanted Throw = assignable classes (class_of_given space (reference 0)) throwable_class
   fit_together wanted ThrowNew = assignable classes (name_there space (reference 0)) throwable_class
+  fit_together wanted CallStaticVoidMethod = calls_well CallStaticVoidMethod (called method)
+  fit_together wanted CallStaticIntMethod = calls_well CallStaticIntMethod (called method)
+  fit_together wanted CallStaticObjectMethod = calls_well CallStaticObjectMethod (called method)
   fit_together wanted f = true
 
 -- the arguments of a call that sees this go together
 abbrev pub arguments_fit : Scene → List Operand → (wanted : ElementType) → JniFunction → Bool
-arguments_fit scene operands wanted f = fit_together scene.classes scene.space scene.references scene.fields operands wanted f
+arguments_fit scene operands wanted f = fit_together scene.unit scene.classes scene.space scene.references scene.fields operands wanted f
 
 -- a call of this kind of result puts a local reference into the frame
 abbrev pub puts_local : ResultKind → Bool
@@ -124,32 +176,46 @@ puts_local NewLocal = true
 puts_local kind = false
 
 -- what is asked of a call's arguments, in this order, each with the trap where it isn't so
-abbrev pub arguments_asked : Classes → Space → References → List (Option Handle) → (wanted : ElementType) → JniFunction → List Operand → List (Bool × Trap)
-arguments_asked classes space references fields wanted f operands =
+abbrev pub arguments_asked : SourceUnit → Classes → Space → References → List (Option Handle) → (wanted : ElementType) → JniFunction
+    → List Operand → List (Bool × Trap)
+arguments_asked unit classes space references fields wanted f operands =
     (list_any (gives_deleted references) operands, DeletedReference)
     ∷ (some_missing references fields (prototype f).parameters operands, NullReference)
     ∷ (
       some_misfit classes space references (prototype f).parameters operands
-          || not (fit_together classes space references fields operands wanted f),
+          || not (fit_together unit classes space references fields operands wanted f),
       WrongObject,
     )
     ∷ []
 
 -- what is asked of a call's arguments doesn't hold, and this is the trap, whatever is asked after it
 abbrev pub ArgumentsTrap : Scene → Call → Trap → Type 0
-ArgumentsTrap scene call trap = (rest : List (Bool × Trap)) → first_trap (arguments_asked scene.classes scene.space
+ArgumentsTrap scene call trap = (rest : List (Bool × Trap)) → first_trap (arguments_asked scene.unit scene.classes scene.space
     scene.references scene.fields (element_wanted call.target) call.function call.operands ++ rest) ≡ Some trap
 
 -- it holds, so the trap is that of what is asked after it
 abbrev pub ArgumentsPass : Scene → Call → Type 0
-ArgumentsPass scene call = (rest : List (Bool × Trap)) → first_trap (arguments_asked scene.classes scene.space
+ArgumentsPass scene call = (rest : List (Bool × Trap)) → first_trap (arguments_asked scene.unit scene.classes scene.space
     scene.references scene.fields (element_wanted call.target) call.function call.operands ++ rest) ≡ first_trap rest
 
--- the trap of a call that sees this, before it does anything; a buffer that it fills has elements of this type
+-- the trap of a call that sees this, before it does anything, but for that of how deep calls are; a buffer that it fills has elements
+-- of this type
 abbrev pub trap_found : Scene → (has_room : Bool) → (wanted : ElementType) → JniFunction → List Operand → Option Trap
 trap_found scene has_room wanted f operands =
     first_trap (
     (is_some scene.pending && not (is_allowed_pending f), ExceptionPending)
-    ∷ arguments_asked scene.classes scene.space scene.references scene.fields wanted f operands
+    ∷ arguments_asked scene.unit scene.classes scene.space scene.references scene.fields wanted f operands
     ++ (puts_local (prototype f).result && not has_room, NoCapacity)
     ∷ [])
+
+-- ---- how deep calls are
+
+-- a method is called, and as many calls are made from one another as may be
+abbrev pub is_too_deep : JniFunction → (callers : ℕ) → Bool
+is_too_deep f callers = calls_method f && nat_le most_activations (callers + 1)
+
+-- the trap of a call whose other checks found this: how deep calls are is checked after all else
+abbrev pub with_depth : (deep : Bool) → Option Trap → Option Trap
+with_depth deep (Some trap) = Some trap
+with_depth true None = Some CallsTooDeep
+with_depth false None = None

@@ -4,3 +4,4 @@ pub mod WorkedOut
 pub mod Copies
 pub mod BufferChanges
 pub mod Answers
+pub mod Passed

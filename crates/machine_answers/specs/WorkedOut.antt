@@ -21,7 +21,7 @@ use Rattle.heap.specs.Heap.{Space, values_at}
 use Rattle.heap.specs.declared.value.Value.{Value}
 use Rattle.heap.specs.declared.value.Value.TheVariants as value
 use Rattle.jni.specs.Access.{Access, ElementsCopy, is_critical}
-use Rattle.jni.specs.JniFunction.{GetBuffer, ReleaseBuffer, JniFunction, FindClass, GetSuperclass, GetObjectClass, IsInstanceOf, IsAssignableFrom, AllocObject, NewLocalRef, NewGlobalRef, NewWeakGlobalRef, DeleteLocalRef, DeleteGlobalRef, DeleteWeakGlobalRef, IsSameObject, EnsureLocalCapacity, PushLocalFrame, PopLocalFrame, GetFieldID, GetStaticFieldID, GetField, SetField, GetStaticField, SetStaticField, GetObjectField, SetObjectField, GetStaticObjectField, SetStaticObjectField, GetArrayLength, GetStringLength, NewArray, NewObjectArray, GetObjectArrayElement, SetObjectArrayElement, NewStringUTF, Throw, ThrowNew, ExceptionOccurred, ExceptionCheck, ExceptionClear, FatalError, MonitorEnter, MonitorExit, GetArrayRegion, SetArrayRegion, GetStringRegion, GetStaticMethodID}
+use Rattle.jni.specs.JniFunction.{GetBuffer, ReleaseBuffer, JniFunction, FindClass, GetSuperclass, GetObjectClass, IsInstanceOf, IsAssignableFrom, AllocObject, NewLocalRef, NewGlobalRef, NewWeakGlobalRef, DeleteLocalRef, DeleteGlobalRef, DeleteWeakGlobalRef, IsSameObject, EnsureLocalCapacity, PushLocalFrame, PopLocalFrame, GetFieldID, GetStaticFieldID, GetField, SetField, GetStaticField, SetStaticField, GetObjectField, SetObjectField, GetStaticObjectField, SetStaticObjectField, GetArrayLength, GetStringLength, NewArray, NewObjectArray, GetObjectArrayElement, SetObjectArrayElement, NewStringUTF, Throw, ThrowNew, ExceptionOccurred, ExceptionCheck, ExceptionClear, FatalError, MonitorEnter, MonitorExit, GetArrayRegion, SetArrayRegion, GetStringRegion, GetStaticMethodID, CallStaticVoidMethod, CallStaticIntMethod, CallStaticObjectMethod}
 use Rattle.semantics.specs.Method.{MethodId, find_method}
 use Rattle.monitors.specs.declared.monitors.Enter.{Enter}
 use Rattle.monitors.specs.declared.monitors.Enter.TheVariants as enter
@@ -33,7 +33,7 @@ use Rattle.monitors.specs.Monitors.{entering, leaving, monitor_of}
 use Rattle.machine_answers.specs.declared.answer.Given.TheVariants.{Nothing, Number, Reference}
 use Rattle.machine_answers.specs.declared.answer.Given.TheVariants as given
 use Rattle.machine_answers.specs.declared.answer.Answer.{Answer}
-use Rattle.machine_answers.specs.declared.answer.Answer.TheVariants.{Gives, Writes, Makes, Throws, Raises, Pends, Halts, Ensures, Pushes, RefusesFrames, Pops, Deletes, MakesGlobal, DeletesGlobal, MakesWeak, DeletesWeak, CopiesOut, CopiesIn, AcquiresCopy, AcquiresView, Releases, Enters, Exits}
+use Rattle.machine_answers.specs.declared.answer.Answer.TheVariants.{Gives, Writes, Makes, Throws, Raises, Pends, Halts, Ensures, Pushes, RefusesFrames, Pops, Deletes, MakesGlobal, DeletesGlobal, MakesWeak, DeletesWeak, CopiesOut, CopiesIn, AcquiresCopy, AcquiresView, Releases, Enters, Exits, Calls}
 use Rattle.machine_scenes.specs.declared.array_region.ArrayRegion.{ArrayRegion}
 use Rattle.machine_scenes.specs.declared.buffer.Buffer.{Buffer}
 use Rattle.machine_scenes.specs.declared.buffer.Buffer.TheVariants as buffer
@@ -351,6 +351,9 @@ module _ (scene : Scene) (call : Call) where
   worked_out FatalError = Halts Fatal
   worked_out MonitorEnter = enters scene.space scene.monitors scene.thread (reference 0)
   worked_out MonitorExit = leaves scene.space scene.monitors scene.thread (reference 0)
+  worked_out CallStaticVoidMethod = Calls
+  worked_out CallStaticIntMethod = Calls
+  worked_out CallStaticObjectMethod = Calls
   worked_out f = Gives Nothing
 
   -- what is worked out of a call of a function

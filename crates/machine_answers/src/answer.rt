@@ -16,6 +16,8 @@ ghost use Rattle.machine_scenes.specs.Scenes.{scene_view};
 ghost use Rattle.jni.specs.Subjects.{subject_of};
 ghost use Rattle.machine_answers.specs.WorkedOut.{address_in, class_object, count_there, declaring, deletes, deletes_global, deletes_weak, field, found_class, frame_for, handle, held_reference, place, place_of_static, place_there, reference, room_for, top_word, value_there, word_in, writes_there, IsFoundField, IsFoundMethod, IsWorkedOut};
 ghost use Rattle.semantics.specs.Method.{find_method};
+ghost use Rattle.syntax.specs.Parts.{functions_of};
+ghost use Rattle.syntax.specs.Tree.{Function, FunctionItem};
 ghost use Rattle.syntax.specs.Views.{unit_tree};
 ghost use Rattle.jni.specs.declared.subject.Subject.TheVariants as subject;
 ghost use Rattle.base.specs.Element.{element_value};
@@ -127,6 +129,9 @@ pub enum Answer {
     Enters(Object),
     /// The thread owns the monitor of the object of this birth number once less, and 0 is given.
     Exits(u32),
+    /// A method is called, all checks being passed but that of how deep calls are. The call's operands tell which, and what it
+    /// is given.
+    Calls,
 }
 
 /// What a function does, all checks being passed. It takes no host memory.
@@ -195,6 +200,8 @@ fn work_out_class(scene: &Scene<'_>, call: &Call) -> Answer
             let class = class_given(scene, call, 0);
             method_found(scene.items, scene.classes, class, &call.texts)
         }
+        JniFunction::CallStaticVoidMethod => Answer::Calls,
+        JniFunction::CallStaticIntMethod | JniFunction::CallStaticObjectMethod => Answer::Calls,
         _ => unreachable!(),
     }
 }
@@ -445,9 +452,32 @@ fn method_found(items: &[Item], classes: &ClassTable, class: ClassId, texts: &[V
         Some(found) => Answer::Gives(Given::MethodId(Some(MethodHandle {
             class,
             function: found.number,
+            item: item_of(items, found.number),
         }))),
         None => Answer::Throws(NO_SUCH_METHOD_ERROR),
     }
+}
+
+/// The place of a function's item among these, by the function's number.
+fn item_of(items: &[Item], function: usize) -> usize
+    ensures { (f : Function) → slice_get (functions_of (unit_tree items.now)) function ≡ Some f
+        → slice_get (unit_tree items.now).items result ≡ Some (FunctionItem f) }
+{
+    let mut place = 0;
+    let mut before = 0;
+    for item in items {
+        match item {
+            Item::Static(_) => {}
+            Item::Function(_) => {
+                if before == function {
+                    return place;
+                }
+                before += 1;
+            }
+        }
+        place += 1;
+    }
+    place
 }
 
 /// The number of values of an object, and 0 for NULL.

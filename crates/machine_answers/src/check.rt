@@ -1,6 +1,6 @@
 //! What is checked of a call before it does anything, in one order for all functions.
 
-ghost use Rattle.std.specs.Prelude.{◌≡◌, ℕ, ◌&&◌, not, is_some, IfSome, IfNone, map, false};
+ghost use Rattle.std.specs.Prelude.{◌≡◌, ℕ, ◌&&◌, not, is_some, IfSome, IfNone, map, false, slice_get};
 ghost use Rattle.std.specs.List.{list_any};
 ghost use Rattle.std.specs.Option.{option_map};
 ghost use Rattle.class_queries.specs.Kinds.{class_misfits};
@@ -10,15 +10,17 @@ ghost use Rattle.classes.specs.Views.{field_type_view};
 ghost use Rattle.code.specs.Call.{call_view, IsPrepared};
 ghost use Rattle.jni.specs.JniFunction.{is_allowed_pending, prototype};
 ghost use Rattle.jni.specs.Table.{function_value, parameter_value, result_value};
-ghost use Rattle.machine_scenes.specs.Given.{operand_at, AreAddresses, AreHandles, ReferenceIsThere};
+ghost use Rattle.syntax.specs.Views.{function_tree, parameter_tree, parameter_type_tree, result_tree, unit_tree};
+ghost use Rattle.machine_scenes.specs.Given.{method_at, operand_at, operand_of, AreAddresses, AreHandles, ReferenceIsThere};
 ghost use Rattle.machine_scenes.specs.Locals.{locals_after};
 ghost use Rattle.tables.specs.Locals.{has_room};
-ghost use Rattle.machine_answers.specs.Checked.{arguments_fit, element_wanted, has_field, has_static, gives_null, gives_deleted, may_be_null, some_missing, misfits, some_misfit, fits_type_there, puts_local, trap_found, ArgumentsPass, ArgumentsTrap};
+ghost use Rattle.machine_answers.specs.Checked.{arguments_fit, called, calls_well, function_in, returns, takes, takes_all, element_wanted, has_field, has_static, gives_null, gives_deleted, may_be_null, some_missing, misfits, some_misfit, fits_type_there, puts_local, trap_found, ArgumentsPass, ArgumentsTrap};
 ghost use Rattle.machine_answers.specs.WorkedOut.{field};
 ghost use Rattle.machine_scenes.specs.Scenes.{scene_view};
 ghost use Rattle.semantics.specs.EventViews.{trap_view};
 
 use crate::answer::{argument, class_given, handle_of};
+use crate::passed::passed_operands;
 use class_queries::{class_misfits, holds_number, holds_reference};
 use classes::built_ins::{THROWABLE, number_array};
 use classes::class::{ElementType, FieldType};
@@ -26,11 +28,13 @@ use code::instr::{Call, Operand, Target};
 use heap::Addr;
 use jni::{Access, JniFunction, ParameterKind, ResultKind};
 use machine_scenes::operands::{
-    class_of_given, class_there, declaring, field_in, fits_there, is_static, reference_in, type_of,
+    class_of_given, class_there, declaring, field_in, fits_there, is_static, method_in, operand_of,
+    reference_in, type_of,
 };
 use machine_scenes::references::{Held, References};
 use machine_scenes::scene::Scene;
 use semantics::Trap;
+use syntax::{Function, Item, Parameter, ParameterType, ResultType};
 use tables::Locals;
 
 /// Whether an operand gives NULL.
@@ -44,6 +48,7 @@ fn gives_null(scene: &Scene<'_>, operand: Operand) -> bool
             matches!(scene.references.held(slot), Held::Empty | Held::Cleared)
         }
         Operand::FieldId(_) => field_in(scene.fields, operand).is_none(),
+        Operand::MethodId(_) => method_in(scene.fields, operand).is_none(),
         Operand::Number | Operand::Text | Operand::Mode(_) => false,
         Operand::Array(_) | Operand::Buffer(_) | Operand::IsCopy(_) => false,
     }
@@ -80,6 +85,7 @@ fn may_be_null(parameter: ParameterKind) -> bool
             | ParameterKind::StaticVariable
             | ParameterKind::WeakVariable
             | ParameterKind::IsCopy
+            | ParameterKind::Passed
     )
 }
 
@@ -166,7 +172,7 @@ fn asked_type(scene: &Scene<'_>, call: &Call) -> FieldType
 fn has_field(scene: &Scene<'_>, call: &Call) -> bool
     requires objects { AreAddresses scene.now.heap.now scene.now.references call.now.operands.items }
     requires handles { AreHandles scene.now.classes.now scene.now.fields.now call.now.operands.items }
-    ensures { result ≡ has_field scene.now.classes.now scene.now.heap.now scene.now.references scene.now.fields.now call.now.operands.items }
+    ensures { result ≡ has_field (unit_tree scene.now.items.now) scene.now.classes.now scene.now.heap.now scene.now.references scene.now.fields.now call.now.operands.items }
 {
     let field = handle_of(scene, call);
     let class = class_of_given(scene.heap, argument(scene, call, 0));
@@ -177,11 +183,94 @@ fn has_field(scene: &Scene<'_>, call: &Call) -> bool
 fn has_static(scene: &Scene<'_>, call: &Call) -> bool
     requires objects { AreAddresses scene.now.heap.now scene.now.references call.now.operands.items }
     requires handles { AreHandles scene.now.classes.now scene.now.fields.now call.now.operands.items }
-    ensures { result ≡ has_static scene.now.classes.now scene.now.heap.now scene.now.references scene.now.fields.now call.now.operands.items }
+    ensures { result ≡ has_static (unit_tree scene.now.items.now) scene.now.classes.now scene.now.heap.now scene.now.references scene.now.fields.now call.now.operands.items }
 {
     let field = handle_of(scene, call);
     let class = class_given(scene, call, 0);
     is_static(field) && scene.classes.assignable(class, declaring(field))
+}
+
+/// The function whose item is at a place.
+fn function_in(items: &[Item], place: usize) -> Option<&Function>
+    ensures { option_map (λ f. function_tree f.now) result ≡ function_in (slice_get (unit_tree items.now).items place) }
+{
+    match items.get(place) {
+        Some(Item::Function(function)) => Some(function),
+        Some(Item::Static(_)) | None => None,
+    }
+}
+
+/// The function of operand 1, a method ID, where the ID was got from the class of operand 0.
+fn called<'a>(scene: &Scene<'a>, call: &Call) -> Option<&'a Function>
+    requires { AreAddresses scene.now.heap.now scene.now.references call.now.operands.items }
+    ensures { option_map (λ f. function_tree f.now) result ≡ called (unit_tree scene.now.items.now) scene.now.classes.now
+        scene.now.heap.now scene.now.references scene.now.fields.now call.now.operands.items
+        (method_at scene.now.fields.now (operand_of call.now.operands.items 1)) }
+{
+    match method_in(scene.fields, operand_of(&call.operands, 1)) {
+        Some(method) if method.class == class_given(scene, call, 0) => {
+            function_in(scene.items, method.item)
+        }
+        _ => None,
+    }
+}
+
+/// Whether a method with this result gives what a function that calls methods asks for.
+fn returns(function: JniFunction, kind: ResultType) -> bool
+    ensures { result ≡ returns (function_value function) (result_tree kind) }
+{
+    match function {
+        JniFunction::CallStaticVoidMethod => matches!(kind, ResultType::Void),
+        JniFunction::CallStaticIntMethod => matches!(kind, ResultType::Jint),
+        _ => matches!(kind, ResultType::Reference(_)),
+    }
+}
+
+/// Whether what an operand gives may be passed to a parameter: a number, or a reference, as it asks.
+fn takes(parameter: ParameterType, operand: Operand) -> bool
+    ensures { result ≡ takes (parameter_type_tree parameter) operand }
+{
+    match parameter {
+        ParameterType::Jint => matches!(operand, Operand::Number),
+        ParameterType::Reference(_) => {
+            matches!(
+                operand,
+                Operand::Null | Operand::Local(_) | Operand::Static(_)
+            )
+        }
+    }
+}
+
+/// Whether there are as many operands as parameters, and each may be passed to its own.
+fn takes_all(parameters: &[Parameter], operands: &[Operand]) -> bool
+    ensures { result ≡ takes_all (map parameter_tree parameters.now) operands.now }
+{
+    match parameters {
+        [parameter, parameters @ ..] => match operands {
+            [operand, operands @ ..] => {
+                takes(parameter.kind, *operand) && takes_all(parameters, operands)
+            }
+            [] => false,
+        },
+        [] => operands.is_empty(),
+    }
+}
+
+/// Whether the method of operand 1 was got from the class of operand 0, gives what is asked for, and takes what it is passed.
+fn calls_well(scene: &Scene<'_>, call: &Call) -> bool
+    requires { AreAddresses scene.now.heap.now scene.now.references call.now.operands.items }
+    ensures { result ≡ calls_well (unit_tree scene.now.items.now) scene.now.classes.now scene.now.heap.now
+        scene.now.references scene.now.fields.now call.now.operands.items (function_value call.now.function)
+        (called (unit_tree scene.now.items.now) scene.now.classes.now scene.now.heap.now scene.now.references
+        scene.now.fields.now call.now.operands.items (method_at scene.now.fields.now (operand_of call.now.operands.items 1))) }
+{
+    match called(scene, call) {
+        Some(function) => {
+            returns(call.function, function.result)
+                && takes_all(&function.parameters, passed_operands(&call.operands))
+        }
+        None => false,
+    }
 }
 
 /// Whether the arguments of a function, each of its kind, go together.
@@ -228,6 +317,9 @@ fn fit_together(scene: &Scene<'_>, call: &Call) -> bool
             classes.assignable(class, THROWABLE)
         }
         JniFunction::ThrowNew => classes.assignable(class_given(scene, call, 0), THROWABLE),
+        JniFunction::CallStaticVoidMethod => calls_well(scene, call),
+        JniFunction::CallStaticIntMethod => calls_well(scene, call),
+        JniFunction::CallStaticObjectMethod => calls_well(scene, call),
         _ => true,
     }
 }
@@ -296,7 +388,8 @@ fn lacks_room(locals: &Locals, call: &Call) -> bool
     puts_local(call.result) && !has_room(locals, call.function)
 }
 
-/// The trap of a call that sees this, before it does anything. It takes no host memory.
+/// The trap of a call that sees this, before it does anything; how deep calls are is not looked at, and is checked after all
+/// else. It takes no host memory.
 pub fn check(scene: &Scene<'_>, locals: &Locals, call: &Call) -> Option<Trap>
     requires prepared { IsPrepared call.now }
     requires objects { AreAddresses scene.now.heap.now scene.now.references call.now.operands.items }

@@ -8,4 +8,5 @@ pub mod check;
 pub mod copies;
 mod exceptions;
 mod monitor;
+pub mod passed;
 mod regions;

@@ -6,7 +6,7 @@ use Rattle.class_rules.specs.declared.class_id.ClassId.{ClassId}
 use Rattle.heap.specs.Heap.{Space}
 use Rattle.heap.specs.declared.value.Value.{Value}
 use Rattle.jni.specs.Prototype.{ResultKind, NewLocal, GivesNothing}
-use Rattle.semantics.specs.CallEffects.{CallResult, NoResult, NullResult, ScalarResult, ReferenceResult, WeakResult, FieldResult, MethodResult, BufferResult, CallEffect, Throws, Halts, Leaves, delete_weak_effect}
+use Rattle.semantics.specs.CallEffects.{CallResult, NoResult, NullResult, ScalarResult, ReferenceResult, WeakResult, FieldResult, MethodResult, BufferResult, CallEffect, Throws, Halts, Enters, Leaves, delete_weak_effect}
 use Rattle.semantics.specs.Heap.{next_name}
 use Rattle.semantics.specs.Thread.{Shared, Thread}
 use Rattle.semantics.specs.Object.{Object}
@@ -28,6 +28,7 @@ module _ (classes : Classes) (brought : Brought) (space : Space) (locals : Local
   pub gives_it : (g : Given) (effect : CallEffect) → IsAnswer classes brought space locals kind shared s (answer.Gives g) effect → GivesIt g effect
   gives_it g (Throws c) h = absurd h
   gives_it g (Halts trap) h = absurd h
+  gives_it g (Enters function arguments) h = absurd h
   gives_it g (Leaves (o ∷ made) s' t' c) h = absurd h
   gives_it g (Leaves [] s' t' c) h = record { gave = c; is = (λ i. Leaves [] (h.0 i) (h.1 i) c); agrees = h.2 }
 
@@ -41,6 +42,7 @@ module _ (classes : Classes) (brought : Brought) (space : Space) (locals : Local
   pub writes_it : (a place : ℕ) (v : Value) (effect : CallEffect) → IsAnswer classes brought space locals kind shared s (answer.Writes a place v) effect → WritesIt a place v effect
   writes_it a place v (Throws c) h = absurd h
   writes_it a place v (Halts trap) h = absurd h
+  writes_it a place v (Enters function arguments) h = absurd h
   writes_it a place v (Leaves (o ∷ made) s' t' c) h = absurd h
   writes_it a place v (Leaves [] s' t' NoResult) h = record { after = s'; is = (λ i. Leaves [] s' (h.0 i) NoResult); kind_is = h.1; writes = h.2 }
   writes_it a place v (Leaves [] s' t' NullResult) h = absurd h
@@ -61,6 +63,7 @@ module _ (classes : Classes) (brought : Brought) (space : Space) (locals : Local
   pub makes_it : (new : New) (effect : CallEffect) → IsAnswer classes brought space locals kind shared s (answer.Makes new) effect → MakesIt new effect
   makes_it new (Throws c) h = absurd h
   makes_it new (Halts trap) h = absurd h
+  makes_it new (Enters function arguments) h = absurd h
   makes_it new (Leaves [] s' t' c) h = absurd h
   makes_it new (Leaves (o ∷ p ∷ made) s' t' c) h = absurd h
   makes_it new (Leaves (o ∷ []) s' t' NoResult) h = absurd h
@@ -80,6 +83,7 @@ module _ (classes : Classes) (brought : Brought) (space : Space) (locals : Local
   pub throws_it : (class : ClassId) (effect : CallEffect) → IsAnswer classes brought space locals kind shared s (answer.Throws class) effect → ThrowsIt class.number effect
   throws_it class (Throws c) h = record { is = ap Throws (sym h.0); makeable = h.1 }
   throws_it class (Halts trap) h = absurd h
+  throws_it class (Enters function arguments) h = absurd h
   throws_it class (Leaves made s' t' c) h = absurd h
 
 -- the weak reference that a static holds is ended, cleared or not

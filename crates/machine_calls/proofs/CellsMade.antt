@@ -106,6 +106,7 @@ module _ (classes : Classes) (brought : Brought) (space : Space) (locals : Local
   cells_made (answer.MakesWeak a) effect does = ap Cells does.1.2
   cells_made (answer.DeletesWeak i) effect does = ap Cells (does.1.3 ∙ weak_deleted shared s does.1.0 does.1.1 does.1.2.weak)
   cells_made (answer.Enters o) effect does = ap Cells does.1.is ∙ of_enter brought.thread o.name (source.monitor_of shared.monitors o.name)
+  cells_made answer.Calls effect does = ap Cells does.2
   cells_made (answer.Exits n) effect does =
       let it = does.1 in
       ap Cells (it.is ∙ ap (exit_effect brought.thread shared s n) it.owned) ∙ of_exit brought.thread n it.monitor it.own
@@ -135,6 +136,7 @@ references_free classes texts (answer.MakesWeak a) h = refl
 references_free classes texts (answer.DeletesWeak i) h = refl
 references_free classes texts (answer.Enters o) h = refl
 references_free classes texts (answer.Exits n) h = refl
+references_free classes texts answer.Calls h = refl
 
 -- nor does what takes host memory
 pub memory_free : (classes : Classes) (texts : List (List ℕ)) (a : Answer) → takes_memory a ≡ true → cells_of classes texts a ≡ 0

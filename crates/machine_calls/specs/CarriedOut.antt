@@ -9,7 +9,7 @@ use Rattle.code.specs.declared.instr.LocalArray.{LocalArray}
 use Rattle.heap.specs.Heap.{Space, left_of}
 use Rattle.jni.specs.Prototype.{ResultKind, NewLocal, NewGlobal, NewWeak, GivesFlag, GivesInt, GivesField, GivesMethod, GivesBuffer}
 use Rattle.jni.specs.Table.{result_value}
-use Rattle.semantics.specs.CallEffects.{CallResult, NoResult, NullResult, ReferenceResult, WeakResult, BufferResult, CallEffect, Leaves, Throws, Halts, out_of_memory}
+use Rattle.semantics.specs.CallEffects.{CallResult, NoResult, NullResult, ReferenceResult, WeakResult, BufferResult, CallEffect, Leaves, Throws, Halts, Enters, out_of_memory}
 use Rattle.semantics.specs.CallStep.{failure, makes_objects, static_result}
 use Rattle.semantics.specs.Heap.{next_name}
 use Rattle.semantics.specs.Object.{Object, Reference, sizes}
@@ -49,6 +49,7 @@ shared_after classes true s effect = s
 shared_after classes false s (Leaves made s' t' given) = record s' { heap = s'.heap ++ made }
 shared_after classes false s (Throws c) = record s { heap = s.heap ++ fresh_object classes c ∷ [] }
 shared_after classes false s (Halts trap) = s
+shared_after classes false s (Enters function arguments) = s
 
 -- the exception that is pending then
 abbrev pub pending_after : Classes → (refused : Bool) → Shared → Thread → CallEffect → Reference
@@ -56,6 +57,7 @@ pending_after classes true s t effect = Some (out_of_memory classes)
 pending_after classes false s t (Leaves made s' t' given) = t'.pending
 pending_after classes false s t (Throws c) = Some (next_name s.heap)
 pending_after classes false s t (Halts trap) = t.pending
+pending_after classes false s t (Enters function arguments) = t.pending
 
 -- the thread then, but for the exception that is pending, before a result is put into it
 abbrev pub thread_left : (refused : Bool) → Thread → CallEffect → Thread
@@ -63,6 +65,7 @@ thread_left true t effect = t
 thread_left false t (Leaves made s' t' given) = t'
 thread_left false t (Throws c) = t
 thread_left false t (Halts trap) = t
+thread_left false t (Enters function arguments) = t
 
 -- its frames
 abbrev pub frames_left : (refused : Bool) → Thread → CallEffect → List source.Frame
@@ -78,6 +81,7 @@ result_after kind true effect = failure kind
 result_after kind false (Leaves made s' t' given) = given
 result_after kind false (Throws c) = failure kind
 result_after kind false (Halts trap) = NoResult
+result_after kind false (Enters function arguments) = NoResult
 
 -- what a result takes that is a buffer
 abbrev pub acquired_with : CallResult → Acquired
@@ -94,6 +98,7 @@ abbrev pub made_by : Classes → CallEffect → List Object
 made_by classes (Leaves made s t given) = made
 made_by classes (Throws c) = fresh_object classes c ∷ []
 made_by classes (Halts trap) = []
+made_by classes (Enters function arguments) = []
 
 -- fewer than so many cells are left after the highest block, and the heap is as it was
 abbrev pub IsShortOf : (cells : ℕ) → (old new : Space) → Type 0

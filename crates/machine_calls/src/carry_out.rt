@@ -6,7 +6,7 @@ ghost use Rattle.heap.specs.Heap.{left_of};
 ghost use Rattle.jni.specs.Table.{result_value};
 ghost use Rattle.tables.specs.Elements.{OwnedNumbers};
 ghost use Rattle.tables.specs.Locals.{capacities, ensured, popped};
-ghost use Rattle.machine_answers.specs.Answers.{is_halt};
+ghost use Rattle.machine_answers.specs.Answers.{is_carried};
 ghost use Rattle.machine_calls.specs.CarriedOut.{CarriesOutAnswer, CarriesOutBuffers, CarriesOutMonitors, CarriesOutReferences, CopiesStay, HasAnswer, HasAnswerOfBuffers, HasAnswerOfMonitors, HasAnswerOfReferences, IsNewCopy, buffers_after, failed, is_of_buffers, is_of_frames, is_of_monitors, is_of_references, slots_after, takes_memory};
 ghost use Rattle.machine_calls.specs.Made.{cells_of};
 ghost use Rattle.machine_scenes.specs.NewObjects.{texts_in};
@@ -68,7 +68,7 @@ pub fn carry_out(
 ) -> Result<Carried, AllocError>
     requires possible { HasAnswer world.now store.old pending.old activation.old call.now thread owner answer }
     requires few { store.old.births + 2 < 2 ^ 32 }
-    requires runs { is_halt answer ≡ false }
+    requires runs { is_carried answer ≡ true }
     ensures carried { IfOk result (λ carried. CarriesOutAnswer world.now store.old store.new pending.old pending.new
         activation.old activation.new call.now thread owner answer carried) }
     ensures slots { IfOk result (λ carried. activation.new.slots.numbers.items

@@ -2,7 +2,7 @@
 use Rattle.std.specs.Prelude.{◌≡◌, List, slice_get, Option, Some, None}
 use Rattle.std.specs.List.{AllZip}
 use Rattle.syntax.specs.Parts.{functions_of}
-use Rattle.syntax.specs.Tree.{SourceUnit}
+use Rattle.syntax.specs.Tree.{FunctionItem, SourceUnit}
 use Rattle.class_rules.specs.Class.{Classes}
 use Rattle.class_rules.specs.Fields.{FieldId}
 use Rattle.classes.specs.declared.class.FieldHandle.{FieldHandle}
@@ -19,6 +19,11 @@ abbrev pub field_held : Option Handle → Option FieldHandle
 field_held (Some (handle.Field h)) = Some h
 field_held h = None
 
+-- the method ID that a slot holds; none for NULL, and for a field ID
+abbrev pub method_held : Option Handle → Option MethodHandle
+method_held (Some (handle.Method h)) = Some h
+method_held h = None
+
 -- a field ID is NULL or a handle of the field
 abbrev pub FieldAgrees : Classes → Option FieldHandle → Option FieldId → Type 0
 FieldAgrees classes None None = Unit {0}
@@ -26,10 +31,11 @@ FieldAgrees classes None (Some f) = ⊥
 FieldAgrees classes (Some h) None = ⊥
 FieldAgrees classes (Some h) (Some f) = field_of classes h ≡ Some f
 
--- a handle is of a method: of its class, and its function has the handle's number in the unit
+-- a handle is of a method: of its class, and its function has the handle's number among the unit's, and its item the handle's place
 pub record IsMethod (unit : SourceUnit) (h : MethodHandle) (m : MethodId) : Type 0 where
   pub class : h.class.number ≡ m.class
   pub function : slice_get (functions_of unit) h.function ≡ Some m.function
+  pub item : slice_get unit.items h.item ≡ Some (FunctionItem m.function)
 
 -- a method ID is NULL or a handle of the method
 abbrev pub MethodAgrees : SourceUnit → Option MethodHandle → Option MethodId → Type 0

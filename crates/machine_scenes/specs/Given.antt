@@ -3,6 +3,7 @@ use Rattle.std.specs.Prelude.{◌≡◌, ℕ, ◌+◌, ℤ, Bool, true, false, L
 use Rattle.std.specs.Int.{w32, cast_unsigned}
 use Rattle.base.specs.Bytes.{Identifier, lookup}
 use Rattle.base.specs.Element.{ElementType, JInt}
+use Rattle.syntax.specs.Tree.{SourceUnit}
 use Rattle.class_rules.specs.Class.{Classes, NumberField, assignable}
 use Rattle.class_rules.specs.Fields.{FieldId}
 use Rattle.classes.specs.FieldViews.{field_of}
@@ -12,12 +13,14 @@ use Rattle.code.specs.declared.instr.Operand.{Operand}
 use Rattle.code.specs.declared.instr.Operand.TheVariants as operand
 use Rattle.code_meaning.specs.Coding.{mode_code}
 use Rattle.heap.specs.Heap.{Space, IsAddress, class_at, name_at}
-use Rattle.semantics.specs.Arguments.{Actual, ReferenceActual, FieldActual, NumberActual, TextActual, VariableActual, ModeActual, NothingActual, ReleaseMode}
+use Rattle.semantics.specs.Arguments.{Actual, ReferenceActual, FieldActual, MethodActual, NumberActual, TextActual, VariableActual, ModeActual, NothingActual, ReleaseMode}
+use Rattle.semantics.specs.Method.{MethodId}
 use Rattle.semantics.specs.Object.{Reference}
 use Rattle.semantics.specs.Variable.{Variable, LocalArray, Variables, StaticReference, as_static}
 use Rattle.machine_scenes.specs.Buffers.{HeldBuffers, HoldsBuffer}
-use Rattle.machine_scenes.specs.FieldIds.{FieldAgrees, field_held}
+use Rattle.machine_scenes.specs.FieldIds.{FieldAgrees, MethodAgrees, field_held, method_held}
 use Rattle.machine_scenes.specs.declared.handle.Handle.{Handle}
+use Rattle.machine_scenes.specs.declared.handle.MethodHandle.{MethodHandle}
 use Rattle.machine_scenes.specs.StoreAgrees.{HeldAgrees}
 use Rattle.machine_scenes.specs.HeapAgrees.{ReferenceAgrees}
 use Rattle.machine_scenes.specs.Locals.{address_of}
@@ -44,6 +47,11 @@ abbrev pub field_at : List (Option Handle) → Operand → Option FieldHandle
 field_at fields (operand.FieldId i) = field_held (held_in (slice_get fields i))
 field_at fields o = None
 
+-- the method ID that an operand gives
+abbrev pub method_at : List (Option Handle) → Operand → Option MethodHandle
+method_at fields (operand.MethodId i) = method_held (held_in (slice_get fields i))
+method_at fields o = None
+
 -- an operand gives the reference that the source's argument is
 pub record ReferenceIsGiven (space : Space) (references : References) (operand : Operand) (actual : Actual) : Type 0 where
   pub name : Identifier
@@ -64,20 +72,27 @@ pub record FieldIsGiven (classes : Classes) (fields : List (Option Handle)) (ope
   pub is : actual ≡ FieldActual field
   pub agrees : FieldAgrees classes (field_at fields operand) field
 
+-- an operand gives the method ID that the source's argument is
+pub record MethodIsGiven (unit : SourceUnit) (fields : List (Option Handle)) (operand : Operand) (actual : Actual) : Type 0 where
+  pub method : Option MethodId
+  pub is : actual ≡ MethodActual method
+  pub agrees : MethodAgrees unit (method_at fields operand) method
+
 -- an operand gives what the source's argument is; a number is on the stack, a text among the call's, and a variable itself
 -- in its slots
-abbrev pub IsGiven : Classes → Space → (references : References) → (fields : List (Option Handle)) → Operand → Actual → Type 0
-IsGiven classes space references fields operand.Number actual = (z : ℤ) × (actual ≡ NumberActual z) × FitsSigned w32 z
-IsGiven classes space references fields operand.Text actual = (bytes : List ℕ) × (actual ≡ TextActual bytes)
-IsGiven classes space references fields (operand.FieldId i) actual = FieldIsGiven classes fields (operand.FieldId i) actual
-IsGiven classes space references fields operand.Null actual = ReferenceIsGiven space references operand.Null actual
-    ⊎ FieldIsGiven classes fields operand.Null actual ⊎ (actual ≡ NothingActual)
-IsGiven classes space references fields (operand.Local i) actual = ReferenceIsGiven space references (operand.Local i) actual
-IsGiven classes space references fields (operand.Static i) actual = StaticIsGiven space references i actual
-IsGiven classes space references fields (operand.Array array) actual = (x : Identifier) × (actual ≡ VariableActual x)
-IsGiven classes space references fields (operand.Buffer i) actual = (x : Identifier) × (actual ≡ VariableActual x)
-IsGiven classes space references fields (operand.Mode mode) actual = (m : ReleaseMode) × (actual ≡ ModeActual m) × (mode ≡ mode_code m)
-IsGiven classes space references fields (operand.IsCopy i) actual = (x : Identifier) × (actual ≡ VariableActual x)
+abbrev pub IsGiven : SourceUnit → Classes → Space → (references : References) → (fields : List (Option Handle)) → Operand → Actual → Type 0
+IsGiven unit classes space references fields operand.Number actual = (z : ℤ) × (actual ≡ NumberActual z) × FitsSigned w32 z
+IsGiven unit classes space references fields operand.Text actual = (bytes : List ℕ) × (actual ≡ TextActual bytes)
+IsGiven unit classes space references fields (operand.FieldId i) actual = FieldIsGiven classes fields (operand.FieldId i) actual
+IsGiven unit classes space references fields (operand.MethodId i) actual = MethodIsGiven unit fields (operand.MethodId i) actual
+IsGiven unit classes space references fields operand.Null actual = ReferenceIsGiven space references operand.Null actual
+    ⊎ FieldIsGiven classes fields operand.Null actual ⊎ MethodIsGiven unit fields operand.Null actual ⊎ (actual ≡ NothingActual)
+IsGiven unit classes space references fields (operand.Local i) actual = ReferenceIsGiven space references (operand.Local i) actual
+IsGiven unit classes space references fields (operand.Static i) actual = StaticIsGiven space references i actual
+IsGiven unit classes space references fields (operand.Array array) actual = (x : Identifier) × (actual ≡ VariableActual x)
+IsGiven unit classes space references fields (operand.Buffer i) actual = (x : Identifier) × (actual ≡ VariableActual x)
+IsGiven unit classes space references fields (operand.Mode mode) actual = (m : ReleaseMode) × (actual ≡ ModeActual m) × (mode ≡ mode_code m)
+IsGiven unit classes space references fields (operand.IsCopy i) actual = (x : Identifier) × (actual ≡ VariableActual x)
 
 -- a local array has these elements, each in its slot as a word
 pub record HasElements (numbers : List ℕ) (array : ArraySlots) (v : Option Variable) : Type 0 where

@@ -5,9 +5,9 @@ ghost use Rattle.class_rules.specs.Class.{Classes};
 ghost use Rattle.base.specs.Element.{element_value};
 ghost use Rattle.classes.specs.Views.{field_type_view};
 ghost use Rattle.heap.specs.Heap.{Space, IsAddress, name_at};
-ghost use Rattle.machine_scenes.specs.Given.{operand_at, key_at, field_at, operand_of, class_of_given, class_there, name_there, fits_there, field_there, AreAddresses, AreHandles, FieldIsThere, ReferenceIsThere};
+ghost use Rattle.machine_scenes.specs.Given.{operand_at, key_at, field_at, method_at, operand_of, class_of_given, class_there, name_there, fits_there, field_there, AreAddresses, AreHandles, FieldIsThere, ReferenceIsThere};
 
-use crate::handle::{Handle, field_held};
+use crate::handle::{Handle, MethodHandle, field_held, method_held};
 use crate::references::{Held, References};
 use class_rules::{ClassId, NO_CLASS};
 use classes::class::{ElementType, FieldHandle, FieldType};
@@ -54,6 +54,18 @@ pub fn field_in(fields: &[Option<Handle>], operand: Operand) -> Option<FieldHand
 {
     match operand {
         Operand::FieldId(slot) => field_held(fields.get(slot as usize).copied().unwrap_or(None)),
+        _ => None,
+    }
+}
+
+/// The method ID that an operand gives.
+pub fn method_in(methods: &[Option<Handle>], operand: Operand) -> Option<MethodHandle>
+    ensures { result ≡ method_at methods.now operand }
+{
+    match operand {
+        Operand::MethodId(slot) => {
+            method_held(methods.get(slot as usize).copied().unwrap_or(None))
+        }
         _ => None,
     }
 }

@@ -1,0 +1,73 @@
+-- What calls of methods do.
+use Rattle.std.proofs.Common.{◌≡◌, Bool, true, false, ◌&&◌, drop, map, Option, Some, None, refl, sym, ap, ◌∙◌, subst}
+use Rattle.std.specs.Prelude.{◌==◌}
+use Rattle.syntax.specs.Tree.{ResultType}
+use Rattle.jni.specs.JniFunction.{JniFunction, CallStaticVoidMethod, CallStaticIntMethod, CallStaticObjectMethod, calls_method}
+use Rattle.semantics.specs.Arguments.{method_given, object_given, passed_value}
+use Rattle.semantics.specs.CallEffects.{Enters, method_effect}
+use Rattle.semantics.specs.CallStep.{target_element, trap_of_call}
+use Rattle.semantics.specs.CallTable.{all_pass, call_effect, go_together, is_int, is_reference_result, is_void}
+use Rattle.semantics.specs.CallTable.{calls_well as source_calls_well}
+use Rattle.semantics.specs.Method.{MethodId}
+use Rattle.base.specs.Element.{ElementType}
+use Rattle.machine_scenes.specs.declared.handle.MethodHandle.{MethodHandle}
+use Rattle.machine_scenes.specs.FieldIds.{IsMethod, MethodAgrees}
+use Rattle.machine_scenes.specs.Given.{method_at, operand_of}
+use Rattle.machine_answers.specs.declared.answer.Answer.{Answer}
+use Rattle.machine_answers.specs.Checked.{fit_together}
+use Rattle.machine_answers.proofs.CallChecks.{method_at_place, together_is}
+use Rattle.machine_answers.proofs.CallTraps.{has_passed}
+use Rattle.machine_answers.proofs.TwoCalls.{TwoCalls, Asked, Does, Works, fields, in_use, references, unit}
+
+-- both of two hold
+both_hold : (a b : Bool) → (a && b) ≡ true → (a ≡ true) × (b ≡ true)
+both_hold true b h = (refl, h)
+both_hold false b h = absurd (cc)
+
+module _ (both : TwoCalls) where
+  open both use {p, w, store, pending, activation, call, others, k, owner, shared, s, target, args}
+
+  -- the method of a call, which its method ID is of: it takes what it is passed, and is what the call does
+  pub record CalledMethod (f : JniFunction) : Type 0 where
+    pub method : MethodId
+    pub given : method_given args 1 ≡ Some method
+    pub handle : MethodHandle
+    pub at : method_at (fields both) (operand_of call.operands 1) ≡ Some handle
+    pub is : IsMethod (unit both) handle method
+    pub passes : all_pass w.classes shared.heap (target_element s.variables target) args method.function.parameters (drop 2 args) ≡ true
+    pub effect : call_effect (unit both) w.classes (in_use both) k shared s args f ≡ Enters method.function.name (map passed_value (drop 2 args))
+
+  well_called : (f : JniFunction) (wants : ResultType → Bool) (h : Option MethodHandle) (m : Option MethodId) → method_at (fields both) (operand_of call.operands 1) ≡ h → method_given args 1 ≡ m → MethodAgrees (unit both) h m
+      → source_calls_well w.classes shared.heap (target_element s.variables target) args wants m ≡ true → call_effect (unit both) w.classes (in_use both) k shared s args f ≡ method_effect (method_given args 1) (map passed_value (drop 2 args)) → CalledMethod f
+  well_called f wants None None at given agrees well does = absurd (cc)
+  well_called f wants None (Some m) at given agrees well does = absurd agrees
+  well_called f wants (Some h) None at given agrees well does = absurd agrees
+  well_called f wants (Some h) (Some m) at given agrees well does =
+      let last = both_hold (m.class == object_given args 0 && wants m.function.result) (all_pass w.classes shared.heap (target_element s.variables target) args m.function.parameters (drop 2 args)) well in
+      record { method = m; given = given; handle = h; at = at; is = agrees; passes = last.1; effect = does ∙ ap (λ (o : Option MethodId). method_effect o (map passed_value (drop 2 args))) given }
+
+  together : (f : JniFunction) → (h : Asked both f) → trap_of_call w.classes shared s target f args ≡ None → go_together w.classes shared.heap (target_element s.variables target) args f ≡ true
+  together f h free =
+      sym (ap (λ (T : ElementType). fit_together (unit both) w.classes store.heap (references both) (fields both) call.operands T f) h.wanted
+      ∙ together_is (unit both) w.classes store.heap (references both) (fields both) shared.heap h.store_agrees.heap.blocks (target_element s.variables target) call.operands args h.given f h.fit)
+      ∙ has_passed p w store pending activation call others k owner shared s target f args h free
+
+  agree : (f : JniFunction) → Asked both f → MethodAgrees (unit both) (method_at (fields both) (operand_of call.operands 1)) (method_given args 1)
+  agree f h = method_at_place (unit both) w.classes store.heap (references both) (fields both) call.operands args 1 h.given
+
+  -- a call of a method that has passed its checks
+  pub called_method : (f : JniFunction) → calls_method f ≡ true → Asked both f → trap_of_call w.classes shared s target f args ≡ None → CalledMethod f
+  unfolding go_together call_effect
+  called_method CallStaticVoidMethod is h free = well_called CallStaticVoidMethod is_void _ _ refl refl (agree CallStaticVoidMethod h) (together CallStaticVoidMethod h free) refl
+  called_method CallStaticIntMethod is h free = well_called CallStaticIntMethod is_int _ _ refl refl (agree CallStaticIntMethod h) (together CallStaticIntMethod h free) refl
+  called_method CallStaticObjectMethod is h free = well_called CallStaticObjectMethod is_reference_result _ _ refl refl (agree CallStaticObjectMethod h) (together CallStaticObjectMethod h free) refl
+  called_method f is h free = absurd (cc)
+
+  pub answers_void : Asked both CallStaticVoidMethod → trap_of_call w.classes shared s target CallStaticVoidMethod args ≡ None → (answer : Answer) → Works both CallStaticVoidMethod answer → Does both CallStaticVoidMethod answer
+  answers_void h free answer is = let it = called_method CallStaticVoidMethod refl h free in subst (λ (x : Answer). Does both CallStaticVoidMethod x) (sym is) (it.method.function.name, map passed_value (drop 2 args), it.effect)
+
+  pub answers_int : Asked both CallStaticIntMethod → trap_of_call w.classes shared s target CallStaticIntMethod args ≡ None → (answer : Answer) → Works both CallStaticIntMethod answer → Does both CallStaticIntMethod answer
+  answers_int h free answer is = let it = called_method CallStaticIntMethod refl h free in subst (λ (x : Answer). Does both CallStaticIntMethod x) (sym is) (it.method.function.name, map passed_value (drop 2 args), it.effect)
+
+  pub answers_object : Asked both CallStaticObjectMethod → trap_of_call w.classes shared s target CallStaticObjectMethod args ≡ None → (answer : Answer) → Works both CallStaticObjectMethod answer → Does both CallStaticObjectMethod answer
+  answers_object h free answer is = let it = called_method CallStaticObjectMethod refl h free in subst (λ (x : Answer). Does both CallStaticObjectMethod x) (sym is) (it.method.function.name, map passed_value (drop 2 args), it.effect)
