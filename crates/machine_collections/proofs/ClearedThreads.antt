@@ -59,6 +59,7 @@ module _ (p : Lowered) (classes : Classes) (space : Space) (copies : List (Optio
   thread_cleared : (made j : ℕ) (own : ThreadOwners) (t : Thread) (s : source.Thread) → ThreadAgrees p classes space copies made j own shared t s → ThreadAgrees p classes space copies made j own (record shared { statics = cleared_statics names shared.statics }) t s
   thread_cleared made j own t s h = record {
     calls = h.calls;
+    due = h.due;
     work = work_cleared (owner_at j (length s.callers)) own.current s t.call s.frames s.tasks h.work;
     callers = callers_cleared j (reverse t.callers.items) own.callers s.callers h.callers;
     few = h.few;

@@ -6,11 +6,13 @@ use Rattle.std.specs.List.{AllZip}
 use Rattle.std.proofs.lemmas.List.{length-map, with_items_is}
 use Rattle.class_rules.specs.Class.{Classes}
 use Rattle.std.proofs.lemmas.List.Concat.{flat_map-cons}
+use Rattle.heap.specs.declared.value.Value.{Value}
 use Rattle.heap.specs.Heap.{Space, name_at, pins_at}
 use Rattle.semantics.specs.Task.{Task, Invoke}
 use Rattle.semantics.specs.Thread as source
 use Rattle.semantics.specs.Thread.{Shared, objects_viewed, viewed_by}
 use Rattle.semantics.specs.Variable as variable
+use Rattle.semantics.specs.World.{Invocation}
 use Rattle.code_meaning.specs.Lowered.{Lowered}
 use Rattle.code_meaning.specs.Slots.{Visible, visible_to}
 use Rattle.semantics_safety.specs.Owners.{Owners, AllOwners}
@@ -21,16 +23,20 @@ use Rattle.machine_scenes.specs.declared.buffer.Buffer.{Buffer}
 use Rattle.machine_scenes.specs.declared.buffer.Buffer.TheVariants as buffer
 use Rattle.machine_scenes.specs.declared.store.Store.{Store}
 use Rattle.machine_scenes.specs.Buffers.{AreViewed, BufferAgrees, viewed_in}
-use Rattle.machine_scenes.specs.HeapAgrees.{times}
+use Rattle.machine_scenes.specs.HeapAgrees.{ValuesAgree, times}
+use Rattle.machine_threads.specs.declared.thread.Entering.{Entering}
+use Rattle.machine_threads.specs.declared.thread.PendingCall.{PendingCall}
 use Rattle.machine_threads.specs.declared.thread.Thread.{Thread}
 use Rattle.machine_threads.specs.Callers.{CallerAgrees, CallersAgree, owner_at, seen_by, thread_of}
 use Rattle.machine_threads.specs.InProgress.{CallStands, WorkAgrees}
-use Rattle.machine_threads.specs.ThreadAgrees.{ThreadsAgree, buffers_of}
+use Rattle.machine_threads.specs.ThreadAgrees.{CallsToComeAgree, ThreadsAgree, buffers_of}
 use Rattle.machine_threads.proofs.Reversed.{all_reversed, map_reversed}
 use Rattle.machine_threads.proofs.SameViews.{viewed_same}
-use Rattle.compact.specs.Same.{MovesBy}
-use Rattle.machine_collections.specs.Moving.{moved_call, moved_thread}
-use Rattle.machine_collections.proofs.Collections.{FramesKept, buffers_moved, keys_moved, locals_moved, reference_moved}
+use Rattle.compact.specs.Same.{MovesBy, moved_value}
+use Rattle.machine_collections.specs.Roots.{argument_places}
+use Rattle.machine_collections.specs.Moving.{moved_call, moved_entering, moved_thread}
+use Rattle.machine_collections.proofs.Collections.{FramesKept, buffers_moved, keys_moved, locals_moved, reference_moved, values_moved}
+use Rattle.machine_collections.proofs.GivenArguments.{due_moved, values_kept}
 use Rattle.machine_collections.proofs.HeldViews.{AgreeInSlots, slots_agree, view_at}
 use Rattle.machine_collections.proofs.KeptReferences.{AreKept, CallIsKept, CallersAreKept, ThreadsAreKept}
 use Rattle.machine_collections.proofs.ReachableNames.{in_times}
@@ -107,6 +113,27 @@ module _ (Kept : ℕ → Type 0) (to : ℕ → ℕ) (p : Lowered) (store : Store
   work_moved classes k visible (Some call) frames None kept pinned h = h
   work_moved classes k visible (Some call) frames (Some tasks) kept pinned h = call_moved classes k call visible frames tasks kept pinned h
 
+  -- a call that isn't entered yet is given what it was
+  given_moved : (classes : Classes) (made : ℕ) (e : Option Entering) (nexts : List PendingCall) (calls : List Invocation) → AreKept Kept (references_in (argument_places e)) → CallsToComeAgree p classes store.heap made e nexts calls
+      → CallsToComeAgree p classes t made (option_map (moved_entering to) e) nexts calls
+  given_moved classes made None nexts calls kept h = h
+  given_moved classes made (Some e) nexts [] kept h = absurd h
+  given_moved classes made (Some e) nexts (c ∷ calls) kept h =
+      let items : (moved_entering to e).arguments.items ≡ map (moved_value to) e.arguments.items =
+      with_items_is e.arguments (map (moved_value to) e.arguments.items) (length-map e.arguments.items (moved_value to) ∙ sym e.arguments.ok.0) in (
+        record {
+          function = (h.0).function;
+          named = (h.0).named;
+          numbered = (h.0).numbered;
+          of_class = (h.0).of_class;
+          class_made = (h.0).class_made;
+          arguments = subst (λ (ws : List Value). ValuesAgree t ws c.arguments) (sym items) (values_moved Kept to store.heap t m e.arguments.items c.arguments (values_kept Kept e.arguments.items kept) (h.0).arguments);
+          fit = (h.0).fit;
+          few = (h.0).few;
+        },
+        h.1,
+      )
+
   -- as many callers, each moved
   items_moved : (x : Thread) → (moved_thread to x).callers.items ≡ map (moved_call to) x.callers.items
   items_moved x = with_items_is x.callers (map (moved_call to) x.callers.items) (length-map x.callers.items (moved_call to) ∙ sym x.callers.ok.0)
@@ -157,18 +184,19 @@ module _ (Kept : ℕ → Type 0) (to : ℕ → ℕ) (p : Lowered) (store : Store
       let parts : (n : ℕ) → times n (flat_map viewed_by (s ∷ ss)) ≡ times n (viewed_by s) + times n (flat_map viewed_by ss) = λ n. ap (times n) (flat_map-cons viewed_by s ss) ∙ times_append n (viewed_by s) (flat_map viewed_by ss) in
       let own = thread_pinned owner x.call s slots (h.0).views (λ a n named some. pinned a n named (omega (arith, some, parts n, times_append n below (objects_viewed s.variables)))) in (
         record {
-          calls = (h.0).calls;
-          work = work_moved classes owner (visible_to (owners k).current shared s) x.call s.frames s.tasks kept.1 own (h.0).work;
+          calls = given_moved classes made x.entering x.calls.items s.calls kept.1 (h.0).calls;
+          due = due_moved (moved_entering to) x.entering s.tasks s.callers (h.0).due;
+          work = work_moved classes owner (visible_to (owners k).current shared s) x.call s.frames s.tasks kept.2 own (h.0).work;
           callers = subst (λ (calls : List Activation). CallersAgree p classes t store.elements k shared calls (owners k).callers s.callers) (sym (callers_in x))
               (callers_moved classes k shared (reverse x.callers.items) (owners k).callers s.callers (all_reversed (λ (call : Activation). AreKept Kept (references_in call.locals.slots)) x.callers.items kept.0)
               (λ a n named some. pinned a n named (omega (arith, some, parts n, times_append n below (objects_viewed s.variables)))) (h.0).callers);
           few = let count = ap length (items_moved x) ∙ length-map x.callers.items (moved_call to) in let before = (h.0).few in omega (arith, count, before);
-          pending = reference_moved Kept to store.heap t m x.pending s.pending kept.2 (h.0).pending;
+          pending = reference_moved Kept to store.heap t m x.pending s.pending kept.3 (h.0).pending;
           ending = (h.0).ending;
           busy = (h.0).busy;
           caught = (h.0).caught;
           idle = (h.0).idle;
           views = subst (λ (slots : List Buffer). AreViewed t slots s) (sym (still_slots x.call)) (views_moved owner (buffers_of x.call) slots.buffers s own slots.agree (h.0).views);
         },
-        threads_moved classes made owners (suc k) shared ts ss kept.3 (λ a n named some. pinned a n named (omega (arith, some, parts n))) h.1,
+        threads_moved classes made owners (suc k) shared ts ss kept.4 (λ a n named some. pinned a n named (omega (arith, some, parts n))) h.1,
       )

@@ -6,7 +6,7 @@ use Rattle.std.specs.List.{AllZip, AllByRecursion}
 use Rattle.std.proofs.lemmas.Bool.{false≢true}
 use Rattle.heap.specs.Heap.{Space, name_at}
 use Rattle.semantics.specs.Object.{Reference}
-use Rattle.semantics.specs.Reachable.{frame_roots, from_one, thread_roots}
+use Rattle.semantics.specs.Reachable.{argument_roots, frame_roots, from_one, thread_roots}
 use Rattle.semantics.specs.Thread as source
 use Rattle.semantics.proofs.ReachableLemmas.{In, in_append_cases, in_append_left, in_append_right, in_cases, in_head, in_tail, contains_in, to_contains}
 use Rattle.tables.specs.Locals.{AreStacked, Frame, slots_by_frame}
@@ -18,7 +18,7 @@ use Rattle.machine_scenes.specs.HeapAgrees.{IsTable, NamesAgree, ReferenceAgrees
 use Rattle.machine_scenes.specs.Locals.{FrameAgrees}
 use Rattle.semantics.proofs.ShownRows.{from_one-contains}
 use Rattle.machine_scenes.proofs.HeapLaws.{from_one-bounds}
-use Rattle.machine_collections.specs.Roots.{CallIsStacked, CallersAreStacked, ThreadIsStacked, ThreadsAreStacked, call_places, loaded_places, root_places, slots_of, thread_places}
+use Rattle.machine_collections.specs.Roots.{CallIsStacked, CallersAreStacked, ThreadIsStacked, ThreadsAreStacked, argument_places, call_places, loaded_places, root_places, slots_of, thread_places}
 use Rattle.machine_threads.proofs.EntryTables.{references_after}
 use Rattle.machine_threads.proofs.Reversed.{all_reversed, reversed_next}
 use Rattle.compact.proofs.Blocks.{Contains-from_get, get-from_contains}
@@ -37,9 +37,13 @@ use Rattle.machine_collections.proofs.RootNames.{CallFrames, CallersFrames, HasR
 abbrev pub call_addresses : Activation → List ℕ
 call_addresses call = references_in (call_places call)
 
--- those that a thread's call in progress and its pending exception refer to
+-- those that a call is given that isn't entered yet, or none
+abbrev pub given_addresses : Thread → List ℕ
+given_addresses t = references_in (argument_places t.entering)
+
+-- those, and the ones that a thread's call in progress and its pending exception refer to
 abbrev pub own_addresses : Thread → List ℕ
-own_addresses t = references_in (slots_of t.call) ++ option_to_list t.pending
+own_addresses t = given_addresses t ++ (references_in (slots_of t.call) ++ option_to_list t.pending)
 
 -- the addresses that a thread refers to
 abbrev pub thread_addresses : Thread → List ℕ
@@ -63,10 +67,12 @@ calls_are (call ∷ calls) =
 
 thread_is : (t : Thread) → references_in (thread_places t) ≡ thread_addresses t
 thread_is t =
-    references_after (flat_map call_places t.callers.items) (slots_of t.call ++ t.pending ∷ [])
-    ∙ ap (λ (l : List ℕ). l ++ references_in (slots_of t.call ++ t.pending ∷ [])) (calls_are t.callers.items)
+    references_after (flat_map call_places t.callers.items) (argument_places t.entering ++ (slots_of t.call ++ t.pending ∷ []))
+    ∙ ap (λ (l : List ℕ). l ++ references_in (argument_places t.entering ++ (slots_of t.call ++ t.pending ∷ []))) (calls_are t.callers.items)
     ∙ ap (λ (l : List ℕ). flat_map call_addresses t.callers.items ++ l)
-    (references_after (slots_of t.call) (t.pending ∷ []) ∙ ap (λ (l : List ℕ). references_in (slots_of t.call) ++ l) (one t.pending))
+    (references_after (argument_places t.entering) (slots_of t.call ++ t.pending ∷ [])
+    ∙ ap (λ (l : List ℕ). given_addresses t ++ l)
+    (references_after (slots_of t.call) (t.pending ∷ []) ∙ ap (λ (l : List ℕ). references_in (slots_of t.call) ++ l) (one t.pending)))
   where
     one : (o : Option ℕ) → references_in (o ∷ []) ≡ option_to_list o
     one None = refl
@@ -156,25 +162,40 @@ in_take (suc n) (None ∷ slots) a h = in_take n slots a h
 in_take (suc n) (Some b ∷ slots) a h =
     ⊎_elim (λ (e : b ≡ a). subst (λ z. In (b ∷ references_in slots) z) e (in_head b (references_in slots))) (λ (l : In (references_in (take n slots)) a). in_tail b (references_in slots) a (in_take n slots a l)) (in_cases b (references_in (take n slots)) a h)
 
--- what a thread refers to is what its callers do, its frames and its pending exception
-in_roots : (s : source.Thread) (n : ℕ) {A : Type 0} → (In (flat_map (λ (c : source.Caller). frame_roots c.frames) s.callers) n → A) → (In (frame_roots s.frames) n → A) → (In (option_to_list s.pending) n → A) → In (thread_roots s) n → A
-in_roots s n callers frames pending k =
-    let below = flat_map (λ (c : source.Caller). frame_roots c.frames) s.callers in
-    ⊎_elim (λ (l : In (below ++ frame_roots s.frames) n). ⊎_elim callers frames (in_append_cases below (frame_roots s.frames) n l)) pending
-    (in_append_cases (below ++ frame_roots s.frames) (option_to_list s.pending) n k)
+-- what a thread refers to is what its callers do, what a call is given that isn't entered yet, its frames and its pending exception
+abbrev below_roots : source.Thread → List ℕ
+below_roots s = flat_map (λ (c : source.Caller). frame_roots c.frames) s.callers
 
-caller_root : (s : source.Thread) (n : ℕ) → In (flat_map (λ (c : source.Caller). frame_roots c.frames) s.callers) n → In (thread_roots s) n
-caller_root s n k =
-    let below = flat_map (λ (c : source.Caller). frame_roots c.frames) s.callers in
-    in_append_left (below ++ frame_roots s.frames) (option_to_list s.pending) n (in_append_left below (frame_roots s.frames) n k)
+abbrev given_roots : source.Thread → List ℕ
+given_roots s = argument_roots s.callers s.tasks s.calls
+
+in_roots : (s : source.Thread) (n : ℕ) {A : Type 0} → (In (below_roots s) n → A) → (In (given_roots s) n → A) → (In (frame_roots s.frames) n → A) → (In (option_to_list s.pending) n → A) → In (thread_roots s) n → A
+in_roots s n callers given frames pending k =
+    ⊎_elim
+    (λ (l : In (below_roots s ++ given_roots s ++ frame_roots s.frames) n). ⊎_elim
+    (λ (m : In (below_roots s ++ given_roots s) n). ⊎_elim callers given (in_append_cases (below_roots s) (given_roots s) n m))
+    frames
+    (in_append_cases (below_roots s ++ given_roots s) (frame_roots s.frames) n l))
+    pending
+    (in_append_cases (below_roots s ++ given_roots s ++ frame_roots s.frames) (option_to_list s.pending) n k)
+
+-- what is among the first two kinds
+early_root : (s : source.Thread) (n : ℕ) → In (below_roots s ++ given_roots s) n → In (thread_roots s) n
+early_root s n k =
+    in_append_left (below_roots s ++ given_roots s ++ frame_roots s.frames) (option_to_list s.pending) n (in_append_left (below_roots s ++ given_roots s) (frame_roots s.frames) n k)
+
+caller_root : (s : source.Thread) (n : ℕ) → In (below_roots s) n → In (thread_roots s) n
+caller_root s n k = early_root s n (in_append_left (below_roots s) (given_roots s) n k)
+
+given_root : (s : source.Thread) (n : ℕ) → In (given_roots s) n → In (thread_roots s) n
+given_root s n k = early_root s n (in_append_right (below_roots s) (given_roots s) n k)
 
 frame_root : (s : source.Thread) (n : ℕ) → In (frame_roots s.frames) n → In (thread_roots s) n
 frame_root s n k =
-    let below = flat_map (λ (c : source.Caller). frame_roots c.frames) s.callers in
-    in_append_left (below ++ frame_roots s.frames) (option_to_list s.pending) n (in_append_right below (frame_roots s.frames) n k)
+    in_append_left (below_roots s ++ given_roots s ++ frame_roots s.frames) (option_to_list s.pending) n (in_append_right (below_roots s ++ given_roots s) (frame_roots s.frames) n k)
 
 pending_root : (s : source.Thread) (n : ℕ) → In (option_to_list s.pending) n → In (thread_roots s) n
-pending_root s n k = in_append_right (flat_map (λ (c : source.Caller). frame_roots c.frames) s.callers ++ frame_roots s.frames) (option_to_list s.pending) n k
+pending_root s n k = in_append_right (below_roots s ++ given_roots s ++ frame_roots s.frames) (option_to_list s.pending) n k
 
 -- ---- the order of callers
 
@@ -261,10 +282,12 @@ module _ (space : Space) where
   thread_place t s n h k =
       let below = flat_map call_addresses t.callers.items in
       let refs = references_in (slots_of t.call) in
+      let rest = refs ++ option_to_list t.pending in
       in_roots s n {A = IsAmong space (thread_addresses t) n}
       (λ l. let r = callers_place (reverse t.callers.items) s.callers n h.callers l in (r.0, r.1, in_append_left below (own_addresses t) r.0 (from_reversed call_addresses t.callers.items r.0 r.2)))
-      (λ f. let r = call_place t.call s.frames n h.frames f in (r.0, r.1, in_append_right below (own_addresses t) r.0 (in_append_left refs (option_to_list t.pending) r.0 r.2)))
-      (λ q. let r = reference_place t.pending s.pending n h.pending q in (r.0, r.1, in_append_right below (own_addresses t) r.0 (in_append_right refs (option_to_list t.pending) r.0 r.2)))
+      (λ g. let r = names_place (given_addresses t) (given_roots s) n h.arguments g in (r.0, r.1, in_append_right below (own_addresses t) r.0 (in_append_left (given_addresses t) rest r.0 r.2)))
+      (λ f. let r = call_place t.call s.frames n h.frames f in (r.0, r.1, in_append_right below (own_addresses t) r.0 (in_append_right (given_addresses t) rest r.0 (in_append_left refs (option_to_list t.pending) r.0 r.2))))
+      (λ q. let r = reference_place t.pending s.pending n h.pending q in (r.0, r.1, in_append_right below (own_addresses t) r.0 (in_append_right (given_addresses t) rest r.0 (in_append_right refs (option_to_list t.pending) r.0 r.2))))
       k
 
   threads_place : (ts : List Thread) (ss : List source.Thread) (n : ℕ) → AllZip (HasRootsOf space) ts ss → In (flat_map thread_roots ss) n → IsAmong space (flat_map thread_addresses ts) n
@@ -374,9 +397,12 @@ module _ (space : Space) where
       let r = callers_name (reverse t.callers.items) s.callers a h.callers each (to_reversed call_addresses t.callers.items a l) in
       (r.0, r.1, caller_root s r.0 r.2))
       (λ (l : In (own_addresses t) a). ⊎_elim
+      (λ (g : In (given_addresses t) a). let r = address_name (given_addresses t) (given_roots s) a h.arguments g in (r.0, r.1, given_root s r.0 r.2))
+      (λ (m : In (references_in (slots_of t.call) ++ option_to_list t.pending) a). ⊎_elim
       (λ (f : In (references_in (slots_of t.call)) a). let r = call_name t.call s.frames a h.frames stacked.1 f in (r.0, r.1, frame_root s r.0 r.2))
       (λ (q : In (option_to_list t.pending) a). let r = reference_name t.pending s.pending a h.pending q in (r.0, r.1, pending_root s r.0 r.2))
-      (in_append_cases (references_in (slots_of t.call)) (option_to_list t.pending) a l))
+      (in_append_cases (references_in (slots_of t.call)) (option_to_list t.pending) a m))
+      (in_append_cases (given_addresses t) (references_in (slots_of t.call) ++ option_to_list t.pending) a l))
       (in_append_cases below (own_addresses t) a k)
 
   threads_name : (ts : List Thread) (ss : List source.Thread) (a : ℕ) → AllZip (HasRootsOf space) ts ss → ThreadsAreStacked ts → In (flat_map thread_addresses ts) a → IsNameAmong (flat_map thread_roots ss) a

@@ -9,6 +9,7 @@ use Rattle.machine_threads.specs.declared.thread.Thread.{Thread}
 use Rattle.machine_scenes.specs.declared.activation.Activation.{Activation}
 use Rattle.machine_scenes.specs.declared.references.Held.{Held}
 use Rattle.machine_scenes.specs.declared.references.Held.TheVariants.{Empty, At, Weakly, Cleared, Deleted}
+use Rattle.machine_collections.specs.Roots.{argument_places}
 
 -- each address among these is kept
 abbrev pub AreKept : (ℕ → Type 0) → List ℕ → Type 0
@@ -56,4 +57,4 @@ CallersAreKept Kept calls = AllByRecursion (λ (call : Activation). AreKept Kept
 
 abbrev pub ThreadsAreKept : (ℕ → Type 0) → List Thread → Type 0
 ThreadsAreKept Kept [] = Unit {0}
-ThreadsAreKept Kept (t ∷ rest) = CallersAreKept Kept t.callers.items × CallIsKept Kept t.call × ((a : ℕ) → t.pending ≡ Some a → Kept a) × ThreadsAreKept Kept rest
+ThreadsAreKept Kept (t ∷ rest) = CallersAreKept Kept t.callers.items × AreKept Kept (references_in (argument_places t.entering)) × CallIsKept Kept t.call × ((a : ℕ) → t.pending ≡ Some a → Kept a) × ThreadsAreKept Kept rest

@@ -5,6 +5,7 @@ pub mod GatheredRoots
 pub mod MovedRoots
 pub mod HeldViews
 pub mod KeptReferences
+pub mod GivenArguments
 pub mod LiveBlocks
 pub mod KeptCells
 pub mod KeptNames

@@ -8,13 +8,14 @@ use Rattle.tables.specs.Locals as tables
 use Rattle.tables.specs.Locals.{AreStacked, LocalTable, slots_by_frame}
 use Rattle.tables.specs.References.{references_in}
 use Rattle.heap.specs.Heap.{Space}
+use Rattle.semantics.specs.Reachable.{argument_roots}
 use Rattle.semantics.specs.Thread as source
 use Rattle.machine_scenes.specs.declared.activation.Activation.{Activation}
 use Rattle.machine_threads.specs.declared.thread.Thread.{Thread}
 use Rattle.machine_scenes.specs.HeapAgrees.{NamesAgree, ReferenceAgrees, times}
 use Rattle.machine_scenes.specs.Locals.{FrameAgrees, FramesAgree}
 use Rattle.machine_scenes.specs.Given.{object_there, ReferenceIsThere}
-use Rattle.machine_collections.specs.Roots.{reference_names, AreAddresses}
+use Rattle.machine_collections.specs.Roots.{argument_places, reference_names, AreAddresses}
 use Rattle.machine_threads.proofs.EntryTables.{references_after}
 
 -- ---- names
@@ -108,9 +109,10 @@ CallFrames space (Some call) frames = FramesAgree space call.locals frames
 abbrev pub CallersFrames : Space → List Activation → List source.Caller → Type 0
 CallersFrames space calls callers = AllZip (λ (call : Activation) (c : source.Caller). FramesAgree space call.locals c.frames) calls callers
 
--- the frames of all calls and the pending exception of a thread stand for those of one of the source
+-- the frames of all calls, what a call is given that isn't entered yet, and the pending exception of a thread stand for those of one of the source
 pub record HasRootsOf (space : Space) (t : Thread) (s : source.Thread) : Type 0 where
   pub callers : CallersFrames space (reverse t.callers.items) s.callers
+  pub arguments : NamesAgree space (references_in (argument_places t.entering)) (argument_roots s.callers s.tasks s.calls)
   pub frames : CallFrames space t.call s.frames
   pub pending : ReferenceAgrees space t.pending s.pending
 

@@ -5,12 +5,13 @@ use Rattle.std.specs.Vec.{with_items}
 use Rattle.heap.specs.Heap.{Space}
 use Rattle.compact.specs.Reach as compact
 use Rattle.compact.specs.Reach.{IsKept, IsClosed}
-use Rattle.compact.specs.Same.{MovesBy}
+use Rattle.compact.specs.Same.{MovesBy, moved_value}
 use Rattle.tables.specs.Keys.{value_at}
 use Rattle.tables.specs.Locals.{LocalTable}
 use Rattle.tables.specs.Weaks.{weak_places}
 use Rattle.monitors.specs.declared.monitors.Monitor.{Monitor}
 use Rattle.monitors.specs.Monitors.{moved}
+use Rattle.machine_threads.specs.declared.thread.Entering.{Entering}
 use Rattle.machine_threads.specs.declared.thread.Thread.{Thread}
 use Rattle.machine_scenes.specs.declared.activation.Activation.{Activation}
 use Rattle.machine_scenes.specs.declared.store.Store.{Store}
@@ -27,8 +28,12 @@ moved_locals f t = record t { slots = moved_slots f t.slots }
 abbrev pub moved_call : (ℕ → ℕ) → Activation → Activation
 moved_call f activation = record activation { locals = moved_locals f activation.locals }
 
+abbrev pub moved_entering : (ℕ → ℕ) → Entering → Entering
+moved_entering f entering = record entering { arguments = with_items entering.arguments (map (moved_value f) entering.arguments.items) }
+
 abbrev pub moved_thread : (ℕ → ℕ) → Thread → Thread
 moved_thread f t = record t {
+  entering = option_map (moved_entering f) t.entering;
   call = option_map (moved_call f) t.call;
   callers = with_items t.callers (map (moved_call f) t.callers.items);
   pending = option_map f t.pending;

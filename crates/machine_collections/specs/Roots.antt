@@ -1,7 +1,10 @@
 -- The roots: what refers to objects from outside of the heap, place by place.
 use Rattle.std.specs.Prelude.{◌≡◌, ℕ, List, [], ◌∷◌, ◌++◌, flat_map, map, Option, Some, None, slice_get, nat_lt, if◌then◌else◌}
 use Rattle.std.specs.Option.{option_map, option_to_list}
+use Rattle.heap.specs.declared.value.Value.{Value}
+use Rattle.heap.specs.declared.value.Value.TheVariants.{Number, Null, Block as Address}
 use Rattle.heap.specs.Heap.{Block, Space, IsAddress}
+use Rattle.machine_threads.specs.declared.thread.Entering.{Entering}
 use Rattle.machine_threads.specs.declared.thread.Thread.{Thread}
 use Rattle.tables.specs.Locals.{AreStacked}
 use Rattle.monitors.specs.Monitors.{addresses}
@@ -26,9 +29,21 @@ abbrev pub slots_of : Option Activation → List (Option ℕ)
 slots_of None = []
 slots_of (Some activation) = activation.locals.slots
 
--- what a thread refers to: the local references of the calls from which others were made and of the one in progress, and its pending exception
+-- the address of an argument that is a reference; a number and NULL have none
+abbrev pub argument_place : Value → Option ℕ
+argument_place (Number n) = None
+argument_place Null = None
+argument_place (Address a) = Some a
+
+-- of a call that isn't entered yet, or of none, argument by argument
+abbrev pub argument_places : Option Entering → List (Option ℕ)
+argument_places None = []
+argument_places (Some entering) = map argument_place entering.arguments.items
+
+-- what a thread refers to: the local references of the calls from which others were made, what the last of them gives a call that isn't
+-- entered yet, the local references of the call in progress, and the pending exception
 abbrev pub thread_places : Thread → List (Option ℕ)
-thread_places t = flat_map call_places t.callers.items ++ (slots_of t.call ++ t.pending ∷ [])
+thread_places t = flat_map call_places t.callers.items ++ (argument_places t.entering ++ (slots_of t.call ++ t.pending ∷ []))
 
 -- the roots: the objects made at load, the global references, what threads refer to, and the objects whose monitors are owned
 abbrev pub root_places : Store → List Thread → List (Option ℕ)

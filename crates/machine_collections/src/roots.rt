@@ -7,20 +7,21 @@
 
 ghost use Rattle.std.specs.Prelude.{◌≡◌, ℕ, ◌+◌, ◌++◌, IfOk, OnOk, flat_map, length, map};
 ghost use Rattle.std.specs.Option.{option_map};
+ghost use Rattle.compact.specs.Same.{moved_value};
 ghost use Rattle.tables.specs.Locals.{AreStacked};
 ghost use Rattle.tables.specs.References.{references_in};
 ghost use Rattle.monitors.specs.Monitors.{addresses};
 ghost use Rattle.semantics.specs.Views.{names_of};
-ghost use Rattle.machine_collections.specs.Moving.{AreMoved, AreMovedAt, moved_call, moved_locals, moved_monitors, moved_slots, moved_thread};
+ghost use Rattle.machine_collections.specs.Moving.{AreMoved, AreMovedAt, moved_call, moved_entering, moved_locals, moved_monitors, moved_slots, moved_thread};
 ghost use Rattle.machine_scenes.specs.Given.{object_there, ReferenceIsThere};
-ghost use Rattle.machine_collections.specs.Roots.{AreAddresses, CallIsStacked, CallersAreStacked, ThreadsAreStacked, call_places, loaded_places, pinned_names, reference_names, root_places, slots_of, thread_places};
+ghost use Rattle.machine_collections.specs.Roots.{AreAddresses, CallIsStacked, CallersAreStacked, ThreadsAreStacked, argument_place, argument_places, call_places, loaded_places, pinned_names, reference_names, root_places, slots_of, thread_places};
 
 use compact::Roots;
-use heap::{Addr, Heap};
+use heap::{Addr, Heap, Value};
 use machine_scenes::activation::Activation;
 use machine_scenes::operands::object_there;
 use machine_scenes::store::Store;
-use machine_threads::thread::Thread;
+use machine_threads::thread::{Entering, Thread};
 use monitors::Monitors;
 use semantics::ObjectId;
 use std::alloc::{AllocError, Global};
@@ -50,8 +51,8 @@ impl Roots for RootPlaces {
 
 /// The roots, by the places in their tables.
 ///
-/// They are the objects made at load, the global references, of each thread the local references of all its calls and
-/// its pending exception, and the objects whose monitors are owned.
+/// They are the objects made at load, the global references, of each thread the local references of all its calls, what
+/// a call is given that isn't entered yet, and the pending exception, and the objects whose monitors are owned.
 pub fn gather(alloc: Global, store: &Store, threads: &[Thread]) -> Result<RootPlaces, AllocError>
     ensures places { IfOk result (λ roots. roots.places.items ≡ root_places store.now threads.now) }
     ensures stacked { IfOk result (λ _. ThreadsAreStacked threads.now) }
@@ -150,6 +151,7 @@ fn push_threads(places: &mut Vec<Option<Addr>>, threads: &[Thread]) -> Result<()
 {
     for thread in threads {
         push_callers(places, &thread.callers)?;
+        push_entering(places, &thread.entering)?;
         push_call(places, &thread.call)?;
         places.push(thread.pending)?;
     }
@@ -165,6 +167,40 @@ fn push_callers(places: &mut Vec<Option<Addr>>, callers: &[Activation]) -> Resul
         push_locals(places, &caller.locals)?;
     }
     Ok(())
+}
+
+/// Adds what a call is given that isn't entered yet.
+fn push_entering(
+    places: &mut Vec<Option<Addr>>,
+    entering: &Option<Entering>,
+) -> Result<(), AllocError>
+    ensures { OnOk result (places.new.items ≡ places.old.items ++ argument_places entering.now) }
+{
+    match entering {
+        None => Ok(()),
+        Some(entering) => push_arguments(places, &entering.arguments),
+    }
+}
+
+/// Adds the arguments of a call, of which numbers have no address.
+fn push_arguments(places: &mut Vec<Option<Addr>>, arguments: &[Value]) -> Result<(), AllocError>
+    ensures { OnOk result (places.new.items ≡ places.old.items ++ map argument_place arguments.now) }
+{
+    for argument in arguments {
+        places.push(address_of(*argument))?;
+    }
+    Ok(())
+}
+
+/// The address of an argument that is a reference.
+fn address_of(argument: Value) -> Option<Addr>
+    ensures { result ≡ argument_place argument }
+{
+    match argument {
+        Value::Number(_) => None,
+        Value::Null => None,
+        Value::Block(addr) => Some(addr),
+    }
 }
 
 /// Adds the local references of a call in progress.
@@ -252,6 +288,7 @@ fn put_thread(thread: &mut Thread, roots: &RootPlaces, from: usize) -> usize
     ensures next { result ≡ from + length (thread_places thread.old) }
 {
     let next = put_callers(&mut thread.callers, roots, from);
+    let next = put_entering(&mut thread.entering, roots, next);
     let next = put_call(&mut thread.call, roots, next);
     thread.pending = roots.root(next);
     next + 1
@@ -279,6 +316,34 @@ fn put_caller(call: &mut Activation, roots: &RootPlaces, from: usize) -> usize
     ensures next { result ≡ from + length (call_places call.old) }
 {
     put_locals(&mut call.locals, roots, from)
+}
+
+/// Puts back what a call is given that isn't entered yet, from a place on, and tells the next one.
+fn put_entering(entering: &mut Option<Entering>, roots: &RootPlaces, from: usize) -> usize
+    requires { (to : ℕ → ℕ) × AreMovedAt to (argument_places entering.old) roots.now.places.items from }
+    ensures moved { (to : ℕ → ℕ) → AreMovedAt to (argument_places entering.old) roots.now.places.items from
+        → entering.new ≡ option_map (moved_entering to) entering.old }
+    ensures next { result ≡ from + length (argument_places entering.old) }
+{
+    match entering {
+        None => from,
+        Some(entering) => put_arguments(&mut entering.arguments, roots, from),
+    }
+}
+
+/// Puts back the arguments of a call, from a place on, and tells the next one.
+fn put_arguments(arguments: &mut [Value], roots: &RootPlaces, from: usize) -> usize
+    requires { (to : ℕ → ℕ) × AreMovedAt to (map argument_place arguments.old) roots.now.places.items from }
+    ensures moved { (to : ℕ → ℕ) → AreMovedAt to (map argument_place arguments.old) roots.now.places.items from
+        → arguments.new ≡ map (moved_value to) arguments.old }
+    ensures next { result ≡ from + length (map argument_place arguments.old) }
+{
+    for place in 0..arguments.len() {
+        if let Some(addr) = roots.root(from + place) {
+            arguments[place] = Value::Block(addr);
+        }
+    }
+    from + arguments.len()
 }
 
 /// Puts back the local references of a call in progress, from a place on, and tells the next one.

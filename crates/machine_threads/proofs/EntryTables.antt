@@ -3,10 +3,11 @@ use Rattle.std.proofs.Common.{◌≡◌, ℕ, zero, suc, ◌+◌, ◌-◌, ◌<�
 use Rattle.std.specs.Prelude.{slice_get}
 use Rattle.std.proofs.lemmas.Bool.Decides.{nat_tests}
 use Rattle.std.proofs.lemmas.List.{length-map}
+use Rattle.heap.specs.declared.value.Value.{Value}
+use Rattle.heap.specs.declared.value.Value.TheVariants.{Number as Word, Null, Block as Address}
 use Rattle.tables.specs.Locals.{LocalTable, has_room, IsMade}
 use Rattle.tables.specs.References.{references_in, IsPut}
-use Rattle.semantics.specs.Object.{ObjectValue, Number, Refers}
-use Rattle.machine_threads.specs.Entry.{argument_address, keys_from, IsReferencesOf}
+use Rattle.machine_threads.specs.Entry.{given_address, keys_from, IsReferencesOf}
 
 -- ---- one address more
 
@@ -126,24 +127,20 @@ nulls_few : (n : ℕ) → length (references_in (replicate n None)) ≡ 0
 nulls_few zero = refl
 nulls_few (suc n) = nulls_few n
 
-arguments_few : (loaded : List ℕ) (vs : List ObjectValue) → length (references_in (filter_map (argument_address loaded) vs)) ≤ length vs
-arguments_few loaded [] = omega arith
-arguments_few loaded (Number z ∷ vs) = let less = arguments_few loaded vs in omega (arith, less)
-arguments_few loaded (Refers None ∷ vs) = let less = arguments_few loaded vs in omega (arith, less)
-arguments_few loaded (Refers (Some n) ∷ vs) = let less = arguments_few loaded vs in one_more (slice_get loaded (n - 1)) (filter_map (argument_address loaded) vs) (length vs) less
-  where
-    one_more : (o : Option ℕ) (xs : List (Option ℕ)) (n : ℕ) → length (references_in xs) ≤ n → length (references_in (o ∷ xs)) ≤ suc n
-    one_more None xs n h = omega (arith, h)
-    one_more (Some a) xs n h = omega (arith, h)
+arguments_few : (ws : List Value) → length (references_in (filter_map given_address ws)) ≤ length ws
+arguments_few [] = omega arith
+arguments_few (Word n ∷ ws) = let less = arguments_few ws in omega (arith, less)
+arguments_few (Null ∷ ws) = let less = arguments_few ws in omega (arith, less)
+arguments_few (Address a ∷ ws) = let less = arguments_few ws in omega (arith, less)
 
 -- a reference to the class, and one to each argument at most
-pub given_few : (count : ℕ) (loaded : List ℕ) (class : ℕ) (vs : List ObjectValue) (slots : List (Option ℕ)) → IsReferencesOf count loaded class vs slots → length vs ≤ 256 → length (references_in slots) ≤ 257
-given_few count loaded class vs slots h few =
-    let rest : List (Option ℕ) = filter_map (argument_address loaded) vs ++ replicate h.more None in
-    let after : length (references_in rest) ≡ length (references_in (filter_map (argument_address loaded) vs)) + length (references_in (replicate h.more None)) =
-    ap length (references_after (filter_map (argument_address loaded) vs) (replicate h.more None)) ∙ length-append (references_in (filter_map (argument_address loaded) vs)) (references_in (replicate h.more None)) in
+pub given_few : (count : ℕ) (loaded : List ℕ) (class : ℕ) (ws : List Value) (slots : List (Option ℕ)) → IsReferencesOf count loaded class ws slots → length ws ≤ 256 → length (references_in slots) ≤ 257
+given_few count loaded class ws slots h few =
+    let rest : List (Option ℕ) = filter_map given_address ws ++ replicate h.more None in
+    let after : length (references_in rest) ≡ length (references_in (filter_map given_address ws)) + length (references_in (replicate h.more None)) =
+    ap length (references_after (filter_map given_address ws) (replicate h.more None)) ∙ length-append (references_in (filter_map given_address ws)) (references_in (replicate h.more None)) in
     let none = nulls_few h.more in
-    let less = arguments_few loaded vs in
+    let less = arguments_few ws in
     ap_few (ap (λ (l : List (Option ℕ)). length (references_in l)) h.given) (first (slice_get loaded (class - 1)) rest (omega (arith, after, none, less, few)))
   where
     first : (o : Option ℕ) (xs : List (Option ℕ)) → length (references_in xs) ≤ 256 → length (references_in (o ∷ xs)) ≤ 257

@@ -3,7 +3,9 @@ use Rattle.std.specs.Prelude.{◌≡◌, ℕ, ◌+◌, ◌*◌, true, List, [], 
 use Rattle.class_rules.specs.Class.{Classes}
 use Rattle.heap.specs.Heap.{Space}
 use Rattle.jni.specs.JniFunction.{JniFunction, prototype}
+use Rattle.base.specs.Bytes.{lookup}
 use Rattle.semantics.specs.Effect.{is_ready}
+use Rattle.semantics.specs.Sight.{scalar}
 use Rattle.semantics.specs.Task.{Invoke, Operand}
 use Rattle.semantics.specs.Thread as source
 use Rattle.semantics.specs.Thread.{Caller, Shared, lengths_copied, objects_viewed}
@@ -39,7 +41,7 @@ pub record CallerAgrees (p : Lowered) (classes : Classes) (space : Space) (copie
   pub line : ℕ
   pub function : JniFunction
   pub operands : List Operand
-  pub ready : is_ready operands ≡ true
+  pub ready : is_ready (λ x. scalar (lookup x caller.variables)) operands ≡ true
   pub result : (prototype function).result ≡ caller.result
   pub stands : CallStands p classes space copies owner activation (seen_by own shared caller) caller.frames
       (Invoke line caller.target function operands ∷ caller.tasks)

@@ -1,7 +1,7 @@
 pub mod SlotsHold
 pub mod InProgress
 pub mod Callers
+pub mod Held
 pub mod Entry
 pub mod ThreadAgrees
-pub mod Held
 pub mod Loading

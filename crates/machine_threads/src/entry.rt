@@ -1,25 +1,25 @@
-//! The slots of a call at its entry.
+//! What a call is given, and its slots at its entry.
 
 ghost use Rattle.std.specs.Prelude.{◌≡◌, ℕ, ◌-◌, ◌<◌, ◌≤◌, [], length, map, filter_map, slice_get, IfOk, OnOk, IsTrue, ◌+◌};
 ghost use Rattle.std.specs.List.{list_all};
 ghost use Rattle.base.specs.Limits.{most_names, most_references};
 ghost use Rattle.world_values.specs.Views.{object_value_view};
 ghost use Rattle.world_values.specs.CallArguments.{is_argument};
-ghost use Rattle.code_meaning.specs.Slots.{argument_word, HasRoom};
 ghost use Rattle.tables.specs.Locals.{pushed};
 ghost use Rattle.tables.specs.References.{references_in};
-ghost use Rattle.machine_threads.specs.Entry.{argument_address, entry_locals, keys_from, IsNumbersOf, IsReferencesOf, BeginsIn};
+ghost use Rattle.machine_threads.specs.Entry.{entry_locals, given_address, given_word, keys_from, HasRoomFor, IsEnteringOf, IsNumbersOf, IsReferencesOf, BeginsIn};
+ghost use Rattle.machine_threads.specs.Held.{held_value};
 
-use crate::thread::PendingCall;
+use crate::objects::held;
+use crate::thread::{Entering, PendingCall};
 use class_rules::ClassId;
 use code::code::Code;
 use code::stack::Stack;
-use heap::Addr;
+use heap::{Addr, Value};
 use machine_scenes::activation::{Activation, Slots};
 use machine_scenes::buffer::Buffer;
 use semantics::ObjectId;
 use std::alloc::{AllocError, Global};
-use std::vec::VecCloneMethods;
 use tables::{Local, Locals, TableFault};
 use world_values::ObjectValue;
 
@@ -27,16 +27,47 @@ use world_values::ObjectValue;
 /// References").
 const MORE_LOCALS: u32 = 16;
 
+/// A call that a thread has still to make, with what it is given by addresses.
+pub fn entering_of(
+    alloc: Global,
+    loaded: &[Addr],
+    next: &PendingCall,
+) -> Result<Entering, AllocError>
+    requires { IsTrue (list_all (is_argument (length loaded.now)) (map object_value_view next.now.arguments.items)) }
+    ensures { IfOk result (λ entering. IsEnteringOf loaded.now next.now entering) }
+{
+    Ok(Entering {
+        function: next.function,
+        class: next.class,
+        arguments: values_given(alloc, loaded, &next.arguments)?,
+    })
+}
+
+/// These arguments by the addresses of their objects.
+fn values_given(
+    alloc: Global,
+    loaded: &[Addr],
+    arguments: &[ObjectValue],
+) -> Result<Vec<Value>, AllocError>
+    requires { IsTrue (list_all (is_argument (length loaded.now)) (map object_value_view arguments.now)) }
+    ensures { IfOk result (λ values. values.items ≡ map (held_value loaded.now) (map object_value_view arguments.now)) }
+{
+    let mut values = Vec::with_capacity(alloc, arguments.len())?;
+    for argument in arguments {
+        values.push(held(loaded, *argument))?;
+    }
+    Ok(values)
+}
+
 /// A call before its first instruction.
 pub fn begin(
     alloc: Global,
     code: &Code,
     loaded: &[Addr],
-    next: &PendingCall,
+    next: &Entering,
 ) -> Result<Activation, AllocError>
     requires class { (0 < next.now.class.number) × (next.now.class.number ≤ length loaded.now) }
-    requires given { IsTrue (list_all (is_argument (length loaded.now)) (map object_value_view next.now.arguments.items)) }
-    requires room { HasRoom code.now (map object_value_view next.now.arguments.items) }
+    requires room { HasRoomFor code.now next.now.arguments.items }
     requires few { length next.now.arguments.items ≤ most_names }
     ensures { IfOk result (λ activation. BeginsIn code.now loaded.now next.now activation) }
 {
@@ -69,20 +100,16 @@ pub fn begin(
 }
 
 /// `count` number slots, of which the first hold the numbers that the call is given.
-fn number_slots(
-    alloc: Global,
-    arguments: &[ObjectValue],
-    count: usize,
-) -> Result<Vec<u32>, AllocError>
-    requires given { (made : ℕ) × IsTrue (list_all (is_argument made) (map object_value_view arguments.now)) }
-    requires room { length (filter_map argument_word (map object_value_view arguments.now)) ≤ count }
-    ensures { IfOk result (λ v. IsNumbersOf count (map object_value_view arguments.now) v.items) }
+fn number_slots(alloc: Global, arguments: &[Value], count: usize) -> Result<Vec<u32>, AllocError>
+    requires { length (filter_map given_word arguments.now) ≤ count }
+    ensures { IfOk result (λ v. IsNumbersOf count arguments.now v.items) }
 {
     let mut slots = Vec::new(alloc);
     for argument in arguments {
         match argument {
-            ObjectValue::Number(number) => slots.push(number.cast_unsigned())?,
-            ObjectValue::Reference(_) => {}
+            Value::Number(number) => slots.push(*number)?,
+            Value::Null => {}
+            Value::Block(_) => {}
         }
     }
     slots.resize(count, 0)?;
@@ -94,21 +121,20 @@ fn addresses_given(
     alloc: Global,
     loaded: &[Addr],
     class: ClassId,
-    arguments: &[ObjectValue],
+    arguments: &[Value],
     count: usize,
 ) -> Result<Vec<Option<Addr>>, AllocError>
     requires class { 0 < class.number }
-    requires given { IsTrue (list_all (is_argument (length loaded.now)) (map object_value_view arguments.now)) }
-    requires room { length (filter_map (argument_address loaded.now) (map object_value_view arguments.now)) < count }
-    ensures { IfOk result (λ v. IsReferencesOf count loaded.now class.number (map object_value_view arguments.now) v.items) }
+    requires room { length (filter_map given_address arguments.now) < count }
+    ensures { IfOk result (λ v. IsReferencesOf count loaded.now class.number arguments.now v.items) }
 {
     let mut slots = Vec::new(alloc);
     slots.push(object_of(loaded, ObjectId::of_class(class)))?;
     for argument in arguments {
         match argument {
-            ObjectValue::Number(_) => {}
-            ObjectValue::Reference(None) => slots.push(None)?,
-            ObjectValue::Reference(Some(name)) => slots.push(object_of(loaded, *name))?,
+            Value::Number(_) => {}
+            Value::Null => slots.push(None)?,
+            Value::Block(addr) => slots.push(Some(*addr))?,
         }
     }
     slots.resize(count, None)?;

@@ -94,6 +94,7 @@ fn load_thread(
     }
     Ok(Thread {
         calls: nexts,
+        entering: None,
         call: None,
         callers: Vec::new(alloc),
         pending: None,

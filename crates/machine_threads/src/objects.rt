@@ -165,7 +165,7 @@ fn make(
 }
 
 /// How a cell holds a value: an object by its address.
-fn held(loaded: &[Addr], value: ObjectValue) -> Value
+pub(crate) fn held(loaded: &[Addr], value: ObjectValue) -> Value
     requires { IsTrue (is_argument (length loaded.now) (object_value_view value)) }
     ensures { result ≡ held_value loaded.now (object_value_view value) }
 {

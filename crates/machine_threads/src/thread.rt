@@ -1,7 +1,7 @@
 //! Threads, which call functions one after another.
 
 use class_rules::ClassId;
-use heap::Addr;
+use heap::{Addr, Value};
 use machine_scenes::activation::Activation;
 use semantics::Ending;
 use std::collections::VecDeque;
@@ -10,8 +10,10 @@ use world_values::ObjectValue;
 /// A thread: the calls that it has still to make, the call in progress, and those from which it was made.
 pub struct Thread {
     pub calls: VecDeque<PendingCall>,
+    /// The call that the last caller has made, before its entry.
+    pub entering: Option<Entering>,
     pub call: Option<Activation>,
-    /// The calls from which the one in progress was made, the last one last. They are 63 at most. No call makes another yet.
+    /// The calls from which the one in progress, or the one before its entry, was made, the last one last. They are 63 at most.
     pub callers: Vec<Activation>,
     /// The pending exception.
     pub pending: Option<Addr>,
@@ -23,12 +25,14 @@ impl Drop for Thread {
     fn drop(self) {
         let Thread {
             calls,
+            entering,
             call,
             callers,
             pending: _,
             ending: _,
         } = self;
         drop(calls);
+        drop(entering);
         drop(call);
         drop(callers);
     }
@@ -43,4 +47,15 @@ pub struct PendingCall {
     pub class: ClassId,
     /// What the function is given.
     pub arguments: Vec<ObjectValue>,
+}
+
+/// A call that another call has made, before its entry.
+#[derive(Drop)]
+pub struct Entering {
+    /// The number of its function.
+    pub function: usize,
+    /// The function's class.
+    pub class: ClassId,
+    /// What the function is given.
+    pub arguments: Vec<Value>,
 }

@@ -3,7 +3,7 @@ use Rattle.std.specs.Prelude.{flat_map}
 use Rattle.std.proofs.lemmas.List.Concat.{flat_map-cons}
 use Rattle.std.proofs.lemmas.Option.{slice_get_read}
 use Rattle.machine_scenes.specs.declared.activation.Activation.{Activation}
-use Rattle.machine_collections.specs.Roots.{CallersAreStacked, ThreadIsStacked, call_places, slots_of, thread_places}
+use Rattle.machine_collections.specs.Roots.{CallersAreStacked, ThreadIsStacked, argument_places, call_places, slots_of, thread_places}
 use Rattle.machine_threads.proofs.Lists.{drop_next}
 use Rattle.machine_collections.proofs.MovedRoots.{drop_past}
 use Rattle.machine_collections.proofs.RootNames.{holds_more, there_within}
@@ -18,11 +18,15 @@ loop-thread-preserved c =
     let at = slice_get_read ts (length ts) i x refl c.loop-thread-test.true c.thread-item.is in
     let further = flat_map thread_places (drop (i + 1) ts) in
     let below = flat_map call_places x.callers.items in
-    let own = slots_of x.call ++ x.pending ∷ [] in
+    let given = argument_places x.entering in
+    let two = slots_of x.call ++ x.pending ∷ [] in
+    let own = given ++ two in
     let under = c.in_ok-push_callers.ensures.places ∙ ap (λ (l : List Activation). places ++ flat_map call_places l) c.deref.ensures.value in
+    let gone_on = c.in_ok-push_entering.ensures ∙ ap (λ (l : List (Option ℕ)). l ++ given) under in
     let one = c.in_ok-push.ensures.items
-    ∙ ap (λ (l : List (Option ℕ)). l ++ x.pending ∷ []) (c.in_ok-push_call.ensures.places ∙ ap (λ (l : List (Option ℕ)). l ++ slots_of x.call) under)
-    ∙ append_assoc (places ++ below) (slots_of x.call) (x.pending ∷ [])
+    ∙ ap (λ (l : List (Option ℕ)). l ++ x.pending ∷ []) (c.in_ok-push_call.ensures.places ∙ ap (λ (l : List (Option ℕ)). l ++ slots_of x.call) gone_on)
+    ∙ append_assoc (places ++ below ++ given) (slots_of x.call) (x.pending ∷ [])
+    ∙ append_assoc (places ++ below) given two
     ∙ append_assoc places below own in
     record {
       places = ap (λ (l : List (Option ℕ)). l ++ further) one ∙ append_assoc places (thread_places x) further

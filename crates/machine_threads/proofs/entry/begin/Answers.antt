@@ -1,31 +1,23 @@
-use Rattle.std.proofs.Common.{◌≡◌, ◌<◌, ◌≤◌, ◌-◌, ℕ, List, [], ◌++◌, None, length, map, filter_map, take, replicate, refl, sym, ap, ◌∙◌, arith}
+use Rattle.std.proofs.Common.{◌≡◌, ◌<◌, ◌≤◌, ◌-◌, ℕ, List, [], ◌++◌, None, length, filter_map, take, replicate, refl, sym, ap, ◌∙◌, arith}
 use Rattle.std.specs.Prelude.{vec_len}
-use Rattle.std.proofs.lemmas.List.{take_all, length-map}
+use Rattle.std.proofs.lemmas.List.{take_all}
 use Rattle.code.specs.declared.slots.SlotCounts.{SlotCounts}
-use Rattle.world_values.specs.Views.{object_value_view}
-use Rattle.code_meaning.specs.Slots.{argument_reference}
 use Rattle.machine_scenes.specs.declared.buffer.Buffer.TheVariants as buffer
-use Rattle.machine_threads.specs.Entry.{entry_locals, keys_from}
-use Rattle.machine_threads.proofs.ArgumentSlots.{addresses_count}
+use Rattle.machine_threads.specs.Entry.{entry_locals, given_address, keys_from}
 use Rattle.machine_threads.proofs.EntryTables.{given_few}
 use Rattle.machine_threads.proofs.entry.begin.Goals as goal
 
 pub addresses_given-requires-clause-room : goal.addresses_given-requires-clause-room
 addresses_given-requires-clause-room c =
-    let same = addresses_count c.args.loaded.now (map object_value_view c.args.next.now.arguments.items) in
-    let room : length (filter_map argument_reference (map object_value_view c.args.next.now.arguments.items)) < c.args.code.now.slots.references = c.requires.room.references in
-    rw (c.deref.ensures.value, c.slots-slots.ensures.counts) (omega arith)
+    let room : length (filter_map given_address c.args.next.now.arguments.items) < c.args.code.now.slots.references = c.requires.room.references in
+    rw (c.deref.ensures.value, c.slots-slots.ensures.counts) room
 
 pub make_locals-requires-clause-few : goal.make_locals-requires-clause-few
 make_locals-requires-clause-few c =
-    let count = length-map c.deref.result.now object_value_view in
     let same = ap length c.deref.ensures.value in
     let few : length c.args.next.now.arguments.items ≤ 256 = c.requires.few in
-    let most = given_few _ _ _ _ _ c.in_ok-addresses.ensures (omega (arith, count, same, few)) in
+    let most = given_few _ _ _ _ _ c.in_ok-addresses.ensures (omega (arith, same, few)) in
     rw c.deref-2.ensures.value most
-
-pub number_slots-requires-clause-given : goal.number_slots-requires-clause-given
-number_slots-requires-clause-given c = (length c.args.loaded.now, rw c.deref-3.ensures.value c.requires.given)
 
 -- this number of equal slots
 resized : {A : Type 0} (x : A) (items : List A) (n m len : ℕ) → items ≡ [] → len ≡ 0 → m ≡ n → take m items ++ replicate (m - len) x ≡ replicate n x

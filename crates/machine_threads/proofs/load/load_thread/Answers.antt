@@ -21,7 +21,7 @@ returns-clause-agrees c space copies k shared =
     let w = c.args.world.now in
     before_agrees c.args.program.now w.classes space copies (length (loaded_objects w)) k shared _ c.args.calls.now
     (all_agree c.args.program.now w.classes (length (loaded_objects w)) c.args.calls.now c.loop-call.call-index c.loop-call.nexts.items c.loop-call-test.false c.loop-call.invariant.agree)
-    (some_call c.args.calls.now c.requires.some) refl c.new.ensures.items refl refl
+    (some_call c.args.calls.now c.requires.some) refl refl c.new.ensures.items refl refl
 
 pub loop-call-preserved : goal.loop-call-preserved
 loop-call-preserved c =
