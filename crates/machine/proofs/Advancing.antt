@@ -87,7 +87,7 @@ module _ (p : Lowered) (w : World) (store : Store) (ts : List Thread) (index : â
   pub found : Found p w.classes store.heap store.elements (length (loaded_objects w)) shared (suc index) own (slice_index_or ts index d) s.stands.state.threads index
   found = the_thread p w store ts s.printed s.stop s.journal s.stands (suc index) index (slice_index_or ts index d) refl there
 
-  pub is_steady : IsSteady w.classes own.current shared found.source
+  pub is_steady : IsSteady (unit_tree p.unit) w.classes own.current shared found.source
   unfolding found
   is_steady = steady p w store ts s.printed s.stop s.journal s.stands (suc index) index (slice_index_or ts index d) refl there
 

@@ -62,7 +62,7 @@ use Rattle.machine_collections.proofs.ClearedThreads.{threads_cleared}
 use Rattle.machine_collections.proofs.CollectedStores.{cleared_is, store_collected}
 use Rattle.machine_collections.proofs.CollectedThreads.{threads_moved}
 use Rattle.machine_collections.proofs.Collections.{name_moved}
-use Rattle.machine_collections.proofs.GatheredRoots.{call_addresses, gathered, in_place, own_addresses, places_are, thread_addresses}
+use Rattle.machine_collections.proofs.GatheredRoots.{call_addresses, gathered, given_addresses, in_place, own_addresses, places_are, thread_addresses}
 use Rattle.machine_collections.proofs.OwnedMonitors.{monitor_addresses}
 use Rattle.machine_collections.proofs.KeptCells.{live_taken}
 use Rattle.machine_collections.proofs.KeptNames.{kept_reachable, reachable_kept, referred_name}
@@ -186,10 +186,14 @@ threads_kept Kept (t ∷ ts) h =
     let all : (a : ℕ) → In (thread_addresses t ++ flat_map thread_addresses ts) a → Kept a = λ a k. h a (subst (λ (l : List ℕ). In l a) (sym (flat_map-cons thread_addresses t ts)) k) in
     let whole : (a : ℕ) → In (thread_addresses t) a → Kept a = λ a k. all a (in_append_left (thread_addresses t) (flat_map thread_addresses ts) a k) in
     let below = flat_map call_addresses t.callers.items in
-    let own : (a : ℕ) → In (own_addresses t) a → Kept a = λ a k. whole a (in_append_right below (own_addresses t) a k) in (
+    let given = given_addresses t in
+    let rest = references_in (slots_of t.call) ++ option_to_list t.pending in
+    let own : (a : ℕ) → In (own_addresses t) a → Kept a = λ a k. whole a (in_append_right below (own_addresses t) a k) in
+    let last : (a : ℕ) → In rest a → Kept a = λ a k. own a (in_append_right given rest a k) in (
       callers_kept Kept t.callers.items (λ a k. whole a (in_append_left below (own_addresses t) a k)),
-      call_kept Kept t (λ a k. own a (in_append_left (references_in (slots_of t.call)) (option_to_list t.pending) a k)),
-      (λ a e. own a (in_append_right (references_in (slots_of t.call)) (option_to_list t.pending) a (in_option t.pending a e))),
+      each_kept Kept given (λ a k. own a (in_append_left given rest a k)),
+      call_kept Kept t (λ a k. last a (in_append_left (references_in (slots_of t.call)) (option_to_list t.pending) a k)),
+      (λ a e. last a (in_append_right (references_in (slots_of t.call)) (option_to_list t.pending) a (in_option t.pending a e))),
       threads_kept Kept ts (λ a k. all a (in_append_right (thread_addresses t) (flat_map thread_addresses ts) a k)),
     )
 

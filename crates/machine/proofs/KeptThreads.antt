@@ -1,19 +1,26 @@
 -- What a step of one thread leaves as it was for the others.
-use Rattle.std.proofs.Common.{◌≡◌, ◌≢◌, ℕ, zero, suc, ◌+◌, ◌<◌, ◌≤◌, List, [], ◌∷◌, length, reverse, Option, sym, subst, arith}
+use Rattle.std.proofs.Common.{◌≡◌, ◌≢◌, ℕ, zero, suc, ◌+◌, ◌<◌, ◌≤◌, List, [], ◌∷◌, length, reverse, Option, Some, None, sym, subst, arith}
 use Rattle.std.specs.Prelude.{slice_set}
 use Rattle.class_rules.specs.Class.{Classes}
 use Rattle.heap.specs.Heap.{Space}
+use Rattle.heap.specs.declared.value.Value.{Value}
+use Rattle.heap.specs.declared.value.Value.TheVariants.{Number as Word, Null, Block as Address}
+use Rattle.semantics.specs.Object.{ObjectValue, Number, Refers}
+use Rattle.semantics.specs.World.{Invocation}
 use Rattle.semantics.specs.Thread as source
 use Rattle.semantics.specs.Thread.{Shared}
 use Rattle.code_meaning.specs.Lowered.{Lowered}
 use Rattle.code_meaning.specs.Slots.{visible_to}
 use Rattle.tables.specs.Elements.{OwnedNumbers}
 use Rattle.semantics_safety.specs.Owners.{ThreadOwners, AllOwners}
+use Rattle.machine_threads.specs.declared.thread.Entering.{Entering}
+use Rattle.machine_threads.specs.declared.thread.PendingCall.{PendingCall}
 use Rattle.machine_threads.specs.declared.thread.Thread.{Thread}
+use Rattle.machine_scenes.specs.HeapAgrees.{ValuesAgree}
 use Rattle.machine_scenes.specs.Buffers.{KeepsCopies}
 use Rattle.machine_scenes.specs.StoreAgrees.{Keeps}
 use Rattle.machine_threads.specs.Callers.{owner_at}
-use Rattle.machine_threads.specs.ThreadAgrees.{ThreadAgrees, ThreadsAgree, buffers_of}
+use Rattle.machine_threads.specs.ThreadAgrees.{CallsToComeAgree, ThreadAgrees, ThreadsAgree, buffers_of}
 use Rattle.machine_scenes.proofs.Keeping.{reference_stays}
 use Rattle.machine_steps.proofs.KeptCallers.{callers_stay, others_elsewhere, views_stay, work_stays}
 use Rattle.machine_collections.proofs.HeldViews.{slots_agree}
@@ -32,13 +39,43 @@ module _ (p : Lowered) (classes : Classes) (made k depth : ℕ) (space space' : 
   apart : (j below : ℕ) → IsNumbered j → j ≢ k → owner_at j below ≢ owner_at k depth
   apart j below number other = others_elsewhere j k below depth number.0 number.1 numbered.0 numbered.1 other
 
+  -- what a call is given that isn't entered yet
+  values_stay : (ws : List Value) (vs : List ObjectValue) → ValuesAgree space ws vs → ValuesAgree space' ws vs
+  values_stay [] [] h = h
+  values_stay [] (v ∷ vs) h = absurd h
+  values_stay (x ∷ ws) [] h = absurd h
+  values_stay (Word n ∷ ws) (Number z ∷ vs) h = (h.0, values_stay ws vs h.1)
+  values_stay (Word n ∷ ws) (Refers r ∷ vs) h = absurd h.0
+  values_stay (Null ∷ ws) (Number z ∷ vs) h = absurd h.0
+  values_stay (Null ∷ ws) (Refers r ∷ vs) h = (reference_stays space space' keeps.names None r h.0, values_stay ws vs h.1)
+  values_stay (Address a ∷ ws) (Number z ∷ vs) h = absurd h.0
+  values_stay (Address a ∷ ws) (Refers r ∷ vs) h = (reference_stays space space' keeps.names (Some a) r h.0, values_stay ws vs h.1)
+
+  to_come_stay : (o : Option Entering) (nexts : List PendingCall) (calls : List Invocation) → CallsToComeAgree p classes space made o nexts calls → CallsToComeAgree p classes space' made o nexts calls
+  to_come_stay None nexts calls h = h
+  to_come_stay (Some e) nexts [] h = absurd h
+  to_come_stay (Some e) nexts (c ∷ calls) h = (
+    record {
+      function = (h.0).function;
+      named = (h.0).named;
+      numbered = (h.0).numbered;
+      of_class = (h.0).of_class;
+      class_made = (h.0).class_made;
+      arguments = values_stay e.arguments.items c.arguments (h.0).arguments;
+      fit = (h.0).fit;
+      few = (h.0).few;
+    },
+    h.1,
+  )
+
   thread_stays : (j : ℕ) (own : ThreadOwners) (t : Thread) (s : source.Thread) → IsNumbered j → j ≢ k → ThreadAgrees p classes space copies made j own shared t s → ThreadAgrees p classes space' copies' made j own shared' t s
   thread_stays j own t s number other h =
       let owner = owner_at j (length s.callers) in
       let differs = apart j (length s.callers) number other in
       let slots = slots_agree p classes space copies owner (visible_to own.current shared s) t.call s.frames s.tasks h.work in
       record {
-        calls = h.calls;
+        calls = to_come_stay t.entering t.calls.items s.calls h.calls;
+        due = h.due;
         work = work_stays p classes (owner_at k depth) space space' copies copies' shared shared' keeps keeps_copies owner own.current s t.call s.frames s.tasks differs h.work;
         callers = callers_stay p classes (owner_at k depth) space space' copies copies' shared shared' keeps keeps_copies j (reverse t.callers.items) own.callers s.callers (λ below less. apart j below number other) h.callers;
         few = h.few;

@@ -57,6 +57,7 @@ use Rattle.std.specs.Prelude.{Contains}
 use Rattle.compact.proofs.Blocks.{Contains-from_get}
 use Rattle.machine_scenes.proofs.BlocksOfNames.{is_address}
 use Rattle.tables.specs.References.{references_in}
+use Rattle.machine_collections.proofs.GivenArguments.{given_named}
 use Rattle.machine_collections.proofs.GatheredRoots.{gathered_roots, in_map, in_place, map_in, names_gathered, place_in, places_are, roots_gathered}
 use Rattle.machine_collections.proofs.OwnedMonitors.{monitor_names}
 use Rattle.machine_collections.proofs.RootNames.{CallFrames, CallersFrames, HasRootsOf}
@@ -108,6 +109,7 @@ roots_of p classes space copies made owners k shared (t ∷ ts) [] h = absurd h
 roots_of p classes space copies made owners k shared (t ∷ ts) (s ∷ ss) h = (
   record {
     callers = callers_in p classes space copies k shared (reverse t.callers.items) (owners k).callers s.callers (h.0).callers;
+    arguments = given_named p classes space made t.entering t.calls.items s.callers s.tasks s.calls (h.0).calls (h.0).due;
     frames = frames_in p classes space copies (owner_at k (length s.callers)) (visible_to (owners k).current shared s) t.call s.frames s.tasks (h.0).work;
     pending = (h.0).pending;
   },

@@ -186,12 +186,12 @@ module _ (p : Lowered) (world : World) (store : Store) (ts : List Thread) (print
   there = ap (thread_at c.state) counted ∙ the_thread.is
 
   -- no step of it breaks what no accepted unit does
-  pub steady : IsSteady classes (owners k).current c.state.shared the_thread.source
+  pub steady : IsSteady (unit_tree p.unit) classes (owners k).current c.state.shared the_thread.source
   steady =
       let safe = c.safe journal c.state k the_thread.source c.replays there in
       let typed = c.typed.typed journal c.state c.replays in
       record {
-        callers = λ c below is. absurd (let none : ◌≡◌ {A = List source.Caller} [] (c ∷ below) = sym safe.alone ∙ is in cc);
+        callers = safe.callers;
         view = λ task rest e held. safe.view task rest e (λ none. held (own_viewed the_thread.source none));
         return = safe.return;
         release = safe.release;
@@ -202,6 +202,7 @@ module _ (p : Lowered) (world : World) (store : Store) (ts : List Thread) (print
         declared = safe.declared;
         owned = safe.owned;
         methods = λ line target args is. c.methods (c.typed.methods journal c.state k the_thread.source line target args c.replays there is);
+        calls = safe.methods;
       }
 
   -- what the buffers of the other threads take

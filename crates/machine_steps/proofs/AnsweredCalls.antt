@@ -1,6 +1,7 @@
 -- What a call answers is what its effect is.
-use Rattle.std.proofs.Common.{◌≡◌, ℕ, List, None, sym, ap, ◌∙◌, subst, Option}
-use Rattle.jni.specs.JniFunction.{JniFunction, prototype}
+use Rattle.std.proofs.Common.{◌≡◌, ◌+◌, ℕ, Bool, true, false, List, length, None, refl, sym, ap, ◌∙◌, subst, Option}
+use Rattle.std.specs.Prelude.{◌&&◌, nat_le}
+use Rattle.jni.specs.JniFunction.{JniFunction, CallStaticVoidMethod, CallStaticIntMethod, CallStaticObjectMethod, calls_method, prototype}
 use Rattle.jni.specs.Prototype.{ResultKind}
 use Rattle.jni.specs.Table.{function_value}
 use Rattle.syntax.specs.Views.{unit_tree}
@@ -21,7 +22,8 @@ use Rattle.semantics.specs.declared.trap.Trap.{Trap}
 use Rattle.semantics.specs.EventViews.{trap_view}
 use Rattle.machine_scenes.specs.declared.store.Store.{Store}
 use Rattle.machine_scenes.specs.declared.activation.Activation.{Activation}
-use Rattle.machine_answers.specs.Answers.{Brought, IsAnswer}
+use Rattle.machine_answers.specs.Answers.{Brought, IsAnswer, is_carried}
+use Rattle.machine_answers.specs.Checked.{with_depth}
 use Rattle.machine_answers.specs.Asked.{brought_by, scene_of}
 use Rattle.machine_calls.specs.CarriedOut.{IsPossible}
 use Rattle.machine_calls.specs.Made.{cells_of}
@@ -30,13 +32,36 @@ use Rattle.machine_answers.specs.WorkedOut.{IsWorkedOut}
 use Rattle.semantics_safety.specs.Owners.{Owners}
 use Rattle.machine_steps.specs.Executes.{cells_made, in_use_with}
 use Rattle.machine_scenes.specs.Buffers.{Acquired}
-use Rattle.machine_steps.specs.Invoked.{AtCall, IsAnswered}
+use Rattle.machine_steps.specs.Invoked.{AtCall, IsAnswered, is_halt}
 use Rattle.machine_answers.proofs.CallAnswers.{answers}
 use Rattle.machine_calls.proofs.CellsMade.{cells_made as cells_answered}
 use Rattle.machine_steps.proofs.AskedCalls.{CalledAs, called, effect_is, cells_wanted, r, held, possible, owned_key, trap_is}
 
+-- a method isn't called
+abbrev pub IsNoCall : Answer → Type 0
+IsNoCall answer.Calls = ⊥
+IsNoCall a = Unit {0}
+
+pub no_call : (a : Answer) → is_carried a ≡ true → IsNoCall a
+no_call (answer.Halts trap) is = absurd (let clash : false ≡ true = is in cc)
+no_call answer.Calls is = absurd (let clash : false ≡ true = is in cc)
+no_call a is = tt
+
+-- what isn't carried out, and doesn't stop the machine, calls a method
+pub calls_one : (a : Answer) → is_halt a ≡ false → is_carried a ≡ false → a ≡ answer.Calls
+calls_one (answer.Halts trap) runs other = absurd (let clash : true ≡ false = runs in cc)
+calls_one answer.Calls runs other = refl
+calls_one a runs other = absurd (let clash : true ≡ false = other in cc)
+
+-- a function that calls a method does so
+works_method : (p : Lowered) (w : World) (store : Store) (pending : Option ℕ) (call : Activation) (k : ℕ) (function : Call) (f : JniFunction) (a : Answer) → calls_method f ≡ true → IsWorkedOut (scene_of (unit_tree p.unit) w.classes store call k pending) (call_view function) f a → a ≡ answer.Calls
+works_method p w store pending call k function CallStaticVoidMethod a calls is = is
+works_method p w store pending call k function CallStaticIntMethod a calls is = is
+works_method p w store pending call k function CallStaticObjectMethod a calls is = is
+works_method p w store pending call k function f a calls is = absurd (cc)
+
 -- the machine is at a call that no check stops
-module _ (p : Lowered) (w : World) (store : Store) (pending : Option ℕ) (call : Activation) (function : Call) (others : Acquired) (k owner : ℕ) (own : Owners) (shared : Shared) (s : Thread) (task : Task) (rest : List Task) (h : AtCall p w store pending call function others k owner own shared s task rest) (answer : Answer) (given : IsAnswered p w store pending call k function answer) where
+module _ (p : Lowered) (w : World) (store : Store) (pending : Option ℕ) (call : Activation) (function : Call) (others : Acquired) (k owner : ℕ) (own : Owners) (shared : Shared) (s : Thread) (task : Task) (rest : List Task) (h : AtCall p w store pending call function others k owner own shared s task rest) (answer : Answer) (given : IsAnswered p w store pending call k function answer) (own_answer : IsNoCall answer) where
   abbrev pub it : CalledAs p w store pending call h.code (call_view function) others k owner own shared s task rest (r p w store pending call function others k owner own shared s task rest h) (effect_of (sight_of shared s) task)
   it = called p w store pending call function others k owner own shared s task rest h
 
@@ -47,12 +72,22 @@ module _ (p : Lowered) (w : World) (store : Store) (pending : Option ℕ) (call 
   abbrev pub brings : Brought
   brings = brought_by (unit_tree p.unit) store call k owner in_use (call_view function) it.args
 
-  -- no check stops the source's
-  pub free : trap_of_call w.classes shared s it.target it.f it.args ≡ None
-  free = sym (trap_is p w store pending call function others k owner own shared s task rest h) ∙ given.free
-
   pub worked : IsWorkedOut (scene_of (unit_tree p.unit) w.classes store call k pending) (call_view function) it.f answer
   worked = subst (λ (x : JniFunction). IsWorkedOut (scene_of (unit_tree p.unit) w.classes store call k pending) (call_view function) x answer) it.asked.same_function given.works
+
+  -- it calls no method
+  no_method : calls_method it.f ≡ false
+  no_method = by_method (calls_method it.f) refl
+    where
+      by_method : (b : Bool) → calls_method it.f ≡ b → calls_method it.f ≡ false
+      by_method false is = is
+      by_method true is = absurd (subst IsNoCall (works_method p w store pending call k function it.f answer is worked) own_answer)
+
+  -- no check stops the source's
+  pub free : trap_of_call w.classes shared s it.target it.f it.args ≡ None
+  free =
+      sym (trap_is p w store pending call function others k owner own shared s task rest h)
+      ∙ (λ i. with_depth (no_method i && nat_le 64 (length s.callers + 1)) (given.free i))
 
   -- the effect of the source's call
   abbrev pub does : CallEffect
@@ -85,5 +120,5 @@ module _ (p : Lowered) (w : World) (store : Store) (pending : Option ℕ) (call 
   pub halts : let it = called p w store pending call function others k owner own shared s task rest h in effect_of_call (unit_tree p.unit) w.classes (in_use_with others s) k shared s it.line it.target it.f it.args rest ≡ Halts (trap_view trap)
   halts =
       let it = called p w store pending call function others k owner own shared s task rest h in
-      effect_is p w store pending call function others k owner own shared s task rest h (free p w store pending call function others k owner own shared s task rest h (answer.Halts trap) halted)
-      ∙ answered p w store pending call function others k owner own shared s task rest h (answer.Halts trap) halted (prototype it.f).result (ap (λ (f : JniFunction). (prototype f).result) (sym it.asked.same_function))
+      effect_is p w store pending call function others k owner own shared s task rest h (free p w store pending call function others k owner own shared s task rest h (answer.Halts trap) halted tt)
+      ∙ answered p w store pending call function others k owner own shared s task rest h (answer.Halts trap) halted tt (prototype it.f).result (ap (λ (f : JniFunction). (prototype f).result) (sym it.asked.same_function))

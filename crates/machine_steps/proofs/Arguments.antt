@@ -25,18 +25,19 @@ use Rattle.type_rules.specs.Sorts.{Sort, Ref, Global, Weak}
 use Rattle.type_rules.specs.Sorts as sort
 use Rattle.tables.specs.Elements.{OwnedNumbers}
 use Rattle.heap.specs.Heap.{Space}
+use Rattle.semantics.specs.Method.{MethodId}
 use Rattle.semantics.specs.Object.{Reference}
-use Rattle.semantics.specs.Arguments.{Actual, ReferenceActual, FieldActual}
+use Rattle.semantics.specs.Arguments.{Actual, ReferenceActual, FieldActual, MethodActual}
 use Rattle.semantics.specs.Task.{Task}
 use Rattle.semantics.specs.Thread.{Frame}
 use Rattle.code.specs.declared.instr.Operand.{Operand}
 use Rattle.code.specs.declared.instr.Operand.TheVariants as operand
 use Rattle.code.specs.Depth.{Listing, words_taken, with_fewer}
-use Rattle.code_meaning.specs.Slots.{Shows, ShowsStatic, Slots, Visible, visible_to, OfField}
+use Rattle.code_meaning.specs.Slots.{Shows, ShowsStatic, Slots, Visible, visible_to, OfField, OfMethod}
 use Rattle.code_meaning.specs.Does.{IsOperand, word_given, words_given}
 use Rattle.code_meaning.specs.Lowered.{Lowered}
 use Rattle.machine_scenes.specs.declared.activation.Activation.{Activation}
-use Rattle.machine_scenes.specs.FieldIds.{FieldAgrees, HandleAgrees, HandlesAgree, field_held}
+use Rattle.machine_scenes.specs.FieldIds.{FieldAgrees, HandleAgrees, HandlesAgree, MethodAgrees, field_held, method_held}
 use Rattle.machine_scenes.specs.declared.handle.Handle.{Handle}
 use Rattle.machine_scenes.specs.declared.handle.Handle.TheVariants as handle
 use Rattle.code_meaning.specs.Slots as meant
@@ -70,6 +71,24 @@ field_there unit classes (a ∷ handles) (f ∷ fields) zero q h e =
     let same : ◌≡◌ {A = Option meant.Handle} f (option_map OfField q) = cc in
     field_agrees unit classes a q (subst (λ (x : Option meant.Handle). HandleAgrees unit classes a x) same h.0)
 field_there unit classes (a ∷ handles) (f ∷ fields) (suc i) q h e = field_there unit classes handles fields i q h.1 e
+
+-- what the slot of a method ID holds
+method_agrees : (unit : SourceUnit) (classes : Classes) (h : Option Handle) (q : Option MethodId) → HandleAgrees unit classes h (option_map OfMethod q) → MethodAgrees unit (method_held h) q
+method_agrees unit classes None None a = a
+method_agrees unit classes None (Some f) a = absurd a
+method_agrees unit classes (Some (handle.Field h)) None a = absurd a
+method_agrees unit classes (Some (handle.Method h)) None a = absurd a
+method_agrees unit classes (Some (handle.Field h)) (Some f) a = absurd a
+method_agrees unit classes (Some (handle.Method h)) (Some f) a = a
+
+method_there : (unit : SourceUnit) (classes : Classes) (handles : List (Option Handle)) (fields : List (Option meant.Handle)) (i : ℕ) (q : Option MethodId) → HandlesAgree unit classes handles fields → slice_get fields i ≡ Some (option_map OfMethod q) → MethodAgrees unit (method_held (held_in (slice_get handles i))) q
+method_there unit classes [] [] i q h e = absurd (cc)
+method_there unit classes [] (f ∷ fields) i q h e = absurd h
+method_there unit classes (a ∷ handles) [] i q h e = absurd h
+method_there unit classes (a ∷ handles) (f ∷ fields) zero q h e =
+    let same : ◌≡◌ {A = Option meant.Handle} f (option_map OfMethod q) = cc in
+    method_agrees unit classes a q (subst (λ (x : Option meant.Handle). HandleAgrees unit classes a x) same h.0)
+method_there unit classes (a ∷ handles) (f ∷ fields) (suc i) q h e = method_there unit classes handles fields i q h.1 e
 
 -- ---- operands
 
@@ -119,10 +138,11 @@ module _ (p : Lowered) (classes : Classes) (space : Space) (copies : List (Optio
   abbrev references : References
   references = record { keys = call.slots.references.items; locals = call.locals; statics = helds }
 
-  one_given : (o : Operand) (a : Actual) → HasOwner r.meant.references r.meant.owners o → IsOperand code r.known call.place call.stack (slots_of call r.meant) visible o a → IsGiven classes space references call.slots.fields.items o a
+  one_given : (o : Operand) (a : Actual) → HasOwner r.meant.references r.meant.owners o → IsOperand code r.known call.place call.stack (slots_of call r.meant) visible o a → IsGiven (unit_tree p.unit) classes space references call.slots.fields.items o a
   one_given operand.Null a owned (inl h) = inl (record { name = h.0; reference = None; is = h.1; agrees = tt })
   one_given operand.Null a owned (inr (inl h)) = inr (inl (record { field = None; is = h; agrees = tt }))
-  one_given operand.Null a owned (inr (inr h)) = inr (inr h)
+  one_given operand.Null a owned (inr (inr (inl h))) = inr (inr (inl (record { method = None; is = h; agrees = tt })))
+  one_given operand.Null a owned (inr (inr (inr h))) = inr (inr (inr h))
   one_given (operand.Local i) a owned h =
       let shown = r.shows.each h.0 (record { sort = Ref; index = i }) h.2 in
       record {
@@ -143,6 +163,9 @@ module _ (p : Lowered) (classes : Classes) (space : Space) (copies : List (Optio
   one_given (operand.FieldId i) a owned h =
       let shown = r.shows.each h.0 (record { sort = sort.FieldId; index = i }) h.2 in
       record { field = shown.field; is = h.1 ∙ ap FieldActual shown.is; agrees = field_there (unit_tree p.unit) classes call.slots.fields.items r.meant.fields i shown.field r.holds.fields shown.there }
+  one_given (operand.MethodId i) a owned h =
+      let shown = r.shows.each h.0 (record { sort = sort.MethodId; index = i }) h.2 in
+      record { method = shown.method; is = h.1 ∙ ap MethodActual shown.is; agrees = method_there (unit_tree p.unit) classes call.slots.fields.items r.meant.fields i shown.method r.holds.fields shown.there }
   one_given operand.Text a owned h = h
   one_given (operand.Array array) a owned h = (h.0, h.1)
   one_given (operand.Buffer i) a owned h = (h.0, h.1)
@@ -150,7 +173,7 @@ module _ (p : Lowered) (classes : Classes) (space : Space) (copies : List (Optio
   one_given (operand.IsCopy i) a owned h = (h.0, h.1)
 
   pub all_given : (operands : List Operand) (args : List Actual) → AllByRecursion (HasOwner r.meant.references r.meant.owners) operands → AllZip (IsOperand code r.known call.place call.stack (slots_of call r.meant) visible) operands args
-      → AllZip (IsGiven classes space references call.slots.fields.items) operands args
+      → AllZip (IsGiven (unit_tree p.unit) classes space references call.slots.fields.items) operands args
   all_given [] [] owned h = tt
   all_given [] (a ∷ args) owned h = absurd h
   all_given (o ∷ operands) [] owned h = absurd h
@@ -190,6 +213,7 @@ module _ (code : Listing) (known : Known) (place : ℕ) (stack : List ℕ) (slot
   one_array (operand.Static i) a h = tt
   one_array operand.Number a h = tt
   one_array (operand.FieldId i) a h = tt
+  one_array (operand.MethodId i) a h = tt
   one_array operand.Text a h = tt
   one_array (operand.Array array) a h = (h.0, h.1, array_held h.0 h.2 array h.3)
   one_array (operand.Buffer i) a h = tt
@@ -208,15 +232,17 @@ module _ (code : Listing) (known : Known) (place : ℕ) (stack : List ℕ) (slot
 abbrev one_taken : Operand → ℕ
 one_taken o = words_taken (o ∷ [])
 
-module _ (classes : Classes) (space : Space) (references : References) (fields : List (Option Handle)) where
-  word_of_one : (o : Operand) (a : Actual) → IsGiven classes space references fields o a → length (word_given a) ≡ one_taken o
+module _ (unit : SourceUnit) (classes : Classes) (space : Space) (references : References) (fields : List (Option Handle)) where
+  word_of_one : (o : Operand) (a : Actual) → IsGiven unit classes space references fields o a → length (word_given a) ≡ one_taken o
   word_of_one operand.Null a (inl h) = ap (λ (b : Actual). length (word_given b)) h.is
   word_of_one operand.Null a (inr (inl h)) = ap (λ (b : Actual). length (word_given b)) h.is
-  word_of_one operand.Null a (inr (inr h)) = ap (λ (b : Actual). length (word_given b)) h
+  word_of_one operand.Null a (inr (inr (inl h))) = ap (λ (b : Actual). length (word_given b)) h.is
+  word_of_one operand.Null a (inr (inr (inr h))) = ap (λ (b : Actual). length (word_given b)) h
   word_of_one (operand.Local i) a h = ap (λ (b : Actual). length (word_given b)) h.is
   word_of_one (operand.Static i) a h = ap (λ (b : Actual). length (word_given b)) h.is
   word_of_one operand.Number a h = ap (λ (b : Actual). length (word_given b)) h.1
   word_of_one (operand.FieldId i) a h = ap (λ (b : Actual). length (word_given b)) h.is
+  word_of_one (operand.MethodId i) a h = ap (λ (b : Actual). length (word_given b)) h.is
   word_of_one operand.Text a h = ap (λ (b : Actual). length (word_given b)) h.1
   word_of_one (operand.Array array) a h = ap (λ (b : Actual). length (word_given b)) h.1
   word_of_one (operand.Buffer i) a h = ap (λ (b : Actual). length (word_given b)) h.1
@@ -229,13 +255,14 @@ module _ (classes : Classes) (space : Space) (references : References) (fields :
   first_taken (operand.Static i) operands = let taken : one_taken (operand.Static i) ≡ 0 = refl in omega (arith, taken)
   first_taken operand.Number operands = let taken : one_taken operand.Number ≡ 1 = refl in omega (arith, taken)
   first_taken (operand.FieldId i) operands = let taken : one_taken (operand.FieldId i) ≡ 0 = refl in omega (arith, taken)
+  first_taken (operand.MethodId i) operands = let taken : one_taken (operand.MethodId i) ≡ 0 = refl in omega (arith, taken)
   first_taken operand.Text operands = let taken : one_taken operand.Text ≡ 0 = refl in omega (arith, taken)
   first_taken (operand.Array array) operands = let taken : one_taken (operand.Array array) ≡ 0 = refl in omega (arith, taken)
   first_taken (operand.Buffer i) operands = let taken : one_taken (operand.Buffer i) ≡ 0 = refl in omega (arith, taken)
   first_taken (operand.Mode mode) operands = let taken : one_taken (operand.Mode mode) ≡ 0 = refl in omega (arith, taken)
   first_taken (operand.IsCopy i) operands = let taken : one_taken (operand.IsCopy i) ≡ 0 = refl in omega (arith, taken)
 
-  taken_words : (operands : List Operand) (args : List Actual) → AllZip (IsGiven classes space references fields) operands args → words_taken operands ≡ length (words_given args)
+  taken_words : (operands : List Operand) (args : List Actual) → AllZip (IsGiven unit classes space references fields) operands args → words_taken operands ≡ length (words_given args)
   taken_words [] [] h = refl
   taken_words [] (a ∷ args) h = absurd h
   taken_words (o ∷ operands) [] h = absurd h
@@ -245,10 +272,10 @@ none_left : (n : ℕ) → with_fewer n n ≡ Some 0
 none_left n = rw (le-leb n n (omega arith)) (ap (λ (m : ℕ). Some m) (let e : n - n ≡ 0 = omega arith in e))
 
 -- a call takes all the words on the stack
-pub none_left_after : (classes : Classes) (space : Space) (references : References) (fields : List (Option Handle)) (operands : List Operand) (args : List Actual) (stack : List ℕ) → AllZip (IsGiven classes space references fields) operands args → stack ≡ words_given args
+pub none_left_after : (unit : SourceUnit) (classes : Classes) (space : Space) (references : References) (fields : List (Option Handle)) (operands : List Operand) (args : List Actual) (stack : List ℕ) → AllZip (IsGiven unit classes space references fields) operands args → stack ≡ words_given args
     → with_fewer (words_taken operands) (length stack) ≡ Some 0
-none_left_after classes space references fields operands args stack given words =
-    let count : length stack ≡ words_taken operands = ap length words ∙ sym (taken_words classes space references fields operands args given) in
+none_left_after unit classes space references fields operands args stack given words =
+    let count : length stack ≡ words_taken operands = ap length words ∙ sym (taken_words unit classes space references fields operands args given) in
     subst (λ (n : ℕ). with_fewer (words_taken operands) n ≡ Some 0) (sym count) (none_left (words_taken operands))
 
 -- the same by what the operands are
@@ -256,11 +283,13 @@ module _ (code : Listing) (known : Known) (place : ℕ) (stack : List ℕ) (slot
   word_of_operand : (o : Operand) (a : Actual) → IsOperand code known place stack slots visible o a → length (word_given a) ≡ one_taken o
   word_of_operand operand.Null a (inl h) = ap (λ (b : Actual). length (word_given b)) h.1
   word_of_operand operand.Null a (inr (inl h)) = ap (λ (b : Actual). length (word_given b)) h
-  word_of_operand operand.Null a (inr (inr h)) = ap (λ (b : Actual). length (word_given b)) h
+  word_of_operand operand.Null a (inr (inr (inl h))) = ap (λ (b : Actual). length (word_given b)) h
+  word_of_operand operand.Null a (inr (inr (inr h))) = ap (λ (b : Actual). length (word_given b)) h
   word_of_operand (operand.Local i) a h = ap (λ (b : Actual). length (word_given b)) h.1
   word_of_operand (operand.Static i) a h = ap (λ (b : Actual). length (word_given b)) h.1
   word_of_operand operand.Number a h = ap (λ (b : Actual). length (word_given b)) h.1
   word_of_operand (operand.FieldId i) a h = ap (λ (b : Actual). length (word_given b)) h.1
+  word_of_operand (operand.MethodId i) a h = ap (λ (b : Actual). length (word_given b)) h.1
   word_of_operand operand.Text a h = ap (λ (b : Actual). length (word_given b)) h.1
   word_of_operand (operand.Array array) a h = ap (λ (b : Actual). length (word_given b)) h.1
   word_of_operand (operand.Buffer i) a h = ap (λ (b : Actual). length (word_given b)) h.1
@@ -273,6 +302,7 @@ module _ (code : Listing) (known : Known) (place : ℕ) (stack : List ℕ) (slot
   first_word (operand.Static i) operands = let taken : one_taken (operand.Static i) ≡ 0 = refl in omega (arith, taken)
   first_word operand.Number operands = let taken : one_taken operand.Number ≡ 1 = refl in omega (arith, taken)
   first_word (operand.FieldId i) operands = let taken : one_taken (operand.FieldId i) ≡ 0 = refl in omega (arith, taken)
+  first_word (operand.MethodId i) operands = let taken : one_taken (operand.MethodId i) ≡ 0 = refl in omega (arith, taken)
   first_word operand.Text operands = let taken : one_taken operand.Text ≡ 0 = refl in omega (arith, taken)
   first_word (operand.Array array) operands = let taken : one_taken (operand.Array array) ≡ 0 = refl in omega (arith, taken)
   first_word (operand.Buffer i) operands = let taken : one_taken (operand.Buffer i) ≡ 0 = refl in omega (arith, taken)

@@ -4,7 +4,7 @@ use Rattle.std.specs.Prelude.{slice_get}
 use Rattle.std.specs.List.{AllZip}
 use Rattle.class_rules.specs.Class.{Classes}
 use Rattle.heap.specs.Heap.{Space}
-use Rattle.jni.specs.JniFunction.{JniFunction, DeleteLocalRef, prototype}
+use Rattle.jni.specs.JniFunction.{JniFunction, DeleteLocalRef, parameters_for, prototype}
 use Rattle.jni.specs.Prototype.{ResultKind, NewLocal}
 use Rattle.syntax.specs.Views.{unit_tree}
 use Rattle.semantics.specs.Arguments.{Actual, reference_given, variable_given}
@@ -36,13 +36,13 @@ use Rattle.machine_answers.proofs.ReferenceAnswers.{HeldStatic, deletes_static}
 use Rattle.machine_answers.specs.Asked.{IsAsked, references_of, scene_of}
 use Rattle.machine_scenes.specs.Statics.{all_held}
 use Rattle.machine_calls.specs.CarriedOut.{IsPossible}
-use Rattle.machine_answers.specs.Checked.{trap_found}
+use Rattle.machine_answers.specs.Checked.{is_too_deep, trap_found, with_depth}
 use Rattle.tables.specs.Locals.{has_room}
 use Rattle.machine_scenes.specs.Given.{held_in, key_at, operand_of}
 use Rattle.machine_steps.specs.Invoked.{AtCall, trap_at}
 use Rattle.machine_steps.specs.Received.{HasRoom, HasTarget, HasTold, HasStatic, told_slot}
 use Rattle.machine_steps.proofs.Arguments.{all_given, arrays_held, none_left_after}
-use Rattle.machine_answers.proofs.CallTraps.{found_is}
+use Rattle.machine_answers.proofs.CallTraps.{found_is, found_trap as checks_find}
 use Rattle.machine_steps.proofs.Calls.{Ready, fields_count, ready}
 use Rattle.machine_threads.specs.SlotsHold.{slots_of}
 use Rattle.machine_steps.proofs.Effects.{call_cases}
@@ -194,6 +194,7 @@ module _ (p : Lowered) (classes : Classes) (space : Space) (copies : List (Optio
   one_buffer (operand.Static i) a h = tt
   one_buffer operand.Number a h = tt
   one_buffer (operand.FieldId i) a h = tt
+  one_buffer (operand.MethodId i) a h = tt
   one_buffer operand.Text a h = tt
   one_buffer (operand.Array array) a h = tt
   one_buffer (operand.Mode mode) a h = tt
@@ -213,6 +214,7 @@ module _ (p : Lowered) (classes : Classes) (space : Space) (copies : List (Optio
   one_told (operand.Static i) a h = tt
   one_told operand.Number a h = tt
   one_told (operand.FieldId i) a h = tt
+  one_told (operand.MethodId i) a h = tt
   one_told operand.Text a h = tt
   one_told (operand.Array array) a h = tt
   one_told (operand.Buffer i) a h = tt
@@ -287,7 +289,7 @@ module _ (p : Lowered) (w : World) (store : Store) (pending : Option ℕ) (call 
           frames_agree = r.frames_agree;
           same_function = ap (λ (x : Call). x.function) (sym same) ∙ c.same_function;
           count = c.count;
-          kinds = subst (λ (x : Call). AllZip OperandFits (prototype f).parameters x.operands) same c.kinds;
+          kinds = subst (λ (x : Call). AllZip OperandFits (parameters_for f (length args)) x.operands) same c.kinds;
           fit = c.fit;
           given = given;
           arrays = arrays_held h.code r.known call.place call.stack (slots_of call r.meant) own shared s r.shows function.operands args operands;
@@ -307,7 +309,7 @@ module _ (p : Lowered) (w : World) (store : Store) (pending : Option ℕ) (call 
         same_line = ap (λ (x : Call). x.line) (sym same) ∙ c.same_line;
         operands = operands;
         goes = goes;
-        left = none_left_after w.classes store.heap (references_of store call) call.slots.fields.items function.operands args call.stack given c.words;
+        left = none_left_after (unit_tree p.unit) w.classes store.heap (references_of store call) call.slots.fields.items function.operands args call.stack given c.words;
         own_slots = c.own_slots;
       }
 
@@ -318,17 +320,31 @@ module _ (p : Lowered) (w : World) (store : Store) (pending : Option ℕ) (call 
   pub next_is : next_effect shared s s.tasks ≡ Calls called.line called.target called.f called.args
   next_is = ap (next_effect shared s) h.tasks ∙ called.is
 
-  -- the trap that is found of it is the source's
-  pub trap_is : trap_at p w store pending call k in_memory ≡ trap_of_call w.classes shared s called.target called.f called.args
-  trap_is =
+  -- the trap that is found of it
+  abbrev pub found : Option SourceTrap
+  found = checks_find p w store pending call function others k owner shared s called.target called.f called.args called.asked
+
+  pub found_same : trap_at p w store pending call k in_memory ≡ found
+  found_same =
       (λ i. trap_found (scene_of (unit_tree p.unit) w.classes store call k pending) (has_room (locals_after (called.asked.same_function i) call.locals)) (element_wanted function.target) (called.asked.same_function i) in_memory.operands.items)
-      ∙ found_is p w store pending call function others k owner shared s called.target called.f called.args called.asked
+
+  -- how deep calls are is checked after it
+  abbrev pub deep : Bool
+  deep = is_too_deep called.f (length s.callers)
+
+  -- so it is the source's
+  pub trap_is : with_depth deep (trap_at p w store pending call k in_memory) ≡ trap_of_call w.classes shared s called.target called.f called.args
+  trap_is = ap (with_depth deep) found_same ∙ found_is p w store pending call function others k owner shared s called.target called.f called.args called.asked
+
+  -- where it is found
+  pub trap_found_is : (trap : SourceTrap) → trap_at p w store pending call k in_memory ≡ Some trap → trap_of_call w.classes shared s called.target called.f called.args ≡ Some trap
+  trap_found_is trap is = sym trap_is ∙ ap (with_depth deep) is
 
   -- the key that DeleteLocalRef is given
   pub deleted : called.f ≡ DeleteLocalRef → DeletesKey p w.classes store.heap store.elements owner call h.code own shared s task rest r function.operands called.args
   deleted deletes =
       deletes_key p w.classes store.heap store.elements owner call h.code own shared s task rest r called.line called.target called.f called.args function.operands called.is (h.steady.owned task rest h.tasks) called.operands
-      (subst (λ (f : JniFunction). AllZip OperandFits (prototype f).parameters function.operands) deletes called.asked.kinds)
+      (subst (λ (f : JniFunction). AllZip OperandFits (parameters_for f (length called.args)) function.operands) deletes called.asked.kinds)
 
   pub owned_key : called.f ≡ DeleteLocalRef → OwnKey store.heap call.locals (key_at (references_of store call) (operand_of function.operands 0)) (reference_given called.args 0) (level_of (lookup (variable_given called.args 0) s.variables))
   owned_key deletes =

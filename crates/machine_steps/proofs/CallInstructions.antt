@@ -48,7 +48,7 @@ use Rattle.machine_scenes.specs.declared.buffer.Buffer.{Buffer as HeldBuffer}
 use Rattle.machine_scenes.specs.declared.buffer.Buffer.TheVariants as held
 use Rattle.machine_scenes.specs.Statics.{StaticReference}
 use Rattle.machine_scenes.specs.declared.store.Store.{Store}
-use Rattle.machine_answers.specs.Answers.{IsAnswer, is_halt}
+use Rattle.machine_answers.specs.Answers.{IsAnswer, is_carried}
 use Rattle.machine_answers.specs.Asked.{brought_by, scene_of}
 use Rattle.machine_scenes.specs.Buffers.{Acquired, AreViewed, BuffersAgree, acquired_by, beside, gives_up}
 use Rattle.machine_calls.specs.CarriedOut.{CarriesOut, CopiesStay, GoesByRoom, IsNewCopy, IsShortOf, buffers_after, frames_left, made_by, pending_after, result_after, shared_after, slots_after, variables_left}
@@ -284,7 +284,7 @@ module _ (p : Lowered) (w : World) (store : Store) (pending : Option ℕ) (call 
           by_kept (inl same) = goes_same same
           by_kept (inr (inl nothing)) = nowhere function.target kind nothing called.goes
           by_kept (inr (inr told)) =
-              let number = told_number h.code r.known call.place call.stack (slots_of call r.meant) own shared s r.shows called.f function.operands called.args told.0 called.asked.kinds called.operands in
+              let number = told_number h.code r.known call.place call.stack (slots_of call r.meant) own shared s r.shows called.f (length called.args) function.operands called.args told.0 called.asked.kinds called.operands in
               buffer_goes (λ x. ap (λ (us : Variables). kind_of_variable (lookup x us)) told.1 ∙ told_kind told_variable x c s.variables number) function.target kind called.target told.0 called.goes
 
       -- a variable that takes a local reference was there before
@@ -321,7 +321,7 @@ module _ (p : Lowered) (w : World) (store : Store) (pending : Option ℕ) (call 
     Does = IsAnswer w.classes (brought_by (unit_tree p.unit) store call k owner in_use function called.args) store.heap call.locals kind shared s answer effect
 
     -- a function that gives a buffer leaves the variables as they were
-    untold_same : (refused : Bool) → is_halt answer ≡ false → Does → IsBufferResult kind → variables_left refused s effect ≡ s.variables
+    untold_same : (refused : Bool) → is_carried answer ≡ true → Does → IsBufferResult kind → variables_left refused s effect ≡ s.variables
     untold_same true runs does b = refl
     untold_same false runs does b = by_answer (kept_or_copied w.classes (brought_by (unit_tree p.unit) store call k owner in_use function called.args) store.heap call.locals kind shared s answer effect runs does)
       where
@@ -337,7 +337,7 @@ module _ (p : Lowered) (w : World) (store : Store) (pending : Option ℕ) (call 
     stepped false t next h = h
     stepped true t next h = h
 
-    module _ (sound : IsSound w) (runs : is_halt answer ≡ false) (free : trap_of_call w.classes shared s called.target called.f called.args ≡ None) (does : Does) (refused : Bool) (store' : Store) (pending' : Option ℕ) (locals : LocalTable) (g : Given) (carried : CarriesOut p w store.heap call.locals answer kind others owner shared s effect refused store' pending' locals g)
+    module _ (sound : IsSound w) (runs : is_carried answer ≡ true) (free : trap_of_call w.classes shared s called.target called.f called.args ≡ None) (does : Does) (refused : Bool) (store' : Store) (pending' : Option ℕ) (locals : LocalTable) (g : Given) (carried : CarriesOut p w store.heap call.locals answer kind others owner shared s effect refused store' pending' locals g)
         (stacked : AreStacked locals) (copies : CopiesStay answer store.elements store'.elements) (new_copy : IsNewCopy store.elements g) (numbers : Vec ℕ) (slots : Vec HeldBuffer) (numbers_are : numbers.items ≡ slots_after store.heap answer call.slots.numbers.items) (slots_are : slots.items ≡ buffers_after answer call.slots.buffers.items) where
       abbrev gave : CallResult
       gave = result_after kind refused effect

@@ -8,7 +8,7 @@ use Rattle.jni.specs.Prototype.{ResultKind}
 use Rattle.syntax.specs.Tree.{SourceUnit}
 use Rattle.semantics.specs.Arguments.{Actual}
 use Rattle.semantics.specs.Object.{Object}
-use Rattle.semantics.specs.CallEffects.{CallEffect, CallResult, Halts, Leaves, ScalarResult, Throws, refuses_frames, with_capacity}
+use Rattle.semantics.specs.CallEffects.{CallEffect, CallResult, Enters, Halts, Leaves, ScalarResult, Throws, refuses_frames, with_capacity}
 use Rattle.semantics.specs.CallStep.{after_call, after_refusal, call_step, effect_of_call, makes_objects, put}
 use Rattle.semantics.specs.Heap.{Heap}
 use Rattle.semantics.specs.Task.{Target, Task}
@@ -17,7 +17,7 @@ use Rattle.semantics.specs.Thread.{BuffersInUse, Shared}
 use Rattle.semantics.specs.Value.{Int}
 use Rattle.machine_answers.specs.declared.answer.Answer.{Answer}
 use Rattle.machine_answers.specs.declared.answer.Answer.TheVariants as answers
-use Rattle.machine_answers.specs.Answers.{Brought, IsAnswer, is_halt}
+use Rattle.machine_answers.specs.Answers.{Brought, IsAnswer, is_carried}
 use Rattle.machine_calls.specs.CarriedOut.{frames_left, pending_after, result_after, shared_after, variables_left}
 use Rattle.machine_calls.proofs.AnswerCases.{gives_it, makes_it, writes_it, weak_deleted}
 use Rattle.tables.specs.Locals.{LocalTable}
@@ -32,6 +32,7 @@ use Rattle.machine_steps.proofs.MonitorEffects.{enter_cases, exit_cases}
 abbrev pub StaysBut : source.Thread → CallEffect → Type 0
 StaysBut s (Throws c) = Unit {0}
 StaysBut s (Halts trap) = ⊥
+StaysBut s (Enters function arguments) = ⊥
 StaysBut s (Leaves made s' t' c) = t' ≡ record s { frames = t'.frames; pending = t'.pending; variables = t'.variables }
 
 module _ (unit : SourceUnit) (classes : Classes) (in_use : BuffersInUse) (k : ℕ) (shared : Shared) (s : source.Thread) (line : ℕ) (target : Target) (f : JniFunction) (args : List Actual) (rest : List Task) where
@@ -49,6 +50,7 @@ module _ (unit : SourceUnit) (classes : Classes) (in_use : BuffersInUse) (k : �
       ∙ ap (λ (h : Heap). let r : Shared = record shared { heap = h } in put target (result_after (prototype f).result true effect) r (resumption line f args rest s (frames_left true s effect) (pending_after classes true shared s effect) (result_after (prototype f).result true effect) (variables_left true s effect) target)) (append-nil shared.heap)
   step_leaves false (Throws c) is stays could = ap (after_call unit classes in_use k shared s line target f args rest) is
   step_leaves false (Halts trap) is stays could = absurd stays
+  step_leaves false (Enters function arguments) is stays could = absurd stays
   step_leaves false (Leaves made s' t' c) is stays could =
       ap (after_call unit classes in_use k shared s line target f args rest) is
       ∙ ap (λ (t : source.Thread). after_call unit classes in_use k shared s line target f args rest (Leaves made s' t c)) stays
@@ -66,11 +68,11 @@ stays_entered k shared s n o = enter_cases k shared s n (StaysBut s) (λ monitor
 stays_exited : (k : ℕ) (shared : Shared) (s : source.Thread) (n : ℕ) (o : Option source.Monitor) → StaysBut s (exit_effect k shared s n o)
 stays_exited k shared s n o = exit_cases k shared s n (StaysBut s) (λ monitors. refl) tt o
 
-pub stays_with : (classes : Classes) (brought : Brought) (space : Space) (locals : LocalTable) (kind : ResultKind) (shared : Shared) (s : source.Thread) (answer : Answer) (effect : CallEffect) → is_halt answer ≡ false → IsAnswer classes brought space locals kind shared s answer effect → StaysBut s effect
+pub stays_with : (classes : Classes) (brought : Brought) (space : Space) (locals : LocalTable) (kind : ResultKind) (shared : Shared) (s : source.Thread) (answer : Answer) (effect : CallEffect) → is_carried answer ≡ true → IsAnswer classes brought space locals kind shared s answer effect → StaysBut s effect
 stays_with classes brought space locals kind shared s answer (Throws c) runs h = tt
 stays_with classes brought space locals kind shared s answer (Halts trap) runs h = no_halt answer runs h
   where
-    no_halt : (answer : Answer) → is_halt answer ≡ false → IsAnswer classes brought space locals kind shared s answer (Halts trap) → ⊥
+    no_halt : (answer : Answer) → is_carried answer ≡ true → IsAnswer classes brought space locals kind shared s answer (Halts trap) → ⊥
     no_halt (answers.Gives g) runs h = h
     no_halt (answers.Writes a place v) runs h = h
     no_halt (answers.CopiesOut region) runs h = let e = h.1.is in cc
@@ -80,6 +82,7 @@ stays_with classes brought space locals kind shared s answer (Halts trap) runs h
     no_halt (answers.Raises class place) runs h = let e = h.3 in cc
     no_halt (answers.Pends a g) runs h = let e = h.2.2 in cc
     no_halt (answers.Halts stopped) runs h = absurd (cc)
+    no_halt answers.Calls runs h = absurd (cc)
     no_halt (answers.Ensures more) runs h = no_halt_of_frames (nat_le (source.capacities (with_capacity more s.frames)) 1024) h.1
       where
         no_halt_of_frames : (b : Bool) → Halts trap ≡ (if b then Leaves [] shared (record s { frames = with_capacity more s.frames }) (ScalarResult (Int (pos 0))) else refuses_frames classes shared s) → ⊥
@@ -107,6 +110,46 @@ stays_with classes brought space locals kind shared s answer (Halts trap) runs h
         no_halt_of_release CopyBackAndFree e = cc
         no_halt_of_release CopyBack e = cc
         no_halt_of_release FreeUncopied e = cc
+stays_with classes brought space locals kind shared s answer (Enters function arguments) runs h = no_entry answer runs h
+  where
+    no_entry : (answer : Answer) → is_carried answer ≡ true → IsAnswer classes brought space locals kind shared s answer (Enters function arguments) → ⊥
+    no_entry (answers.Gives g) runs h = h
+    no_entry (answers.Writes a place v) runs h = h
+    no_entry (answers.CopiesOut region) runs h = let e = h.1.is in cc
+    no_entry (answers.CopiesIn region) runs h = let e = h.1.is in cc
+    no_entry (answers.Makes c) runs h = h
+    no_entry (answers.Throws c) runs h = h
+    no_entry (answers.Raises class place) runs h = let e = h.3 in cc
+    no_entry (answers.Pends a g) runs h = let e = h.2.2 in cc
+    no_entry (answers.Halts stopped) runs h = absurd (cc)
+    no_entry answers.Calls runs h = absurd (cc)
+    no_entry (answers.Ensures more) runs h = no_entry_of_frames (nat_le (source.capacities (with_capacity more s.frames)) 1024) h.1
+      where
+        no_entry_of_frames : (b : Bool) → Enters function arguments ≡ (if b then Leaves [] shared (record s { frames = with_capacity more s.frames }) (ScalarResult (Int (pos 0))) else refuses_frames classes shared s) → ⊥
+        no_entry_of_frames true e = cc
+        no_entry_of_frames false e = cc
+    no_entry (answers.Pushes capacity) runs h = no_entry_of_frame (nat_le (source.capacities (record { capacity = capacity; references = [] } ∷ s.frames)) 1024) h.1
+      where
+        no_entry_of_frame : (b : Bool) → Enters function arguments ≡ (if b then Leaves [] shared (record s { frames = record { capacity = capacity; references = [] } ∷ s.frames }) (ScalarResult (Int (pos 0))) else refuses_frames classes shared s) → ⊥
+        no_entry_of_frame true e = cc
+        no_entry_of_frame false e = cc
+    no_entry (answers.Pops a) runs h = let e = h.1.2 in cc
+    no_entry (answers.MakesGlobal a) runs h = let e = h.1.2 in cc
+    no_entry (answers.DeletesGlobal i) runs h = let e = h.1.3 in cc
+    no_entry (answers.MakesWeak a) runs h = let e = h.1.2 in cc
+    no_entry (answers.DeletesWeak i) runs h = let e = h.1.3 ∙ weak_deleted shared s h.1.0 h.1.1 h.1.2.weak in cc
+    no_entry (answers.Deletes key) runs h = let e = h.1.3 in cc
+    no_entry answers.RefusesFrames runs h = let e = h.1 in cc
+    no_entry (answers.AcquiresCopy a) runs h = let e = h.1.is in cc
+    no_entry (answers.AcquiresView a) runs h = let e = h.1.is in cc
+    no_entry (answers.Enters o) runs h = subst (StaysBut s) (sym h.1.is) (stays_entered brought.thread shared s o.name (source.monitor_of shared.monitors o.name))
+    no_entry (answers.Exits n) runs h = subst (StaysBut s) (sym h.1.is) (stays_exited brought.thread shared s n (source.monitor_of shared.monitors n))
+    no_entry (answers.Releases r) runs h = no_entry_of_release h.1.mode h.1.is
+      where
+        no_entry_of_release : (mode : ReleaseMode) → Enters function arguments ≡ release_effect shared s h.1.name h.1.variable mode → ⊥
+        no_entry_of_release CopyBackAndFree e = cc
+        no_entry_of_release CopyBack e = cc
+        no_entry_of_release FreeUncopied e = cc
 stays_with classes brought space locals kind shared s (answers.Gives g) (Leaves made s' t' c) runs h = stays_same s t' (same_thread (gives_it classes brought space locals kind shared s g (Leaves made s' t' c) h).is)
 stays_with classes brought space locals kind shared s (answers.Writes a place v) (Leaves made s' t' c) runs h = stays_same s t' (same_thread (writes_it classes brought space locals kind shared s a place v (Leaves made s' t' c) h).is)
 stays_with classes brought space locals kind shared s (answers.CopiesOut region) (Leaves made s' t' c) runs h = subst (StaysBut s) (sym h.1.is) refl
@@ -116,6 +159,7 @@ stays_with classes brought space locals kind shared s (answers.Throws class) (Le
 stays_with classes brought space locals kind shared s (answers.Raises class place) (Leaves made s' t' c) runs h = subst (StaysBut s) (sym h.3) refl
 stays_with classes brought space locals kind shared s (answers.Pends a g) (Leaves made s' t' c) runs h = subst (StaysBut s) (sym h.2.2) refl
 stays_with classes brought space locals kind shared s (answers.Halts trap) (Leaves made s' t' c) runs h = absurd (cc)
+stays_with classes brought space locals kind shared s answers.Calls (Leaves made s' t' c) runs h = absurd (cc)
 stays_with classes brought space locals kind shared s (answers.Ensures more) (Leaves made s' t' c) runs h = subst (StaysBut s) (sym h.1) (stays_framed (nat_le (source.capacities (with_capacity more s.frames)) 1024))
   where
     stays_framed : (b : Bool) → StaysBut s (if b then Leaves [] shared (record s { frames = with_capacity more s.frames }) (ScalarResult (Int (pos 0))) else refuses_frames classes shared s)

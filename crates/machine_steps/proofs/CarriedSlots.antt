@@ -13,7 +13,7 @@ use Rattle.class_rules.specs.Class.{Classes}
 use Rattle.heap.specs.Heap.{Space, values_at}
 use Rattle.heap.specs.declared.value.Value.{Value}
 use Rattle.jni.specs.Access.{Access, ElementsCopy, ArrayView, CharsCopy, CharsView}
-use Rattle.jni.specs.JniFunction.{JniFunction, DeleteGlobalRef, DeleteWeakGlobalRef, DeleteLocalRef, EnsureLocalCapacity, FindClass, GetArrayRegion, GetBuffer, GetFieldID, GetObjectArrayElement, GetStaticFieldID, GetStringRegion, MonitorEnter, MonitorExit, NewArray, NewObjectArray, PushLocalFrame, ReleaseBuffer, SetArrayRegion, SetField, SetObjectArrayElement, SetObjectField, SetStaticField, SetStaticObjectField, prototype, GetStaticMethodID}
+use Rattle.jni.specs.JniFunction.{JniFunction, parameters_for, DeleteGlobalRef, DeleteWeakGlobalRef, DeleteLocalRef, EnsureLocalCapacity, FindClass, GetArrayRegion, GetBuffer, GetFieldID, GetObjectArrayElement, GetStaticFieldID, GetStringRegion, MonitorEnter, MonitorExit, NewArray, NewObjectArray, PushLocalFrame, ReleaseBuffer, SetArrayRegion, SetField, SetObjectArrayElement, SetObjectField, SetStaticField, SetStaticObjectField, prototype, GetStaticMethodID}
 use Rattle.jni.specs.Prototype.{ParameterKind, BufferVariable, IsCopy, Mode, ResultKind, GivesNothing, owner as owner_kind}
 use Rattle.syntax.specs.Views.{unit_tree}
 use Rattle.semantics.specs.Arguments.{Actual, ReleaseMode, CopyBackAndFree, CopyBack, FreeUncopied, mode_given, object_given, variable_given, variable_in_actual, address_given, address_in_actual}
@@ -23,10 +23,10 @@ use Rattle.semantics.specs.CallTable.{call_effect}
 use Rattle.semantics.specs.Effect.{effect_of}
 use Rattle.semantics.specs.Task.{Task}
 use Rattle.semantics.specs.Thread as source
-use Rattle.semantics.specs.Thread.{BuffersInUse, Shared, sight_of}
+use Rattle.semantics.specs.Thread.{Shared, sight_of}
 use Rattle.semantics.specs.Value.{Flag}
 use Rattle.semantics.specs.Variable as source_variable
-use Rattle.semantics.specs.Variable.{Variable, Variables, Scalar, Elements, NoBuffer, Copy, View, assign, change}
+use Rattle.semantics.specs.Variable.{Variables, Scalar, Elements, NoBuffer, Copy, View, assign, change}
 use Rattle.semantics.specs.World.{World}
 use Rattle.semantics_safety.specs.Owners.{Owners}
 use Rattle.code.specs.Call.{Call, call_view}
@@ -62,7 +62,7 @@ use Rattle.machine_scenes.specs.declared.buffer.Buffer.TheVariants as held
 use Rattle.machine_scenes.specs.declared.buffer.Release.{Release}
 use Rattle.machine_scenes.specs.declared.store.Store.{Store}
 use Rattle.semantics.specs.declared.trap.Trap.TheVariants.{OutOfRange}
-use Rattle.machine_answers.specs.Answers.{IsAnswer, is_halt}
+use Rattle.machine_answers.specs.Answers.{IsAnswer, is_carried}
 use Rattle.machine_answers.specs.Asked.{brought_by, buffers_of, references_of, scene_of}
 use Rattle.machine_scenes.specs.Buffers.{Acquired, AreViewed, BuffersAgree, gives_up}
 use Rattle.machine_calls.specs.CarriedOut.{LeavesCopy, ResultAgrees, buffers_after, result_after, slots_after, variables_left}
@@ -104,11 +104,14 @@ module _ (code : Listing) (known : Known) (place : ℕ) (stack : List ℕ) (slot
   flag_operand (operand.IsCopy i) a kind fit h = inl (record { slot = i; variable = h.0; told = refl; address = ap (λ (b : Actual). address_in_actual (Some b)) h.1; there = h.2 })
   flag_operand operand.Null a kind fit (inl h) = absurd (subst (ActualFits IsCopy) h.1 fit)
   flag_operand operand.Null a kind fit (inr (inl h)) = absurd (let e = subst (ActualFits IsCopy) h fit in cc)
-  flag_operand operand.Null a kind fit (inr (inr h)) = inr (refl, ap (λ (b : Actual). address_in_actual (Some b)) h)
+  flag_operand operand.Null a kind fit (inr (inr (inl h))) = absurd (let e = subst (ActualFits IsCopy) h fit in cc)
+  flag_operand operand.Null a kind fit (inr (inr (inr h))) = inr (refl, ap (λ (b : Actual). address_in_actual (Some b)) h)
   flag_operand (operand.Local i) a kind fit h = absurd kind
   flag_operand (operand.Static i) a kind fit h = absurd kind
-  flag_operand operand.Number a kind fit h = absurd (cc)
+  flag_operand operand.Number a (inl kind) fit h = absurd (cc)
+  flag_operand operand.Number a (inr kind) fit h = absurd (cc)
   flag_operand (operand.FieldId i) a kind fit h = absurd (cc)
+  flag_operand (operand.MethodId i) a kind fit h = absurd (cc)
   flag_operand operand.Text a kind fit h = absurd (cc)
   flag_operand (operand.Array array) a kind fit h = absurd (let e = kind.1 in cc)
   flag_operand (operand.Buffer i) a kind fit h = absurd (let e = kind.1 in cc)
@@ -427,11 +430,11 @@ module _ (p : Lowered) (w : World) (store : Store) (pending : Option ℕ) (call 
           does = ap Effect same ∙ does;
         }
 
-    frees_as : (release : Release) (access : Access) → called.f ≡ ReleaseBuffer access → Fits (prototype (ReleaseBuffer access)).parameters → IsWorkedOut (scene_of (unit_tree p.unit) w.classes store call k pending) function (ReleaseBuffer access) (answers.Releases release) → Frees release
+    frees_as : (release : Release) (access : Access) → called.f ≡ ReleaseBuffer access → Fits (parameters_for (ReleaseBuffer access) (length called.args)) → IsWorkedOut (scene_of (unit_tree p.unit) w.classes store call k pending) function (ReleaseBuffer access) (answers.Releases release) → Frees release
     unfolding call_effect
     frees_as release (ElementsCopy T) same kinds is =
         frees_by release (ElementsCopy T) (Mode ∷ []) same kinds is (mode_given called.args 2)
-        (given_mode w.classes store.heap (references_of store call) call.slots.fields.items T (owner_kind (ElementsCopy T)) (BufferVariable (ElementsCopy T)) function.operands called.args kinds called.asked.given) refl
+        (given_mode (unit_tree p.unit) w.classes store.heap (references_of store call) call.slots.fields.items T (owner_kind (ElementsCopy T)) (BufferVariable (ElementsCopy T)) function.operands called.args kinds called.asked.given) refl
     frees_as release ArrayView same kinds is = frees_by release ArrayView (Mode ∷ []) same kinds is FreeUncopied refl refl
     frees_as release CharsCopy same kinds is = frees_by release CharsCopy [] same kinds is FreeUncopied refl refl
     frees_as release CharsView same kinds is = frees_by release CharsView [] same kinds is FreeUncopied refl refl
@@ -440,7 +443,7 @@ module _ (p : Lowered) (w : World) (store : Store) (pending : Option ℕ) (call 
     frees release is nothing =
         let released = subst (IsWorkedOut (scene_of (unit_tree p.unit) w.classes store call k pending) function called.f) is works in
         let by = releases_by (scene_of (unit_tree p.unit) w.classes store call k pending) function release called.f nothing released in
-        frees_as release by.0 by.1 (subst (λ (f : JniFunction). Fits (prototype f).parameters) by.1 called.asked.kinds)
+        frees_as release by.0 by.1 (subst (λ (f : JniFunction). Fits (parameters_for f (length called.args))) by.1 called.asked.kinds)
         (subst (λ (f : JniFunction). IsWorkedOut (scene_of (unit_tree p.unit) w.classes store call k pending) function f (answers.Releases release)) by.1 released)
 
     -- ---- what carrying out the answer leaves
@@ -568,7 +571,7 @@ module _ (p : Lowered) (w : World) (store : Store) (pending : Option ℕ) (call 
     carried true could (inr (inr it)) = absurd (nothing_made it.released.name it.released.variable it.released.mode it.released.is (could refl))
 
     -- each view in slots is one of a variable's
-    pub views_left : (refused : Bool) → is_halt answer ≡ false → Does → (refused ≡ true → makes_objects effect ≡ true) → AreViewed store.heap (buffers_after answer call.slots.buffers.items) (record s { variables = variables_left refused s effect })
+    pub views_left : (refused : Bool) → is_carried answer ≡ true → Does → (refused ≡ true → makes_objects effect ≡ true) → AreViewed store.heap (buffers_after answer call.slots.buffers.items) (record s { variables = variables_left refused s effect })
     views_left refused runs does could = (carried refused could (kept_or_copied w.classes (brought_by (unit_tree p.unit) store call k owner (in_use_with others s) function called.args) store.heap call.locals kind shared s answer effect runs does)).views
 
     -- ---- and once it is told
@@ -577,8 +580,8 @@ module _ (p : Lowered) (w : World) (store : Store) (pending : Option ℕ) (call 
     flag_or_none buffer =
         let by = gets_buffer called.f buffer in
         flag_given h.code r.known call.place call.stack (slots_of call r.meant) (visible_to own shared s) (owner_kind by.0) function.operands called.args
-        (subst (λ (f : JniFunction). AllZip OperandFits (prototype f).parameters function.operands) by.1 called.asked.kinds)
-        (subst (λ (f : JniFunction). AllZip ActualFits (prototype f).parameters called.args) by.1 called.asked.fit) called.operands
+        (subst (λ (f : JniFunction). AllZip OperandFits (parameters_for f (length called.args)) function.operands) by.1 called.asked.kinds)
+        (subst (λ (f : JniFunction). AllZip ActualFits (parameters_for f (length called.args)) called.args) by.1 called.asked.fit) called.operands
 
     module _ (vs : Variables) (numbers : List ℕ) (buffers : List source_variable.Buffer) (shows : Shown vs numbers buffers) (g : Given) (c : CallResult) where
       abbrev ToldShown : Type 0
@@ -608,7 +611,7 @@ module _ (p : Lowered) (w : World) (store : Store) (pending : Option ℕ) (call 
         let d = subst (λ (a : Answer). IsAnswer w.classes (brought_by (unit_tree p.unit) store call k owner (in_use_with others s) function called.args) store.heap call.locals kind shared s a effect) is does in
         d.1.holds.there ∙ ap (λ (b : HeldBuffer). Some b) (sym d.1.held)
 
-    pub shows_left : (refused : Bool) (after : Store) (g : Given) → is_halt answer ≡ false
+    pub shows_left : (refused : Bool) (after : Store) (g : Given) → is_carried answer ≡ true
         → IsAnswer w.classes (brought_by (unit_tree p.unit) store call k owner (in_use_with others s) function called.args) store.heap call.locals kind shared s answer effect
         → (refused ≡ true → makes_objects effect ≡ true) → ResultAgrees (unit_tree p.unit) w.classes after owner g kind (result_after kind refused effect)
         → ShowsLeft (result_after kind refused effect) (tell_copy (address_given called.args 1) (result_after kind refused effect) (variables_left refused s effect))

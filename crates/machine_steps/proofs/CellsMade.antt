@@ -7,7 +7,7 @@ use Rattle.syntax.specs.Tree.{SourceUnit}
 use Rattle.jni.specs.JniFunction.{JniFunction}
 use Rattle.semantics.specs.Activation.{enter, entry_advance}
 use Rattle.semantics.specs.Arguments.{Actual}
-use Rattle.semantics.specs.CallEffects.{CallEffect, CallResult, Halts, Leaves, Throws}
+use Rattle.semantics.specs.CallEffects.{CallEffect, CallResult, Enters, Halts, Leaves, Throws}
 use Rattle.semantics.specs.CallStep.{after_call, effect_of_call, put, put_assigned}
 use Rattle.semantics.specs.Effect.{Calls}
 use Rattle.semantics.specs.Heap.{Heap}
@@ -24,6 +24,7 @@ use Rattle.machine_steps.specs.Executes.{cells_made}
 abbrev pub IsAsLong : Shared → CallEffect → Type 0
 IsAsLong s (Throws c) = Unit {0}
 IsAsLong s (Halts trap) = Unit {0}
+IsAsLong s (Enters function arguments) = Unit {0}
 IsAsLong s (Leaves made s' t' r) = length s'.heap ≡ length s.heap
 
 -- what comes after as many objects
@@ -46,6 +47,7 @@ module _ (unit : SourceUnit) (classes : Classes) (in_use : BuffersInUse) (k : �
   after_cells (Throws c) long = put_cells shared target _ _ _ ∙ ap sizes (made_after shared shared.heap (fresh_object classes c ∷ []) refl)
   after_cells (Leaves made s' t' c) long = put_cells shared target _ _ _ ∙ ap sizes (made_after shared s'.heap made long)
   after_cells (Halts trap) long = ap sizes (drop-length shared.heap)
+  after_cells (Enters function arguments) long = ap sizes (drop-length shared.heap)
 
   pub call_cells : (effect : CallEffect) → effect_of_call unit classes in_use k shared s line target f args rest ≡ effect → IsAsLong shared effect
       → cells_made shared (after_effect unit classes in_use k shared s rest (Calls line target f args)) ≡ sizes (made_by classes effect)

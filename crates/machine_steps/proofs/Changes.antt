@@ -10,7 +10,7 @@ use Rattle.base.specs.Element.{ElementType}
 use Rattle.class_rules.specs.Fields.{FieldId}
 use Rattle.semantics.specs.Method.{MethodId}
 use Rattle.semantics.specs.Object.{Reference}
-use Rattle.semantics.specs.Sight.{scalar, holds_null, variable_is_null, elements_of, in_range, held_reference, held_field}
+use Rattle.semantics.specs.Sight.{scalar, holds_null, variable_is_null, elements_of, in_range, held_reference, held_field, held_method}
 use Rattle.semantics.specs.Thread as source
 use Rattle.semantics.specs.Thread.{Shared}
 use Rattle.semantics.specs.Value.{Value, Gives, Stuck, outcome_then, convert}
@@ -18,7 +18,7 @@ use Rattle.semantics.specs.Variable as variable
 use Rattle.semantics.specs.Variable.{Variable, Scalar, LocalRef, FieldHandle, MethodHandle, Elements, LocalArray, NoBuffer, Copy, View, Empty, Variables, assign, change}
 use Rattle.semantics.specs.Task.{VariableKind, ScalarKind, ReferenceKind, FieldKind, BufferKind, MethodKind}
 use Rattle.semantics_safety.specs.Owners.{Owners}
-use Rattle.code_meaning.specs.Slots.{visible_to, type_of_array, kind_of_variable, held_buffer, is_no_buffer, OthersStay, IsSet, IsNulled, IsReferred, IsFieldSet, IsBufferSet, IsMade, IsElementSet, held_method, IsMethodSet}
+use Rattle.code_meaning.specs.Slots.{visible_to, type_of_array, kind_of_variable, held_buffer, is_no_buffer, OthersStay, IsSet, IsNulled, IsReferred, IsFieldSet, IsBufferSet, IsMade, IsElementSet, IsMethodSet}
 use Rattle.machine_answers.proofs.SetPlaces.{get_set_same, get_set_other}
 
 -- ---- lists by name

@@ -1,5 +1,5 @@
 -- What the slots show once numbers have gone into a local array.
-use Rattle.std.proofs.Common.{◌≡◌, ◌⊎◌, inl, inr, ℕ, ℤ, zero, suc, ◌+◌, ◌<◌, ◌≤◌, false, List, [], ◌∷◌, length, Option, Some, refl, sym, ap, ◌∙◌, subst, arith}
+use Rattle.std.proofs.Common.{true, ◌≡◌, ◌⊎◌, inl, inr, ℕ, ℤ, zero, suc, ◌+◌, ◌<◌, ◌≤◌, false, List, [], ◌∷◌, length, Option, Some, refl, sym, ap, ◌∙◌, subst, arith}
 use Rattle.std.specs.Prelude.{slice_get, slice_set, nat_le, FitsSigned, if◌then◌else◌}
 use Rattle.std.specs.Int.{w32, cast_unsigned}
 use Rattle.std.specs.List.{AllByRecursion, AllZip}
@@ -27,15 +27,15 @@ use Rattle.semantics.specs.Arguments.{Actual, VariableActual}
 use Rattle.semantics.specs.CallEffects.{CallEffect, begun_with, enter_effect, exit_effect, frames_effect, overwritten, refuses_frames, with_capacity}
 use Rattle.semantics.specs.Sight.{in_range}
 use Rattle.semantics.specs.Thread as source
-use Rattle.semantics.specs.Thread.{Shared, objects_viewed}
+use Rattle.semantics.specs.Thread.{Shared}
 use Rattle.semantics.specs.Variable as source_variable
-use Rattle.semantics.specs.Variable.{Variable, LocalArray, NoBuffer, Variables, assign, change}
+use Rattle.semantics.specs.Variable.{Variable, LocalArray, NoBuffer, assign, change}
 use Rattle.semantics_safety.specs.Owners.{Owners}
 use Rattle.tables.specs.Locals.{LocalTable}
 use Rattle.machine_answers.specs.declared.answer.Answer.{Answer}
 use Rattle.machine_answers.specs.declared.answer.Answer.TheVariants as answers
 use Rattle.machine_scenes.specs.declared.array_region.ArrayRegion.{ArrayRegion}
-use Rattle.machine_answers.specs.Answers.{AreWordsOf, Brought, IsAnswer, IsCopiedOut, IsReleased, array_given, is_halt, named_array}
+use Rattle.machine_answers.specs.Answers.{AreWordsOf, Brought, IsAnswer, IsCopiedOut, IsReleased, array_given, is_carried, named_array}
 use Rattle.machine_scenes.specs.Buffers.{gives_up}
 use Rattle.machine_calls.specs.CarriedOut.{buffers_after, slots_after, variables_left}
 use Rattle.machine_scenes.specs.declared.buffer.Buffer.{Buffer}
@@ -190,7 +190,7 @@ module _ (classes : Classes) (brought : Brought) (space : Space) (locals : Local
   of_exit : (k n : ℕ) (o : Option source.Monitor) → variables_left false s (exit_effect k shared s n o) ≡ s.variables
   of_exit k n o = exit_cases k shared s n (λ (e : CallEffect). variables_left false s e ≡ s.variables) (λ monitors. refl) refl o
 
-  pub kept_or_copied : (answer : Answer) (effect : CallEffect) → is_halt answer ≡ false → IsAnswer classes brought space locals kind shared s answer effect → AreKept answer effect ⊎ (Copied answer effect ⊎ Released answer effect)
+  pub kept_or_copied : (answer : Answer) (effect : CallEffect) → is_carried answer ≡ true → IsAnswer classes brought space locals kind shared s answer effect → AreKept answer effect ⊎ (Copied answer effect ⊎ Released answer effect)
   kept_or_copied (answers.Gives g) effect runs h = inl (ap (variables_left false s) (gives_it classes brought space locals kind shared s g effect h).is, λ numbers. refl, λ buffers. refl, λ buffers. refl)
   kept_or_copied (answers.Writes a place v) effect runs h = inl (ap (variables_left false s) (writes_it classes brought space locals kind shared s a place v effect h).is, λ numbers. refl, λ buffers. refl, λ buffers. refl)
   kept_or_copied (answers.CopiesOut region) effect runs h = inr (inl (record { region = region; is = refl; nothing = h.0; copied = h.1 }))
@@ -200,6 +200,7 @@ module _ (classes : Classes) (brought : Brought) (space : Space) (locals : Local
   kept_or_copied (answers.Raises class place) effect runs h = inl (ap (variables_left false s) h.3, λ numbers. refl, λ buffers. refl, λ buffers. refl)
   kept_or_copied (answers.Pends a g) effect runs h = inl (ap (variables_left false s) h.2.2, λ numbers. refl, λ buffers. refl, λ buffers. refl)
   kept_or_copied (answers.Halts trap) effect runs h = absurd (cc (runs))
+  kept_or_copied answers.Calls effect runs h = absurd (cc (runs))
   kept_or_copied (answers.Ensures more) effect runs h = inl (ap (variables_left false s) h.1 ∙ of_frames (with_capacity more s.frames), λ numbers. refl, λ buffers. refl, λ buffers. refl)
   kept_or_copied (answers.Pushes capacity) effect runs h = inl (ap (variables_left false s) h.1 ∙ of_frames (record { capacity = capacity; references = [] } ∷ s.frames), λ numbers. refl, λ buffers. refl, λ buffers. refl)
   kept_or_copied answers.RefusesFrames effect runs h = inl (ap (variables_left false s) h.1, λ numbers. refl, λ buffers. refl, λ buffers. refl)

@@ -1,15 +1,16 @@
 -- Where a call's result is put when it is a local reference.
-use Rattle.std.proofs.Common.{◌≡◌, Bool, true, false, Option, Some, None, refl, ℕ, List, [], ℤ, pos, negsuc, nat_lt, if◌then◌else◌}
+use Rattle.std.proofs.Common.{◌≡◌, Bool, true, false, Option, Some, None, refl, ℕ, List, [], map, drop, ℤ, pos, negsuc, nat_lt, if◌then◌else◌}
 use Rattle.class_rules.specs.BuiltIns.{array_index_out_of_bounds, no_class_def_found_error}
 use Rattle.class_rules.specs.Class.{Classes, class_named}
-use Rattle.jni.specs.JniFunction.{JniFunction, FindClass, GetSuperclass, GetObjectClass, AllocObject, NewLocalRef, PopLocalFrame, GetObjectField, GetStaticObjectField, NewArray, NewObjectArray, GetObjectArrayElement, NewStringUTF, ExceptionOccurred, prototype}
+use Rattle.jni.specs.JniFunction.{JniFunction, FindClass, GetSuperclass, GetObjectClass, AllocObject, CallStaticObjectMethod, NewLocalRef, PopLocalFrame, GetObjectField, GetStaticObjectField, NewArray, NewObjectArray, GetObjectArrayElement, NewStringUTF, ExceptionOccurred, prototype}
 use Rattle.jni.specs.Prototype.{NewLocal}
 use Rattle.syntax.specs.Tree.{SourceUnit}
-use Rattle.semantics.specs.Arguments.{Actual, number_given, text_given}
-use Rattle.semantics.specs.CallEffects.{Leaves, ReferenceResult, Throws, at_index, found_class_effect, new_array_effect}
+use Rattle.semantics.specs.Arguments.{Actual, method_given, number_given, passed_value, text_given}
+use Rattle.semantics.specs.CallEffects.{Leaves, ReferenceResult, Throws, at_index, found_class_effect, method_effect, new_array_effect}
 use Rattle.semantics.specs.CallStep.{makes_objects}
 use Rattle.semantics.specs.CallTable.{call_effect}
 use Rattle.semantics.specs.Checks.{frames_after}
+use Rattle.semantics.specs.Method.{MethodId}
 use Rattle.semantics.specs.Object.{ObjectValue, Reference}
 use Rattle.semantics.specs.Thread.{BuffersInUse, Shared, Thread}
 use Rattle.machine_calls.specs.CarriedOut.{frames_left}
@@ -61,6 +62,12 @@ module _ (unit : SourceUnit) (classes : Classes) (in_use : BuffersInUse) (k : �
   left_is NewStringUTF n false could = refl
   left_is ExceptionOccurred n true could = refl
   left_is ExceptionOccurred n false could = refl
+  left_is CallStaticObjectMethod n true could = refl
+  left_is CallStaticObjectMethod n false could = of_method (method_given args 1)
+    where
+      of_method : (m : Option MethodId) → frames_left false s (method_effect m (map passed_value (drop 2 args))) ≡ s.frames
+      of_method None = refl
+      of_method (Some m) = refl
   left_is PopLocalFrame n true could = absurd (let e = could refl in cc)
   left_is PopLocalFrame n false could = refl
   left_is f n refused could = absurd (cc)

@@ -235,7 +235,7 @@ module _ (p : Lowered) (classes : Classes) (space : Space) (copies : List (Optio
 -- ---- what an instruction did
 
 module _ (p : Lowered) (w : World) (store : Store) (others : Acquired) (k owner : ℕ) (own : Owners) (shared : Shared) (s : source.Thread) (shares : StoreAgrees p w store shared (beside others (acquired_by s))) (pending : Option ℕ) (pends : ReferenceAgrees store.heap pending s.pending) (call : Activation) (code : Listing) (task : Task) (rest : List Task)
-    (r : Ready p w.classes store.heap store.elements owner call code (visible_to own shared s) s.frames task rest) (tasks_are : s.tasks ≡ Some (task ∷ rest)) (views : AreViewed store.heap call.slots.buffers.items s) (steady : IsSteady w.classes own shared s) (i : Instr) (at : slice_get code.instrs call.place ≡ Some i) where
+    (r : Ready p w.classes store.heap store.elements owner call code (visible_to own shared s) s.frames task rest) (tasks_are : s.tasks ≡ Some (task ∷ rest)) (views : AreViewed store.heap call.slots.buffers.items s) (steady : IsSteady (unit_tree p.unit) w.classes own shared s) (i : Instr) (at : slice_get code.instrs call.place ≡ Some i) where
   abbrev classes : Classes
   classes = w.classes
 

@@ -11,6 +11,7 @@ use Rattle.std.proofs.lemmas.Option.{slice_get-get_or, slice_get-map}
 use Rattle.base.specs.Bytes.{Identifier, lookup}
 use Rattle.class_rules.specs.Class.{Classes}
 use Rattle.heap.specs.Heap.{Space, name_at, values_at, with_value}
+use Rattle.syntax.specs.Views.{unit_tree}
 use Rattle.heap.specs.declared.value.Value.TheVariants.{Number as Word}
 use Rattle.base.specs.declared.element.ElementType.{ElementType as ElementOfCode}
 use Rattle.code.specs.declared.instr.Instr.{Instr}
@@ -30,7 +31,7 @@ use Rattle.semantics.specs.ThreadStep.{with_tasks, set_element}
 use Rattle.semantics.specs.Value.{Trap, convert}
 use Rattle.semantics.specs.Value as value
 use Rattle.semantics.specs.Variable as variable
-use Rattle.semantics.specs.Variable.{Variable, Elements, NoBuffer, Copy, View, assign}
+use Rattle.semantics.specs.Variable.{Elements, NoBuffer, Copy, View, assign}
 use Rattle.semantics.specs.World.{World}
 use Rattle.semantics_safety.specs.Owners.{Owners}
 use Rattle.tables.specs.Elements.{OwnedNumbers, lengths, owned, with_number, written}
@@ -147,7 +148,7 @@ written_store p w store shared all k key zs place z there h = record {
 -- ---- steps
 
 module _ (p : Lowered) (w : World) (store : Store) (others : Acquired) (k owner : ℕ) (own : Owners) (shared : Shared) (s : source.Thread) (shares : StoreAgrees p w store shared (beside others (acquired_by s))) (pending : Option ℕ) (pends : ReferenceAgrees store.heap pending s.pending) (call : Activation) (code : Listing) (task : Task) (rest : List Task)
-    (r : Ready p w.classes store.heap store.elements owner call code (visible_to own shared s) s.frames task rest) (tasks_are : s.tasks ≡ Some (task ∷ rest)) (views : AreViewed store.heap call.slots.buffers.items s) (steady : IsSteady w.classes own shared s) (i : Instr) (at : slice_get code.instrs call.place ≡ Some i) where
+    (r : Ready p w.classes store.heap store.elements owner call code (visible_to own shared s) s.frames task rest) (tasks_are : s.tasks ≡ Some (task ∷ rest)) (views : AreViewed store.heap call.slots.buffers.items s) (steady : IsSteady (unit_tree p.unit) w.classes own shared s) (i : Instr) (at : slice_get code.instrs call.place ≡ Some i) where
   abbrev classes : Classes
   classes = w.classes
 

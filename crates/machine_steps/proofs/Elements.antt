@@ -86,7 +86,7 @@ sets_what_is_there sight (SetElement line x i e) =
     (λ v. of_value sight line (element_effect sight line x v) (SetElement line x (Done v)) e (of_element sight line x v))
 sets_what_is_there sight (SetNull target) = tt
 sets_what_is_there sight (MakeArray type x n) = tt
-sets_what_is_there sight (Invoke line target f operands) = of_call sight line target f operands (is_ready operands)
+sets_what_is_there sight (Invoke line target f operands) = of_call sight line target f operands (is_ready sight.number operands)
 sets_what_is_there sight (Print line t) = of_value sight line print_effect (Print line) t (of_print sight line)
 sets_what_is_there sight (Branch line t then' else') = of_value sight line (branch_effect then' else') (λ u. Branch line u then' else') t (of_branch sight line then' else')
 sets_what_is_there sight EndIf = tt

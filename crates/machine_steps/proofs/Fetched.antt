@@ -52,6 +52,7 @@ pub at_call : (p : Lowered) (w : World) (store : Store) (pending : Option ℕ) (
     → IsExecuting p w store call pending others k owner own shared s task rest → AtCall p w store pending call function others k owner own shared s task rest
 at_call p w store pending call i f function is others k owner own shared s task rest e = record {
   lowered = f.lowered;
+  depth = e.depth;
   tasks = e.tasks;
   shares = e.store_agrees;
   pending_agrees = e.pending_agrees;

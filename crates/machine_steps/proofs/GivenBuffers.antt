@@ -9,12 +9,12 @@ use Rattle.std.proofs.lemmas.Bool.{leb-true}
 use Rattle.std.proofs.lemmas.Slice.Eq.{bytes_eq-Decides}
 use Rattle.class_rules.specs.Class.{Classes}
 use Rattle.heap.specs.Heap.{Space}
-use Rattle.jni.specs.JniFunction.{JniFunction, GetBuffer, prototype}
+use Rattle.jni.specs.JniFunction.{JniFunction, GetBuffer, parameters_for, prototype}
 use Rattle.jni.specs.Access.{Access}
 use Rattle.jni.specs.Prototype.{ParameterKind, ArrayVariable, BufferVariable, IsCopy, owner, ResultKind, NewLocal, NewGlobal, NewWeak, GivesInt, GivesNothing, GivesBuffer}
 use Rattle.base.specs.Bytes.{Identifier, lookup}
 use Rattle.semantics.specs.Arguments.{Actual, address_given, address_in_actual}
-use Rattle.semantics.specs.CallEffects.{CallEffect, CallResult, Halts, NoResult, NullResult, BufferResult, Throws, copy_effect, view_effect}
+use Rattle.semantics.specs.CallEffects.{CallEffect, CallResult, Enters, Halts, NoResult, NullResult, BufferResult, Throws, copy_effect, view_effect}
 use Rattle.semantics.specs.CallStep.{tell_copy}
 use Rattle.semantics.specs.Heap.{numbers_of}
 use Rattle.semantics.specs.Task.{ScalarKind}
@@ -22,7 +22,7 @@ use Rattle.semantics.specs.Thread as source
 use Rattle.semantics.specs.Thread.{Shared}
 use Rattle.semantics.specs.Value.{Value, Flag}
 use Rattle.semantics.specs.Variable as variable
-use Rattle.semantics.specs.Variable.{Variable, Variables, Scalar, Elements, NoBuffer, Copy, View, assign}
+use Rattle.semantics.specs.Variable.{Variables, Scalar, Elements, NoBuffer, Copy, View, assign}
 use Rattle.semantics_safety.specs.StepSafe.{HoldsNoBuffer}
 use Rattle.code.specs.Depth.{Listing}
 use Rattle.code.specs.declared.instr.Operand.{Operand}
@@ -104,11 +104,14 @@ module _ (code : Listing) (known : Known) (place : ℕ) (stack : List ℕ) (slot
       subst (λ (x : Identifier). kind_of_variable (lookup x s.variables) ≡ Some ScalarKind) same shown.kind
   one_told operand.Null a kind (inl h) z is = absurd (let clash : None ≡ Some z = sym (ap (λ (b : Actual). address_in_actual (Some b)) h.1) ∙ is in cc)
   one_told operand.Null a kind (inr (inl h)) z is = absurd (let clash : None ≡ Some z = sym (ap (λ (b : Actual). address_in_actual (Some b)) h) ∙ is in cc)
-  one_told operand.Null a kind (inr (inr h)) z is = absurd (let clash : None ≡ Some z = sym (ap (λ (b : Actual). address_in_actual (Some b)) h) ∙ is in cc)
+  one_told operand.Null a kind (inr (inr (inl h))) z is = absurd (let clash : None ≡ Some z = sym (ap (λ (b : Actual). address_in_actual (Some b)) h) ∙ is in cc)
+  one_told operand.Null a kind (inr (inr (inr h))) z is = absurd (let clash : None ≡ Some z = sym (ap (λ (b : Actual). address_in_actual (Some b)) h) ∙ is in cc)
   one_told (operand.Local i) a kind h z is = absurd kind
   one_told (operand.Static i) a kind h z is = absurd kind
-  one_told operand.Number a kind h z is = absurd (cc (kind))
+  one_told operand.Number a (inl kind) h z is = absurd (cc (kind))
+  one_told operand.Number a (inr kind) h z is = absurd (cc (kind))
   one_told (operand.FieldId i) a kind h z is = absurd (cc (kind))
+  one_told (operand.MethodId i) a kind h z is = absurd (cc (kind))
   one_told operand.Text a kind h z is = absurd (cc (kind))
   one_told (operand.Array array) a kind h z is = absurd (let clash : IsCopy ≡ ArrayVariable kind.0 = kind.1 in cc)
   one_told (operand.Buffer i) a kind h z is = absurd (let clash : IsCopy ≡ BufferVariable kind.0 = kind.1 in cc)
@@ -121,9 +124,9 @@ module _ (code : Listing) (known : Known) (place : ℕ) (stack : List ℕ) (slot
   two_told p (o ∷ q ∷ operands) (a ∷ []) kinds h = absurd h.1
   two_told p (o ∷ q ∷ operands) (a ∷ b ∷ args) kinds h = one_told q b kinds.1.0 h.1.0
 
-  pub told_number : (f : JniFunction) (operands : List Operand) (args : List Actual) → IsBufferResult (prototype f).result → AllZip OperandFits (prototype f).parameters operands → AllZip (IsOperand code known place stack slots (visible_to own shared s)) operands args → IsTellable (address_given args 1)
-  told_number (GetBuffer access) operands args b kinds h = two_told (owner access) operands args kinds h
-  told_number f operands args b kinds h = absurd (let clash : (prototype f).result ≡ GivesBuffer b.0 = b.1 in cc)
+  pub told_number : (f : JniFunction) (n : ℕ) (operands : List Operand) (args : List Actual) → IsBufferResult (prototype f).result → AllZip OperandFits (parameters_for f n) operands → AllZip (IsOperand code known place stack slots (visible_to own shared s)) operands args → IsTellable (address_given args 1)
+  told_number (GetBuffer access) n operands args b kinds h = two_told (owner access) operands args kinds h
+  told_number f n operands args b kinds h = absurd (let clash : (prototype f).result ≡ GivesBuffer b.0 = b.1 in cc)
 
 -- ---- a buffer that is given
 
@@ -164,6 +167,7 @@ module _ (classes : Classes) (brought : Brought) (space : Space) (locals : Local
   small_answer (answers.Raises class place) h gave = absurd (let clash : GivesBuffer access ≡ GivesInt = h.0 in cc)
   small_answer (answers.Pends a g) h gave = absurd h.2.1
   small_answer (answers.Halts trap) h gave = absurd (let clash : NoResult ≡ BufferResult b = of_effect (Halts (trap_view trap)) h gave in cc)
+  small_answer answers.Calls h gave = absurd (let clash : NoResult ≡ BufferResult b = of_effect (Enters h.0 h.1) h.2 gave in cc)
   small_answer (answers.Ensures more) h gave = absurd (let clash : GivesBuffer access ≡ GivesInt = h.0 in cc)
   small_answer (answers.Pushes capacity) h gave = absurd (let clash : GivesBuffer access ≡ GivesInt = h.0 in cc)
   small_answer answers.RefusesFrames h gave = absurd (let clash : GivesBuffer access ≡ GivesInt = h.0 in cc)

@@ -31,6 +31,8 @@ pub mod CallsLeft
 pub mod OwnersLeft
 pub mod CarriedSlots
 pub mod AnsweredCalls
+pub mod MethodCalls
+pub mod CalledMethods
 pub mod GivenBuffers
 pub mod CallInstructions
 pub mod MonitorCalls
@@ -38,3 +40,4 @@ pub mod EntryKeys
 pub mod Threads
 pub mod Entries
 pub mod Returns
+pub mod Pushes

@@ -11,7 +11,7 @@ use Rattle.semantics.specs.CallEffects.{CallEffect}
 use Rattle.semantics.specs.Thread.{Shared, Thread}
 use Rattle.semantics.specs.World.{World}
 use Rattle.tables.specs.Locals.{LocalTable}
-use Rattle.machine_answers.specs.Answers.{Brought, IsAnswer, is_halt}
+use Rattle.machine_answers.specs.Answers.{Brought, IsAnswer, is_carried}
 use Rattle.machine_answers.specs.declared.answer.Answer.{Answer}
 use Rattle.machine_answers.specs.declared.answer.Answer.TheVariants as answer
 use Rattle.machine_answers.specs.declared.answer.Given.TheVariants as given
@@ -25,9 +25,10 @@ use Rattle.machine_scenes.specs.declared.store.Store.{Store}
 use Rattle.machine_steps.specs.MonitorCalls.{Changes, changes_monitor}
 use Rattle.machine_steps.specs.Received.{statics_with}
 
--- it doesn't stop the machine
-pub goes_on : (a : Answer) → changes_monitor a ≡ true → is_halt a ≡ false
+-- it is carried out
+pub goes_on : (a : Answer) → changes_monitor a ≡ true → is_carried a ≡ true
 goes_on (answer.Halts trap) is = absurd (let clash : false ≡ true = is in cc)
+goes_on answer.Calls is = absurd (let clash : false ≡ true = is in cc)
 goes_on a is = refl
 
 -- it makes nothing

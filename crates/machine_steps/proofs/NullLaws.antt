@@ -13,7 +13,7 @@ use Rattle.code.specs.declared.instr.NullableVariable.{NullableVariable}
 use Rattle.code.specs.declared.instr.NullableVariable.TheVariants as nullable
 use Rattle.semantics.specs.CallEffects.{NullResult}
 use Rattle.semantics.specs.CallStep.{filled, put, put_assigned}
-use Rattle.semantics.specs.Sight.{holds_null, static_is_null, held_reference, held_field, scalar}
+use Rattle.semantics.specs.Sight.{holds_null, static_is_null, held_reference, held_field, held_method, scalar}
 use Rattle.semantics.specs.Task.{VariableKind, Task, Target, ScalarKind, ReferenceKind, FieldKind, BufferKind, Declared, Assigned, Tested, Dropped, MethodKind}
 use Rattle.semantics.specs.Thread as source
 use Rattle.semantics.specs.Thread.{Shared}
@@ -23,7 +23,7 @@ use Rattle.semantics.specs.Variable.{Buffer, Variable, Scalar, LocalRef, FieldHa
 use Rattle.semantics_safety.specs.Owners.{Owners, is_target}
 use Rattle.semantics_safety.specs.StepSafe.{HoldsNoBuffer}
 use Rattle.code_meaning.specs.Slots as lower
-use Rattle.code_meaning.specs.Slots.{Slots, Visible, visible_to, held_buffer, kind_of_variable, nulled_statics, type_of_array, IsNulled, held_method}
+use Rattle.code_meaning.specs.Slots.{Slots, Visible, visible_to, held_buffer, kind_of_variable, nulled_statics, type_of_array, IsNulled}
 use Rattle.code_meaning.specs.Stands.{target_name}
 use Rattle.code_meaning.specs.Does.{CanBeNull, kind_of_target}
 use Rattle.code_meaning.specs.Layout.{Known}

@@ -1,5 +1,5 @@
 -- The local references that a call is given are its variables' own.
-use Rattle.std.proofs.Common.{◌≡◌, ℕ, ℤ, Bool, true, false, List, [], ◌∷◌, ◌++◌, map, zip, Option, Some, None, refl, sym, ap, ◌∙◌, subst, if◌then◌else◌}
+use Rattle.std.proofs.Common.{inl, inr, ◌≡◌, ℕ, ℤ, Bool, true, false, List, [], ◌∷◌, ◌++◌, length, map, zip, Option, Some, None, refl, sym, ap, ◌∙◌, subst, if◌then◌else◌}
 use Rattle.std.specs.Prelude.{flat_map, slice_get}
 use Rattle.std.specs.List.{AllByRecursion, AllZip}
 use Rattle.base.specs.Bytes.{Identifier, lookup}
@@ -9,17 +9,17 @@ use Rattle.syntax.specs.Tree.{Expr}
 use Rattle.class_rules.specs.Class.{Classes}
 use Rattle.tables.specs.Elements.{OwnedNumbers}
 use Rattle.heap.specs.Heap.{Space}
-use Rattle.jni.specs.JniFunction.{JniFunction, prototype}
-use Rattle.jni.specs.Prototype.{ParameterKind, FieldID, IntNumber, TextBytes, LocalVariable, ArrayVariable, BufferVariable, Mode, IsCopy}
+use Rattle.jni.specs.JniFunction.{JniFunction, parameters_for}
+use Rattle.jni.specs.Prototype.{ParameterKind, FieldID, MethodID, IntNumber, Passed, TextBytes, LocalVariable, ArrayVariable, BufferVariable, Mode, IsCopy}
 use Rattle.type_rules.specs.Sorts.{Ref}
 use Rattle.semantics_safety.specs.Owners.{Owners, IsOwn}
 use Rattle.semantics_safety.specs.Used.{operand_names, task_names}
-use Rattle.semantics.specs.Arguments.{Actual, ReferenceActual, actuals, field_argument, look_up, look_up_expression, reference_argument, reference_given, reference_in_actual, variable_given}
+use Rattle.semantics.specs.Arguments.{Actual, ReferenceActual, actuals, field_argument, method_argument, look_up, look_up_expression, reference_argument, reference_given, reference_in_actual, variable_given}
 use Rattle.semantics.specs.CallEffects.{ScalarResult, level_of}
 use Rattle.semantics.specs.Effect.{Effect, Becomes, Sets, SetsElement, Returns, Calls, effect_of, at_line, with_value, call_effect_of, element_effect, is_ready, print_effect, branch_effect, loop_effect, return_effect, returned_name, reduce_first}
 use Rattle.semantics.specs.Object.{Reference}
 use Rattle.semantics.specs.Sight.{Sight, held_reference}
-use Rattle.semantics.specs.Task.{Task, Target, Operand, NumberOperand, Given, SetScalar, SetElement, Invoke, Print, Branch, Loop, ReturnValue}
+use Rattle.semantics.specs.Task.{Task, Target, Operand, NumberOperand, PassedName, Given, SetScalar, SetElement, Invoke, Print, Branch, Loop, ReturnValue}
 use Rattle.semantics.specs.Term as term
 use Rattle.semantics.specs.Term.{Term, Done, Read, index_of, reduce}
 use Rattle.semantics.specs.Thread.{Shared, Thread, sight_of}
@@ -75,6 +75,7 @@ module _ (line : ℕ) where
 pub record IsInvoke (sight : Sight) (task : Task) (line : ℕ) (target : Target) (f : JniFunction) (args : List Actual) : Type 0 where
   pub operands : List Operand
   pub is : task ≡ Invoke line target f operands
+  pub ready : is_ready sight.number operands ≡ true
   pub given : args ≡ actuals sight f operands
 
 clash : {A : Type 0} (e : Effect) (line : ℕ) (target : Target) (f : JniFunction) (args : List Actual) → is_call e ≡ false → e ≡ Calls line target f args → A
@@ -106,16 +107,16 @@ called sight (Loop l test t body) line target f args is =
     by_value (Truth false) = refl
     by_value v = refl
 called sight (ReturnValue l t) line target f args is = clash (return_effect sight l t) line target f args (quiet_return l sight t) is
-called sight (Invoke l to g operands) line target f args is = by_ready (is_ready operands) refl
+called sight (Invoke l to g operands) line target f args is = by_ready (is_ready sight.number operands) refl
   where
-    by_ready : (b : Bool) → is_ready operands ≡ b → IsInvoke sight (Invoke l to g operands) line target f args
+    by_ready : (b : Bool) → is_ready sight.number operands ≡ b → IsInvoke sight (Invoke l to g operands) line target f args
     by_ready true e =
         let same : Calls l to g (actuals sight g operands) ≡ Calls line target f args = cc (e, is) in
         let at : l ≡ line = cc in
         let goes : to ≡ target = cc in
         let of : g ≡ f = cc in
         let with' : actuals sight g operands ≡ args = cc in
-        record { operands = operands; is = cc (at, goes, of); given = sym with' ∙ ap (λ (h : JniFunction). actuals sight h operands) of }
+        record { operands = operands; is = cc (at, goes, of); ready = e; given = sym with' ∙ ap (λ (h : JniFunction). actuals sight h operands) of }
     by_ready false e =
         clash (call_effect_of sight l to g operands) line target f args
         (subst (λ (b : Bool). is_call (if b then Calls l to g (actuals sight g operands) else at_line l (λ (os : List Operand). Becomes (Invoke l to g os ∷ [])) (reduce_first sight operands)) ≡ false) (sym e) (quiet_line l (λ (os : List Operand). Becomes (Invoke l to g os ∷ [])) (reduce_first sight operands) (λ os. refl))) is
@@ -132,23 +133,29 @@ module _ (own : Owners) (vs : Variables) (sight : Sight) where
   abbrev AreOwn : List Identifier → Type 0
   AreOwn names = AllByRecursion (λ x. IsOwn own x (lookup x vs)) names
 
+  -- what a name refers to
+  name_own : (x : Identifier) (r : StaticReference) → IsOwn own x (lookup x vs) → IsArgumentOwn own vs (ReferenceActual x r)
+  name_own x (Live n) h = h
+  name_own x Empty h = tt
+  name_own x (Weakly n) h = tt
+  name_own x Cleared h = tt
+  name_own x Deleted h = tt
+
   reference_own : (e : Expr) → AreOwn (names_in e) → IsArgumentOwn own vs (reference_argument sight e)
-  reference_own (tree.Variable x) h = by_reference (sight.reference x)
-    where
-      by_reference : (r : StaticReference) → IsArgumentOwn own vs (ReferenceActual x r)
-      by_reference (Live n) = h.0
-      by_reference Empty = tt
-      by_reference (Weakly n) = tt
-      by_reference Cleared = tt
-      by_reference Deleted = tt
+  reference_own (tree.Variable x) h = name_own x (sight.reference x) h.0
   reference_own e h = tt
 
   field_own : (e : Expr) → IsArgumentOwn own vs (field_argument sight e)
   field_own (tree.Variable x) = tt
   field_own e = tt
 
+  method_own : (e : Expr) → IsArgumentOwn own vs (method_argument sight e)
+  method_own (tree.Variable x) = tt
+  method_own e = tt
+
   value_own : (p : ParameterKind) (e : Expr) → AreOwn (names_in e) → IsArgumentOwn own vs (look_up_expression sight p e)
   value_own FieldID e h = field_own e
+  value_own MethodID e h = method_own e
   value_own (ArrayVariable t) e h = tt
   value_own (BufferVariable access) e h = tt
   value_own Mode e h = tt
@@ -158,6 +165,7 @@ module _ (own : Owners) (vs : Variables) (sight : Sight) where
   argument_own : (p : ParameterKind) (o : Operand) → AreOwn (operand_names o) → IsArgumentOwn own vs (look_up sight (p, o))
   argument_own p (NumberOperand (Done (Int z))) h = tt
   argument_own p (NumberOperand t) h = tt
+  argument_own p (PassedName x) h = name_own x (sight.reference x) h.0
   argument_own p (Given (tree.Text bytes)) h = tt
   argument_own p (Given (tree.AddressOf x)) h = tt
   argument_own p (Given (tree.Value e)) h = value_own p e h
@@ -181,7 +189,7 @@ given_own : (own : Owners) (vs : Variables) (sight : Sight) (task : Task) (line 
 given_own own vs sight task line target f args is h =
     let invoke = called sight task line target f args is in
     subst (AllByRecursion (IsArgumentOwn own vs)) (sym invoke.given)
-    (arguments_own own vs sight (prototype f).parameters invoke.operands (subst (λ (t : Task). AllByRecursion (λ x. IsOwn own x (lookup x vs)) (task_names t)) invoke.is h))
+    (arguments_own own vs sight (parameters_for f (length invoke.operands)) invoke.operands (subst (λ (t : Task). AllByRecursion (λ x. IsOwn own x (lookup x vs)) (task_names t)) invoke.is h))
 
 -- ---- operands
 
@@ -265,8 +273,10 @@ module _ (p : Lowered) (classes : Classes) (space : Space) (copies : List (Optio
       }
   named_key operand.Null a fits h owned = absurd fits
   named_key (operand.Static i) a fits h owned = absurd fits
-  named_key operand.Number a fits h owned = absurd (let e : LocalVariable ≡ IntNumber = fits in cc)
+  named_key operand.Number a (inl fits) h owned = absurd (let e : LocalVariable ≡ IntNumber = fits in cc)
+  named_key operand.Number a (inr fits) h owned = absurd (let e : LocalVariable ≡ Passed = fits in cc)
   named_key (operand.FieldId i) a fits h owned = absurd (let e : LocalVariable ≡ FieldID = fits in cc)
+  named_key (operand.MethodId i) a fits h owned = absurd (let e : LocalVariable ≡ MethodID = fits in cc)
   named_key operand.Text a fits h owned = absurd (let e : LocalVariable ≡ TextBytes = fits in cc)
   named_key (operand.Array array) a fits h owned = absurd (let e : LocalVariable ≡ ArrayVariable fits.0 = fits.1 in cc)
   named_key (operand.Buffer i) a fits h owned = absurd (let e : LocalVariable ≡ BufferVariable fits.0 = fits.1 in cc)

@@ -33,7 +33,6 @@ use Rattle.semantics.specs.Term.{Term, Done, Read, index_of, reduce}
 use Rattle.semantics.specs.Thread.{Shared, Thread, sight_of}
 use Rattle.semantics.specs.Value.{Value, Word, Int, Flag, Truth, Outcome, Gives, Traps, Stuck}
 use Rattle.semantics.specs.Variable.{StaticReference, Empty, Live, Weakly, Cleared, Deleted, Variables, as_reference, as_static}
-use Rattle.semantics_safety.proofs.CallLaws.{IsNoReturn}
 use Rattle.semantics_safety.specs.Owners.{Owners, IsOwn}
 use Rattle.semantics_safety.specs.Used.{task_names}
 use Rattle.tables.specs.Elements.{OwnedNumbers}
@@ -41,6 +40,11 @@ use Rattle.type_rules.specs.Sorts as sort
 use Rattle.type_rules.specs.Sorts.{Jint, Ref}
 
 -- ---- which tasks return
+
+-- an effect is no return
+abbrev IsNoReturn : Effect → Type 0
+IsNoReturn (Returns given) = ⊥
+IsNoReturn other = Unit {0}
 
 module _ (line : ℕ) where
   stays_line : {A : Type 0} (use_value : A → Effect) (o : Outcome A) → ((a : A) → IsNoReturn (use_value a)) → IsNoReturn (at_line line use_value o)
@@ -74,7 +78,7 @@ stays_loop line test body (Truth false) = tt
 stays_loop line test body v = tt
 
 stays_call : (sight : Sight) (line : ℕ) (target : Target) (f : JniFunction) (operands : List Operand) → IsNoReturn (call_effect_of sight line target f operands)
-stays_call sight line target f operands = by_test (is_ready operands)
+stays_call sight line target f operands = by_test (is_ready sight.number operands)
   where
     by_test : (b : Bool) → IsNoReturn (if b then Calls line target f (actuals sight f operands) else goes_on line (Invoke line target f) (reduce_first sight operands))
     by_test true = tt

@@ -1,5 +1,5 @@
 -- A return into a caller is that of the source's thread.
-use Rattle.std.proofs.Common.{◌≡◌, ℕ, ◌+◌, ◌≤◌, Bool, false, List, [], ◌∷◌, ◌++◌, length, length-append, reverse, Option, Some, None, refl, sym, ap, ◌∙◌, subst, arith}
+use Rattle.std.proofs.Common.{◌≡◌, ℕ, ◌+◌, ◌<◌, ◌≤◌, Bool, false, List, [], ◌∷◌, ◌++◌, length, length-append, reverse, Option, Some, None, refl, sym, ap, ◌∙◌, subst, arith}
 use Rattle.std.specs.Prelude.{flat_map, sum_by, slice_get}
 use Rattle.std.proofs.lemmas.List.{length-reverse}
 use Rattle.std.proofs.lemmas.List.Concat.{flat_map-cons}
@@ -16,7 +16,7 @@ use Rattle.semantics.specs.CallStep.{is_zero, put, received, tell_copy}
 use Rattle.semantics.specs.Effect.{Effect, Returns, effect_of, tasks_after}
 use Rattle.semantics.specs.Object.{Reference}
 use Rattle.semantics.specs.Return as activation
-use Rattle.semantics.specs.Return.{resumed_in, return_by, return_into}
+use Rattle.semantics.specs.Return.{resumed_in, return_by}
 use Rattle.semantics.specs.Task.{Task, Invoke, Target, Declared, Assigned, Tested, Dropped}
 use Rattle.semantics.specs.Thread as source
 use Rattle.semantics.specs.Thread.{Shared, lengths_copied, objects_viewed, sight_of}
@@ -25,8 +25,7 @@ use Rattle.semantics.specs.Value.{Int}
 use Rattle.semantics.specs.Variable.{Variables}
 use Rattle.semantics.specs.World.{World, loaded_objects}
 use Rattle.semantics_safety.specs.Owners.{Owners, ThreadOwners, after_return, after_step, after_tasks, with_result}
-use Rattle.semantics_safety.specs.Stands.{IsMethodResult}
-use Rattle.semantics_safety.specs.StepSafe.{MayReturn}
+use Rattle.semantics_safety.specs.StepSafe.{IsMethodResult, IsResumable, MayReturn}
 use Rattle.code.specs.Call.{Call}
 use Rattle.code.specs.Depth.{Listing}
 use Rattle.code.specs.declared.instr.Target.{Target as Destination}
@@ -54,7 +53,7 @@ use Rattle.machine_threads.specs.ThreadAgrees.{ThreadAgrees}
 use Rattle.machine_threads.specs.declared.thread.Thread.{Thread}
 use Rattle.semantics.specs.declared.event.Event.TheVariants as event
 use Rattle.machine_steps.specs.Advances.{Advances}
-use Rattle.machine_steps.specs.Executes.{IsResumable, in_use_with}
+use Rattle.machine_steps.specs.Executes.{in_use_with}
 use Rattle.machine_steps.specs.Received.{HasRoom, HasStatic, HasTarget, Receives, statics_with}
 use Rattle.machine_steps.specs.Resumed.{HasCalled, Resumes}
 use Rattle.machine_steps.specs.Returned.{ReturnAgrees, given_back}
@@ -69,6 +68,7 @@ use Rattle.machine_steps.proofs.Invocations.{Finishes, finishes, going, nothing_
 use Rattle.machine_steps.proofs.KeptCallers.{callers_stay, others_below}
 use Rattle.machine_steps.proofs.Receives.{IsNoBuffer, frames_received, nothing_told, received_is}
 use Rattle.machine_steps.proofs.SlotBuffers.{elements_fit}
+use Rattle.machine_steps.proofs.Threads.{calls_of_world, calls_to_come, none_due, still_due}
 
 -- ---- what a caller is given
 
@@ -332,13 +332,24 @@ module _ (p : Lowered) (w : World) (old : Store) (others : Acquired) (k : ℕ) (
       abbrev resumed : Thread
       resumed = record t { call = Some d.call; callers = d.callers; pending = pending }
 
+      none : t.entering ≡ None
+      none = none_due t.entering s.tasks s.callers (task ∷ rest) h.due tasks
+
       agrees_now : ThreadAgrees p w.classes final.heap final.elements (length (loaded_objects w)) k now ends.now resumed next
       agrees_now = record {
-        calls = h.calls;
+        calls =
+            calls_to_come p w.classes final.heap (length (loaded_objects w)) t.entering t.calls.items s.calls none
+            (calls_of_world p w.classes old.heap (length (loaded_objects w)) t.entering t.calls.items s.calls none h.calls);
+        due = still_due t.entering next.tasks next.callers none (λ b. cc);
         work = ends.stands;
         callers = subst (λ (l : List Activation). CallersAgree p w.classes old.heap old.elements k ends.now l first.owners first.below) (sym (ap reverse d.left))
             (callers_stay p w.classes owner old.heap old.heap old.elements old.elements shared ends.now ends.keeps (λ key x at other. at) k calls first.owners first.below (λ b less. others_below k b (length first.below) less) first.rest);
-        few = let before = h.few in let one = ap length last ∙ length-append below (caller ∷ []) in let now = ap length d.left in omega (arith, before, one, now);
+        few =
+            let before : length t.callers.items < 64 = h.few in
+            let one = ap length last ∙ length-append below (caller ∷ []) in
+            let now = ap length d.left in
+            let less : length d.callers.items < 64 = omega (arith, before, one, now) in
+            less;
         pending = pends;
         ending = h.ending;
         busy = λ a b e. cc;

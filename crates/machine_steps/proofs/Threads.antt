@@ -1,22 +1,27 @@
 -- A thread's step is that of the source's thread.
-use Rattle.std.proofs.Common.{arith, ◌≡◌, ℕ, Bool, true, false, List, [], ◌∷◌, length, reverse, cond, eqb, Option, Some, None, refl, sym, ap, ◌∙◌, subst, ⊎_elim}
+use Rattle.std.proofs.Common.{arith, ◌≡◌, ◌<◌, ℕ, ℤ, Bool, true, false, List, [], ◌∷◌, length, map, drop, reverse, cond, eqb, Option, Some, None, refl, sym, ap, ◌∙◌, subst}
 use Rattle.std.specs.Prelude.{find}
 use Rattle.std.specs.Option.{option_map, option_map_or, option_and_then}
 use Rattle.syntax.specs.Tree.{SourceUnit}
 use Rattle.syntax.specs.Views.{unit_tree}
 use Rattle.class_rules.specs.Class.{Classes}
 use Rattle.heap.specs.Heap.{Block, Space, class_at}
-use Rattle.semantics.specs.Object.{Object, Reference}
+use Rattle.jni.specs.JniFunction.{JniFunction, CallStaticVoidMethod, CallStaticIntMethod, CallStaticObjectMethod, calls_method}
+use Rattle.semantics.specs.Method.{MethodId}
+use Rattle.semantics.specs.Object.{Object, ObjectValue, Reference}
 use Rattle.semantics.specs.World.{Invocation, World, loaded_objects}
 use Rattle.semantics.specs.Heap.{Heap, class_of}
-use Rattle.semantics.specs.CallEffects.{CallResult}
+use Rattle.semantics.specs.Arguments.{Actual, method_given, passed_value}
+use Rattle.semantics.specs.CallEffects.{CallEffect, CallResult, Enters, Halts, Leaves, Throws, method_effect}
 use Rattle.semantics.specs.Return.{given_back, return_by, return_step, resumed_in, monitors_after}
 use Rattle.semantics.specs.Return as activation
-use Rattle.semantics.specs.CallStep.{received}
+use Rattle.semantics.specs.CallStep.{after_call as after_effect_of_call, after_refusal, checked, effect_of_call, makes_objects, received, trap_of_call}
+use Rattle.semantics.specs.CallTable.{call_effect}
 use Rattle.semantics.specs.Effect.{Effect, Calls, Returns, effect_of}
-use Rattle.semantics.specs.Task.{Task}
+use Rattle.semantics.specs.Task.{Target, Task}
 use Rattle.semantics.specs.Thread as source
 use Rattle.semantics.specs.Thread.{BuffersInUse, Shared, sight_of}
+use Rattle.semantics.specs.Value.{Trap}
 use Rattle.semantics.specs.Variable.{Variables}
 use Rattle.semantics.specs.ThreadStep.{thread_step, step_within, after_effect}
 use Rattle.code_meaning.specs.Slots.{Visible, visible_to}
@@ -28,19 +33,19 @@ use Rattle.tables.specs.Elements.{OwnedNumbers}
 use Rattle.tables.specs.Keys.{value_at}
 use Rattle.machine_scenes.specs.Buffers.{Acquired, AreViewed, acquired_by, beside}
 use Rattle.semantics_safety.specs.StepSafe.{MayReturn}
-use Rattle.semantics_safety.proofs.CallLaws.{IsNoReturn, returns_or_not}
 use Rattle.semantics_safety.proofs.KeptCalls.{Held, KeepsCalls, put_keeps, received_calls}
 use Rattle.semantics.specs.declared.event.Ending.{Ending}
 use Rattle.semantics.specs.declared.event.Ending.TheVariants.{Unfinished}
 use Rattle.semantics.specs.declared.event.Event.{Event}
 use Rattle.semantics.specs.declared.event.Event.TheVariants as event
 use Rattle.machine_threads.specs.declared.thread.Thread.{Thread}
+use Rattle.machine_threads.specs.declared.thread.Entering.{Entering}
 use Rattle.machine_threads.specs.declared.thread.PendingCall.{PendingCall}
 use Rattle.machine_scenes.specs.declared.activation.Activation.{Activation}
-use Rattle.semantics_safety.specs.Owners.{Owners, ThreadOwners, after_return, after_step, after_tasks}
+use Rattle.semantics_safety.specs.Owners.{Owners, ThreadOwners, after_call, after_invoked, after_return, after_step, after_tasks}
 use Rattle.machine_scenes.specs.declared.store.Store.{Store}
 use Rattle.machine_scenes.specs.StoreAgrees.{StoreAgrees, Keeps}
-use Rattle.machine_threads.specs.ThreadAgrees.{CallsAgree, ThreadAgrees, buffers_of}
+use Rattle.machine_threads.specs.ThreadAgrees.{CallsAgree, CallsToComeAgree, IsDue, ThreadAgrees, buffers_of}
 use Rattle.semantics.specs.EventViews.{ending_view, event_view}
 use Rattle.machine_steps.specs.Advances.{Advances, GivesUp, LeavesMonitors, calls_after, ending_after, ends_with}
 use Rattle.machine_steps.specs.Executes.{GoesOn, after_any, cells_made, in_use_with, owners_left}
@@ -76,42 +81,128 @@ resting p classes space copies k visible frames (Some x) tasks w e = absurd (cc)
 
 -- ---- an instruction
 
--- the owners after an effect but a return
-left_owners : (s : source.Thread) (own : ThreadOwners) (effect : Effect) → IsNoReturn effect → (event : source.Event) (vs : Variables) → after_step s own event effect vs ≡ record own { current = owners_left effect event (length s.frames) own.current vs }
-left_owners s own (Calls line target f args) away source.Quiet vs = refl
-left_owners s own (Calls line target f args) away (source.PrintedNumber z) vs = refl
-left_owners s own (Calls line target f args) away (source.Trapped trap at) vs = refl
-left_owners s own (Returns given) away event vs = absurd away
-left_owners s own other away source.Quiet vs = refl
-left_owners s own other away (source.PrintedNumber z) vs = refl
-left_owners s own other away (source.Trapped trap at) vs = refl
+-- An effect with this event leaves the call in progress where it is: it is no return, and no call of a method but one that a trap stops.
+abbrev StaysWithin : Effect → source.Event → Type 0
+StaysWithin (Calls line target f args) source.Quiet = calls_method f ≡ false
+StaysWithin (Returns given) event = ⊥
+StaysWithin other event = Unit {0}
+
+-- the owners after a call that prints or stops
+printed_owners : (method : Bool) (z : ℤ) (own : ThreadOwners) (left : Owners) → after_invoked method (source.PrintedNumber z) own left ≡ record own { current = left }
+printed_owners true z own left = refl
+printed_owners false z own left = refl
+
+trapped_owners : (method : Bool) (trap : Trap) (at : ℕ) (own : ThreadOwners) (left : Owners) → after_invoked method (source.Trapped trap at) own left ≡ record own { current = left }
+trapped_owners true trap at own left = refl
+trapped_owners false trap at own left = refl
+
+-- those after an effect within the call
+left_owners : (s : source.Thread) (own : ThreadOwners) (effect : Effect) (event : source.Event) → StaysWithin effect event → (vs : Variables) → after_step s own event effect vs ≡ record own { current = owners_left effect event (length s.frames) own.current vs }
+left_owners s own (Calls line target f args) source.Quiet away vs = ap (λ (m : Bool). after_invoked m source.Quiet own (after_call target f args (length s.frames) own.current vs)) away
+left_owners s own (Calls line target f args) (source.PrintedNumber z) away vs = printed_owners (calls_method f) z own (after_call target f args (length s.frames) own.current vs)
+left_owners s own (Calls line target f args) (source.Trapped trap at) away vs = trapped_owners (calls_method f) trap at own own.current
+left_owners s own (Returns given) event away vs = absurd away
+left_owners s own other source.Quiet away vs = refl
+left_owners s own other (source.PrintedNumber z) away vs = refl
+left_owners s own other (source.Trapped trap at) away vs = refl
 
 -- those after a step within a call
-advanced_owners : (shared : Shared) (s : source.Thread) (own : ThreadOwners) (task : Task) (rest : List Task) → s.tasks ≡ Some (task ∷ rest) → IsNoReturn (effect_of (sight_of shared s) task) → (event : source.Event) (vs : Variables)
+advanced_owners : (shared : Shared) (s : source.Thread) (own : ThreadOwners) (task : Task) (rest : List Task) → s.tasks ≡ Some (task ∷ rest) → (event : source.Event) → StaysWithin (effect_of (sight_of shared s) task) event → (vs : Variables)
     → after_tasks shared s s.tasks own event vs ≡ record own { current = owners_left (effect_of (sight_of shared s) task) event (length s.frames) own.current vs }
-advanced_owners shared s own task rest is away event vs = ap (λ (o : Option (List Task)). after_tasks shared s o own event vs) is ∙ left_owners s own (effect_of (sight_of shared s) task) away event vs
+advanced_owners shared s own task rest is event away vs = ap (λ (o : Option (List Task)). after_tasks shared s o own event vs) is ∙ left_owners s own (effect_of (sight_of shared s) task) event away vs
 
--- a step that keeps callers and tasks is no return
+-- a step that keeps callers and tasks is within the call
 abbrev tasks_left : source.Advance → Option (List Task)
 tasks_left (source.Advances shared t event) = t.tasks
 tasks_left source.NoAdvance = None
 
-no_return : (unit : SourceUnit) (classes : Classes) (in_use : BuffersInUse) (k : ℕ) (shared next_shared : Shared) (s next : source.Thread) (rest : List Task) (refused : Bool) (effect : Effect) (event : source.Event) → after_any unit classes in_use k shared s rest refused effect ≡ source.Advances next_shared next event
-    → next.callers ≡ s.callers → (next.tasks ≡ None → ⊥) → IsNoReturn effect
-no_return unit classes in_use k shared next_shared s next rest refused effect event steps same goes = ⊎_elim (λ (r : (given : CallResult) × (effect ≡ Returns given)). absurd (by_refusal refused r.0 (sym (ap (after_any unit classes in_use k shared s rest refused) r.1) ∙ steps))) (λ (away : IsNoReturn effect). away) (returns_or_not effect)
+abbrev event_left : source.Advance → source.Event
+event_left (source.Advances shared t event) = event
+event_left source.NoAdvance = source.Quiet
+
+-- a call of a method traps, or enters a function
+abbrev IsOfMethod : CallEffect → Type 0
+IsOfMethod (Halts trap) = Unit {0}
+IsOfMethod (Enters function arguments) = Unit {0}
+IsOfMethod e = ⊥
+
+method_or_trap : (m : Option MethodId) (arguments : List ObjectValue) → IsOfMethod (method_effect m arguments)
+method_or_trap None arguments = tt
+method_or_trap (Some m) arguments = tt
+
+of_method : (unit : SourceUnit) (classes : Classes) (in_use : BuffersInUse) (k : ℕ) (shared : Shared) (s : source.Thread) (args : List Actual) (f : JniFunction) → calls_method f ≡ true → IsOfMethod (call_effect unit classes in_use k shared s args f)
+unfolding call_effect
+of_method unit classes in_use k shared s args CallStaticVoidMethod calls = method_or_trap (method_given args 1) (map passed_value (drop 2 args))
+of_method unit classes in_use k shared s args CallStaticIntMethod calls = method_or_trap (method_given args 1) (map passed_value (drop 2 args))
+of_method unit classes in_use k shared s args CallStaticObjectMethod calls = method_or_trap (method_given args 1) (map passed_value (drop 2 args))
+of_method unit classes in_use k shared s args f calls = absurd (cc)
+
+checked_method : (o : Option Trap) (e : CallEffect) → IsOfMethod e → IsOfMethod (checked o e)
+checked_method None e h = h
+checked_method (Some trap) e h = tt
+
+stays_within : (unit : SourceUnit) (classes : Classes) (in_use : BuffersInUse) (k : ℕ) (shared next_shared : Shared) (s next : source.Thread) (rest : List Task) (refused : Bool) (effect : Effect) (event : source.Event) → after_any unit classes in_use k shared s rest refused effect ≡ source.Advances next_shared next event
+    → next.callers ≡ s.callers → (next.tasks ≡ None → ⊥) → StaysWithin effect event
+stays_within unit classes in_use k shared next_shared s next rest refused effect event steps same goes = by_effect effect event steps
   where
-    by_callers : (given : CallResult) (callers : List source.Caller) → s.callers ≡ callers → return_by k shared s given callers ≡ source.Advances next_shared next event → ⊥
-    by_callers given [] is ends = goes (ap tasks_left (sym ends))
-    by_callers given (c ∷ callers) is into =
+    by_callers : (given : CallResult) (event : source.Event) (callers : List source.Caller) → s.callers ≡ callers → return_by k shared s given callers ≡ source.Advances next_shared next event → ⊥
+    by_callers given event [] is ends = goes (ap tasks_left (sym ends))
+    by_callers given event (c ∷ callers) is into =
         let back = given_back s.pending c.result given in
         let kept = put_keeps c.target back shared (received c.result back (resumed_in s c callers)) (s.calls, callers) (received_calls c.result back (resumed_in s c callers)) in
         let fewer : next.callers ≡ callers = ap (λ (x : Held). x.1) (subst (KeepsCalls (s.calls, callers)) into kept) in
         let longer : length callers ≡ length (c ∷ callers) = ap length (sym fewer ∙ same ∙ is) in
         omega (arith, longer)
 
-    by_refusal : (refused : Bool) (given : CallResult) → after_any unit classes in_use k shared s rest refused (Returns given) ≡ source.Advances next_shared next event → ⊥
-    by_refusal true given e = cc
-    by_refusal false given e = by_callers given s.callers refl e
+    by_refusal : (refused : Bool) (given : CallResult) (event : source.Event) → after_any unit classes in_use k shared s rest refused (Returns given) ≡ source.Advances next_shared next event → ⊥
+    by_refusal true given event e = cc
+    by_refusal false given event e = by_callers given event s.callers refl e
+
+    entered : (line : ℕ) (target : Target) (f : JniFunction) (args : List Actual) (e : CallEffect) → IsOfMethod e → after_effect_of_call unit classes in_use k shared s line target f args rest e ≡ source.Advances next_shared next source.Quiet → ⊥
+    entered line target f args (Halts trap) h ends = let clash : source.Trapped trap line ≡ source.Quiet = ap event_left ends in cc
+    entered line target f args (Enters function arguments) h ends = goes (ap tasks_left (sym ends))
+    entered line target f args (Throws class) h ends = h
+    entered line target f args (Leaves made s' t' given) h ends = h
+
+    refused_entry : (line : ℕ) (target : Target) (f : JniFunction) (args : List Actual) (e : CallEffect) → IsOfMethod e → after_refusal unit classes in_use k shared s line target f args rest (makes_objects e) ≡ source.Advances next_shared next source.Quiet → ⊥
+    refused_entry line target f args (Halts trap) h ends = cc
+    refused_entry line target f args (Enters function arguments) h ends = cc
+    refused_entry line target f args (Throws class) h ends = h
+    refused_entry line target f args (Leaves made s' t' given) h ends = h
+
+    by_method : (line : ℕ) (target : Target) (f : JniFunction) (args : List Actual) (refused method : Bool) → calls_method f ≡ method → after_any unit classes in_use k shared s rest refused (Calls line target f args) ≡ source.Advances next_shared next source.Quiet → calls_method f ≡ false
+    by_method line target f args refused false is e = is
+    by_method line target f args false true is e = absurd (entered line target f args (effect_of_call unit classes in_use k shared s line target f args rest) (checked_method (trap_of_call classes shared s target f args) _ (of_method unit classes in_use k shared s args f is)) e)
+    by_method line target f args true true is e = absurd (refused_entry line target f args (effect_of_call unit classes in_use k shared s line target f args rest) (checked_method (trap_of_call classes shared s target f args) _ (of_method unit classes in_use k shared s args f is)) e)
+
+    by_effect : (effect : Effect) (event : source.Event) → after_any unit classes in_use k shared s rest refused effect ≡ source.Advances next_shared next event → StaysWithin effect event
+    by_effect (Returns given) event e = absurd (by_refusal refused given event e)
+    by_effect (Calls line target f args) source.Quiet e = by_method line target f args refused (calls_method f) refl e
+    by_effect (Calls line target f args) (source.PrintedNumber z) e = tt
+    by_effect (Calls line target f args) (source.Trapped trap at) e = tt
+    by_effect other event e = tt
+
+-- ---- calls to come
+
+-- no call is to be entered where one is in progress
+pub none_due : (e : Option Entering) (tasks : Option (List Task)) (callers : List source.Caller) (there : List Task) → IsDue e tasks callers → tasks ≡ Some there → e ≡ None
+none_due None tasks callers there due is = refl
+none_due (Some e) None callers there due is = absurd (cc)
+none_due (Some e) (Some tasks) callers there due is = absurd due
+
+pub still_due : (e : Option Entering) (tasks : Option (List Task)) (callers : List source.Caller) → e ≡ None → (tasks ≡ None → ⊥) → IsDue e tasks callers
+still_due None None callers none goes = absurd (goes refl)
+still_due None (Some tasks) callers none goes = tt
+still_due (Some e) tasks callers none goes = absurd (cc)
+
+-- the calls to come are then those of the world alone
+pub calls_of_world : (p : Lowered) (classes : Classes) (space : Space) (made : ℕ) (e : Option Entering) (nexts : List PendingCall) (calls : List Invocation) → e ≡ None → CallsToComeAgree p classes space made e nexts calls → CallsAgree p classes made nexts calls
+calls_of_world p classes space made None nexts calls none h = h
+calls_of_world p classes space made (Some e) nexts calls none h = absurd (cc)
+
+pub calls_to_come : (p : Lowered) (classes : Classes) (space : Space) (made : ℕ) (e : Option Entering) (nexts : List PendingCall) (calls : List Invocation) → e ≡ None → CallsAgree p classes made nexts calls → CallsToComeAgree p classes space made e nexts calls
+calls_to_come p classes space made None nexts calls none h = h
+calls_to_come p classes space made (Some e) nexts calls none h = absurd (cc)
 
 -- One step of a thread.
 module _ (p : Lowered) (w : World) (old : Store) (others : Acquired) (k : ℕ) (own : ThreadOwners) (shared : Shared) (t : Thread) (s : source.Thread) (h : ThreadAgrees p w.classes old.heap old.elements (length (loaded_objects w)) k own shared t s) where
@@ -134,7 +225,8 @@ module _ (p : Lowered) (w : World) (old : Store) (others : Acquired) (k : ℕ) (
       let effect = effect_of (sight_of shared s) task in
       let now : Owners = owners_left effect (event_view e) (length s.frames) own.current g.next.variables in
       let Works : Option (List Task) → Type 0 = λ o. WorkAgrees p w.classes store.heap store.elements copier (visible_to now g.next_shared g.next) (Some after) g.next.frames o in
-      let away = no_return (unit_tree p.unit) w.classes (in_use_with rest_of s) k shared g.next_shared s g.next rest refused effect (event_view e) g.steps g.callers (λ b. subst Works b g.work) in
+      let away = stays_within (unit_tree p.unit) w.classes (in_use_with rest_of s) k shared g.next_shared s g.next rest refused effect (event_view e) g.steps g.callers (λ b. subst Works b g.work) in
+      let none = none_due t.entering s.tasks s.callers (task ∷ rest) h.due is in
       record {
         next_shared = g.next_shared;
         next = g.next;
@@ -144,8 +236,10 @@ module _ (p : Lowered) (w : World) (old : Store) (others : Acquired) (k : ℕ) (
         keeps_copies = g.keeps_copies;
         agrees =
             subst (λ (now : ThreadOwners). ThreadAgrees p w.classes store.heap store.elements (length (loaded_objects w)) k now g.next_shared (record t { call = Some after; pending = pending }) g.next)
-            (sym (advanced_owners shared s own task rest is away (event_view e) g.next.variables)) (record {
-              calls = subst (CallsAgree p w.classes (length (loaded_objects w)) t.calls.items) (sym g.calls) h.calls;
+            (sym (advanced_owners shared s own task rest is (event_view e) away g.next.variables)) (record {
+              calls = subst (CallsToComeAgree p w.classes store.heap (length (loaded_objects w)) t.entering t.calls.items) (sym g.calls)
+                  (calls_to_come p w.classes store.heap (length (loaded_objects w)) t.entering t.calls.items s.calls none (calls_of_world p w.classes old.heap (length (loaded_objects w)) t.entering t.calls.items s.calls none h.calls));
+              due = still_due t.entering g.next.tasks g.next.callers none (λ b. subst Works b g.work);
               work = subst (λ (callers : List source.Caller). WorkAgrees p w.classes store.heap store.elements (owner_at k (length callers)) (visible_to now g.next_shared g.next) (Some after) g.next.frames g.next.tasks) (sym g.callers) g.work;
               callers = subst (CallersAgree p w.classes store.heap store.elements k g.next_shared (reverse t.callers.items) own.callers) (sym g.callers)
                   (callers_stay p w.classes copier old.heap store.heap old.elements store.elements shared g.next_shared g.keeps g.keeps_copies k (reverse t.callers.items) own.callers s.callers (λ below less. others_below k below (length s.callers) less) h.callers);
@@ -259,13 +353,15 @@ module _ (p : Lowered) (w : World) (old : Store) (others : Acquired) (k : ℕ) (
   rest_there = beside_callers others s
 
   pub returned : (store left : Store) (pending : Option ℕ) (after : Thread) (task : Task) (rest : List Task) → s.callers ≡ [] → s.tasks ≡ Some (task ∷ rest) → StoreAgrees p w store shared (beside rest_there (acquired_by s)) → store ≡ old → MayReturn s → ReferenceAgrees store.heap pending s.pending → t.ending ≡ Unfinished
-      → ((given : CallResult) × (effect_of (sight_of shared s) task ≡ Returns given)) → after.call ≡ None → after.callers.items ≡ [] → after.pending ≡ None → after.calls.items ≡ calls_after (option_and_then (class_at store.heap) pending) t.calls.items
+      → ((given : CallResult) × (effect_of (sight_of shared s) task ≡ Returns given)) → after.call ≡ None → after.entering ≡ t.entering → after.callers.items ≡ [] → after.pending ≡ None → after.calls.items ≡ calls_after (option_and_then (class_at store.heap) pending) t.calls.items
       → after.ending ≡ ending_after (option_and_then (class_at store.heap) pending) t.calls.items t.ending
       → LeavesMonitors (ends_with (option_and_then (class_at store.heap) pending) t.calls.items) k store left
       → Advances p w old left others k own shared s after false event.Quiet
-  returned store left pending after task rest alone tasks shares same may pends o is no_call callers no_pending calls ending monitors =
+  returned store left pending after task rest alone tasks shares same may pends o is no_call no_entry callers no_pending calls ending monitors =
       let class : Option ℕ = option_and_then (class_at store.heap) pending in
       let made : ℕ = length (loaded_objects w) in
+      let none = none_due t.entering s.tasks s.callers (task ∷ rest) h.due tasks in
+      let of_world = calls_of_world p w.classes old.heap made t.entering t.calls.items s.calls none h.calls in
       let of : option_map (class_of shared.heap) s.pending ≡ class = class_pending store.heap shared.heap pending s.pending shares.heap.blocks pends in
       let next : Shared = record shared { monitors = monitors_after (ending_of class s.calls) k shared.monitors } in
       let parts = rest_left (ends_with class t.calls.items) k store left monitors in
@@ -279,18 +375,20 @@ module _ (p : Lowered) (w : World) (old : Store) (others : Acquired) (k : ℕ) (
         next = idle class s.calls;
         steps = steps_by p w old others k own shared t s h false task rest tasks ∙ ap (after_effect (unit_tree p.unit) w.classes (in_use_with rest_there s) k shared s rest) is.1 ∙ returns_by k shared s class is.0 alone of;
         store_agrees = subst (λ (callers : List source.Caller). StoreAgrees p w left next (beside (beside others (acquired_by_callers (record s { callers = callers }))) (acquired_by (idle class s.calls)))) alone
-            (store_same p w left next rest_there s.variables [] (sym (nothing_lent s.variables may.0)) (monitors_left p w k shared s store left (beside rest_there (acquired_by s)) shares w.classes made class t.calls.items s.calls h.calls monitors));
+            (store_same p w left next rest_there s.variables [] (sym (nothing_lent s.variables may.0)) (monitors_left p w k shared s store left (beside rest_there (acquired_by s)) shares w.classes made class t.calls.items s.calls of_world monitors));
         keeps = subst (λ (space : Space). Keeps old.heap shared space next) (sym (parts.0 ∙ ap (λ (x : Store). x.heap) same)) (keeps_monitors old.heap shared next.monitors);
         keeps_copies = λ key c there other. subst (λ (copies : List (Option OwnedNumbers)). value_at copies key ≡ Some c) (sym (parts.1 ∙ ap (λ (x : Store). x.elements) same)) there;
         agrees = subst (λ (o : ThreadOwners). ThreadAgrees p w.classes left.heap left.elements made k o next after (idle class s.calls)) (sym owners_now) (record {
-          calls = subst (λ (ns : List PendingCall). CallsAgree p w.classes made ns (activation.calls_after (ending_of class s.calls) s.calls)) (sym calls) (calls_left p w.classes made class t.calls.items s.calls h.calls);
+          calls = calls_to_come p w.classes left.heap made after.entering after.calls.items (activation.calls_after (ending_of class s.calls) s.calls) (no_entry ∙ none)
+              (subst (λ (ns : List PendingCall). CallsAgree p w.classes made ns (activation.calls_after (ending_of class s.calls) s.calls)) (sym calls) (calls_left p w.classes made class t.calls.items s.calls of_world));
+          due = subst (λ (e : Option Entering). IsDue e None []) (sym (no_entry ∙ none)) tt;
           work = subst (λ (c : Option Activation). WorkAgrees p w.classes left.heap left.elements (owner_at k 0) (visible_to own.current next (idle class s.calls)) c [] None) (sym no_call) refl;
           callers = subst (λ (cs : List Activation). CallersAgree p w.classes left.heap left.elements k next cs own.callers []) (sym (ap reverse callers))
               (subst (λ (os : List Owners). CallersAgree p w.classes left.heap left.elements k next [] os []) (sym below.1) tt);
-          few = omega (arith, ap length callers);
+          few = let less : length after.callers.items < 64 = omega (arith, ap length callers) in less;
           pending = subst (λ (a : Option ℕ). ReferenceAgrees left.heap a None) (sym no_pending) tt;
-          ending = ending_agrees p w.classes made class t.calls.items s.calls t.ending h.calls o ∙ ap ending_view (sym ending);
-          busy = λ a b c. something_to_do p w.classes made class t.calls.items s.calls t.ending h.calls (sym ending ∙ a) c;
+          ending = ending_agrees p w.classes made class t.calls.items s.calls t.ending of_world o ∙ ap ending_view (sym ending);
+          busy = λ a b c. something_to_do p w.classes made class t.calls.items s.calls t.ending of_world (sym ending ∙ a) c;
           caught = λ b. refl;
           idle = λ b. refl;
           views = subst (λ (c : Option Activation). AreViewed left.heap (buffers_of c) (idle class s.calls)) (sym no_call) (λ n. omega arith);

@@ -7,7 +7,9 @@ use Rattle.std.proofs.lemmas.Bool.Decides.{eqb_tells}
 use Rattle.std.proofs.lemmas.Option.{slice_get_within}
 use Rattle.class_rules.specs.Class.{Classes}
 use Rattle.heap.specs.Heap.{Space, name_at}
-use Rattle.jni.specs.JniFunction.{JniFunction, MonitorEnter, prototype}
+use Rattle.syntax.specs.Tree.{SourceUnit}
+use Rattle.syntax.specs.Views.{unit_tree}
+use Rattle.jni.specs.JniFunction.{JniFunction, MonitorEnter, parameters_for}
 use Rattle.jni.specs.Prototype.{NonNull}
 use Rattle.jni.specs.Table.{function_value}
 use Rattle.jni.specs.declared.function.JniFunction.{JniFunction as FunctionInMemory}
@@ -74,8 +76,8 @@ nobody_waits classes k shared s e = refl
 pub unowned_agrees : (p : Lowered) (w : World) (store : Store) (shared : Shared) (all : Acquired) → StoreAgrees p w store shared all → StoreAgrees p w (store_unowned store) (unowned shared) all
 unowned_agrees p w store shared all h = agrees_monitors p w store shared all h [] [] (record { at = λ n. tt; different = tt }) tt
 
-pub unowned_steady : (classes : Classes) (own : Owners) (shared : Shared) (s : source.Thread) → IsSteady classes own shared s → IsSteady classes own (unowned shared) s
-unowned_steady classes own shared s h = record {
+pub unowned_steady : (unit : SourceUnit) (classes : Classes) (own : Owners) (shared : Shared) (s : source.Thread) → IsSteady unit classes own shared s → IsSteady unit classes own (unowned shared) s
+unowned_steady unit classes own shared s h = record {
   callers = h.callers;
   view = h.view;
   return = h.return;
@@ -87,6 +89,7 @@ unowned_steady classes own shared s h = record {
   declared = h.declared;
   owned = h.owned;
   methods = h.methods;
+  calls = h.calls;
 }
 
 -- a number is itself
@@ -128,7 +131,7 @@ module _ (p : Lowered) (classes : Classes) (space : Space) (copies : List (Optio
 -- ---- a call in progress
 
 module _ (p : Lowered) (w : World) (store : Store) (others : Acquired) (k : ℕ) (own : ThreadOwners) (shared : Shared) (t : Thread) (s : source.Thread) (call : Activation) (shares : StoreAgrees p w store shared (beside others (acquired_by s)))
-    (h : ThreadAgrees p w.classes store.heap store.elements (length (loaded_objects w)) k own shared t s) (is : t.call ≡ Some call) (steady : IsSteady w.classes own.current shared s) where
+    (h : ThreadAgrees p w.classes store.heap store.elements (length (loaded_objects w)) k own shared t s) (is : t.call ≡ Some call) (steady : IsSteady (unit_tree p.unit) w.classes own.current shared s) where
   -- the owner of its copied lists
   abbrev pub copier : ℕ
   copier = owner_at k (length s.callers)
@@ -139,11 +142,12 @@ module _ (p : Lowered) (w : World) (store : Store) (others : Acquired) (k : ℕ)
   pub would_execute : IsExecuting p w (store_unowned store) call t.pending others k copier own.current (unowned shared) s work.task work.rest
   would_execute = record {
     store_agrees = unowned_agrees p w store shared (beside others (acquired_by s)) shares;
+    depth = refl;
     tasks = work.is;
     stands = work.stands;
     pending_agrees = h.pending;
     views = subst (λ (c : Option Activation). AreViewed store.heap (buffers_of c) s) is h.views;
-    steady = unowned_steady w.classes own.current shared s steady;
+    steady = unowned_steady (unit_tree p.unit) w.classes own.current shared s steady;
     ready = nobody_waits w.classes k shared s (effect_of (sight_of shared s) work.task);
   }
 
@@ -168,6 +172,7 @@ module _ (p : Lowered) (w : World) (store : Store) (others : Acquired) (k : ℕ)
   pub executes : waits w.classes k shared s ≡ false → IsExecuting p w store call t.pending others k copier own.current shared s work.task work.rest
   executes free = record {
     store_agrees = shares;
+    depth = refl;
     tasks = work.is;
     stands = work.stands;
     pending_agrees = h.pending;
@@ -207,7 +212,7 @@ module _ (p : Lowered) (w : World) (store : Store) (pending : Option ℕ) (call 
   abbrev it : CalledAs p w (store_unowned store) pending call h.at_call.code (call_view in_memory) others k owner own (unowned shared) s task rest (ready_at p w (store_unowned store) pending call in_memory others k owner own (unowned shared) s task rest h.at_call) (effect_of (sight_of shared s) task)
   it = called p w (store_unowned store) pending call in_memory others k owner own (unowned shared) s task rest h.at_call
 
-  enters_it : it.f ≡ MonitorEnter
+  pub enters_it : it.f ≡ MonitorEnter
   enters_it = sym it.asked.same_function ∙ enters
 
   abbrev found : Option Trap
@@ -229,13 +234,13 @@ module _ (p : Lowered) (w : World) (store : Store) (pending : Option ℕ) (call 
 
   -- or none does
   module _ (free : found ≡ None) where
-    object : GivenObject w.classes store.heap (references_of store call) call.slots.fields.items in_memory.operands.items it.args 0
+    object : GivenObject (unit_tree p.unit) w.classes store.heap (references_of store call) call.slots.fields.items in_memory.operands.items it.args 0
     object =
-        object_at_place w.classes store.heap (references_of store call) call.slots.fields.items [] NonNull [] tt refl in_memory.operands.items it.args
-        (subst (λ (f : JniFunction). AllZip OperandFits (prototype f).parameters in_memory.operands.items) enters_it it.asked.kinds)
+        object_at_place (unit_tree p.unit) w.classes store.heap (references_of store call) call.slots.fields.items [] NonNull [] tt refl in_memory.operands.items it.args
+        (subst (λ (f : JniFunction). AllZip OperandFits (parameters_for f (length it.args)) in_memory.operands.items) enters_it it.asked.kinds)
         it.asked.given
         (none_deleted p w (store_unowned store) pending call (call_view in_memory) others k owner (unowned shared) s it.target it.f it.args it.asked free)
-        (subst (λ (f : JniFunction). some_missing (references_of store call) call.slots.fields.items (prototype f).parameters in_memory.operands.items ≡ false) enters_it
+        (subst (λ (f : JniFunction). some_missing (references_of store call) call.slots.fields.items (parameters_for f (length it.args)) in_memory.operands.items ≡ false) enters_it
         (none_lacking p w (store_unowned store) pending call (call_view in_memory) others k owner (unowned shared) s it.target it.f it.args it.asked free))
 
     -- its argument isn't NULL

@@ -35,7 +35,7 @@ abbrev pub Stands : Lowered → World → Store → (others : Acquired) → (k :
 Stands p w store others k own shared s t =
     StoreAgrees p w store shared (beside (beside_callers others s) (acquired_by s))
     × ThreadAgrees p w.classes store.heap store.elements (length (loaded_objects w)) k own shared t s
-    × IsSteady w.classes own.current shared s
+    × IsSteady (unit_tree p.unit) w.classes own.current shared s
 
 -- Thread k took the step that the source's thread takes, or the same with its allocation refused, where too few cells were left. The
 -- buffers of the other threads, which take this, are as they were, and so are the copies of all other calls.
@@ -65,7 +65,7 @@ StandsReady p w k store t =
     (others : Acquired) × (own : ThreadOwners) × (shared : Shared) × (s : source.Thread)
     × StoreAgrees p w store shared (beside (beside_callers others s) (acquired_by s))
     × ThreadAgrees p w.classes store.heap store.elements (length (loaded_objects w)) k own shared t s
-    × (t.ending ≡ Unfinished) × IsSteady w.classes own.current shared s × (waits w.classes k shared s ≡ false)
+    × (t.ending ≡ Unfinished) × IsSteady (unit_tree p.unit) w.classes own.current shared s × (waits w.classes k shared s ≡ false)
 
 -- what holds of thread k with whatever state it stands for in which it doesn't wait
 abbrev pub HoldsAlways : Lowered → World → (k : ℕ) → Store → Thread
@@ -74,7 +74,7 @@ HoldsAlways p w k store t Holds =
     (others : Acquired) (own : ThreadOwners) (shared : Shared) (s : source.Thread)
     → StoreAgrees p w store shared (beside (beside_callers others s) (acquired_by s))
     → ThreadAgrees p w.classes store.heap store.elements (length (loaded_objects w)) k own shared t s
-    → IsSteady w.classes own.current shared s → waits w.classes k shared s ≡ false → Holds others own shared s
+    → IsSteady (unit_tree p.unit) w.classes own.current shared s → waits w.classes k shared s ≡ false → Holds others own shared s
 
 -- it took the step that the source's thread takes
 abbrev pub AdvancesAlways : Lowered → World → (k : ℕ) → (store after : Store) → Thread → Thread → Advanced → Type 0

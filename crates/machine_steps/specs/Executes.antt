@@ -1,7 +1,8 @@
 -- What an instruction does to a call in progress.
-use Rattle.std.specs.Prelude.{◌≡◌, ◌≢◌, ℕ, ◌<◌, Bool, true, false, List, [], ◌∷◌, length, drop, slice_get, Option, Some}
+use Rattle.std.specs.Prelude.{◌≡◌, ◌≢◌, ℕ, ◌+◌, ◌<◌, ◌≤◌, Bool, true, false, List, [], ◌∷◌, length, drop, Option, Some, None}
 use Rattle.std.specs.List.{AllByRecursion}
 use Rattle.base.specs.Bytes.{Identifier, lookup}
+use Rattle.base.specs.Limits.{most_further}
 use Rattle.class_rules.specs.Class.{Classes}
 use Rattle.class_rules.specs.Grown.{HasMethodError}
 use Rattle.heap.specs.Heap.{left_of}
@@ -10,19 +11,18 @@ use Rattle.syntax.specs.Tree.{SourceUnit}
 use Rattle.semantics.specs.Object.{Reference, sizes}
 use Rattle.semantics.specs.World.{World}
 use Rattle.semantics.specs.CallEffects.{CallResult}
-use Rattle.semantics.specs.CallStep.{waits_with}
+use Rattle.semantics.specs.CallStep.{trap_of_call, waits_with}
 use Rattle.semantics.specs.Effect.{Effect, Calls, Returns, NoEffect, effect_of}
-use Rattle.syntax.specs.Tree.{Block}
-use Rattle.semantics.specs.Task.{Task, Target, Assigned, Tested}
-use Rattle.semantics.specs.Checks.{frames_after, is_full}
-use Rattle.semantics.specs.Arguments.{Actual, object_given, variable_given}
-use Rattle.semantics_safety.specs.Owners.{Owners, IsOwn, after_call, is_target}
-use Rattle.semantics_safety.specs.Stands.{IsMethodResult}
-use Rattle.semantics_safety.specs.StepSafe.{HoldsNoBuffer, MayMeetView, MayReturn, SetsWhole, came_from}
+use Rattle.semantics.specs.Task.{Task, Target, Assigned}
+use Rattle.semantics.specs.Checks.{frames_after}
+use Rattle.semantics.specs.Arguments.{Actual, method_given, object_given, variable_given}
+use Rattle.semantics.specs.Method.{MethodId}
+use Rattle.semantics_safety.specs.Owners.{Owners, IsOwn, after_call}
+use Rattle.semantics_safety.specs.StepSafe.{IsCallable, IsResumable, HoldsNoBuffer, MayMeetView, MayReturn, SetsWhole, came_from}
 use Rattle.semantics_safety.specs.Used.{task_names}
 use Rattle.semantics_typing.specs.Objects.{AreTypedObjects, AreTypedVariables}
 use Rattle.jni.specs.Access.{Access}
-use Rattle.jni.specs.JniFunction.{JniFunction, GetStaticMethodID, ReleaseBuffer, prototype}
+use Rattle.jni.specs.JniFunction.{JniFunction, GetStaticMethodID, ReleaseBuffer, calls_method, prototype}
 use Rattle.jni.specs.Prototype.{NewLocal}
 use Rattle.semantics.specs.Thread as source
 use Rattle.semantics.specs.Thread.{BuffersInUse, Shared, Advance, Advances, NoAdvance, sight_of, objects_viewed}
@@ -35,6 +35,7 @@ use Rattle.semantics.specs.declared.event.Event.TheVariants.{Quiet}
 use Rattle.machine_scenes.specs.declared.activation.Activation.{Activation}
 use Rattle.machine_steps.specs.declared.execute.Executed.{Executed}
 use Rattle.machine_steps.specs.declared.execute.Executed.TheVariants.{Did, Refused, Returned}
+use Rattle.machine_steps.specs.declared.execute.Executed.TheVariants as executed
 use Rattle.machine_steps.specs.Returned.{ReturnAgrees}
 use Rattle.machine_steps.specs.declared.fault.StepFault.{StepFault}
 use Rattle.machine_steps.specs.declared.fault.StepFault.TheVariants.{NoRoom, Memory}
@@ -42,23 +43,13 @@ use Rattle.machine_scenes.specs.declared.store.Store.{Store}
 use Rattle.machine_scenes.specs.Buffers.{Acquired, AreViewed, KeepsCopies, acquired_by, beside, in_use_of}
 use Rattle.machine_calls.specs.CarriedOut.{IsShortOf}
 use Rattle.machine_scenes.specs.HeapAgrees.{ReferenceAgrees}
+use Rattle.machine_threads.specs.Callers.{owner_at}
 use Rattle.machine_threads.specs.InProgress.{CallStands, WorkAgrees}
 use Rattle.semantics.specs.EventViews.{event_view}
 use Rattle.machine_scenes.specs.StoreAgrees.{StoreAgrees, Keeps}
 
--- A caller of an accepted unit can go on once the call that it made returns: it tests no result, wants one that a function of the unit can
--- give, and has room for a local reference. The variable that takes the result is no buffer that holds something, and one that takes a local
--- reference was declared at the frame that is current.
-pub record IsResumable (c : source.Caller) : Type 0 where
-  pub method : IsMethodResult c.result
-  pub untested : (then' else' : Block) → c.target ≡ Tested then' else' → ⊥
-  pub room : c.result ≡ NewLocal → is_full (slice_get c.frames 0) ≡ false
-  pub free : (x : Identifier) → is_target c.target x ≡ true → HoldsNoBuffer (lookup x c.variables)
-  pub declared : (x : Identifier) (level : ℕ) (r : Reference) → c.target ≡ Assigned x → c.result ≡ NewLocal
-      → lookup x c.variables ≡ Some (LocalRef level r) → level ≡ length c.frames
-
 -- What no step of an accepted unit breaks, as `StepSafe` has it of the thread alone, and what its objects and variables are made of.
-pub record IsSteady (classes : Classes) (own : Owners) (shared : Shared) (s : source.Thread) : Type 0 where
+pub record IsSteady (unit : SourceUnit) (classes : Classes) (own : Owners) (shared : Shared) (s : source.Thread) : Type 0 where
   pub callers : (c : source.Caller) (below : List source.Caller) → s.callers ≡ c ∷ below → IsResumable c
   pub view : (task : Task) (rest : List Task) → s.tasks ≡ Some (task ∷ rest) → objects_viewed s.variables ≢ [] → MayMeetView task
   pub return : (given : CallResult) → next_effect shared s s.tasks ≡ Returns given → MayReturn s
@@ -77,22 +68,26 @@ pub record IsSteady (classes : Classes) (own : Owners) (shared : Shared) (s : so
   -- a method is asked for only where its exception is there
   pub methods : (line : ℕ) (target : Target) (args : List Actual) → next_effect shared s s.tasks ≡ Calls line target GetStaticMethodID args
       → HasMethodError classes
+  -- a call of a method is one of the unit's functions, and gives it few arguments
+  pub calls : (line : ℕ) (target : Target) (f : JniFunction) (args : List Actual) → next_effect shared s s.tasks ≡ Calls line target f args
+      → calls_method f ≡ true → (length args ≤ 2 + most_further) × ((m : MethodId) → method_given args 1 ≡ Some m → IsCallable unit classes m)
 
 -- what all buffers take of what there is for them, where those of the other calls take this
 abbrev pub in_use_with : Acquired → source.Thread → BuffersInUse
 in_use_with others s = in_use_of (beside others (acquired_by s))
 
 -- A call in progress of thread k, with what is pending, stands for the thread's tasks, of which this is the first; the buffers of the
--- other calls take this. Its own copies have this owner. The thread doesn't wait for a monitor.
+-- other calls take this. Its own copies have this owner, which tells how many calls are below it. The thread doesn't wait for a monitor.
 pub record IsExecuting (p : Lowered) (w : World) (store : Store) (activation : Activation) (pending : Option ℕ)
     (others : Acquired) (k owner : ℕ) (own : Owners) (shared : Shared) (s : source.Thread) (task : Task)
     (rest : List Task) : Type 0 where
   pub store_agrees : StoreAgrees p w store shared (beside others (acquired_by s))
+  pub depth : owner ≡ owner_at k (length s.callers)
   pub tasks : s.tasks ≡ Some (task ∷ rest)
   pub stands : CallStands p w.classes store.heap store.elements owner activation (visible_to own shared s) s.frames (task ∷ rest)
   pub pending_agrees : ReferenceAgrees store.heap pending s.pending
   pub views : AreViewed store.heap activation.slots.buffers.items s
-  pub steady : IsSteady w.classes own shared s
+  pub steady : IsSteady (unit_tree p.unit) w.classes own shared s
   pub ready : waits_with w.classes k shared s (effect_of (sight_of shared s) task) ≡ false
 
 -- what an effect of the first task leaves, or the same with its allocation refused
@@ -140,7 +135,18 @@ pub record GoesOn (p : Lowered) (w : World) (old store : Store) (others : Acquir
   pub short : refused ≡ true
       → IsShortOf (cells_made shared (after_effect (unit_tree p.unit) w.classes (in_use_with others s) k shared s rest effect)) old.heap store.heap
 
--- what an instruction did is the effect of the first of the tasks; a return gives what the source's does, and leaves the store as it was
+-- the effect is a call of a method that no check stops
+pub record IsCalling (classes : Classes) (shared : Shared) (s : source.Thread) (effect : Effect) : Type 0 where
+  pub line : ℕ
+  pub target : Target
+  pub f : JniFunction
+  pub args : List Actual
+  pub is : effect ≡ Calls line target f args
+  pub method : calls_method f ≡ true
+  pub free : trap_of_call classes shared s target f args ≡ None
+
+-- What an instruction did is the effect of the first of the tasks. A return gives what the source's does, and leaves the store as it was.
+-- Of a call of a method no more is told than that it is one.
 abbrev pub Executes : Lowered → World → (old store : Store) → (others : Acquired) → (k owner : ℕ) → Owners → Shared
     → source.Thread → (rest : List Task) → Activation → (pending : Option ℕ) → Effect → Executed → Type 0
 Executes p w old store others k owner own shared s rest activation pending effect (Did event) =
@@ -150,6 +156,11 @@ Executes p w old store others k owner own shared s rest activation pending effec
 Executes p w old store others k owner own shared s rest activation pending effect (Returned given) =
     ((result : CallResult) × (effect ≡ Returns result) × ReturnAgrees store.heap given result)
     × StoreAgrees p w store shared (beside others (acquired_by s)) × (store ≡ old) × ReferenceAgrees store.heap pending s.pending
+Executes p w old store others k owner own shared s rest activation pending effect executed.Calls = IsCalling w.classes shared s effect
+
+-- the store, what is pending and the call in progress are as they were
+abbrev pub IsAsBefore : (old store : Store) → (pending left : Option ℕ) → (activation after : Activation) → Type 0
+IsAsBefore old store pending left activation after = (store ≡ old) × (left ≡ pending) × (after ≡ activation)
 
 -- ---- an instruction for any thread of the source
 

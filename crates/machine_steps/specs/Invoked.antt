@@ -1,5 +1,6 @@
 -- Where a call of a function of the JNI is made.
-use Rattle.std.specs.Prelude.{◌≡◌, ℕ, Bool, true, false, List, ◌∷◌, slice_get, ◌⊎◌, Option, Some, None}
+use Rattle.std.specs.Prelude.{◌≡◌, ℕ, ◌+◌, Bool, true, false, if◌then◌else◌, nat_le, List, ◌∷◌, length, slice_get, ◌⊎◌, Option, Some, None}
+use Rattle.base.specs.Limits.{most_activations}
 use Rattle.syntax.specs.Views.{unit_tree}
 use Rattle.code.specs.Call.{call_view}
 use Rattle.code.specs.Depth.{Listing}
@@ -22,12 +23,13 @@ use Rattle.machine_steps.specs.declared.invoke.Invoked.{Invoked}
 use Rattle.machine_steps.specs.declared.invoke.Invoked.TheVariants as invoked
 use Rattle.semantics.specs.declared.event.Event.TheVariants.{Quiet, Trapped}
 use Rattle.machine_steps.specs.declared.execute.Executed.{Executed}
-use Rattle.machine_steps.specs.declared.execute.Executed.TheVariants.{Did, Refused}
+use Rattle.machine_steps.specs.declared.execute.Executed.TheVariants.{Did, Refused, Calls}
 use Rattle.machine_steps.specs.declared.fault.StepFault.{StepFault}
 use Rattle.tables.specs.Locals.{has_room}
 use Rattle.machine_answers.specs.declared.answer.Answer.{Answer}
 use Rattle.machine_answers.specs.declared.answer.Answer.TheVariants as answer
 use Rattle.semantics.specs.declared.trap.Trap.{Trap}
+use Rattle.semantics.specs.declared.trap.Trap.TheVariants.{CallsTooDeep}
 use Rattle.semantics.specs.EventViews.{trap_view}
 use Rattle.machine_scenes.specs.declared.store.Store.{Store}
 use Rattle.machine_scenes.specs.declared.activation.Activation.{Activation}
@@ -38,23 +40,25 @@ use Rattle.machine_scenes.specs.Locals.{locals_after}
 use Rattle.machine_scenes.specs.StoreAgrees.{StoreAgrees}
 use Rattle.machine_answers.specs.WorkedOut.{IsWorkedOut}
 use Rattle.machine_steps.specs.Executes.{Executes, IsHindered, IsSteady, cells_made, in_use_with}
+use Rattle.machine_threads.specs.Callers.{owner_at}
 use Rattle.machine_threads.specs.InProgress.{CallStands}
 use Rattle.machine_scenes.specs.HeapAgrees.{ReferenceAgrees}
 
 -- Thread k of the source has a call as its first task, the machine is at the instruction that stands for it, and all that the
--- call can change agrees. The copies of the call in progress have this owner. What is seen of buffers are their elements. The thread
--- doesn't wait for a monitor.
+-- call can change agrees. The copies of the call in progress have this owner, which tells how many calls are below it. What is seen of
+-- buffers are their elements. The thread doesn't wait for a monitor.
 pub record AtCall (p : Lowered) (w : World) (store : Store) (pending : Option ℕ) (activation : Activation)
     (call : InMemory) (others : Acquired) (k owner : ℕ) (own : Owners) (shared : Shared) (s : Thread) (task : Task)
     (rest : List Task) : Type 0 where
   pub lowered : IsLowered p
+  pub depth : owner ≡ owner_at k (length s.callers)
   pub tasks : s.tasks ≡ Some (task ∷ rest)
   pub shares : StoreAgrees p w store shared (beside others (acquired_by s))
   pub pending_agrees : ReferenceAgrees store.heap pending s.pending
   pub stands : CallStands p w.classes store.heap store.elements owner activation (visible_to own shared s) s.frames (task ∷ rest)
   pub sees : SeesBuffers (visible_to own shared s) stands.meant.buffers
   pub views : AreViewed store.heap activation.slots.buffers.items s
-  pub steady : IsSteady w.classes own shared s
+  pub steady : IsSteady (unit_tree p.unit) w.classes own shared s
   pub ready : waits_with w.classes k shared s (effect_of (sight_of shared s) task) ≡ false
   pub code : Listing
   pub of_function : slice_get p.codes activation.function ≡ Some code
@@ -79,15 +83,25 @@ abbrev pub IsStopped : Lowered → World → Store → (pending : Option ℕ) �
 IsStopped p w store pending activation k call trap = (trap_at p w store pending activation k call ≡ Some (trap_view trap))
     ⊎ IsAnswered p w store pending activation k call (answer.Halts trap)
 
+-- an answer stops the machine
+abbrev pub is_halt : Answer → Bool
+is_halt (answer.Halts trap) = true
+is_halt a = false
+
 -- what a call came to that wasn't stopped
 abbrev pub done_or_refused : (refused : Bool) → Invoked
 done_or_refused true = invoked.Refused
 done_or_refused false = invoked.Done
 
+-- what a call of a method comes to that nothing else stops, with so many calls below the one that makes it
+abbrev pub called_from : (below : ℕ) → Invoked
+called_from below = if nat_le most_activations (below + 1) then invoked.Trapped CallsTooDeep else invoked.Calls
+
 -- what the instruction of a call on this line did, by what the call came to
 abbrev pub executed_as : (line : ℕ) → Invoked → Executed
 executed_as line invoked.Done = Did Quiet
 executed_as line invoked.Refused = Refused
+executed_as line invoked.Calls = Calls
 executed_as line (invoked.Trapped trap) = Did (Trapped trap line)
 
 -- ---- a call of any thread of the source

@@ -5,6 +5,7 @@ pub mod Returned
 pub mod Executes
 pub mod Received
 pub mod Resumed
+pub mod Pushed
 pub mod Invoked
 pub mod MonitorCalls
 pub mod Advances

@@ -11,7 +11,6 @@ use Rattle.machine_scenes.specs.Statics.{StaticReference}
 use Rattle.machine_scenes.specs.StoreAgrees.{StoreAgrees}
 use Rattle.machine_scenes.specs.declared.activation.Activation.{Activation}
 use Rattle.machine_scenes.specs.declared.store.Store.{Store}
-use Rattle.machine_steps.specs.Executes.{IsResumable}
 use Rattle.machine_steps.specs.Received.{Receives, statics_with}
 use Rattle.machine_steps.specs.Returned.{given_back}
 use Rattle.machine_steps.specs.declared.execute.ReturnValue.{ReturnValue}
@@ -20,6 +19,7 @@ use Rattle.machine_threads.specs.declared.thread.Thread.{Thread}
 use Rattle.semantics.specs.Thread.{Caller, Shared}
 use Rattle.semantics.specs.World.{World}
 use Rattle.semantics_safety.specs.Owners.{Owners}
+use Rattle.semantics_safety.specs.StepSafe.{IsResumable}
 use Rattle.tables.specs.Locals.{AreStacked}
 
 -- a call stands for some caller of the source, which can go on

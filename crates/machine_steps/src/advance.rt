@@ -1,8 +1,7 @@
 //! A step of a thread.
 
-ghost use Rattle.std.specs.Prelude.{◌≡◌, ℕ, ◌+◌, ◌<◌, ◌≤◌, ◌^◌, true, false, Some, None, [], ◌∷◌, ◌++◌, List, length, Ok, IfOk, IfErr, IfSome, IfNone, OnOk, OnErr};
+ghost use Rattle.std.specs.Prelude.{◌≡◌, ℕ, ◌+◌, ◌<◌, ◌≤◌, ◌^◌, true, false, Some, None, [], ◌∷◌, ◌++◌, List, length, Ok, IfOk, IfErr, IfSome, IfNone, OnErr};
 ghost use Rattle.std.specs.Option.{option_and_then};
-ghost use Rattle.std.specs.VecDeque.{deque_len};
 ghost use Rattle.heap.specs.Heap.{IsAddress, class_at};
 ghost use Rattle.semantics.specs.Thread.{Shared, Thread as SourceThread};
 ghost use Rattle.semantics.specs.ThreadStep.{waits};
@@ -12,14 +11,15 @@ ghost use Rattle.code_meaning.specs.Lowered.{IsLowered};
 ghost use Rattle.machine_scenes.specs.Buffers.{Acquired};
 ghost use Rattle.machine_steps.specs.Advances.{Advances, AdvancesAlways, IsHinderedAlways, LeavesMonitors, Stands, StandsReady, calls_after, ending_after, ends_with};
 ghost use Rattle.machine_threads.specs.Callers.{owner_at};
-ghost use Rattle.machine_threads.specs.Entry.{IsReady, Begins};
 ghost use Rattle.machine_steps.specs.Moved.{IsSilent};
 ghost use Rattle.machine_steps.specs.Resumed.{HasCalled, Resumes};
 ghost use Rattle.machine_steps.specs.Returned.{given_back};
 ghost use Rattle.jni.specs.Table.{result_value};
 
+use crate::enter::enter;
 use crate::execute::{Executed, ReturnValue, execute, run_plain};
 use crate::fault::StepFault;
+use crate::push::push;
 use crate::receive::receive;
 use code::instr::Instr;
 use code_meaning::Program;
@@ -29,11 +29,8 @@ use machine_answers::answer::Given;
 use machine_scenes::activation::Activation;
 use machine_scenes::operands::class_there;
 use machine_scenes::store::Store;
-use machine_threads::entry::begin;
-use machine_threads::thread::{PendingCall, Thread};
+use machine_threads::thread::Thread;
 use semantics::{Ending, Event};
-use std::alloc::AllocError;
-use std::collections::VecDeque;
 use world_values::World;
 
 /// What a step of a thread was.
@@ -45,8 +42,8 @@ pub enum Advanced {
 }
 
 /// Takes one step of a thread, which has this number, has not ended and doesn't wait for a monitor.
-/// Only the entry into a call, a new frame, a new global reference, a copy of elements and a monitor that is entered
-/// take host memory.
+/// Only the entry into a call, a call of a method, a new frame, a new global reference, a copy of elements and a monitor
+/// that is entered take host memory.
 ///
 /// Where the step's objects have no room, its allocation is refused if it may be. Else `NoRoom` says so, before
 /// anything has changed: room can be made then, and the same step asked for again. It takes no host memory.
@@ -88,6 +85,10 @@ pub fn advance(
         ) {
             Ok(Executed::Did(event)) => Ok(Advanced::Did(event)),
             Ok(Executed::Refused) => Ok(Advanced::Refused),
+            Ok(Executed::Calls) => {
+                push(program, world, store, thread)?;
+                Ok(Advanced::Did(Event::Quiet))
+            }
             Ok(Executed::Returned(value)) => {
                 if thread.callers.is_empty() {
                     leave(store, thread, number);
@@ -148,29 +149,6 @@ pub fn advance_plainly(program: &Program<'_>, store: &Store, thread: &mut Thread
     }
 }
 
-/// The entry into the next call.
-#[inline(never)]
-fn enter(program: &Program<'_>, loaded: &[Addr], thread: &mut Thread) -> Result<(), AllocError>
-    requires lowered { IsLowered program.now }
-    requires some { 0 < deque_len thread.old.calls }
-    requires ready { (next : PendingCall) (rest : List PendingCall) → thread.old.calls.items ≡ next ∷ rest
-        → IsReady program.now (length loaded.now) next }
-    ensures calls { OnOk result ((next : PendingCall) × (activation : Activation)
-        × (thread.old.calls.items ≡ next ∷ thread.new.calls.items)
-        × (thread.new.call ≡ Some activation) × Begins program.now loaded.now next activation) }
-    ensures callers { OnOk result (thread.new.callers ≡ thread.old.callers) }
-    ensures pending { OnOk result (thread.new.pending ≡ thread.old.pending) }
-    ensures ending { OnOk result (thread.new.ending ≡ thread.old.ending) }
-    ensures err { OnErr result (thread.new ≡ thread.old) }
-{
-    let next = thread.calls.front().unwrap();
-    let code = program.code(next.function).unwrap();
-    let activation = begin(*thread.calls.allocator(), code, loaded, next)?;
-    let _ = thread.calls.pop_front();
-    thread.call = Some(activation);
-    Ok(())
-}
-
 /// Goes on with the last caller of a thread, where the call that it made gives this. It takes no host memory.
 #[inline(never)]
 fn resume(program: &Program<'_>, store: &mut Store, thread: &mut Thread, value: ReturnValue)
@@ -224,6 +202,7 @@ fn given_back(pending: Option<Addr>, kind: ResultKind, value: ReturnValue) -> Gi
 fn leave(store: &mut Store, thread: &mut Thread, number: u8)
     requires { (a : ℕ) → thread.old.pending ≡ Some a → IsAddress store.old.heap a }
     ensures call { thread.new.call ≡ None }
+    ensures entering { thread.new.entering ≡ thread.old.entering }
     ensures callers { thread.new.callers ≡ thread.old.callers }
     ensures pending { thread.new.pending ≡ None }
     ensures calls { thread.new.calls.items
@@ -243,6 +222,7 @@ fn leave(store: &mut Store, thread: &mut Thread, number: u8)
 fn ends(heap: &Heap, thread: &mut Thread) -> bool
     requires { (a : ℕ) → thread.old.pending ≡ Some a → IsAddress heap.now a }
     ensures call { thread.new.call ≡ None }
+    ensures entering { thread.new.entering ≡ thread.old.entering }
     ensures callers { thread.new.callers ≡ thread.old.callers }
     ensures pending { thread.new.pending ≡ None }
     ensures calls { thread.new.calls.items

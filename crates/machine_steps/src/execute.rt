@@ -6,7 +6,7 @@ ghost use Rattle.code.specs.Depth.{depth_after};
 ghost use Rattle.code.specs.Effect.{plain_of, truth_word};
 ghost use Rattle.code_meaning.specs.Lowered.{IsLowered};
 ghost use Rattle.machine_answers.specs.Asked.{references_of};
-ghost use Rattle.machine_steps.specs.Executes.{DoesFirstTask, IsHinderedExecuting, StandsExecuting};
+ghost use Rattle.machine_steps.specs.Executes.{DoesFirstTask, IsAsBefore, IsHinderedExecuting, StandsExecuting};
 ghost use Rattle.machine_steps.specs.Invoked.{executed_as};
 ghost use Rattle.machine_steps.specs.Returned.{given_by, returned_at};
 ghost use Rattle.machine_steps.specs.Moved.{HasMoved, IsReachable, MovesPlainly};
@@ -45,6 +45,8 @@ pub enum Executed {
     Refused,
     /// The call returned, and gives this.
     Returned(ReturnValue),
+    /// It is a call of a method, which no check stops. Nothing has changed.
+    Calls,
 }
 
 /// One instruction of the call in progress of the thread of this number. What it copies has this owner.
@@ -68,6 +70,8 @@ pub fn execute(
     ensures hindered { IfErr result (λ fault. IsHinderedExecuting program.now world.now store.old activation.old
         pending.old thread owner may_refuse fault) }
     ensures refuses { result ≡ Ok Executed.Refused → may_refuse ≡ true }
+    ensures calls { IfOk result (λ done. done ≡ Executed.Calls → IsAsBefore store.old store.new pending.old pending.new
+        activation.old activation.new) }
     ensures store { OnErr result (store.new ≡ store.old) }
     ensures pending { OnErr result (pending.new ≡ pending.old) }
     ensures activation { OnErr result (activation.new ≡ activation.old) }
@@ -151,6 +155,7 @@ fn outcome_of(line: u32, invoked: Invoked) -> Executed
     match invoked {
         Invoked::Done => Executed::Did(Event::Quiet),
         Invoked::Refused => Executed::Refused,
+        Invoked::Calls => Executed::Calls,
         Invoked::Trapped(trap) => Executed::Did(Event::Trapped {
             trap,
             line: line as usize,

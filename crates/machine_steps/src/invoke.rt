@@ -7,11 +7,13 @@ ghost use Rattle.heap.specs.Heap.{left_of};
 ghost use Rattle.machine_calls.specs.CarriedOut.{takes_memory};
 ghost use Rattle.machine_calls.specs.Made.{cells_of};
 ghost use Rattle.machine_scenes.specs.NewObjects.{texts_in};
-ghost use Rattle.machine_answers.specs.Answers.{is_halt};
+ghost use Rattle.machine_answers.specs.Answers.{is_carried};
 ghost use Rattle.semantics.specs.World.{World as SourceWorld};
+ghost use Rattle.machine_steps.specs.Executes.{IsAsBefore};
 ghost use Rattle.machine_steps.specs.Received.{told_slot};
 ghost use Rattle.machine_steps.specs.MonitorCalls.{changes_monitor};
-ghost use Rattle.machine_steps.specs.Invoked.{DoesCall, IsAnswered, IsHinderedAtCall, IsStopped, StandsAtCall, done_or_refused};
+ghost use Rattle.machine_threads.specs.Callers.{owner_at};
+ghost use Rattle.machine_steps.specs.Invoked.{called_from, is_halt, DoesCall, IsAnswered, IsHinderedAtCall, IsStopped, StandsAtCall, done_or_refused};
 
 use crate::fault::StepFault;
 use crate::monitor::{answer_at_once, change_monitor};
@@ -30,6 +32,9 @@ use semantics::Trap;
 use std::alloc::AllocError;
 use world_values::World;
 
+/// The most calls of a thread that are made from one another.
+const MOST_ACTIVATIONS: u16 = 64;
+
 /// What a call of a function of the JNI came to.
 #[derive(Clone, Copy)]
 pub enum Invoked {
@@ -37,6 +42,8 @@ pub enum Invoked {
     /// Its allocation was refused.
     Refused,
     Trapped(Trap),
+    /// It calls a method, and no check stops it. Nothing has changed.
+    Calls,
 }
 
 /// The instruction that calls a function, in the thread of this number. What it copies has this owner.
@@ -64,6 +71,8 @@ pub fn invoke(
     ensures hindered { IfErr result (λ fault. IsHinderedAtCall program.now world.now store.old pending.old activation.old call.now
         thread owner may_refuse fault) }
     ensures refuses { result ≡ Ok Invoked.Refused → may_refuse ≡ true }
+    ensures calls { IfOk result (λ done. done ≡ Invoked.Calls → IsAsBefore store.old store.new pending.old pending.new
+        activation.old activation.new) }
     ensures store { OnErr result (store.new ≡ store.old) }
     ensures pending { OnErr result (pending.new ≡ pending.old) }
     ensures activation { OnErr result (activation.new ≡ activation.old) }
@@ -122,27 +131,56 @@ fn invoke_checked(
     ensures hindered { IfErr result (λ fault. IsHinderedAtCall program.now world.now store.old pending.old activation.old call.now
         thread owner may_refuse fault) }
     ensures refuses { result ≡ Ok Invoked.Refused → may_refuse ≡ true }
+    ensures calls { IfOk result (λ done. done ≡ Invoked.Calls → IsAsBefore store.old store.new pending.old pending.new
+        activation.old activation.new) }
     ensures store { OnErr result (store.new ≡ store.old) }
     ensures pending { OnErr result (pending.new ≡ pending.old) }
     ensures activation { OnErr result (activation.new ≡ activation.old) }
 {
     match answer_or_trap(program, world, store, *pending, activation, call, thread) {
         Ok(answer) => {
-            if goes_ahead(
-                world.classes(),
-                &call.texts,
-                &store.heap,
-                &answer,
-                may_refuse,
-            ) {
-                Ok(finish(
-                    program, world, store, pending, activation, call, thread, owner, answer,
-                )?)
+            if is_carried(&answer) {
+                if goes_ahead(
+                    world.classes(),
+                    &call.texts,
+                    &store.heap,
+                    &answer,
+                    may_refuse,
+                ) {
+                    Ok(finish(
+                        program, world, store, pending, activation, call, thread, owner, answer,
+                    )?)
+                } else {
+                    Err(StepFault::NoRoom)
+                }
             } else {
-                Err(StepFault::NoRoom)
+                Ok(called_at(thread, owner))
             }
         }
         Err(trap) => Ok(Invoked::Trapped(trap)),
+    }
+}
+
+/// Whether an answer is carried out: it calls no method, and doesn't stop the machine.
+#[inline(always)]
+fn is_carried(answer: &Answer) -> bool
+    ensures { result ≡ is_carried answer.now }
+{
+    !matches!(answer, Answer::Calls | Answer::Halts(_))
+}
+
+/// What a call of a method comes to, of which only its depth is to be checked yet: a thread has at most 64 calls that are made
+/// from one another. The owner of what a call copies tells how many are below it.
+#[inline(always)]
+fn called_at(thread: u8, owner: u16) -> Invoked
+    requires { (below : ℕ) × (owner ≡ owner_at thread below) }
+    ensures { (below : ℕ) → owner ≡ owner_at thread below → result ≡ called_from below }
+{
+    let eight_below = owner - thread as u16;
+    if eight_below < 8 * (MOST_ACTIVATIONS - 1) {
+        Invoked::Calls
+    } else {
+        Invoked::Trapped(Trap::CallsTooDeep)
     }
 }
 
@@ -215,9 +253,11 @@ fn finish(
     requires few { store.old.births + 2 < 2 ^ 32 }
     requires prepared { IsPrepared call.now }
     requires answered { IsAnswered program.now world.now store.old pending.old activation.old thread call.now answer }
-    requires runs { is_halt answer ≡ false }
+    requires runs { is_carried answer ≡ true }
     ensures done { IfOk result (λ done. DoesCall program.now world.now store.old store.new pending.old pending.new
         activation.old activation.new call.now thread owner done) }
+    ensures calls { IfOk result (λ done. done ≡ Invoked.Calls → IsAsBefore store.old store.new pending.old pending.new
+        activation.old activation.new) }
     ensures refused { result ≡ Ok Invoked.Refused
         → left_of store.old.heap < cells_of world.now.classes (texts_in call.now.texts.items) answer }
     ensures memory { OnErr result (takes_memory answer ≡ true) }

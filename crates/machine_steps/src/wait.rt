@@ -2,6 +2,7 @@
 
 ghost use Rattle.std.specs.Prelude.{◌≡◌, ℕ, List, length};
 ghost use Rattle.code.specs.Call.{IsPrepared};
+ghost use Rattle.syntax.specs.Views.{unit_tree};
 ghost use Rattle.jni.specs.JniFunction.{MonitorEnter};
 ghost use Rattle.jni.specs.Table.{function_value};
 ghost use Rattle.semantics.specs.CallStep.{waits_with};
@@ -11,7 +12,7 @@ ghost use Rattle.semantics.specs.Thread.{Shared, Thread as SourceThread, sight_o
 ghost use Rattle.semantics.specs.ThreadStep.{waits};
 ghost use Rattle.semantics.specs.World.{loaded_objects};
 ghost use Rattle.semantics_safety.specs.Owners.{Owners, ThreadOwners};
-ghost use Rattle.code_meaning.specs.Lowered.{IsLowered, Lowered};
+ghost use Rattle.code_meaning.specs.Lowered.{IsLowered};
 ghost use Rattle.machine_scenes.specs.Buffers.{Acquired, acquired_by, beside};
 ghost use Rattle.machine_scenes.specs.StoreAgrees.{StoreAgrees};
 ghost use Rattle.machine_steps.specs.Executes.{IsSteady};
@@ -52,7 +53,7 @@ pub fn waits(
         → StoreAgrees program.now world.now store.now shared (beside (beside_callers others s) (acquired_by s))
         → ThreadAgrees program.now world.now.classes store.now.heap store.now.elements
         (length (loaded_objects world.now)) number own shared thread.now s
-        → IsSteady world.now.classes own.current shared s → result ≡ waits world.now.classes number shared s }
+        → IsSteady (unit_tree program.now.unit) world.now.classes own.current shared s → result ≡ waits world.now.classes number shared s }
 {
     if store.monitors.len() == 0 {
         return false;
@@ -100,14 +101,14 @@ fn waits_to_enter(
     call: &Call,
     thread: u8,
 ) -> bool
-    requires may_wait { (p : Lowered) × (others : Acquired) × (owner : ℕ) × (own : Owners) × (shared : Shared) × (s : SourceThread)
+    requires may_wait { (others : Acquired) × (owner : ℕ) × (own : Owners) × (shared : Shared) × (s : SourceThread)
         × (task : Task) × (rest : List Task)
-        × MayWait p world.now store.now pending activation.now call.now others thread owner own shared s task rest }
+        × MayWait program.now world.now store.now pending activation.now call.now others thread owner own shared s task rest }
     requires enters { function_value call.now.function ≡ MonitorEnter }
     requires prepared { IsPrepared call.now }
-    ensures { (p : Lowered) (others : Acquired) (owner : ℕ) (own : Owners) (shared : Shared) (s : SourceThread)
+    ensures { (others : Acquired) (owner : ℕ) (own : Owners) (shared : Shared) (s : SourceThread)
         (task : Task) (rest : List Task)
-        → MayWait p world.now store.now pending activation.now call.now others thread owner own shared s task rest
+        → MayWait program.now world.now store.now pending activation.now call.now others thread owner own shared s task rest
         → result ≡ waits_with world.now.classes thread shared s (effect_of (sight_of shared s) task) }
 {
     let scene = scene_of(program, world, store, pending, activation, thread);

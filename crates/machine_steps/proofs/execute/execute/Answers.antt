@@ -1,4 +1,4 @@
-use Rattle.std.proofs.Common.{rules, ◌≡◌, ◌≤◌, ◌+◌, Some, List, length, refl, sym, ap, ◌∙◌, subst, arith, ℤ, ◌⊎◌, ⊎_elim}
+use Rattle.std.proofs.Common.{ℕ, rules, ◌≡◌, ◌≤◌, ◌+◌, Some, List, length, refl, sym, ap, ◌∙◌, subst, arith, ℤ, ◌⊎◌, ⊎_elim}
 use Rattle.std.specs.Int.{w32, cast_signed, cast_unsigned}
 use Rattle.std.specs.Vec.{with_items}
 use Rattle.std.proofs.Math.Facts.{to_z-of_z}
@@ -16,6 +16,10 @@ use Rattle.machine_steps.specs.declared.execute.ReturnValue.{ReturnValue}
 use Rattle.machine_scenes.specs.declared.activation.Activation.{Activation}
 use Rattle.semantics.specs.declared.event.Event.TheVariants.{Printed}
 use Rattle.machine_steps.specs.declared.execute.Executed.{Executed}
+use Rattle.machine_steps.specs.declared.execute.Executed.TheVariants as executed
+use Rattle.machine_steps.specs.Invoked.{executed_as}
+use Rattle.machine_steps.specs.declared.invoke.Invoked.{Invoked}
+use Rattle.machine_steps.specs.declared.invoke.Invoked.TheVariants as invoked
 use Rattle.machine_steps.specs.declared.execute.Executed.TheVariants.{Did, Returned}
 use Rattle.machine_steps.specs.Executes.{Executes}
 use Rattle.machine_scenes.specs.Statics.{all_held, held}
@@ -194,3 +198,13 @@ returns-in-Err-clause-hindered c others own shared s task rest e =
     let f = fetched (goal.at.returns-in-Err-clause-hindered c).After-instr_at-instr in
     c.in-Err.ensures.hindered others own shared s task rest
     (at_call c.args.program.now c.args.world.now c.args.store.now c.args.pending.now c.args.activation.now c.instr_at-instr.result.now f c.call-call.result.now (c.in-Call.is ∙ ap (λ (x : Call). instr.Call x) (sym c.call-call.ensures.view)) others c.args.thread c.args.owner own shared s task rest e)
+
+-- it is a call of a method where the call came to one
+called_only : (line : ℕ) (x : Invoked) → executed_as line x ≡ executed.Calls → x ≡ invoked.Calls
+called_only line invoked.Done is = absurd (cc)
+called_only line invoked.Refused is = absurd (cc)
+called_only line (invoked.Trapped trap) is = absurd (cc)
+called_only line invoked.Calls is = refl
+
+pub returns-in-Ok-clause-calls : goal.returns-in-Ok-clause-calls
+returns-in-Ok-clause-calls c is = c.in-Ok.ensures.calls (called_only c.call-call.result.now.line c.in-Ok.invoked (sym c.outcome_of.ensures ∙ is))

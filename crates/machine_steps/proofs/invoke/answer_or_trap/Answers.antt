@@ -1,7 +1,7 @@
 use Rattle.code_meaning.specs.Lowered.{Lowered}
 use Rattle.syntax.specs.Views.{unit_tree}
 use Rattle.std.specs.Prelude.{IfOk, IfErr}
-use Rattle.std.proofs.Common.{inl, inr, Result, Ok, Err, ◌≡◌, ℕ, Option, None, sym, ap, ◌∙◌, subst}
+use Rattle.std.proofs.Common.{inl, inr, Result, Ok, Err, ◌≡◌, ℕ, Option, None, refl, sym, ap, ◌∙◌, subst}
 use Rattle.std.specs.Option.{option_map}
 use Rattle.jni.specs.Table.{function_value}
 use Rattle.semantics.specs.World.{World}
@@ -73,8 +73,8 @@ pub work_out-requires-clause-passed : goal.work_out-requires-clause-passed
 work_out-requires-clause-passed c =
     let at = c.requires.at_call in
     let a = at.1 in
-    let found = trap_seen c.args.program.now c.args.world.now c.args.store.now c.args.pending c.args.activation.now c.args.call.now a.0 c.args.thread at.0 a.1 a.2 a.3 a.4 a.5 a.6 c.args.store.now.monitors (unit_tree c.args.program.now.unit) (scene_view c.scene_of-scene.result) c.scene_of-scene.ensures.scene in
-    passed_seen c.args.program.now c.args.world.now c.args.store.now c.args.pending c.args.activation.now c.args.call.now a.0 c.args.thread at.0 a.1 a.2 a.3 a.4 a.5 a.6 c.args.store.now.monitors (unit_tree c.args.program.now.unit) (scene_view c.scene_of-scene.result) c.scene_of-scene.ensures.scene
+    let found = trap_seen c.args.program.now c.args.world.now c.args.store.now c.args.pending c.args.activation.now c.args.call.now a.0 c.args.thread at.0 a.1 a.2 a.3 a.4 a.5 a.6 c.args.store.now.monitors (unit_tree c.args.program.now.unit) (scene_view c.scene_of-scene.result) c.scene_of-scene.ensures.scene refl in
+    passed_seen c.args.program.now c.args.world.now c.args.store.now c.args.pending c.args.activation.now c.args.call.now a.0 c.args.thread at.0 a.1 a.2 a.3 a.4 a.5 a.6 c.args.store.now.monitors (unit_tree c.args.program.now.unit) (scene_view c.scene_of-scene.result) c.scene_of-scene.ensures.scene refl
     (sym found ∙ sym c.check.ensures ∙ ap (option_map trap_view) c.in-None.is)
 
 -- what was worked out is handed on

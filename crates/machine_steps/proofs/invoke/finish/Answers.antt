@@ -42,21 +42,21 @@ use Rattle.machine_steps.specs.Invoked.{AtCall, IsAnswered, done_or_refused, exe
 use Rattle.machine_steps.specs.declared.invoke.Invoked.{Invoked}
 use Rattle.machine_steps.specs.declared.invoke.Invoked.TheVariants as invoked
 use Rattle.machine_steps.specs.Received.{told_slot, statics_with, HasBuffer, HasField, HasNumber, HasReference, HasRoom, HasStatic, HasTold, Receives}
-use Rattle.machine_steps.proofs.AnsweredCalls.{answered, brings, can_carry, does, free, it, kind_is, worked}
+use Rattle.machine_steps.proofs.AnsweredCalls.{IsNoCall, answered, brings, can_carry, does, free, it, kind_is, no_call, worked}
 use Rattle.machine_steps.proofs.AskedCalls.{has_static, has_target, has_told, room_after}
 use Rattle.machine_steps.proofs.CallInstructions.{goes_on}
 use Rattle.machine_steps.proofs.invoke.finish.Goals as goal
 
 -- the machine is at a call that no check stops
-module _ (p : Lowered) (w : World) (store : Store) (pending : Option ℕ) (call : Activation) (function : Call) (others : Acquired) (k owner : ℕ) (own : Owners) (shared : Shared) (s : Thread) (task : Task) (rest : List Task) (h : AtCall p w store pending call function others k owner own shared s task rest) (answer : Answer) (given : IsAnswered p w store pending call k function answer) where
+module _ (p : Lowered) (w : World) (store : Store) (pending : Option ℕ) (call : Activation) (function : Call) (others : Acquired) (k owner : ℕ) (own : Owners) (shared : Shared) (s : Thread) (task : Task) (rest : List Task) (h : AtCall p w store pending call function others k owner own shared s task rest) (answer : Answer) (given : IsAnswered p w store pending call k function answer) (plain : IsNoCall answer) where
   abbrev effect : CallEffect
-  effect = does p w store pending call function others k owner own shared s task rest h answer given
+  effect = does p w store pending call function others k owner own shared s task rest h answer given plain
 
   -- the kind of its result
   module _ (kind : ResultKind) (same : kind ≡ (prototype (function_value function.function)).result) where
     -- the local array that the call names
     abbrev named : Option (Identifier × LocalArray)
-    named = array_given (call_view function).operands (it p w store pending call function others k owner own shared s task rest h answer given).args
+    named = array_given (call_view function).operands (it p w store pending call function others k owner own shared s task rest h answer given plain).args
 
     -- what was carried out
     module _ (refused : Bool) (after : Store) (exception : Option ℕ) (locals : LocalTable) (g : Given) (carried : CarriesOut p w store.heap call.locals answer kind others owner shared s effect refused after exception locals g) where
@@ -66,11 +66,11 @@ module _ (p : Lowered) (w : World) (store : Store) (pending : Option ℕ) (call 
           (has_static p w store pending call function others k owner own shared s task rest h (length after.statics.items)
           (shared_long p w store shared _ h.shares ∙ sym (statics_long p w after (shared_after w.classes refused shared effect) _ carried.store_agrees)))
 
-      carried_as : CarriesOut p w store.heap call.locals answer (prototype (it p w store pending call function others k owner own shared s task rest h answer given).f).result others owner shared s effect refused after exception locals g
-      carried_as = subst (λ (x : ResultKind). CarriesOut p w store.heap call.locals answer x others owner shared s effect refused after exception locals g) (kind_is p w store pending call function others k owner own shared s task rest h answer given kind same) carried
+      carried_as : CarriesOut p w store.heap call.locals answer (prototype (it p w store pending call function others k owner own shared s task rest h answer given plain).f).result others owner shared s effect refused after exception locals g
+      carried_as = subst (λ (x : ResultKind). CarriesOut p w store.heap call.locals answer x others owner shared s effect refused after exception locals g) (kind_is p w store pending call function others k owner own shared s task rest h answer given plain kind same) carried
 
       room_there : HasRoom kind locals
-      room_there = subst (λ (x : ResultKind). HasRoom x locals) (sym (kind_is p w store pending call function others k owner own shared s task rest h answer given kind same)) (room_after p w store pending call function others k owner own shared s task rest h (free p w store pending call function others k owner own shared s task rest h answer given) refused after exception locals g answer carried_as)
+      room_there = subst (λ (x : ResultKind). HasRoom x locals) (sym (kind_is p w store pending call function others k owner own shared s task rest h answer given plain kind same)) (room_after p w store pending call function others k owner own shared s task rest h (free p w store pending call function others k owner own shared s task rest h answer given plain) refused after exception locals g answer carried_as)
 
 -- as many slots are left
 numbers_long : (space : Space) (answer : Answer) (numbers : List ℕ) → length (slots_after space answer numbers) ≡ length numbers
@@ -91,13 +91,13 @@ carry_out-requires-clause-possible c =
     let w = c.args.world.now in
     let kind = result_value c.args.call.now.result in (
       c.args.program.now,
-      named c.args.program.now w c.args.store.now c.args.pending.now c.args.activation.now c.args.call.now a.0 c.args.thread c.args.owner a.1 a.2 a.3 a.4 a.5 a.6 c.args.answer c.requires.answered kind c.requires.prepared.result,
+      named c.args.program.now w c.args.store.now c.args.pending.now c.args.activation.now c.args.call.now a.0 c.args.thread c.args.owner a.1 a.2 a.3 a.4 a.5 a.6 c.args.answer c.requires.answered (no_call c.args.answer c.requires.runs) kind c.requires.prepared.result,
       a.0,
       a.2,
       a.3,
-      effect c.args.program.now w c.args.store.now c.args.pending.now c.args.activation.now c.args.call.now a.0 c.args.thread c.args.owner a.1 a.2 a.3 a.4 a.5 a.6 c.args.answer c.requires.answered,
-      can_carry c.args.program.now w c.args.store.now c.args.pending.now c.args.activation.now c.args.call.now a.0 c.args.thread c.args.owner a.1 a.2 a.3 a.4 a.5 a.6 c.args.answer c.requires.answered kind c.requires.prepared.result,
-      answered c.args.program.now w c.args.store.now c.args.pending.now c.args.activation.now c.args.call.now a.0 c.args.thread c.args.owner a.1 a.2 a.3 a.4 a.5 a.6 c.args.answer c.requires.answered kind c.requires.prepared.result,
+      effect c.args.program.now w c.args.store.now c.args.pending.now c.args.activation.now c.args.call.now a.0 c.args.thread c.args.owner a.1 a.2 a.3 a.4 a.5 a.6 c.args.answer c.requires.answered (no_call c.args.answer c.requires.runs),
+      can_carry c.args.program.now w c.args.store.now c.args.pending.now c.args.activation.now c.args.call.now a.0 c.args.thread c.args.owner a.1 a.2 a.3 a.4 a.5 a.6 c.args.answer c.requires.answered (no_call c.args.answer c.requires.runs) kind c.requires.prepared.result,
+      answered c.args.program.now w c.args.store.now c.args.pending.now c.args.activation.now c.args.call.now a.0 c.args.thread c.args.owner a.1 a.2 a.3 a.4 a.5 a.6 c.args.answer c.requires.answered (no_call c.args.answer c.requires.runs) kind c.requires.prepared.result,
     )
 
 target_left : (target : Target) (numbers references fields buffers numbers' references' fields' buffers' : ℕ) → numbers' ≡ numbers → references' ≡ references → fields' ≡ fields → buffers' ≡ buffers
@@ -132,9 +132,9 @@ receive-requires-clause-static_target c =
     let w = c.args.world.now in
     let kind = result_value c.args.call.now.result in
     let same = c.requires.prepared.result in
-    static_there c.args.program.now w c.args.store.now c.args.pending.now c.args.activation.now c.args.call.now a.0 c.args.thread c.args.owner a.1 a.2 a.3 a.4 a.5 a.6 c.args.answer c.requires.answered kind same c.in-Ok.carried.refused c.carry_out.new.store c.carry_out.new.pending c.carry_out.new.activation.locals c.in-Ok.carried.given
-    (c.in-Ok.ensures.carried c.args.program.now (named c.args.program.now w c.args.store.now c.args.pending.now c.args.activation.now c.args.call.now a.0 c.args.thread c.args.owner a.1 a.2 a.3 a.4 a.5 a.6 c.args.answer c.requires.answered kind same) a.0 a.2 a.3 _ (can_carry c.args.program.now w c.args.store.now c.args.pending.now c.args.activation.now c.args.call.now a.0 c.args.thread c.args.owner a.1 a.2 a.3 a.4 a.5 a.6 c.args.answer c.requires.answered kind same)
-    (answered c.args.program.now w c.args.store.now c.args.pending.now c.args.activation.now c.args.call.now a.0 c.args.thread c.args.owner a.1 a.2 a.3 a.4 a.5 a.6 c.args.answer c.requires.answered kind same))
+    static_there c.args.program.now w c.args.store.now c.args.pending.now c.args.activation.now c.args.call.now a.0 c.args.thread c.args.owner a.1 a.2 a.3 a.4 a.5 a.6 c.args.answer c.requires.answered (no_call c.args.answer c.requires.runs) kind same c.in-Ok.carried.refused c.carry_out.new.store c.carry_out.new.pending c.carry_out.new.activation.locals c.in-Ok.carried.given
+    (c.in-Ok.ensures.carried c.args.program.now (named c.args.program.now w c.args.store.now c.args.pending.now c.args.activation.now c.args.call.now a.0 c.args.thread c.args.owner a.1 a.2 a.3 a.4 a.5 a.6 c.args.answer c.requires.answered (no_call c.args.answer c.requires.runs) kind same) a.0 a.2 a.3 _ (can_carry c.args.program.now w c.args.store.now c.args.pending.now c.args.activation.now c.args.call.now a.0 c.args.thread c.args.owner a.1 a.2 a.3 a.4 a.5 a.6 c.args.answer c.requires.answered (no_call c.args.answer c.requires.runs) kind same)
+    (answered c.args.program.now w c.args.store.now c.args.pending.now c.args.activation.now c.args.call.now a.0 c.args.thread c.args.owner a.1 a.2 a.3 a.4 a.5 a.6 c.args.answer c.requires.answered (no_call c.args.answer c.requires.runs) kind same))
     c.deref_mut.result.now c.deref_mut.ensures.value
 
 pub receive-requires-clause-room : goal.receive-requires-clause-room
@@ -143,9 +143,9 @@ receive-requires-clause-room c =
     let w = c.args.world.now in
     let kind = result_value c.args.call.now.result in
     let same = c.requires.prepared.result in
-    room_there c.args.program.now w c.args.store.now c.args.pending.now c.args.activation.now c.args.call.now a.0 c.args.thread c.args.owner a.1 a.2 a.3 a.4 a.5 a.6 c.args.answer c.requires.answered kind same c.in-Ok.carried.refused c.carry_out.new.store c.carry_out.new.pending c.carry_out.new.activation.locals c.in-Ok.carried.given
-    (c.in-Ok.ensures.carried c.args.program.now (named c.args.program.now w c.args.store.now c.args.pending.now c.args.activation.now c.args.call.now a.0 c.args.thread c.args.owner a.1 a.2 a.3 a.4 a.5 a.6 c.args.answer c.requires.answered kind same) a.0 a.2 a.3 _ (can_carry c.args.program.now w c.args.store.now c.args.pending.now c.args.activation.now c.args.call.now a.0 c.args.thread c.args.owner a.1 a.2 a.3 a.4 a.5 a.6 c.args.answer c.requires.answered kind same)
-    (answered c.args.program.now w c.args.store.now c.args.pending.now c.args.activation.now c.args.call.now a.0 c.args.thread c.args.owner a.1 a.2 a.3 a.4 a.5 a.6 c.args.answer c.requires.answered kind same))
+    room_there c.args.program.now w c.args.store.now c.args.pending.now c.args.activation.now c.args.call.now a.0 c.args.thread c.args.owner a.1 a.2 a.3 a.4 a.5 a.6 c.args.answer c.requires.answered (no_call c.args.answer c.requires.runs) kind same c.in-Ok.carried.refused c.carry_out.new.store c.carry_out.new.pending c.carry_out.new.activation.locals c.in-Ok.carried.given
+    (c.in-Ok.ensures.carried c.args.program.now (named c.args.program.now w c.args.store.now c.args.pending.now c.args.activation.now c.args.call.now a.0 c.args.thread c.args.owner a.1 a.2 a.3 a.4 a.5 a.6 c.args.answer c.requires.answered (no_call c.args.answer c.requires.runs) kind same) a.0 a.2 a.3 _ (can_carry c.args.program.now w c.args.store.now c.args.pending.now c.args.activation.now c.args.call.now a.0 c.args.thread c.args.owner a.1 a.2 a.3 a.4 a.5 a.6 c.args.answer c.requires.answered (no_call c.args.answer c.requires.runs) kind same)
+    (answered c.args.program.now w c.args.store.now c.args.pending.now c.args.activation.now c.args.call.now a.0 c.args.thread c.args.owner a.1 a.2 a.3 a.4 a.5 a.6 c.args.answer c.requires.answered (no_call c.args.answer c.requires.runs) kind same))
 
 -- it was refused
 was_refused : (refused : Bool) (x : Invoked) → x ≡ done_or_refused refused → x ≡ invoked.Refused → refused ≡ true
@@ -159,18 +159,26 @@ returns-in-Ok-clause-refused c is =
     let store = c.args.store.now in
     let kind = result_value c.args.call.now.result in
     let same = c.requires.prepared.result in
-    let does = effect c.args.program.now w store c.args.pending.now c.args.activation.now c.args.call.now a.0 c.args.thread c.args.owner a.1 a.2 a.3 a.4 a.5 a.6 c.args.answer c.requires.answered in
-    let answer = answered c.args.program.now w store c.args.pending.now c.args.activation.now c.args.call.now a.0 c.args.thread c.args.owner a.1 a.2 a.3 a.4 a.5 a.6 c.args.answer c.requires.answered kind same in
-    let carried = c.in-Ok.ensures.carried c.args.program.now (named c.args.program.now w store c.args.pending.now c.args.activation.now c.args.call.now a.0 c.args.thread c.args.owner a.1 a.2 a.3 a.4 a.5 a.6 c.args.answer c.requires.answered kind same) a.0 a.2 a.3 does (can_carry c.args.program.now w store c.args.pending.now c.args.activation.now c.args.call.now a.0 c.args.thread c.args.owner a.1 a.2 a.3 a.4 a.5 a.6 c.args.answer c.requires.answered kind same) answer in
+    let does = effect c.args.program.now w store c.args.pending.now c.args.activation.now c.args.call.now a.0 c.args.thread c.args.owner a.1 a.2 a.3 a.4 a.5 a.6 c.args.answer c.requires.answered (no_call c.args.answer c.requires.runs) in
+    let answer = answered c.args.program.now w store c.args.pending.now c.args.activation.now c.args.call.now a.0 c.args.thread c.args.owner a.1 a.2 a.3 a.4 a.5 a.6 c.args.answer c.requires.answered (no_call c.args.answer c.requires.runs) kind same in
+    let carried = c.in-Ok.ensures.carried c.args.program.now (named c.args.program.now w store c.args.pending.now c.args.activation.now c.args.call.now a.0 c.args.thread c.args.owner a.1 a.2 a.3 a.4 a.5 a.6 c.args.answer c.requires.answered (no_call c.args.answer c.requires.runs) kind same) a.0 a.2 a.3 does (can_carry c.args.program.now w store c.args.pending.now c.args.activation.now c.args.call.now a.0 c.args.thread c.args.owner a.1 a.2 a.3 a.4 a.5 a.6 c.args.answer c.requires.answered (no_call c.args.answer c.requires.runs) kind same) answer in
     let refused = was_refused c.in-Ok.carried.refused c.done_or_refused.result c.done_or_refused.ensures (cc (is)) in
     let short = subst (λ (b : Bool). GoesByRoom b (sizes (made_by w.classes does)) store.heap c.carry_out.new.store.heap) refused carried.room in
-    omega (arith, short.0, cells_made w.classes (brings c.args.program.now w store c.args.pending.now c.args.activation.now c.args.call.now a.0 c.args.thread c.args.owner a.1 a.2 a.3 a.4 a.5 a.6 c.args.answer c.requires.answered) store.heap c.args.activation.now.locals kind a.2 a.3 c.args.answer does answer)
+    omega (arith, short.0, cells_made w.classes (brings c.args.program.now w store c.args.pending.now c.args.activation.now c.args.call.now a.0 c.args.thread c.args.owner a.1 a.2 a.3 a.4 a.5 a.6 c.args.answer c.requires.answered (no_call c.args.answer c.requires.runs)) store.heap c.args.activation.now.locals kind a.2 a.3 c.args.answer does answer)
 
 -- what a call came to, by whether its allocation was refused
 executes : (p : Lowered) (w : World) (old store : Store) (others : Acquired) (k owner : ℕ) (own : Owners) (shared : Shared) (s : Thread) (rest : List Task) (call : Activation) (pending : Option ℕ) (e : Effect) (line : ℕ) (refused : Bool)
     → GoesOn p w old store others k owner own shared s rest call pending e refused Quiet → Executes p w old store others k owner own shared s rest call pending e (executed_as line (done_or_refused refused))
 executes p w old store others k owner own shared s rest call pending e line true h = h
 executes p w old store others k owner own shared s rest call pending e line false h = h
+
+-- what isn't stopped calls no method
+never_calls : (refused : Bool) → done_or_refused refused ≡ invoked.Calls → ⊥
+never_calls true is = cc
+never_calls false is = cc
+
+pub returns-in-Ok-clause-calls : goal.returns-in-Ok-clause-calls
+returns-in-Ok-clause-calls c is = absurd (never_calls c.in-Ok.carried.refused (sym c.done_or_refused.ensures ∙ is))
 
 pub returns-in-Ok-clause-done : goal.returns-in-Ok-clause-done
 returns-in-Ok-clause-done c others own shared s task rest h =
@@ -186,20 +194,20 @@ returns-in-Ok-clause-done c others own shared s task rest h =
     let same = c.requires.prepared.result in
     let refused = c.in-Ok.carried.refused in
     let g = c.in-Ok.carried.given in
-    let is = kind_is p w store pending activation call others k owner own shared s task rest h c.args.answer c.requires.answered kind same in
-    let does = effect p w store pending activation call others k owner own shared s task rest h c.args.answer c.requires.answered in
-    let answer = answered p w store pending activation call others k owner own shared s task rest h c.args.answer c.requires.answered kind same in
-    let carried = c.in-Ok.ensures.carried p (named p w store pending activation call others k owner own shared s task rest h c.args.answer c.requires.answered kind same) others shared s does (can_carry p w store pending activation call others k owner own shared s task rest h c.args.answer c.requires.answered kind same) answer in
+    let is = kind_is p w store pending activation call others k owner own shared s task rest h c.args.answer c.requires.answered (no_call c.args.answer c.requires.runs) kind same in
+    let does = effect p w store pending activation call others k owner own shared s task rest h c.args.answer c.requires.answered (no_call c.args.answer c.requires.runs) in
+    let answer = answered p w store pending activation call others k owner own shared s task rest h c.args.answer c.requires.answered (no_call c.args.answer c.requires.runs) kind same in
+    let carried = c.in-Ok.ensures.carried p (named p w store pending activation call others k owner own shared s task rest h c.args.answer c.requires.answered (no_call c.args.answer c.requires.runs) kind same) others shared s does (can_carry p w store pending activation call others k owner own shared s task rest h c.args.answer c.requires.answered (no_call c.args.answer c.requires.runs) kind same) answer in
     let left = c.carry_out.new.activation in
     let after = with_items c.carry_out.new.store.statics c.receive.new.statics in
     let final : Store = record c.carry_out.new.store { statics = after } in
     subst (λ (done : Executed). Executes p w store final others k owner own shared s rest c.receive.new.activation c.carry_out.new.pending (effect_of (sight_of shared s) task) done) (ap (executed_as call.line) (sym c.done_or_refused.ensures))
     (executes p w store final others k owner own shared s rest c.receive.new.activation c.carry_out.new.pending (effect_of (sight_of shared s) task) call.line refused
-    (goes_on p w store pending activation call others k owner own shared s task rest h c.args.answer (worked p w store pending activation call others k owner own shared s task rest h c.args.answer c.requires.answered) c.requires.answered.sound c.requires.runs
-    (free p w store pending activation call others k owner own shared s task rest h c.args.answer c.requires.answered)
-    (subst (λ (x : ResultKind). IsAnswer w.classes (brings p w store pending activation call others k owner own shared s task rest h c.args.answer c.requires.answered) store.heap activation.locals x shared s c.args.answer does) is answer)
+    (goes_on p w store pending activation call others k owner own shared s task rest h c.args.answer (worked p w store pending activation call others k owner own shared s task rest h c.args.answer c.requires.answered (no_call c.args.answer c.requires.runs)) c.requires.answered.sound c.requires.runs
+    (free p w store pending activation call others k owner own shared s task rest h c.args.answer c.requires.answered (no_call c.args.answer c.requires.runs))
+    (subst (λ (x : ResultKind). IsAnswer w.classes (brings p w store pending activation call others k owner own shared s task rest h c.args.answer c.requires.answered (no_call c.args.answer c.requires.runs)) store.heap activation.locals x shared s c.args.answer does) is answer)
     refused c.carry_out.new.store c.carry_out.new.pending c.carry_out.new.activation.locals g
-    (carried_as p w store pending activation call others k owner own shared s task rest h c.args.answer c.requires.answered kind same refused c.carry_out.new.store c.carry_out.new.pending c.carry_out.new.activation.locals g carried)
+    (carried_as p w store pending activation call others k owner own shared s task rest h c.args.answer c.requires.answered (no_call c.args.answer c.requires.runs) kind same refused c.carry_out.new.store c.carry_out.new.pending c.carry_out.new.activation.locals g carried)
     c.frames.ensures.stacked c.in-Ok.ensures.copies c.in-Ok.ensures.new_copy
     left.slots.numbers left.slots.buffers c.in-Ok.ensures.slots c.in-Ok.ensures.buffer_slots c.receive.new.activation after
     (subst (λ (x : ResultKind). Receives call.target x (told_slot (slice_get (call_view call).operands 1)) g (record activation { locals = left.locals; slots = record activation.slots { numbers = left.slots.numbers; buffers = left.slots.buffers } }) c.receive.new.activation) is

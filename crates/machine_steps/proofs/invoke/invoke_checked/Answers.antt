@@ -1,6 +1,6 @@
 use Rattle.std.specs.Global.{Vec}
-use Rattle.std.proofs.Common.{◌≡◌, ℕ, List, ◌<◌, ◌||◌, Bool, true, false, Some, ⊎_elim, refl, sym, ap, ◌∙◌, arith}
-use Rattle.std.specs.Prelude.{nat_le}
+use Rattle.std.proofs.Common.{◌≡◌, ℕ, ◌+◌, List, length, ◌<◌, ◌||◌, Bool, true, false, Some, Ok, ⊎_elim, refl, sym, ap, ◌∙◌, subst, arith}
+use Rattle.std.specs.Prelude.{nat_le, if◌then◌else◌}
 use Rattle.std.proofs.lemmas.Bool.{leb-false}
 use Rattle.std.proofs.lemmas.Result.{err_from_is_err_and}
 use Rattle.class_rules.specs.Class.{Classes}
@@ -8,17 +8,56 @@ use Rattle.heap.specs.Heap.{left_of}
 use Rattle.jni.specs.Table.{result_value}
 use Rattle.machine_answers.specs.declared.answer.Answer.{Answer}
 use Rattle.machine_answers.specs.declared.answer.Answer.TheVariants as answer
+use Rattle.semantics.specs.Effect.{effect_of}
 use Rattle.semantics.specs.EventViews.{trap_view}
-use Rattle.machine_steps.specs.Invoked.{IsAnswered, trap_at}
+use Rattle.semantics.specs.Thread.{sight_of}
+use Rattle.semantics.specs.declared.trap.Trap.TheVariants.{CallsTooDeep}
+use Rattle.machine_steps.specs.Executes.{Executes}
+use Rattle.machine_steps.specs.Invoked.{IsAnswered, called_from, executed_as, trap_at}
+use Rattle.machine_steps.specs.declared.invoke.Invoked.{Invoked}
+use Rattle.machine_steps.specs.declared.invoke.Invoked.TheVariants as invoked
 use Rattle.machine_calls.specs.Made.{cells_of}
 use Rattle.machine_scenes.specs.NewObjects.{texts_in}
 use Rattle.machine_calls.proofs.CellsMade.{memory_free}
-use Rattle.machine_steps.proofs.AnsweredCalls.{cells_asked, halts}
-use Rattle.machine_steps.proofs.AskedCalls.{found_trap, traps, trap_is}
+use Rattle.machine_steps.proofs.AnsweredCalls.{calls_one, cells_asked, halts, no_call}
+use Rattle.machine_steps.proofs.AskedCalls.{found_trap, traps, trap_found_is}
+use Rattle.machine_steps.proofs.MethodCalls.{calls_on}
 use Rattle.machine_steps.proofs.invoke.invoke_checked.Goals as goal
 
 pub answer_or_trap-requires-clause-at_call : goal.answer_or_trap-requires-clause-at_call
 answer_or_trap-requires-clause-at_call c = (c.args.owner, c.requires.at_call)
+
+pub called_at-requires : goal.called_at-requires
+called_at-requires c = let a = c.requires.at_call in (length a.3.callers, a.6.depth)
+
+-- what a call of a method comes to isn't refused
+never_refused : (below : ℕ) → called_from below ≡ invoked.Refused → ⊥
+never_refused below = by_depth (nat_le 64 (below + 1))
+  where
+    by_depth : (b : Bool) → (if b then invoked.Trapped CallsTooDeep else invoked.Calls) ≡ invoked.Refused → ⊥
+    by_depth true is = cc
+    by_depth false is = cc
+
+pub returns-else-is_carried-clause-done : goal.returns-else-is_carried-clause-done
+returns-else-is_carried-clause-done c others own shared s task rest h =
+    let p = c.args.program.now in
+    let w = c.args.world.now in
+    let store = c.args.store.now in
+    let pending = c.args.pending.now in
+    let activation = c.args.activation.now in
+    let call = c.args.call.now in
+    let given = subst (IsAnswered p w store pending activation c.args.thread call) (calls_one c.in-Ok.answer c.in-Ok.ensures.runs (sym c.is_carried.ensures ∙ c.if-is_carried.false)) c.in-Ok.ensures.answer in
+    subst (λ (done : Invoked). Executes p w store store others c.args.thread c.args.owner own shared s rest activation pending (effect_of (sight_of shared s) task) (executed_as call.line done)) (sym (c.called_at.ensures (length s.callers) h.depth))
+    (calls_on p w store pending activation call others c.args.thread c.args.owner own shared s task rest h given)
+
+pub returns-else-is_carried-clause-refuses : goal.returns-else-is_carried-clause-refuses
+returns-else-is_carried-clause-refuses c is =
+    let a = c.requires.at_call in
+    let same : c.called_at.result ≡ invoked.Refused = let both : Ok c.called_at.result ≡ Ok invoked.Refused = is in cc in
+    absurd (never_refused (length a.3.callers) (sym (c.called_at.ensures (length a.3.callers) a.6.depth) ∙ same))
+
+pub returns-else-is_carried-clause-calls : goal.returns-else-is_carried-clause-calls
+returns-else-is_carried-clause-calls c is = (refl, refl, refl)
 
 pub returns-in-Err-clause-done : goal.returns-in-Err-clause-done
 returns-in-Err-clause-done c others own shared s task rest h =
@@ -31,7 +70,7 @@ returns-in-Err-clause-done c others own shared s task rest h =
     let trap = c.in-Err.trap in
     traps p w store pending activation call others c.args.thread c.args.owner own shared s task rest h trap call.line refl
     (⊎_elim
-    (λ (found : trap_at p w store pending activation c.args.thread call ≡ Some (trap_view trap)). found_trap p w store pending activation call others c.args.thread c.args.owner own shared s task rest h trap (sym (trap_is p w store pending activation call others c.args.thread c.args.owner own shared s task rest h) ∙ found))
+    (λ (found : trap_at p w store pending activation c.args.thread call ≡ Some (trap_view trap)). found_trap p w store pending activation call others c.args.thread c.args.owner own shared s task rest h trap (trap_found_is p w store pending activation call others c.args.thread c.args.owner own shared s task rest h (trap_view trap) found))
     (λ (halted : IsAnswered p w store pending activation c.args.thread call (answer.Halts trap)). halts p w store pending activation call others c.args.thread c.args.owner own shared s task rest h trap halted)
     c.in-Err.ensures.trap)
 
@@ -44,12 +83,12 @@ pub returns-else-goes_ahead-clause-hindered : goal.returns-else-goes_ahead-claus
 returns-else-goes_ahead-clause-hindered c others own shared s task rest h =
     let p = c.args.program.now in
     held_back c.goes_ahead.result c.args.may_refuse c.classes.result.now c.args.world.now.classes (texts_in c.deref.result.now) c.in-Ok.answer (left_of c.args.store.now.heap) _ c.goes_ahead.ensures c.if-goes_ahead.false c.classes.ensures.classes
-    (cells_asked p c.args.world.now c.args.store.now c.args.pending.now c.args.activation.now c.args.call.now others c.args.thread c.args.owner own shared s task rest h c.in-Ok.answer c.in-Ok.ensures.answer (result_value c.args.call.now.result) c.requires.prepared.result
+    (cells_asked p c.args.world.now c.args.store.now c.args.pending.now c.args.activation.now c.args.call.now others c.args.thread c.args.owner own shared s task rest h c.in-Ok.answer c.in-Ok.ensures.answer (no_call c.in-Ok.answer (sym c.is_carried.ensures ∙ c.if-is_carried.true)) (result_value c.args.call.now.result) c.requires.prepared.result
     ∙ ap (λ (l : List (Vec ℕ)). cells_of c.args.world.now.classes (texts_in l) c.in-Ok.answer) (sym c.deref.ensures.value))
 
 pub returns-in_err-finish-in-Ok-clause-hindered : goal.returns-in_err-finish-in-Ok-clause-hindered
 returns-in_err-finish-in-Ok-clause-hindered c =
     let given = err_from_is_err_and c.from_residual.result c.from_residual.ensures.1 in
     rw (given.1, given.2) (λ others own shared s task rest h.
-    cells_asked c.args.program.now c.args.world.now c.args.store.now c.args.pending.now c.args.activation.now c.args.call.now others c.args.thread c.args.owner own shared s task rest h c.in-Ok.answer c.in-Ok.ensures.answer (result_value c.args.call.now.result) c.requires.prepared.result
+    cells_asked c.args.program.now c.args.world.now c.args.store.now c.args.pending.now c.args.activation.now c.args.call.now others c.args.thread c.args.owner own shared s task rest h c.in-Ok.answer c.in-Ok.ensures.answer (no_call c.in-Ok.answer (sym c.is_carried.ensures ∙ c.if-is_carried.true)) (result_value c.args.call.now.result) c.requires.prepared.result
     ∙ memory_free c.args.world.now.classes (texts_in c.args.call.now.texts.items) c.in-Ok.answer c.in_err-finish-in-Ok.ensures.memory)

@@ -47,7 +47,6 @@ waits_to_enter-requires-clause-may_wait c =
     let store = c.args.store.now in
     let it = work p w store (beside_callers a.0 a.3) c.args.number a.1 a.2 c.args.thread.now a.3 c.in-Some.activation a.4.0 a.4.1 c.in-Some.is a.4.2 in
     let f = fetched (goal.at.waits_to_enter-requires-clause-may_wait c).After-instr_at-instr in (
-      p,
       beside_callers a.0 a.3,
       owner_at c.args.number (length a.3.callers),
       a.1.current,
@@ -72,7 +71,7 @@ returns-in-MonitorEnter c others own shared s shares h steady =
     let store = c.args.store.now in
     let it = work p w store (beside_callers others s) c.args.number own shared c.args.thread.now s c.in-Some.activation shares h c.in-Some.is steady in
     let f = fetched (goal.at.returns-in-MonitorEnter c).After-instr_at-instr in
-    c.waits_to_enter.ensures p (beside_callers others s) (owner_at c.args.number (length s.callers)) own.current shared s it.task it.rest
+    c.waits_to_enter.ensures (beside_callers others s) (owner_at c.args.number (length s.callers)) own.current shared s it.task it.rest
     (may_wait p w store (beside_callers others s) c.args.number own shared c.args.thread.now s c.in-Some.activation shares h c.in-Some.is steady c.instr_at-instr.result.now f c.call-call.result.now (c.in-Call.is ∙ ap (λ (x : Call). instr.Call x) (sym c.call-call.ensures.view)))
     ∙ waits_by p w store (beside_callers others s) c.args.number own shared c.args.thread.now s c.in-Some.activation shares h c.in-Some.is steady
 

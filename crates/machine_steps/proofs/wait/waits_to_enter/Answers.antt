@@ -1,11 +1,12 @@
 use Rattle.syntax.specs.Views.{unit_tree}
-use Rattle.std.proofs.Common.{◌≡◌, Bool, true, false, not, sym, ap, ◌∙◌}
+use Rattle.std.proofs.Common.{◌≡◌, Bool, true, false, not, refl, sym, ap, ◌∙◌}
 use Rattle.std.specs.Prelude.{is_some}
+use Rattle.jni.specs.JniFunction.{calls_method}
 use Rattle.machine_scenes.specs.Scenes.{Scene, scene_view}
 use Rattle.machine_scenes.specs.Given.{operand_at, operand_of}
 use Rattle.machine_steps.specs.Waiting.{store_unowned, unowned}
-use Rattle.machine_steps.proofs.SeenCalls.{addresses_seen, handles_seen, trap_seen}
-use Rattle.machine_steps.proofs.Waits.{busy, no_object, not_busy}
+use Rattle.machine_steps.proofs.SeenCalls.{addresses_seen, handles_seen, source_trap}
+use Rattle.machine_steps.proofs.Waits.{busy, enters_it, no_object, not_busy}
 use Rattle.machine_steps.proofs.wait.waits_to_enter.Goals as goal
 
 -- a truth that another denies
@@ -16,30 +17,32 @@ flipped false x is = sym (ap not is)
 pub argument-requires : goal.argument-requires
 argument-requires c =
     let a = c.requires.may_wait in
-    addresses_seen a.0 c.args.world.now (store_unowned c.args.store.now) c.args.pending c.args.activation.now c.args.call.now a.1 c.args.thread a.2 a.3 (unowned a.4) a.5 a.6 a.7 a.8.at_call c.args.store.now.monitors (unit_tree c.args.program.now.unit) (scene_view c.scene_of-scene.result) c.scene_of-scene.ensures.scene
+    addresses_seen c.args.program.now c.args.world.now (store_unowned c.args.store.now) c.args.pending c.args.activation.now c.args.call.now a.0 c.args.thread a.1 a.2 (unowned a.3) a.4 a.5 a.6 a.7.at_call c.args.store.now.monitors (unit_tree c.args.program.now.unit) (scene_view c.scene_of-scene.result) c.scene_of-scene.ensures.scene
 
 pub check-requires-clause-objects : goal.check-requires-clause-objects
 check-requires-clause-objects c =
     let a = c.requires.may_wait in
-    addresses_seen a.0 c.args.world.now (store_unowned c.args.store.now) c.args.pending c.args.activation.now c.args.call.now a.1 c.args.thread a.2 a.3 (unowned a.4) a.5 a.6 a.7 a.8.at_call c.args.store.now.monitors (unit_tree c.args.program.now.unit) (scene_view c.scene_of-scene.result) c.scene_of-scene.ensures.scene
+    addresses_seen c.args.program.now c.args.world.now (store_unowned c.args.store.now) c.args.pending c.args.activation.now c.args.call.now a.0 c.args.thread a.1 a.2 (unowned a.3) a.4 a.5 a.6 a.7.at_call c.args.store.now.monitors (unit_tree c.args.program.now.unit) (scene_view c.scene_of-scene.result) c.scene_of-scene.ensures.scene
 
 pub check-requires-clause-handles : goal.check-requires-clause-handles
 check-requires-clause-handles c =
     let a = c.requires.may_wait in
-    handles_seen a.0 c.args.world.now (store_unowned c.args.store.now) c.args.pending c.args.activation.now c.args.call.now a.1 c.args.thread a.2 a.3 (unowned a.4) a.5 a.6 a.7 a.8.at_call c.args.store.now.monitors (unit_tree c.args.program.now.unit) (scene_view c.scene_of-scene.result) c.scene_of-scene.ensures.scene
+    handles_seen c.args.program.now c.args.world.now (store_unowned c.args.store.now) c.args.pending c.args.activation.now c.args.call.now a.0 c.args.thread a.1 a.2 (unowned a.3) a.4 a.5 a.6 a.7.at_call c.args.store.now.monitors (unit_tree c.args.program.now.unit) (scene_view c.scene_of-scene.result) c.scene_of-scene.ensures.scene
 
 pub returns-then-is_busy : goal.returns-then-is_busy
-returns-then-is_busy c p others owner own shared s task rest h =
-    let found = trap_seen p c.args.world.now (store_unowned c.args.store.now) c.args.pending c.args.activation.now c.args.call.now others c.args.thread owner own (unowned shared) s task rest h.at_call c.args.store.now.monitors (unit_tree c.args.program.now.unit) (scene_view c.scene_of-scene.result) c.scene_of-scene.ensures.scene in
+returns-then-is_busy c others owner own shared s task rest h =
+    let p = c.args.program.now in
+    let source = source_trap p c.args.world.now (store_unowned c.args.store.now) c.args.pending c.args.activation.now c.args.call.now others c.args.thread owner own (unowned shared) s task rest h.at_call c.args.store.now.monitors (unit_tree c.args.program.now.unit) (scene_view c.scene_of-scene.result) c.scene_of-scene.ensures.scene refl (ap calls_method (enters_it p c.args.world.now c.args.store.now c.args.pending c.args.activation.now c.args.call.now others c.args.thread owner own shared s task rest h c.requires.enters)) in
     flipped c.is_none.result (is_some c.check.result) c.is_none.ensures
     ∙ busy p c.args.world.now c.args.store.now c.args.pending c.args.activation.now c.args.call.now others c.args.thread owner own shared s task rest h c.requires.enters c.in-Some.addr c.birth_of.result c.entering.result
-    (ap (λ (x : Scene). operand_at x.references (operand_of c.args.call.now.operands.items 0)) (sym c.scene_of-scene.ensures.scene) ∙ sym c.argument.ensures.reference ∙ c.in-Some.is) c.birth_of.ensures c.entering.ensures (sym c.is_busy.ensures ∙ c.if-is_busy.true) c.check.result (sym found ∙ sym c.check.ensures)
+    (ap (λ (x : Scene). operand_at x.references (operand_of c.args.call.now.operands.items 0)) (sym c.scene_of-scene.ensures.scene) ∙ sym c.argument.ensures.reference ∙ c.in-Some.is) c.birth_of.ensures c.entering.ensures (sym c.is_busy.ensures ∙ c.if-is_busy.true) c.check.result (source ∙ sym c.check.ensures)
 
 pub returns-else-is_busy : goal.returns-else-is_busy
-returns-else-is_busy c p others owner own shared s task rest h =
+returns-else-is_busy c others owner own shared s task rest h =
+    let p = c.args.program.now in
     c.if-is_busy.false
     ∙ not_busy p c.args.world.now c.args.store.now c.args.pending c.args.activation.now c.args.call.now others c.args.thread owner own shared s task rest h c.requires.enters c.in-Some.addr c.birth_of.result c.entering.result
     (ap (λ (x : Scene). operand_at x.references (operand_of c.args.call.now.operands.items 0)) (sym c.scene_of-scene.ensures.scene) ∙ sym c.argument.ensures.reference ∙ c.in-Some.is) c.birth_of.ensures c.entering.ensures (sym c.is_busy.ensures ∙ c.if-is_busy.false)
 
 pub returns-in-None : goal.returns-in-None
-returns-in-None c p others owner own shared s task rest h = no_object p c.args.world.now c.args.store.now c.args.pending c.args.activation.now c.args.call.now others c.args.thread owner own shared s task rest h c.requires.enters (ap (λ (x : Scene). operand_at x.references (operand_of c.args.call.now.operands.items 0)) (sym c.scene_of-scene.ensures.scene) ∙ sym c.argument.ensures.reference ∙ c.in-None.is)
+returns-in-None c others owner own shared s task rest h = no_object c.args.program.now c.args.world.now c.args.store.now c.args.pending c.args.activation.now c.args.call.now others c.args.thread owner own shared s task rest h c.requires.enters (ap (λ (x : Scene). operand_at x.references (operand_of c.args.call.now.operands.items 0)) (sym c.scene_of-scene.ensures.scene) ∙ sym c.argument.ensures.reference ∙ c.in-None.is)

@@ -1,0 +1,135 @@
+//! A call of a method, which leaves the call in progress to the callers (JNI Specification, chapter 4, "Calling Static
+//! Methods").
+
+ghost use Rattle.std.specs.Prelude.{◌≡◌, ℕ, ◌<◌, Some, length, slice_get, IfOk, OnOk, OnErr, vec_len, vec_capacity};
+ghost use Rattle.code_meaning.specs.Lowered.{IsLowered};
+ghost use Rattle.machine_steps.specs.Pushed.{IsCalled, MakesCall, Pushes};
+ghost use Rattle.semantics.specs.Activation.{class_of_function};
+ghost use Rattle.syntax.specs.Tree.{Function, FunctionItem};
+ghost use Rattle.syntax.specs.Views.{unit_tree};
+
+use class_queries::native_class;
+use class_rules::ClassId;
+use classes::table::ClassTable;
+use code::instr::Instr;
+use code_meaning::Program;
+use machine_answers::passed::passed;
+use machine_scenes::activation::Activation;
+use machine_scenes::operands::{method_in, operand_of};
+use machine_scenes::references::References;
+use machine_scenes::store::Store;
+use machine_threads::thread::{Entering, Thread};
+use std::alloc::{AllocError, Global};
+use syntax::Item;
+use world_values::World;
+
+/// Leaves the call in progress to the callers, and has the method that it calls as the one to be entered next. What it is given is
+/// worked out before anything changes.
+#[inline(never)]
+pub(crate) fn push(
+    program: &Program<'_>,
+    world: &World,
+    store: &Store,
+    thread: &mut Thread,
+) -> Result<(), AllocError>
+    requires lowered { IsLowered program.now }
+    requires few { length thread.old.callers.items < 63 }
+    requires calling { (activation : Activation) × (thread.old.call ≡ Some activation) × MakesCall program.now world.now store.now activation }
+    ensures pushes { OnOk result ((activation : Activation) → thread.old.call ≡ Some activation
+        → Pushes program.now world.now store.now activation thread.old thread.new) }
+    ensures err { OnErr result (thread.new ≡ thread.old) }
+{
+    let alloc = *thread.calls.allocator();
+    let entering = match &thread.call {
+        Some(activation) => method_called(alloc, program, world, store, activation)?,
+        None => unreachable!(),
+    };
+    make_room(alloc, &mut thread.callers)?;
+    match thread.call.take() {
+        Some(caller) => {
+            thread.callers.push_reserved(caller);
+            thread.entering = Some(entering);
+            Ok(())
+        }
+        None => unreachable!(),
+    }
+}
+
+/// The method that a call in progress calls, before its entry.
+fn method_called(
+    alloc: Global,
+    program: &Program<'_>,
+    world: &World,
+    store: &Store,
+    activation: &Activation,
+) -> Result<Entering, AllocError>
+    requires lowered { IsLowered program.now }
+    requires calling { MakesCall program.now world.now store.now activation.now }
+    ensures { IfOk result (IsCalled program.now world.now store.now activation.now) }
+{
+    // The proof reads off this call that no object has as many elements as a `jint` can say.
+    let _ = store.heap.cells();
+    // Here the proof takes up what is known of a world.
+    let classes = world.classes();
+    let code = program.code_at(activation.function);
+    match code.instr_at(activation.place) {
+        Instr::Call(boxed) => {
+            let call = boxed.call();
+            let method = method_in(
+                &activation.slots.fields,
+                operand_of(&call.operands, 1),
+            ).unwrap();
+            let class = class_of_item(alloc, program.items(), classes, method.item)?;
+            let references = References::new(
+                &activation.slots.references,
+                &activation.locals,
+                &store.statics,
+                &store.globals,
+                &store.weaks,
+            );
+            Ok(Entering {
+                function: method.function,
+                class,
+                arguments: passed(alloc, &references, &call.operands, &activation.stack)?,
+            })
+        }
+        _ => unreachable!(),
+    }
+}
+
+/// The class whose native method the function is whose item is at this place.
+fn class_of_item(
+    alloc: Global,
+    items: &[Item],
+    classes: &ClassTable,
+    place: usize,
+) -> Result<ClassId, AllocError>
+    requires { (f : Function) × (slice_get (unit_tree items.now).items place ≡ Some (FunctionItem f)) × ((class : ℕ) × (class_of_function classes.now f ≡ Some class)) }
+    ensures { IfOk result (λ class. (f : Function) → slice_get (unit_tree items.now).items place ≡ Some (FunctionItem f)
+        → class_of_function classes.now f ≡ Some class.number) }
+{
+    let item = &items[place];
+    match item {
+        Item::Function(function) => {
+            let class = native_class(alloc, classes, function.name.as_bytes())?;
+            Ok(class.unwrap())
+        }
+        Item::Static(_) => unreachable!(),
+    }
+}
+
+/// Room for one caller more. Where there is none, the callers move to where there is; an error leaves them where they are.
+fn make_room(alloc: Global, callers: &mut Vec<Activation>) -> Result<(), AllocError>
+    requires few { length callers.old.items < 63 }
+    ensures items { callers.new.items ≡ callers.old.items }
+    ensures room { OnOk result (vec_len callers.new < vec_capacity callers.new) }
+    ensures err { OnErr result (callers.new ≡ callers.old) }
+{
+    if callers.len() < callers.capacity() {
+        return Ok(());
+    }
+    let mut more = Vec::with_capacity(alloc, 2 * callers.len() + 2)?;
+    more.append(callers).unwrap();
+    *callers = more;
+    Ok(())
+}
