@@ -12,7 +12,8 @@ use Rattle.semantics.specs.Views.{name_of}
 use Rattle.replay_threads.specs.declared.thread.Thread.{Thread as ThreadInMemory}
 use Rattle.replay.specs.Loading.{first_line, IsWaiting, AddsWaiting, AreWaiting}
 use Rattle.replay_threads.specs.States.{AreInRange, EachInRange, ThreadsStand}
-use Rattle.replay_threads.specs.Threads.{AreCalling, CallersStand, ThreadInRange, ThreadStands, WorkInRange, WorkStands, last_first, tasks_in}
+use Rattle.replay_threads.specs.Threads.{AreCalling, CallersStand, IsDue, ThreadInRange, ThreadStands, WorkInRange, WorkStands, calls_to_come, last_first, tasks_in}
+use Rattle.replay_steps.specs.declared.callers.Entering.{Entering}
 use Rattle.semantics.specs.EventViews.{ending_view}
 use Rattle.replay_steps.specs.declared.activation.Activation.{Activation}
 
@@ -100,7 +101,8 @@ module _ (unit : SourceUnit) (classes : Classes) where
   -- a thread whose calls all fit
   stands_waiting : (t : ThreadInMemory) (calls : List Invocation) → IsWaiting t calls → refused_calls unit classes calls ≡ [] → ThreadStands unit classes t (waiting_thread calls)
   stands_waiting t calls h none = record {
-    calls = sym h.same;
+    calls = sym h.same ∙ ap (λ (o : Option Entering). calls_to_come o t.calls.now) (sym h.uncalled);
+    due = subst (λ (o : Option Entering). IsDue o None []) (sym h.uncalled) tt;
     callers = subst (λ (xs : List Activation). CallersStand (last_first xs) []) (sym h.alone) tt;
     loads = subst (λ (cs : List Invocation). IsTrue (list_all (call_loads unit classes) cs)) (sym h.same) (all_pass (call_loads unit classes) calls none);
     tasks = ap tasks_in (sym h.idle);

@@ -11,6 +11,7 @@ first_line calls = slice_get (map (λ (c : Invocation). c.line) calls) 0
 -- a thread has all of these calls to come
 pub record IsWaiting (t : ThreadInMemory) (calls : List Invocation) : Type 0 where
   pub same : t.calls.now ≡ calls
+  pub uncalled : t.entering ≡ None
   pub idle : t.activation ≡ None
   pub alone : t.callers.items ≡ []
   pub calm : t.pending ≡ None

@@ -108,6 +108,7 @@ fn waiting<'a>(alloc: Global, calls: &'a [Call]) -> Thread<'a>
     ensures { IsWaiting result calls.entry.now }
 {
     Thread {
+        entering: None,
         calls,
         activation: None,
         callers: Vec::new(alloc),

@@ -1,1 +1,2 @@
 mod FieldLemmas
+pub mod PassedActuals

@@ -8,11 +8,11 @@ use Rattle.classes.specs.FieldViews.{field_id_view}
 use Rattle.classes.specs.declared.fields.FieldId.{FieldId as IdInMemory}
 use Rattle.class_rules.specs.Class.{NumberField}
 use Rattle.class_rules.specs.Fields.{FieldId}
-use Rattle.semantics.specs.Arguments.{Actual, ReferenceActual, FieldActual, NumberActual, TextActual, VariableActual, ModeActual, NothingActual}
+use Rattle.semantics.specs.Arguments.{Actual, ReferenceActual, FieldActual, MethodActual, NumberActual, TextActual, VariableActual, ModeActual, NothingActual}
 use Rattle.semantics.specs.Views.{mode_view}
 use Rattle.replay_arguments.specs.declared.actual.Actual.{Actual as InMemory}
 use Rattle.replay_arguments.specs.declared.actual.Actual.TheVariants as actual
-use Rattle.replay_terms.specs.Views.{held_view}
+use Rattle.replay_terms.specs.Views.{held_view, method_view}
 
 -- a name, which is empty where there is none
 abbrev pub name_view : Option (Bor Identifier) → Identifier
@@ -22,6 +22,7 @@ name_view (Some x) = x.now
 abbrev pub actual_view : InMemory → Actual
 actual_view (actual.Reference x r) = ReferenceActual (name_view x) (held_view r)
 actual_view (actual.Field f) = FieldActual (option_map field_id_view f)
+actual_view (actual.Method m) = MethodActual (option_map method_view m)
 actual_view (actual.Number z) = NumberActual z
 actual_view (actual.Text bytes) = TextActual bytes.now
 actual_view (actual.Variable x) = VariableActual (name_view x)

@@ -6,12 +6,20 @@ use Rattle.class_rules.specs.Class.{Classes, class_kind, is_plain, assignable}
 use Rattle.class_rules.specs.Fields.{FieldId}
 use Rattle.base.specs.Element.{ElementType}
 use Rattle.jni.specs.Access.{ArrayView}
-use Rattle.jni.specs.JniFunction.{is_allowed_pending, JniFunction, AllocObject, GetField, SetField, GetStaticField, SetStaticField, GetObjectField, SetObjectField, GetStaticObjectField, SetStaticObjectField, NewObjectArray, GetBuffer, Throw, ThrowNew, prototype}
-use Rattle.semantics.specs.Arguments.{Actual, reference_given, object_given, field_given}
+use Rattle.jni.specs.JniFunction.{is_allowed_pending, JniFunction, AllocObject, GetField, SetField, GetStaticField, SetStaticField, GetObjectField, SetObjectField, GetStaticObjectField, SetStaticObjectField, NewObjectArray, GetBuffer, Throw, ThrowNew, CallStaticVoidMethod, CallStaticIntMethod, CallStaticObjectMethod, prototype}
+use Rattle.syntax.specs.Tree.{ResultType}
+use Rattle.semantics.specs.Arguments.{Actual, reference_given, object_given, field_given, method_given}
+use Rattle.semantics.specs.CallTable.{calls_well, is_int, is_reference_result, is_void}
 use Rattle.semantics.specs.Checks.{first_trap, frames_after, is_deleted, is_misfit, is_missing, lacks_room}
 use Rattle.semantics.specs.Heap.{fits_class, fits_type, holds_number, holds_reference, class_of, Heap, is_instance}
 use Rattle.semantics.specs.Thread.{Frame}
 use Rattle.semantics.specs.Value.{Trap, NullReference, ExceptionPending, WrongObject, DeletedReference, NoCapacity}
+
+-- the result that a function wants which calls a method
+abbrev pub is_wanted : JniFunction → ResultType → Bool
+is_wanted CallStaticVoidMethod = is_void
+is_wanted CallStaticIntMethod = is_int
+is_wanted f = is_reference_result
 
 -- argument 0 is a class that has the static of argument 1
 abbrev pub has_static : Classes → List Actual → Bool
@@ -45,9 +53,12 @@ module _ (classes : Classes) (heap : Heap) (args : List Actual) where
   fit_together buffer NewObjectArray = fits_new_array
   fit_together buffer Throw = is_instance classes heap (object_given args 0) throwable_class
   fit_together buffer ThrowNew = assignable classes (object_given args 0) throwable_class
+  fit_together buffer CallStaticVoidMethod = calls_well classes heap buffer args is_void (method_given args 1)
+  fit_together buffer CallStaticIntMethod = calls_well classes heap buffer args is_int (method_given args 1)
+  fit_together buffer CallStaticObjectMethod = calls_well classes heap buffer args is_reference_result (method_given args 1)
   fit_together buffer f = true
 
--- The trap of a call before it does anything.
+-- The trap of a call before it does anything, but for the depth of calls. What a method is given is never missing, nor a misfit.
 abbrev pub trap_found : Classes → Heap → List Frame → (is_pending : Bool) → (buffer : ElementType) → JniFunction → List Actual → Option Trap
 trap_found classes heap frames is_pending buffer f args =
     first_trap (

@@ -1,20 +1,20 @@
 //! The arguments of a call, looked up in its own step.
 
-ghost use Rattle.std.specs.Prelude.{◌≡◌, ◌++◌, IfOk, map, slice_get, zip};
+ghost use Rattle.std.specs.Prelude.{◌≡◌, ◌++◌, IfOk, drop, map, slice_get, zip};
 ghost use Rattle.std.specs.Option.{option_map};
 ghost use Rattle.base.specs.Bytes.{lookup};
 ghost use Rattle.syntax.specs.Views.{argument_tree, expr_tree};
 ghost use Rattle.classes.specs.FieldViews.{field_id_view};
-ghost use Rattle.jni.specs.Prototype.{ParameterKind as Kind};
+ghost use Rattle.jni.specs.Prototype.{ParameterKind as Kind, Passed};
 ghost use Rattle.jni.specs.Table.{function_value, parameter_value};
-ghost use Rattle.semantics.specs.Arguments.{actuals, address_given, field_argument, field_given, look_up, look_up_expression, mode_given, mode_of, named_variable, number_given, object_given, reference_argument, reference_given, text_given, variable_given};
+ghost use Rattle.semantics.specs.Arguments.{actuals, address_given, field_argument, field_given, look_up, look_up_expression, method_argument, method_given, mode_given, mode_of, named_variable, number_given, object_given, passed_value, reference_argument, reference_given, text_given, variable_given};
 ghost use Rattle.semantics.specs.CallEffects.{level_of};
-ghost use Rattle.semantics.specs.Sight.{Sight, held_field};
-ghost use Rattle.semantics.specs.Task.{Given, NumberOperand};
+ghost use Rattle.semantics.specs.Sight.{Sight, held_field, held_method};
+ghost use Rattle.semantics.specs.Task.{Given, NumberOperand, PassedName};
 ghost use Rattle.semantics.specs.Thread.{Shared as SharedOfThreads};
-ghost use Rattle.semantics.specs.Views.{mode_view, name_of};
+ghost use Rattle.semantics.specs.Views.{mode_view, name_of, object_value_view};
 ghost use Rattle.replay_arguments.specs.Actuals.{actual_view, name_view, given_field};
-ghost use Rattle.replay_terms.specs.Views.{operand_view, held_view, term_view, variables_view};
+ghost use Rattle.replay_terms.specs.Views.{operand_view, held_view, method_view, term_view, variables_view};
 ghost use Rattle.replay_arguments.specs.Shares.{shared_view, sight_in};
 
 use crate::shared::Shared;
@@ -22,8 +22,11 @@ use class_rules::ClassId;
 use classes::fields::FieldId;
 pub use jni::ReleaseMode;
 use jni::{JniFunction, ParameterKind};
-use replay_terms::{Content, Operand, StaticReference, Term, Value, Variables, held_reference};
-use semantics::{Level, NO_OBJECT, ObjectId};
+use replay_terms::{
+    Content, MethodId, Operand, StaticReference, Term, Value, Variables, as_reference,
+    calls_method, held_reference, passed,
+};
+use semantics::{Level, NO_OBJECT, ObjectId, ObjectValue};
 use std::alloc::{AllocError, Global};
 use syntax::{Argument, Constant, Expr, Name};
 
@@ -33,6 +36,7 @@ pub enum Actual<'a> {
     /// What a variable or a static holds, and its name.
     Reference(Option<&'a Name>, StaticReference),
     Field(Option<FieldId<'a>>),
+    Method(Option<MethodId<'a>>),
     Number(i32),
     Text(&'a [u8]),
     /// The variable itself, not its value.
@@ -63,6 +67,10 @@ pub fn actuals<'a>(
         function.prototype().parameters,
         operands,
     )?;
+    if !calls_method(function) {
+        return Ok(actuals);
+    }
+    push_passed(&mut actuals, shared, variables, passed(operands))?;
     Ok(actuals)
 }
 
@@ -90,6 +98,26 @@ fn push_actuals<'a>(
     }
 }
 
+/// Looks up what a method is given.
+fn push_passed<'a>(
+    actuals: &mut Vec<Actual<'a>>,
+    shared: &Shared<'_>,
+    variables: &Variables<'a>,
+    operands: &[Operand<'a>],
+) -> Result<(), AllocError>
+    ensures { IfOk result (λ _. map actual_view actuals.new.items
+        ≡ map actual_view actuals.old.items ++ map (λ o. look_up (sight_in (shared_view shared.now) variables.now) (Passed, o))
+        (map operand_view operands.entry.now)) }
+{
+    match operands {
+        [] => Ok(()),
+        [operand, operands @ ..] => {
+            actuals.push(look_up(shared, variables, ParameterKind::Passed, operand))?;
+            push_passed(actuals, shared, variables, operands)
+        }
+    }
+}
+
 /// What an argument for this parameter is.
 pub fn look_up<'a>(
     shared: &Shared<'_>,
@@ -101,6 +129,7 @@ pub fn look_up<'a>(
 {
     match operand {
         Operand::Number(t) => number_argument(t),
+        Operand::Passed(name) => named_reference(shared, variables, name),
         Operand::Given(argument) => given_argument(shared, variables, parameter, argument),
     }
 }
@@ -142,6 +171,7 @@ fn look_up_expression<'a>(
 {
     match parameter {
         ParameterKind::FieldID => field_argument(variables, e),
+        ParameterKind::MethodID => method_argument(variables, e),
         ParameterKind::ArrayVariable(_) => Actual::Variable(named_variable(e)),
         ParameterKind::BufferVariable(_) => Actual::Variable(named_variable(e)),
         ParameterKind::Mode => Actual::Mode(mode_of(e)),
@@ -196,15 +226,45 @@ fn field_of<'a>(variables: &Variables<'a>, name: &Name) -> Option<FieldId<'a>>
     }
 }
 
+/// A name or NULL where a method ID is asked for.
+fn method_argument<'a>(variables: &Variables<'a>, e: &'a Expr) -> Actual<'a>
+    ensures { (shared : SharedOfThreads) → actual_view result ≡ method_argument (sight_in shared variables.now) (expr_tree e.now) }
+{
+    match e {
+        Expr::Variable(name) => Actual::Method(method_of(variables, name)),
+        _ => Actual::Method(None),
+    }
+}
+
+/// What a method ID holds.
+fn method_of<'a>(variables: &Variables<'a>, name: &Name) -> Option<MethodId<'a>>
+    ensures { option_map method_view result ≡ held_method (lookup name.now (variables_view variables.now)) }
+{
+    match variables.content_of(name) {
+        None => None,
+        Some(content) => match content {
+            Content::Method(method) => *method,
+            Content::Number(_) | Content::Reference { .. } => None,
+            Content::Field(_) | Content::Array(_, _) => None,
+            Content::Buffer(_) | Content::Copy { .. } | Content::View { .. } => None,
+        },
+    }
+}
+
+/// The reference of a name.
+fn named_reference<'a>(shared: &Shared<'_>, variables: &Variables<'a>, name: &'a Name) -> Actual<'a>
+    ensures { (p : Kind) → actual_view result ≡ look_up (sight_in (shared_view shared.now) variables.now) (p, PassedName name.entry.now) }
+{
+    let held = held_reference(&shared.statics, variables, name);
+    Actual::Reference(Some(name), held)
+}
+
 /// A name or NULL where a reference is asked for.
 fn reference_argument<'a>(shared: &Shared<'_>, variables: &Variables<'a>, e: &'a Expr) -> Actual<'a>
     ensures { actual_view result ≡ reference_argument (sight_in (shared_view shared.now) variables.now) (expr_tree e.now) }
 {
     match e {
-        Expr::Variable(name) => {
-            let held = held_reference(&shared.statics, variables, name);
-            Actual::Reference(Some(name), held)
-        }
+        Expr::Variable(name) => named_reference(shared, variables, name),
         _ => Actual::Reference(None, StaticReference::Empty),
     }
 }
@@ -324,5 +384,51 @@ pub fn field_given<'a>(actuals: &[Actual<'a>], place: usize) -> Option<FieldId<'
     match actual_at(actuals, place) {
         Some(Actual::Field(field)) => field,
         _ => None,
+    }
+}
+
+/// The method ID at a place.
+pub fn method_given<'a>(actuals: &[Actual<'a>], place: usize) -> Option<MethodId<'a>>
+    ensures { option_map method_view result ≡ method_given (map actual_view actuals.now) place }
+{
+    match actual_at(actuals, place) {
+        Some(Actual::Method(method)) => method,
+        _ => None,
+    }
+}
+
+// ---- what a method is given
+
+/// What a method is given, of the arguments of the call of it.
+pub fn passed_values(alloc: Global, actuals: &[Actual<'_>]) -> Result<Vec<ObjectValue>, AllocError>
+    ensures { IfOk result (λ values. map object_value_view values.items ≡ map passed_value (drop 2 (map actual_view actuals.now))) }
+{
+    let mut values = Vec::new(alloc);
+    push_values(&mut values, passed(actuals))?;
+    Ok(values)
+}
+
+/// Adds what is passed.
+fn push_values(values: &mut Vec<ObjectValue>, actuals: &[Actual<'_>]) -> Result<(), AllocError>
+    ensures { IfOk result (λ _. map object_value_view values.new.items
+        ≡ map object_value_view values.old.items ++ map passed_value (map actual_view actuals.entry.now)) }
+{
+    match actuals {
+        [] => Ok(()),
+        [actual, actuals @ ..] => {
+            values.push(passed_value(*actual))?;
+            push_values(values, actuals)
+        }
+    }
+}
+
+/// What a method is given that is passed this.
+fn passed_value(actual: Actual<'_>) -> ObjectValue
+    ensures { object_value_view result ≡ passed_value (actual_view actual.entry) }
+{
+    match actual {
+        Actual::Number(z) => ObjectValue::Number(z),
+        Actual::Reference(_, held) => ObjectValue::Reference(as_reference(held)),
+        _ => ObjectValue::Reference(None),
     }
 }

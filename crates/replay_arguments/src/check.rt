@@ -1,20 +1,26 @@
 //! What is checked of a call before it does anything, in one order for all functions.
 
-ghost use Rattle.std.specs.Prelude.{◌≡◌, ◌||◌, is_some, map, slice_get, zip};
+ghost use Rattle.std.specs.Prelude.{◌≡◌, ◌||◌, List, is_some, map, slice_get, zip};
 ghost use Rattle.std.specs.List.{list_any};
 ghost use Rattle.std.specs.Option.{option_map};
 ghost use Rattle.class_rules.specs.BuiltIns.{throwable_class};
-ghost use Rattle.base.specs.Element.{element_value};
+ghost use Rattle.base.specs.Element.{ElementType as Element, element_value};
 ghost use Rattle.classes.specs.Views.{field_type_view};
 ghost use Rattle.jni.specs.Table.{function_value, parameter_value, result_value};
 ghost use Rattle.semantics.specs.Checks.{frames_after, is_deleted, is_full, is_misfit, is_missing, lacks_room};
-ghost use Rattle.semantics.specs.Heap.{fits_class, fits_type, is_instance};
+ghost use Rattle.class_rules.specs.Class.{Classes};
+ghost use Rattle.semantics.specs.Arguments.{Actual as ActualOfCall, method_given};
+ghost use Rattle.semantics.specs.CallTable.{all_pass, calls_well, passes};
+ghost use Rattle.semantics.specs.Heap.{Heap, fits_class, fits_type, is_instance};
+ghost use Rattle.syntax.specs.Views.{parameter_tree, parameter_type_tree, result_tree};
 ghost use Rattle.replay_arguments.specs.Actuals.{actual_view};
-ghost use Rattle.replay_arguments.specs.Checked.{fit_together, fits_new_array, has_field, has_static, trap_found};
+ghost use Rattle.replay_arguments.specs.Checked.{fit_together, fits_new_array, has_field, has_static, is_wanted, trap_found};
 ghost use Rattle.semantics.specs.EventViews.{trap_view};
 ghost use Rattle.semantics.specs.Views.{name_of};
 
-use crate::actual::{Actual, class_given, field_given, object_given, reference_given};
+use crate::actual::{
+    Actual, class_given, field_given, method_given, object_given, reference_given,
+};
 use crate::field::{declaring, is_static, type_of};
 use crate::scene::Scene;
 use class_queries::{class_misfits, holds_number, holds_reference};
@@ -24,8 +30,9 @@ use classes::class::FieldType;
 use classes::table::ClassTable;
 use jni::{Access, JniFunction, ParameterKind, ResultKind};
 use replay_objects::{Frames, Store};
-use replay_terms::StaticReference;
+use replay_terms::{StaticReference, passed};
 use semantics::{ObjectId, Trap};
+use syntax::{Parameter, ParameterType, ResultType};
 
 /// The trap of a call before it does anything, which may give a buffer of this element type.
 pub fn check(
@@ -97,11 +104,12 @@ fn is_missing(parameter: ParameterKind, actual: Actual<'_>) -> bool
 {
     match parameter {
         ParameterKind::Nullable | ParameterKind::AnyReference => false,
-        ParameterKind::LocalVariable => false,
+        ParameterKind::LocalVariable | ParameterKind::Passed => false,
         ParameterKind::StaticVariable | ParameterKind::WeakVariable => false,
         _ => match actual {
             Actual::Reference(_, held) => matches!(held, StaticReference::Empty),
             Actual::Field(field) => field.is_none(),
+            Actual::Method(method) => method.is_none(),
             _ => false,
         },
     }
@@ -190,7 +198,64 @@ fn fit_together(
         JniFunction::NewObjectArray => fits_new_array(classes, store, actuals),
         JniFunction::Throw => is_throwable(classes, store, object_given(actuals, 0)),
         JniFunction::ThrowNew => classes.assignable(class_given(actuals, 0), THROWABLE),
+        JniFunction::CallStaticVoidMethod => calls_well(function, actuals),
+        JniFunction::CallStaticIntMethod => calls_well(function, actuals),
+        JniFunction::CallStaticObjectMethod => calls_well(function, actuals),
         _ => true,
+    }
+}
+
+/// Whether the method of argument 1 was got from the class of argument 0, returns what the function that calls it wants, and takes
+/// what it is passed.
+fn calls_well(function: JniFunction, actuals: &[Actual<'_>]) -> bool
+    ensures { (classes : Classes) (heap : Heap) (buffer : Element) → result
+        ≡ calls_well classes heap buffer (map actual_view actuals.now) (is_wanted (function_value function)) (method_given (map actual_view actuals.now) 1) }
+{
+    match method_given(actuals, 1) {
+        Some(method) => {
+            method.class == class_given(actuals, 0)
+                && is_wanted(function, method.function.result)
+                && all_pass(&method.function.parameters, passed(actuals))
+        }
+        None => false,
+    }
+}
+
+/// Whether a function that calls a method wants such a result.
+fn is_wanted(function: JniFunction, returned: ResultType) -> bool
+    ensures { result ≡ is_wanted (function_value function) (result_tree returned) }
+{
+    match function {
+        JniFunction::CallStaticVoidMethod => matches!(returned, ResultType::Void),
+        JniFunction::CallStaticIntMethod => matches!(returned, ResultType::Jint),
+        _ => matches!(returned, ResultType::Reference(_)),
+    }
+}
+
+/// Whether as many are passed as there are parameters, each of its kind.
+fn all_pass(parameters: &[Parameter], actuals: &[Actual<'_>]) -> bool
+    ensures { (classes : Classes) (heap : Heap) (buffer : Element) (args : List ActualOfCall) → result
+        ≡ all_pass classes heap buffer args (map parameter_tree parameters.entry.now) (map actual_view actuals.entry.now) }
+{
+    match parameters {
+        [] => actuals.is_empty(),
+        [parameter, parameters @ ..] => match actuals {
+            [] => false,
+            [actual, actuals @ ..] => {
+                passes(parameter.kind, *actual) && all_pass(parameters, actuals)
+            }
+        },
+    }
+}
+
+/// Whether what is passed to a parameter is a number, or a reference, as it asks.
+fn passes(kind: ParameterType, actual: Actual<'_>) -> bool
+    ensures { (classes : Classes) (heap : Heap) (buffer : Element) (args : List ActualOfCall) → result
+        ≡ passes classes heap buffer args (parameter_type_tree kind) (actual_view actual.entry) }
+{
+    match kind {
+        ParameterType::Jint => matches!(actual, Actual::Number(_)),
+        ParameterType::Reference(_) => matches!(actual, Actual::Reference(_, _)),
     }
 }
 

@@ -7,8 +7,8 @@ use Rattle.class_rules.specs.BuiltIns.{illegal_monitor_state}
 use Rattle.class_rules.specs.Class.{Classes}
 use Rattle.class_rules.specs.Fields.{FieldId}
 use Rattle.jni.specs.Access.{ElementsCopy}
-use Rattle.jni.specs.JniFunction.{JniFunction, FindClass, NewGlobalRef, DeleteLocalRef, EnsureLocalCapacity, PushLocalFrame, GetFieldID, GetStaticFieldID, GetStaticMethodID, NewArray, NewObjectArray, GetObjectArrayElement, SetObjectArrayElement, GetArrayRegion, SetArrayRegion, GetStringRegion, ReleaseBuffer, MonitorEnter, MonitorExit}
-use Rattle.semantics.specs.Arguments.{Actual, ReleaseMode, CopyBackAndFree, CopyBack, FreeUncopied, mode_given, variable_given, reference_given, number_given, object_given}
+use Rattle.jni.specs.JniFunction.{JniFunction, FindClass, NewGlobalRef, DeleteLocalRef, EnsureLocalCapacity, PushLocalFrame, GetFieldID, GetStaticFieldID, GetStaticMethodID, CallStaticVoidMethod, CallStaticIntMethod, CallStaticObjectMethod, NewArray, NewObjectArray, GetObjectArrayElement, SetObjectArrayElement, GetArrayRegion, SetArrayRegion, GetStringRegion, ReleaseBuffer, MonitorEnter, MonitorExit}
+use Rattle.semantics.specs.Arguments.{Actual, ReleaseMode, CopyBackAndFree, CopyBack, FreeUncopied, method_given, mode_given, variable_given, reference_given, number_given, object_given}
 use Rattle.semantics.specs.CallEffects.{ScalarResult, local_array, with_capacity}
 use Rattle.semantics.specs.Heap.{Heap, values_of}
 use Rattle.semantics.specs.Method.{MethodId}
@@ -18,7 +18,7 @@ use Rattle.semantics.specs.Value.{Int, Trap, OutOfRange}
 use Rattle.semantics.specs.Variable.{Variables}
 use Rattle.replay_calls.specs.Answers.{Answer, Gives, Raises, Owns, Disowns, Ensures, Pushes, RefusesFrames, Region, GetsRegion, SetsRegion, Halts, FitsArrays, FitsFrames, HasRoom, IsInside, answer_or_trap}
 use Rattle.replay_objects.specs.Frames.{new_frame}
-use Rattle.replay_calls.specs.WorkedOut.{element_given, element_set, ensured, found_class, found_field, found_method, if_it_has_room, local_deleted, made_global, monitor_entered, monitor_left, new_array, new_object_array, pushed, region_given, region_got, region_set, region_within, released, worked_out}
+use Rattle.replay_calls.specs.WorkedOut.{element_given, element_set, ensured, found_class, found_field, found_method, if_it_has_room, local_deleted, made_global, method_called, monitor_entered, monitor_left, new_array, new_object_array, pushed, region_given, region_got, region_set, region_within, released, worked_out}
 
 module _ (frames : List Frame) where
   class_fits : (c : Option ℕ) → FitsFrames frames (found_class c)
@@ -56,6 +56,10 @@ module _ (frames : List Frame) where
   global_fits : (r : Reference) → FitsFrames frames (made_global r)
   global_fits None = tt
   global_fits (Some n) = tt
+
+  called_fits : (m : Option MethodId) → FitsFrames frames (method_called m)
+  called_fits None = tt
+  called_fits (Some m) = tt
 
   array_fits : (class : ℕ) (z : ℤ) → FitsFrames frames (new_array class z)
   array_fits class (pos n) = tt
@@ -130,6 +134,9 @@ module _ (frames : List Frame) where
   answer_fits unit classes in_use k monitors heap vs pending args (ReleaseBuffer (ElementsCopy T)) = released_fits _ _ (mode_given args 2)
   answer_fits unit classes in_use k monitors heap vs pending args MonitorEnter = enter_fits _ (monitor_of monitors (object_given args 0))
   answer_fits unit classes in_use k monitors heap vs pending args MonitorExit = exit_fits k _ (monitor_of monitors (object_given args 0))
+  answer_fits unit classes in_use k monitors heap vs pending args CallStaticVoidMethod = called_fits (method_given args 1)
+  answer_fits unit classes in_use k monitors heap vs pending args CallStaticIntMethod = called_fits (method_given args 1)
+  answer_fits unit classes in_use k monitors heap vs pending args CallStaticObjectMethod = called_fits (method_given args 1)
   answer_fits unit classes in_use k monitors heap vs pending args f = tt
 
   -- so does it with a trap before it
@@ -151,6 +158,10 @@ module _ (heap : Heap) (vs : Variables) where
   method_copies : (m : Option MethodId) → FitsArrays heap vs (found_method m)
   method_copies None = tt
   method_copies (Some m) = tt
+
+  called_copies : (m : Option MethodId) → FitsArrays heap vs (method_called m)
+  called_copies None = tt
+  called_copies (Some m) = tt
 
   frames_copy : (b : Bool) (a : Answer) → FitsArrays heap vs a → FitsArrays heap vs (if b then a else RefusesFrames)
   frames_copy true a fits = fits
@@ -258,6 +269,9 @@ module _ (heap : Heap) (vs : Variables) where
     answer_copies unit classes in_use k monitors frames pending (ReleaseBuffer (ElementsCopy T)) = released_copies _ _ (mode_given args 2)
     answer_copies unit classes in_use k monitors frames pending MonitorEnter = enter_copies _ (monitor_of monitors (object_given args 0))
     answer_copies unit classes in_use k monitors frames pending MonitorExit = exit_copies k _ (monitor_of monitors (object_given args 0))
+    answer_copies unit classes in_use k monitors frames pending CallStaticVoidMethod = called_copies (method_given args 1)
+    answer_copies unit classes in_use k monitors frames pending CallStaticIntMethod = called_copies (method_given args 1)
+    answer_copies unit classes in_use k monitors frames pending CallStaticObjectMethod = called_copies (method_given args 1)
     answer_copies unit classes in_use k monitors frames pending f = tt
 
     pub told_copies : (unit : SourceUnit) (classes : Classes) (in_use : BuffersInUse) (k : ℕ) (monitors : List Monitor) (frames : List Frame) (pending : Reference) (f : JniFunction) (o : Option Trap) → FitsArrays heap vs (answer_or_trap o (worked_out unit classes in_use k monitors heap vs frames pending args f))

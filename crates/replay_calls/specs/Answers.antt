@@ -41,7 +41,7 @@ region_view r = record { object = r.object.number; start = r.start; count = r.co
 -- deleted, the weak one of a static is deleted, a pending exception or none replaces that before it and this is given, a local array begins with the numbers
 -- of a region, a region's numbers become the first of a local array, a buffer is given, an object gets the numbers of
 -- the copy of a variable, which is given up or not, the buffer of a variable is given up, the thread owns an object so
--- many times and 0 is given, nobody owns an object and 0 is given, or the run stops.
+-- many times and 0 is given, nobody owns an object and 0 is given, the method is called whose function has this name, or the run stops.
 pub data Answer : Type 0 where
   Gives : CallResult → Answer
   Writes : (object place : ℕ) → ObjectValue → Answer
@@ -64,6 +64,7 @@ pub data Answer : Type 0 where
   Frees : (buffer : Identifier) → Answer
   Owns : (object count : ℕ) → Answer
   Disowns : (object : ℕ) → Answer
+  Calls : (function : Identifier) → Answer
   Halts : Trap → Answer
 
 abbrev pub answer_view : InMemory → Answer
@@ -88,6 +89,7 @@ answer_view (answer.CopiesBack n p frees) = CopiesBack n.number p.now frees
 answer_view (answer.Frees p) = Frees p.now
 answer_view (answer.Owns n count) = Owns n.number count
 answer_view (answer.Disowns n) = Disowns n.number
+answer_view (answer.Calls x) = Calls x.now
 answer_view (answer.Halts trap) = Halts (trap_view trap)
 
 -- the trap with which the run stops
@@ -143,6 +145,11 @@ variables_freed false p vs = vs
 abbrev pub lent_in : Answer → Option Lent
 lent_in (Lends b) = Some b
 lent_in a = None
+
+-- the name of the function whose method is called
+abbrev pub called_in : Answer → Option Identifier
+called_in (Calls x) = Some x
+called_in a = None
 
 -- 0
 abbrev pub zero_result : CallResult
@@ -262,6 +269,7 @@ given_after heap kind (CopiesBack n p frees) = NoResult
 given_after heap kind (Frees p) = NoResult
 given_after heap kind (Owns n count) = zero_result
 given_after heap kind (Disowns n) = zero_result
+given_after heap kind (Calls x) = NoResult
 given_after heap kind (Halts trap) = NoResult
 
 -- the frames with what a call of this kind of result gave

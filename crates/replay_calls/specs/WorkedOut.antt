@@ -7,16 +7,16 @@ use Rattle.class_rules.specs.BuiltIns.{array_index_out_of_bounds, array_store_ex
 use Rattle.class_rules.specs.Class.{Classes, class_kind, class_named, element_class, superclass, assignable}
 use Rattle.class_rules.specs.Fields.{FieldId, find_field, find_static}
 use Rattle.jni.specs.Access.{Access, ElementsCopy, ArrayView, CharsCopy, CharsView}
-use Rattle.jni.specs.JniFunction.{JniFunction, FindClass, GetSuperclass, GetObjectClass, IsInstanceOf, IsAssignableFrom, AllocObject, NewLocalRef, NewGlobalRef, NewWeakGlobalRef, DeleteLocalRef, DeleteGlobalRef, DeleteWeakGlobalRef, IsSameObject, EnsureLocalCapacity, PushLocalFrame, PopLocalFrame, GetFieldID, GetStaticFieldID, GetField, SetField, GetStaticField, SetStaticField, GetObjectField, SetObjectField, GetStaticObjectField, SetStaticObjectField, GetArrayLength, NewArray, NewObjectArray, GetObjectArrayElement, SetObjectArrayElement, GetArrayRegion, SetArrayRegion, NewStringUTF, GetStringLength, GetStringRegion, GetBuffer, ReleaseBuffer, Throw, ThrowNew, ExceptionOccurred, ExceptionCheck, ExceptionClear, FatalError, MonitorEnter, MonitorExit, GetStaticMethodID}
-use Rattle.semantics.specs.Arguments.{Actual, ReleaseMode, CopyBackAndFree, CopyBack, FreeUncopied, reference_given, object_given, mode_given, number_given, text_given, field_given, variable_given}
+use Rattle.jni.specs.JniFunction.{JniFunction, FindClass, GetSuperclass, GetObjectClass, IsInstanceOf, IsAssignableFrom, AllocObject, NewLocalRef, NewGlobalRef, NewWeakGlobalRef, DeleteLocalRef, DeleteGlobalRef, DeleteWeakGlobalRef, IsSameObject, EnsureLocalCapacity, PushLocalFrame, PopLocalFrame, GetFieldID, GetStaticFieldID, GetField, SetField, GetStaticField, SetStaticField, GetObjectField, SetObjectField, GetStaticObjectField, SetStaticObjectField, GetArrayLength, NewArray, NewObjectArray, GetObjectArrayElement, SetObjectArrayElement, GetArrayRegion, SetArrayRegion, NewStringUTF, GetStringLength, GetStringRegion, GetBuffer, ReleaseBuffer, Throw, ThrowNew, ExceptionOccurred, ExceptionCheck, ExceptionClear, FatalError, MonitorEnter, MonitorExit, GetStaticMethodID, CallStaticVoidMethod, CallStaticIntMethod, CallStaticObjectMethod}
+use Rattle.semantics.specs.Arguments.{Actual, ReleaseMode, CopyBackAndFree, CopyBack, FreeUncopied, reference_given, object_given, mode_given, number_given, text_given, field_given, method_given, variable_given}
 use Rattle.semantics.specs.CallEffects.{NoResult, ScalarResult, ReferenceResult, WeakResult, FieldResult, MethodResult, level_of, local_array, same_reference, with_capacity}
 use Rattle.semantics.specs.Heap.{Heap, class_of, numbers_of, values_of, value_at, number_in, reference_in, field_place, static_place, fits_class}
 use Rattle.semantics.specs.Method.{MethodId, find_method}
 use Rattle.semantics.specs.Object.{Number, Refers, Reference}
 use Rattle.semantics.specs.Thread.{BuffersInUse, Frame, Monitor, capacities, monitor_of}
-use Rattle.semantics.specs.Value.{Int, Flag, Fatal, OutOfRange, convert}
+use Rattle.semantics.specs.Value.{Int, Flag, Fatal, NullReference, OutOfRange, convert}
 use Rattle.semantics.specs.Variable.{Variables}
-use Rattle.replay_calls.specs.Answers.{Answer, Gives, Writes, Makes, Raises, ThrowsNew, Ensures, Pushes, RefusesFrames, Pops, DeletesLocal, MakesGlobal, DeletesGlobal, DeletesWeak, Pends, Region, GetsRegion, SetsRegion, Lends, CopiesBack, Frees, Owns, Disowns, Halts, zero_result}
+use Rattle.replay_calls.specs.Answers.{Answer, Gives, Writes, Makes, Raises, ThrowsNew, Ensures, Pushes, RefusesFrames, Pops, DeletesLocal, MakesGlobal, DeletesGlobal, DeletesWeak, Pends, Region, GetsRegion, SetsRegion, Lends, CopiesBack, Frees, Owns, Disowns, Calls, Halts, zero_result}
 use Rattle.replay_terms.specs.declared.given.Lent.{Lent}
 use Rattle.replay_terms.specs.declared.given.Lent.TheVariants as lent
 use Rattle.replay_objects.specs.Frames.{new_frame}
@@ -36,6 +36,11 @@ found_field (Some f) = Gives (FieldResult (Some f))
 abbrev pub found_method : Option MethodId → Answer
 found_method None = Raises no_such_method_error
 found_method (Some m) = Gives (MethodResult (Some m))
+
+-- a method is called; without one the run stops
+abbrev pub method_called : Option MethodId → Answer
+method_called None = Halts NullReference
+method_called (Some m) = Calls m.function.name
 
 -- the static or the field of the class of argument 0 with the name and the type of arguments 1 and 2
 abbrev pub field_named : (is_static : Bool) → Classes → List Actual → Option FieldId
@@ -248,6 +253,9 @@ module _ (unit : SourceUnit) (classes : Classes) (in_use : BuffersInUse) (k : �
   worked_out MonitorEnter = monitor_entered (object 0) (monitor_of monitors (object 0))
   worked_out MonitorExit = monitor_left k (object 0) (monitor_of monitors (object 0))
   worked_out GetStaticMethodID = found_method (find_method unit classes (object 0) (text 1) (text 2))
+  worked_out CallStaticVoidMethod = method_called (method_given args 1)
+  worked_out CallStaticIntMethod = method_called (method_given args 1)
+  worked_out CallStaticObjectMethod = method_called (method_given args 1)
 
 -- ---- functions by what they work on
 

@@ -11,16 +11,16 @@ ghost use Rattle.semantics.specs.CallEffects.{level_of, same_reference};
 ghost use Rattle.semantics.specs.Method.{find_method};
 ghost use Rattle.syntax.specs.Views.{unit_tree};
 ghost use Rattle.semantics.specs.Heap.{field_place, fits_class, number_in, reference_in, static_place};
-ghost use Rattle.semantics.specs.Arguments.{field_given, number_given, object_given, reference_given, text_given, variable_given};
+ghost use Rattle.semantics.specs.Arguments.{field_given, method_given, number_given, object_given, reference_given, text_given, variable_given};
 ghost use Rattle.replay_arguments.specs.Actuals.{actual_view};
-ghost use Rattle.replay_calls.specs.Answers.{answer_or_trap, answer_view, lent_in, trap_in};
+ghost use Rattle.replay_calls.specs.Answers.{answer_or_trap, answer_view, called_in, lent_in, trap_in};
 ghost use Rattle.replay_arguments.specs.Checked.{trap_found};
 ghost use Rattle.jni.specs.Subjects.{subject_of};
-ghost use Rattle.replay_calls.specs.WorkedOut.{IsByClasses, IsByFrames, IsByObjects, element_given, element_set, ensured, field_named, fits_element, found_class, found_field, found_method, index_given, local_deleted, made_global, new_array, new_object_array, pushed, worked_out};
+ghost use Rattle.replay_calls.specs.WorkedOut.{IsByClasses, IsByFrames, IsByObjects, element_given, element_set, ensured, field_named, fits_element, found_class, found_field, found_method, index_given, local_deleted, made_global, method_called, new_array, new_object_array, pushed, worked_out};
 ghost use Rattle.jni.specs.declared.subject.Subject.TheVariants as subject;
 ghost use Rattle.semantics.specs.EventViews.{trap_view};
 ghost use Rattle.semantics.specs.Views.{name_of};
-ghost use Rattle.replay_terms.specs.Views.{in_use_view, variables_view};
+ghost use Rattle.replay_terms.specs.Views.{in_use_view, method_view, variables_view};
 ghost use Rattle.base.specs.Element.{element_value};
 ghost use Rattle.world_values.specs.Views.{object_value_view};
 
@@ -38,8 +38,8 @@ use classes::fields::FieldId;
 use classes::table::ClassTable;
 use jni::{JniFunction, Subject};
 use replay_arguments::actual::{
-    Actual, class_given, field_given, level_of, number_given, object_given, reference_given,
-    text_given, variable_given,
+    Actual, class_given, field_given, level_of, method_given, number_given, object_given,
+    reference_given, text_given, variable_given,
 };
 use replay_arguments::check::{check, fits_class};
 use replay_arguments::{Scene, field};
@@ -115,6 +115,8 @@ pub enum Answer<'a> {
     },
     /// Nobody owns the object of this name, and 0 is given.
     Disowns(ObjectId),
+    /// The method is called whose function has this name, with what is passed to it.
+    Calls(&'a [u8]),
     /// The run stops.
     Halts(Trap),
 }
@@ -182,6 +184,16 @@ pub fn lent_in(answer: Answer<'_>) -> Option<Lent>
 {
     match answer {
         Answer::Lends(buffer) => Some(buffer),
+        _ => None,
+    }
+}
+
+/// The name of the function whose method is called.
+pub fn called_in<'a>(answer: Answer<'a>) -> Option<&'a [u8]>
+    ensures { option_map (λ x. x.now) result ≡ called_in (answer_view answer.entry) }
+{
+    match answer {
+        Answer::Calls(function) => Some(function),
         _ => None,
     }
 }
@@ -254,6 +266,9 @@ fn class_answer<'a>(
         JniFunction::GetFieldID => field_named(classes, actuals, false),
         JniFunction::GetStaticFieldID => field_named(classes, actuals, true),
         JniFunction::GetStaticMethodID => method_named(unit, classes, actuals),
+        JniFunction::CallStaticVoidMethod => method_called(method_given(actuals, 1)),
+        JniFunction::CallStaticIntMethod => method_called(method_given(actuals, 1)),
+        JniFunction::CallStaticObjectMethod => method_called(method_given(actuals, 1)),
         _ => unreachable!(),
     }
 }
@@ -421,6 +436,16 @@ fn method_named<'a>(unit: &'a [Item], classes: &ClassTable, actuals: &[Actual<'a
             function: found.function,
         }))),
         None => Answer::Raises(NO_SUCH_METHOD_ERROR),
+    }
+}
+
+/// The method is called; without one the run stops.
+fn method_called<'a>(method: Option<MethodId<'a>>) -> Answer<'a>
+    ensures { answer_view result ≡ method_called (option_map method_view method.entry) }
+{
+    match method {
+        Some(method) => Answer::Calls(method.function.name.as_bytes()),
+        None => Answer::Halts(Trap::NullReference),
     }
 }
 

@@ -13,7 +13,7 @@ ghost use Rattle.semantics.specs.Object.{Reference};
 ghost use Rattle.semantics.specs.Thread.{Frame};
 ghost use Rattle.semantics.specs.Views.{name_of};
 ghost use Rattle.semantics.specs.Variable.{Variables as VariablesOfCall};
-ghost use Rattle.replay_calls.specs.Answers.{FitsArrays, FitsFrames, answer_view, frames_after, frames_with, given_after, is_of_frames, is_of_numbers, is_of_references, lent_in, makes_object, pending_after, shared_after, trap_in, variables_after, without_global, without_weak};
+ghost use Rattle.replay_calls.specs.Answers.{FitsArrays, FitsFrames, answer_view, called_in, frames_after, frames_with, given_after, is_of_frames, is_of_numbers, is_of_references, lent_in, makes_object, pending_after, shared_after, trap_in, variables_after, without_global, without_weak};
 ghost use Rattle.replay_terms.specs.Views.{given_view, variables_view};
 ghost use Rattle.replay_arguments.specs.Shares.{shared_view};
 
@@ -29,7 +29,7 @@ use semantics::ObjectId;
 use std::alloc::AllocError;
 
 /// Does what a function of this kind of result answers to a thread's call, where the run goes on, and tells what it
-/// gives. It gives no buffer.
+/// gives. It gives no buffer and calls no method.
 pub fn carry_out<'a>(
     turn: Turn<'_>,
     shared: &mut Shared<'a>,
@@ -40,6 +40,7 @@ pub fn carry_out<'a>(
 ) -> Result<Given<'a>, AllocError>
     requires goes { trap_in (answer_view answer) ≡ None }
     requires unlent { lent_in (answer_view answer) ≡ None }
+    requires uncalled { called_in (answer_view answer) ≡ None }
     requires fits { FitsFrames locals.old.frames (answer_view answer) }
     requires arrays { FitsArrays shared.old.store (variables_view locals.old.variables) (answer_view answer) }
     ensures shared { IfOk result (λ _. shared_view shared.new
@@ -96,7 +97,7 @@ pub fn carry_out<'a>(
             locals.variables.free(buffer);
             Ok(Given::Nothing)
         }
-        Answer::Halts(_) | Answer::Lends(_) => unreachable!(),
+        Answer::Halts(_) | Answer::Lends(_) | Answer::Calls(_) => unreachable!(),
         _ => carry_out_references(turn, shared, pending, &mut locals.frames, answer),
     }
 }
@@ -279,7 +280,7 @@ pub fn makes_object(answer: Answer<'_>) -> bool
         Answer::GetsRegion(_) | Answer::SetsRegion(_) => false,
         Answer::Lends(_) | Answer::CopiesBack { .. } | Answer::Frees(_) => false,
         Answer::Owns { .. } | Answer::Disowns(_) => false,
-        Answer::Pends { .. } | Answer::Halts(_) => false,
+        Answer::Pends { .. } | Answer::Calls(_) | Answer::Halts(_) => false,
     }
 }
 

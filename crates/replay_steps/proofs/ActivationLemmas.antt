@@ -27,7 +27,8 @@ use Rattle.replay_terms.specs.declared.term.Term.TheVariants as term
 use Rattle.replay_terms.specs.declared.value.Value.TheVariants as value
 use Rattle.replay_steps.specs.Activations.{tasks_from, tasks_around, tasks_after, tasks_left, thread_in, advance_by, Advances, HasBegun, AreSet, BegunInRange, OuterInRange, IsInRange}
 use Rattle.replay_tasks.specs.Outcomes.{result_view, variable_step, Holds, LeavesVariables, LeavesIf}
-use Rattle.replay_steps.specs.Steps.{Scene, Sees, Does, in_scene, left_by}
+use Rattle.base.specs.Bytes.{Identifier}
+use Rattle.replay_steps.specs.Steps.{Scene, Sees, Does, calling_by, in_scene, left_by}
 use Rattle.replay_tasks.specs.Tasks.{branch_task, task_view, end_view, statements_in, tasks_of_statements, EndInRange, StatementsInRange, TaskInRange, OutcomeInRange}
 use Rattle.replay_tasks.proofs.EffectLemmas.{block_tasks}
 use Rattle.replay_tasks.proofs.RangeLemmas.{entered_in_range}
@@ -60,6 +61,11 @@ left_is w o rest os begun rest_of outer =
 abbrev shared_of : Shared → Advance → Shared
 shared_of none (thread.Advances s t event) = s
 shared_of none NoAdvance = none
+
+-- the call of a method by a thread that has these tasks, after a step
+abbrev called_in : ℕ → Identifier → List Task → Advance → Advance
+called_in line x tasks (thread.Advances s t event) = calling_by s t line x (Some tasks)
+called_in line x tasks NoAdvance = NoAdvance
 
 abbrev with_event : Event → Advance → Advance
 with_event event (thread.Advances s t other) = thread.Advances s t event
@@ -156,6 +162,7 @@ module _ (refused : Bool) (before between : Scene) (statics : Statics) (heap : H
       by_outcome (outcome.Enters block e) none t = absurd (let bad = none between.shared (with_tasks (within t) rest) (holds t rest) in cc)
       by_outcome outcome.Ends none t = absurd (let bad = none between.shared (with_tasks (within t) rest) (holds t rest) in cc)
       by_outcome (outcome.Returned given) none t = absurd (let bad = none between.shared (with_tasks (within t) rest) (holds t rest) in cc)
+      by_outcome (outcome.Calls line x) none t = absurd (let bad = none between.shared (with_tasks (within t) rest) (holds t rest) in cc)
       by_outcome (outcome.Trapped trap line) none t = absurd (let bad = none between.shared (with_tasks (within t) rest) (holds t rest) in cc)
       by_outcome outcome.Impossible none t = refl
 
@@ -204,6 +211,11 @@ module _ (refused : Bool) (before between : Scene) (statics : Statics) (heap : H
     left_in (outcome.Enters block e) leaves a = left_alone Quiet ((tasks_of_statements (statements_in block) ++ end_view e ∷ []) ++ rest) leaves (entered (statements_in block) e a.task a.rest a.outer)
     left_in outcome.Ends leaves a = left_alone Quiet rest leaves (left_with None a.task a.rest a.outer)
     left_in (outcome.Returned given) leaves a = returned given leaves (within t)
+    left_in (outcome.Calls line x) leaves a =
+        let todo : List Task = task_view left ∷ rest in
+        let same : todo ≡ tasks_left new = sym (left_with (Some left) a.task a.rest a.outer) in
+        ap (called_in line x.now todo) (leaves between.shared (with_tasks (within t) todo) (holds t todo))
+        ∙ ap (λ (ts : List Task). calling_by shared' (thread_in t ts after) line x.now (Some ts)) same
     left_in (outcome.Trapped trap line) leaves a = left_alone (Trapped (trap_view trap) line) (task_view left ∷ rest) leaves (left_with (Some left) a.task a.rest a.outer)
     left_in outcome.Impossible leaves a = refl
 
@@ -241,6 +253,7 @@ module _ (begun new : Work) (after : TaskInMemory) (known : IsInRange begun) (kn
       built None (statements_in block) (begun.outer.items ++ o ∷ []) a.task a.rest a.outer tt (entered_in_range block h.0) (outer_joined begun.outer.items o known.outer h.1 known.rest)
   range_after outcome.Ends h a = built None begun.rest begun.outer.items a.task a.rest a.outer tt known.rest known.outer
   range_after (outcome.Returned given) h a = built (Some after) begun.rest begun.outer.items a.task a.rest a.outer known_after known.rest known.outer
+  range_after (outcome.Calls line x) h a = built (Some after) begun.rest begun.outer.items a.task a.rest a.outer known_after known.rest known.outer
   range_after (outcome.Trapped trap line) h a = built (Some after) begun.rest begun.outer.items a.task a.rest a.outer known_after known.rest known.outer
   range_after outcome.Impossible h a = built (Some after) begun.rest begun.outer.items a.task a.rest a.outer known_after known.rest known.outer
 

@@ -1,18 +1,21 @@
 -- The step of a call in memory, up to the call's own step and with it.
 use Rattle.std.proofs.Common.{◌≡◌, ℕ, zero, suc, ◌+◌, ◌<◌, Bool, true, false, List, [], ◌∷◌, length, map, Option, Some, None, nat_lt, slice_get, refl, sym, ap, ◌∙◌, subst, arith}
-use Rattle.std.specs.Prelude.{is_some, slice_set}
+use Rattle.std.specs.Prelude.{◌&&◌, is_some, slice_set}
+use Rattle.std.specs.Borrow.{Bor}
+use Rattle.base.specs.Bytes.{Identifier}
 use Rattle.std.proofs.lemmas.Bool.Decides.{nat_tests}
 use Rattle.class_rules.specs.Class.{Classes}
 use Rattle.jni.specs.Table.{function_value}
 use Rattle.semantics.specs.Arguments.{Actual, actuals}
-use Rattle.semantics.specs.Effect.{Becomes, Calls, effect_of, goes_on, is_ready, reduce_first, reduce_number, is_given}
+use Rattle.semantics.specs.Effect.{Becomes, Calls, effect_of, goes_on, is_no_number, is_ready, reduce_first, reduce_name, reduce_number, is_given}
 use Rattle.semantics.specs.Sight.{Sight}
 use Rattle.semantics.specs.Task as source
 use Rattle.semantics.specs.Term as terms
 use Rattle.semantics.specs.Term.{reduce}
 use Rattle.semantics.specs.Thread.{Thread, Shared, sight_of}
 use Rattle.semantics.specs.ThreadStep.{after_effect, after_refused_effect}
-use Rattle.semantics.specs.Value.{Outcome as Outcomes, outcome_map}
+use Rattle.semantics.specs.Value as values
+use Rattle.semantics.specs.Value.{Outcome as Outcomes, Gives, Traps, Stuck, outcome_map}
 use Rattle.replay_tasks.specs.declared.outcome.Outcome.{Outcome}
 use Rattle.replay_tasks.specs.declared.task.Invocation.{Invocation}
 use Rattle.replay_terms.specs.declared.operand.Operand.{Operand}
@@ -23,19 +26,25 @@ use Rattle.replay_terms.specs.declared.reduction.Reduction.TheVariants as reduct
 use Rattle.replay_terms.specs.declared.term.Term.{Term}
 use Rattle.replay_terms.specs.declared.term.Term.TheVariants as term
 use Rattle.replay_terms.specs.declared.value.Value.{Value}
-use Rattle.replay_steps.specs.Calls.{MakesCall, MakesInvocation, ReducesFirst, ReducesOne}
+use Rattle.replay_steps.specs.Calls.{FindsArguments, MakesCall, MakesInvocation, ReducesFirst, ReducesOne}
 use Rattle.replay_tasks.specs.Outcomes.{purpose_view}
 use Rattle.replay_arguments.specs.Shares.{sight_in}
 use Rattle.replay_tasks.specs.Effects.{HasEffect, reduced}
 use Rattle.replay_steps.specs.Steps.{Scene, Sees, Does}
-use Rattle.replay_terms.specs.Views.{operand_view, Contents, term_view, Reduces}
+use Rattle.replay_terms.specs.Views.{operand_view, Contents, term_view, value_view, Reduces}
 use Rattle.replay_tasks.specs.Tasks.{task_view}
 use Rattle.replay_steps.proofs.TaskLemmas.{sees_so}
 
 -- ---- the first number that isn't worked out
 
-first_given : (sight : Sight) (o : Operand) (rest : List source.Operand) → is_given (operand_view o) ≡ true → reduce_first sight (operand_view o ∷ rest) ≡ outcome_map (λ os. operand_view o ∷ os) (reduce_first sight rest)
+first_given : (sight : Sight) (o : Operand) (rest : List source.Operand) → is_given sight.number (operand_view o) ≡ true → reduce_first sight (operand_view o ∷ rest) ≡ outcome_map (λ os. operand_view o ∷ os) (reduce_first sight rest)
 first_given sight (operands.Given a) rest given = refl
+first_given sight (operands.Passed x) rest given = by_value (sight.number x.now) given
+  where
+    by_value : (o : Outcomes values.Value) → is_no_number o ≡ true → reduce_name x.now rest o (reduce_first sight rest) ≡ outcome_map (λ os. source.PassedName x.now ∷ os) (reduce_first sight rest)
+    by_value (Gives v) given = absurd (cc)
+    by_value (Traps trap) given = refl
+    by_value Stuck given = refl
 first_given sight (operands.Number (term.Done v)) rest given = refl
 first_given sight (operands.Number (term.Number n unsigned)) rest given = absurd (cc)
 first_given sight (operands.Number (term.Named c)) rest given = absurd (cc)
@@ -49,35 +58,20 @@ first_given sight (operands.Number (term.Binary' op p s q t)) rest given = absur
 
 -- a number that has no value yet
 pub record IsOpen (u : terms.Term) : Type 0 where
-  pub unready : is_given (source.NumberOperand u) ≡ false
+  pub unready : (number : Identifier → Outcomes values.Value) → is_given number (source.NumberOperand u) ≡ false
   pub reduces : (rest : List source.Operand) (step : Outcomes terms.Term) (further : Outcomes (List source.Operand)) → reduce_number u rest step further ≡ outcome_map (λ (w : terms.Term). source.NumberOperand w ∷ rest) step
 
 is_open : (t : Term) → ((v : Value) → t ≡ term.Done v → ⊥) → IsOpen (term_view t)
 is_open (term.Done v) none = absurd (none v refl)
-is_open (term.Number n unsigned) none = record { unready = refl; reduces = λ rest step further. refl }
-is_open (term.Named c) none = record { unready = refl; reduces = λ rest step further. refl }
-is_open (term.Read x) none = record { unready = refl; reduces = λ rest step further. refl }
-is_open (term.Element' x p i) none = record { unready = refl; reduces = λ rest step further. refl }
-is_open (term.IsNull wanted x) none = record { unready = refl; reduces = λ rest step further. refl }
-is_open (term.Prefix' op p t) none = record { unready = refl; reduces = λ rest step further. refl }
-is_open (term.And' p s q t) none = record { unready = refl; reduces = λ rest step further. refl }
-is_open (term.Or' p s q t) none = record { unready = refl; reduces = λ rest step further. refl }
-is_open (term.Binary' op p s q t) none = record { unready = refl; reduces = λ rest step further. refl }
-
--- the first n are worked out
-abbrev pub AreGiven : List Operand → ℕ → Type 0
-AreGiven os n = (i : ℕ) (o : Operand) → i < n → slice_get os i ≡ Some o → is_given (operand_view o) ≡ true
-
-pub given_more : (os : List Operand) (n : ℕ) (o : Operand) → slice_get os n ≡ Some o → is_given (operand_view o) ≡ true → AreGiven os n → AreGiven os (n + 1)
-given_more os n o at given before = λ i p low there. by_place i p low there (nat_lt i n) refl
-  where
-    by_place : (i : ℕ) (p : Operand) → i < n + 1 → slice_get os i ≡ Some p → (b : Bool) → nat_lt i n ≡ b → is_given (operand_view p) ≡ true
-    by_place i p low there true is = before i p (grind (arith, nat_tests, is)) there
-    by_place i p low there false is =
-        let last : i ≡ n = grind (arith, nat_tests, is, low) in
-        let same : Some o ≡ Some p = sym at ∙ ap (slice_get os) (sym last) ∙ there in
-        let equal : o ≡ p = cc in
-        ap (λ (q : Operand). is_given (operand_view q)) (sym equal) ∙ given
+is_open (term.Number n unsigned) none = record { unready = λ number. refl; reduces = λ rest step further. refl }
+is_open (term.Named c) none = record { unready = λ number. refl; reduces = λ rest step further. refl }
+is_open (term.Read x) none = record { unready = λ number. refl; reduces = λ rest step further. refl }
+is_open (term.Element' x p i) none = record { unready = λ number. refl; reduces = λ rest step further. refl }
+is_open (term.IsNull wanted x) none = record { unready = λ number. refl; reduces = λ rest step further. refl }
+is_open (term.Prefix' op p t) none = record { unready = λ number. refl; reduces = λ rest step further. refl }
+is_open (term.And' p s q t) none = record { unready = λ number. refl; reduces = λ rest step further. refl }
+is_open (term.Or' p s q t) none = record { unready = λ number. refl; reduces = λ rest step further. refl }
+is_open (term.Binary' op p s q t) none = record { unready = λ number. refl; reduces = λ rest step further. refl }
 
 -- an element in its own place
 set_same : {A : Type 0} (xs : List A) (n : ℕ) (x : A) → slice_get xs n ≡ Some x → slice_set xs n x ≡ xs
@@ -86,8 +80,23 @@ set_same (y ∷ xs) zero x at = let same : y ≡ x = cc in ap (λ z. z ∷ xs) (
 set_same (y ∷ xs) (suc n) x at = ap (λ zs. y ∷ zs) (set_same xs n x at)
 
 module _ (sight : Sight) where
+  -- the first n are worked out
+  abbrev pub AreGiven : List Operand → ℕ → Type 0
+  AreGiven os n = (i : ℕ) (o : Operand) → i < n → slice_get os i ≡ Some o → is_given sight.number (operand_view o) ≡ true
+
+  pub given_more : (os : List Operand) (n : ℕ) (o : Operand) → slice_get os n ≡ Some o → is_given sight.number (operand_view o) ≡ true → AreGiven os n → AreGiven os (n + 1)
+  given_more os n o at given before = λ i p low there. by_place i p low there (nat_lt i n) refl
+    where
+      by_place : (i : ℕ) (p : Operand) → i < n + 1 → slice_get os i ≡ Some p → (b : Bool) → nat_lt i n ≡ b → is_given sight.number (operand_view p) ≡ true
+      by_place i p low there true is = before i p (grind (arith, nat_tests, is)) there
+      by_place i p low there false is =
+          let last : i ≡ n = grind (arith, nat_tests, is, low) in
+          let same : Some o ≡ Some p = sym at ∙ ap (slice_get os) (sym last) ∙ there in
+          let equal : o ≡ p = cc in
+          ap (λ (q : Operand). is_given sight.number (operand_view q)) (sym equal) ∙ given
+
   -- what comes before it stays
-  pub after_given : (o : Operand) (old new : List Operand) (took : Option Reduction) → is_given (operand_view o) ≡ true → ReducesFirst sight old took new → ReducesFirst sight (o ∷ old) took (o ∷ new)
+  pub after_given : (o : Operand) (old new : List Operand) (took : Option Reduction) → is_given sight.number (operand_view o) ≡ true → ReducesFirst sight old took new → ReducesFirst sight (o ∷ old) took (o ∷ new)
   after_given o old new None given h = (rw (given, h.0) refl, ap (λ (os : List Operand). o ∷ os) h.1)
   after_given o old new (Some reduction.Reduced) given h =
       (rw (given, h.0) refl, first_given sight o (map operand_view old) given ∙ ap (outcome_map (λ os. operand_view o ∷ os)) h.1)
@@ -100,16 +109,23 @@ module _ (sight : Sight) where
   pub takes_first : (t t' : Term) (rest : List Operand) (took : Reduction) → ((v : Value) → t ≡ term.Done v → ⊥) → Reduces sight t took t' → ReducesFirst sight (operands.Number t ∷ rest) (Some took) (operands.Number t' ∷ rest)
   takes_first t t' rest reduction.Reduced none h =
       let o = is_open t none in
-      (rw o.unready refl, o.reduces (map operand_view rest) (reduce sight (term_view t)) (reduce_first sight (map operand_view rest)) ∙ ap (outcome_map (λ (w : terms.Term). source.NumberOperand w ∷ map operand_view rest)) h)
+      (rw (o.unready sight.number) refl, o.reduces (map operand_view rest) (reduce sight (term_view t)) (reduce_first sight (map operand_view rest)) ∙ ap (outcome_map (λ (w : terms.Term). source.NumberOperand w ∷ map operand_view rest)) h)
   takes_first t t' rest (reduction.Trapped trap) none h =
       let o = is_open t none in (
-        rw o.unready refl,
+        rw (o.unready sight.number) refl,
         o.reduces (map operand_view rest) (reduce sight (term_view t)) (reduce_first sight (map operand_view rest)) ∙ ap (outcome_map (λ (w : terms.Term). source.NumberOperand w ∷ map operand_view rest)) h.0,
         ap (λ (u : Term). operands.Number u ∷ rest) h.1,
       )
   takes_first t t' rest reduction.Stuck none h =
       let o = is_open t none in
-      (rw o.unready refl, o.reduces (map operand_view rest) (reduce sight (term_view t)) (reduce_first sight (map operand_view rest)) ∙ ap (outcome_map (λ (w : terms.Term). source.NumberOperand w ∷ map operand_view rest)) h)
+      (rw (o.unready sight.number) refl, o.reduces (map operand_view rest) (reduce sight (term_view t)) (reduce_first sight (map operand_view rest)) ∙ ap (outcome_map (λ (w : terms.Term). source.NumberOperand w ∷ map operand_view rest)) h)
+
+  -- the value of a number takes the place of its name
+  pub name_takes : (x : Bor Identifier) (v : Value) (rest : List Operand) → sight.number x.now ≡ Gives (value_view v) → ReducesFirst sight (operands.Passed x ∷ rest) (Some reduction.Reduced) (operands.Number (term.Done v) ∷ rest)
+  name_takes x v rest is = (
+    ap (λ (o : Outcomes values.Value). is_no_number o && is_ready sight.number (map operand_view rest)) is,
+    ap (λ (o : Outcomes values.Value). reduce_name x.now (map operand_view rest) o (reduce_first sight (map operand_view rest))) is,
+  )
 
   -- the one after them takes its step
   pub first_in : (os : List Operand) (n : ℕ) (o o' : Operand) (took : Reduction) → slice_get os n ≡ Some o → AreGiven os n → ReducesOne sight o (Some took) o' → ReducesFirst sight os (Some took) (slice_set os n o')
@@ -143,7 +159,7 @@ module _ (sight : Sight) where
     pub same_call : (os : List source.Operand) → map operand_view i'.operands.items ≡ os → task_view (task.Invoke i') ≡ whole os
     same_call os same = rw (line, purpose, function, same) refl
 
-    goes : is_ready before ≡ false → effect_of sight (task_view (task.Invoke i)) ≡ goes_on i.line whole (reduce_first sight before)
+    goes : is_ready sight.number before ≡ false → effect_of sight (task_view (task.Invoke i)) ≡ goes_on i.line whole (reduce_first sight before)
     goes unready = rw unready refl
 
     -- a number takes its step
@@ -164,24 +180,27 @@ module _ (scene : Scene) where
   abbrev variables : Contents
   variables = scene.variables
 
-  module _ (i i' : Invocation) (scene' : Scene) (same : task_view (task.Invoke i') ≡ task_view (task.Invoke i)) (ready : is_ready (map operand_view i.operands.items) ≡ true)
+  module _ (i i' : Invocation) (scene' : Scene) (same : task_view (task.Invoke i') ≡ task_view (task.Invoke i)) (ready : is_ready (sight_in s variables).number (map operand_view i.operands.items) ≡ true)
       (args : List Actual) (looked_up : args ≡ actuals (sight_in s variables) (function_value i.function) (map operand_view i.operands.items)) where
     calls : (t : Thread) → Sees scene t → effect_of (sight_of s t) (task_view (task.Invoke i)) ≡ Calls i.line (purpose_view i.line i.purpose) (function_value i.function) args
     calls t sees =
         ap (λ (sight : Sight). effect_of sight (task_view (task.Invoke i))) (sees_so scene t sees)
         ∙ rw (ready, looked_up) refl
 
+    finds : FindsArguments scene i.line i.purpose (function_value i.function) args (task_view (task.Invoke i'))
+    finds = record { operands = map operand_view i.operands.items; is = same; found = looked_up }
+
     -- the call's own step is the step of the task
     pub call_does : (refused : Bool) (took : Outcome) → MakesCall refused scene i.line i.purpose (function_value i.function) args took scene' → Does refused scene (task.Invoke i) took scene' (task.Invoke i')
     call_does false took makes = λ t rest sees has.
         ap (after_effect scene.unit classes scene.in_use scene.thread s t rest) (calls t sees)
-        ∙ makes t rest (task.Invoke i') sees (has ∙ ap (λ (u : source.Task). let o : Option (List source.Task) = Some (u ∷ rest) in o) (sym same))
+        ∙ makes t rest (task.Invoke i') sees (has ∙ ap (λ (u : source.Task). let o : Option (List source.Task) = Some (u ∷ rest) in o) (sym same)) finds
     call_does true took makes = λ t rest sees has.
         ap (after_refused_effect scene.unit classes scene.in_use scene.thread s t rest) (calls t sees)
-        ∙ makes t rest (task.Invoke i') sees (has ∙ ap (λ (u : source.Task). let o : Option (List source.Task) = Some (u ∷ rest) in o) (sym same))
+        ∙ makes t rest (task.Invoke i') sees (has ∙ ap (λ (u : source.Task). let o : Option (List source.Task) = Some (u ∷ rest) in o) (sym same)) finds
 
   -- an invocation that is made is the step of the task that its numbers were worked out of
-  pub invocation_does : (i i' : Invocation) (scene' : Scene) → i'.line ≡ i.line → i'.purpose ≡ i.purpose → i'.function ≡ i.function → i'.operands.items ≡ i.operands.items → is_ready (map operand_view i.operands.items) ≡ true
+  pub invocation_does : (i i' : Invocation) (scene' : Scene) → i'.line ≡ i.line → i'.purpose ≡ i.purpose → i'.function ≡ i.function → i'.operands.items ≡ i.operands.items → is_ready (sight_in s variables).number (map operand_view i.operands.items) ≡ true
       → (refused : Bool) (took : Outcome) → MakesInvocation refused scene i' took scene' → Does refused scene (task.Invoke i) took scene' (task.Invoke i')
   invocation_does i i' scene' line purpose function operands ready refused took makes =
       let before = map operand_view i.operands.items in

@@ -72,6 +72,7 @@ module _ (scene : Scene) (old new : TaskInMemory) where
   does (outcome.Enters block e) h = by_effect (outcome.Enters block e) h (λ t rest has. refl)
   does outcome.Ends h = by_effect outcome.Ends h (λ t rest has. refl)
   does (outcome.Returned given) h = by_effect (outcome.Returned given) h (λ t rest has. refl)
+  does (outcome.Calls line x) h = absurd h
   does (outcome.Trapped trap line) h = by_effect (outcome.Trapped trap line) h.0 (λ t rest has.
       ap (λ (u : Thread). Advances shared u (Trapped (trap_view trap) line)) (same_thread t (task_view old ∷ rest) has)
       ∙ ap (λ (u : Task). Advances shared (with_tasks t (u ∷ rest)) (Trapped (trap_view trap) line)) (sym h.1))
@@ -98,6 +99,7 @@ module _ (scene : Scene) (old new : TaskInMemory) where
   does_without (outcome.Enters block e) h = by_refusal (outcome.Enters block e) h (λ t rest. refl)
   does_without outcome.Ends h = by_refusal outcome.Ends h (λ t rest. refl)
   does_without (outcome.Returned given) h = by_refusal (outcome.Returned given) h (λ t rest. refl)
+  does_without (outcome.Calls line x) h = absurd h
   does_without (outcome.Trapped trap line) h = by_refusal (outcome.Trapped trap line) h.0 (λ t rest. refl)
   does_without outcome.Impossible h = by_refusal outcome.Impossible h (λ t rest. refl)
 

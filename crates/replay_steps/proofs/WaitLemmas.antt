@@ -34,12 +34,12 @@ use Rattle.replay_tasks.specs.declared.task.Task.TheVariants as task
 use Rattle.replay_terms.specs.Views.{Contents, operand_view, variables_view}
 
 -- a task that is no call
-abbrev IsPlain : Task → Type 0
+abbrev pub IsPlain : Task → Type 0
 IsPlain (Invoke line target f operands) = ⊥
 IsPlain t = Unit {0}
 
 -- tasks of which the first is none
-abbrev BeginsPlain : List Task → Type 0
+abbrev pub BeginsPlain : List Task → Type 0
 BeginsPlain [] = Unit {0}
 BeginsPlain (t ∷ rest) = IsPlain t
 
@@ -145,7 +145,7 @@ end-plain : (e : End) → IsPlain (end_view e)
 end-plain end.If = tt
 end-plain (end.Turn line test body) = tt
 
-around-plain : (after : List Task) (os : List Outer) → BeginsPlain after → BeginsPlain (tasks_around after os)
+pub around-plain : (after : List Task) (os : List Outer) → BeginsPlain after → BeginsPlain (tasks_around after os)
 around-plain after [] h = h
 around-plain after (o ∷ os) h = around-plain (end_view o.end ∷ tasks_of_statements o.rest ++ after) os (end-plain o.end)
 
@@ -194,8 +194,8 @@ module _ (classes : Classes) (k : ℕ) (s : Shared) (vs : Contents) (frames : Li
   others_go line target f false args Stuck h = refl
 
   call_is : (line : ℕ) (target : Target) (f : JniFunction) (operands : List Operand) → call_waits classes k s vs frames pending f operands ≡ waits_with classes k s caller (call_effect_of sight line target f operands)
-  call_is line target MonitorEnter operands = enters line target (is_ready operands) (actuals sight MonitorEnter operands) (reduce_first sight operands)
-  call_is line target f operands = others_go line target f (is_ready operands) (actuals sight f operands) (reduce_first sight operands) refl
+  call_is line target MonitorEnter operands = enters line target (is_ready sight.number operands) (actuals sight MonitorEnter operands) (reduce_first sight operands)
+  call_is line target f operands = others_go line target f (is_ready sight.number operands) (actuals sight f operands) (reduce_first sight operands) refl
 
   task_is : (u : TaskInMemory) → task_waits classes k s vs frames pending (Some u) ≡ waits_with classes k s caller (effect_of sight (task_view u))
   task_is (task.Print e) = free_task (task_view (task.Print e)) tt

@@ -20,7 +20,7 @@ use Rattle.replay_steps.specs.declared.activation.Work.{Work}
 use Rattle.replay_tasks.specs.declared.outcome.Outcome.{Outcome}
 use Rattle.replay_tasks.specs.declared.outcome.Outcome.TheVariants as outcome
 use Rattle.replay_tasks.specs.declared.task.Task.{Task as TaskInMemory}
-use Rattle.replay_steps.specs.Steps.{Scene, in_scene, scene_at, Sees, Does}
+use Rattle.replay_steps.specs.Steps.{Scene, calling_by, in_scene, scene_at, Sees, Does}
 use Rattle.replay_tasks.specs.Outcomes.{result_view, variable_step, LeavesVariables, LeavesIf}
 use Rattle.replay_tasks.specs.Tasks.{branch_task, task_view, end_view, statements_in, tasks_of_statements, StatementsInRange, TaskInRange, EndInRange}
 use Rattle.replay_terms.specs.declared.term.Term.TheVariants as term
@@ -75,6 +75,7 @@ thread_in t tasks scene = with_tasks (in_scene t scene) tasks
 abbrev pub advance_by : (k : ℕ) → Shared → Thread → Outcome → Advance
 advance_by k s t (outcome.Printed z) = thread.Advances s t (PrintedNumber z)
 advance_by k s t (outcome.Returned given) = return_step k s t (result_view given)
+advance_by k s t (outcome.Calls line x) = calling_by s t line x.now t.tasks
 advance_by k s t (outcome.Trapped trap line) = thread.Advances s t (Trapped (trap_view trap) line)
 advance_by k s t outcome.Impossible = NoAdvance
 advance_by k s t took = thread.Advances s t Quiet
@@ -112,6 +113,7 @@ pub record HasTurned (line : ℕ) (test : ExprInMemory) (body : BlockInMemory) (
 abbrev pub task_after : Option TaskInMemory → Outcome → Option TaskInMemory
 task_after task outcome.Stays = task
 task_after task (outcome.Returned given) = task
+task_after task (outcome.Calls line x) = task
 task_after task (outcome.Trapped trap line) = task
 task_after task outcome.Impossible = task
 task_after task (outcome.Tests line zero b other) = Some (branch_task line (term.Done (value.Truth zero)) b other)

@@ -1,14 +1,21 @@
 -- Calls in memory that wait for one that they made, and go on once it has returned.
-use Rattle.std.specs.Prelude.{◌≡◌, List, Option, Some}
+use Rattle.std.specs.Prelude.{◌≡◌, ◌+◌, if◌then◌else◌, nat_le, ℕ, List, ◌∷◌, length, map, Option, Some, None}
+use Rattle.base.specs.Bytes.{Identifier}
+use Rattle.base.specs.Limits.{most_activations}
 use Rattle.jni.specs.JniFunction.{prototype}
 use Rattle.jni.specs.Table.{function_value}
 use Rattle.semantics.specs.CallEffects.{CallResult}
 use Rattle.semantics.specs.Object.{Reference}
 use Rattle.semantics.specs.Return.{given_back, return_into}
-use Rattle.semantics.specs.Thread.{Advances, Caller, Quiet, Shared, Thread}
+use Rattle.semantics.specs.Thread.{Advance, Advances, Caller, NoAdvance, Quiet, Shared, Thread, Trapped}
+use Rattle.semantics.specs.Value.{CallsTooDeep}
+use Rattle.semantics.specs.Views.{object_value_view}
+use Rattle.semantics.specs.World.{Invocation}
 use Rattle.replay_steps.specs.Activations.{IsInRange, tasks_after, tasks_left}
 use Rattle.replay_steps.specs.declared.activation.Activation.{Activation}
 use Rattle.replay_steps.specs.declared.activation.Work.{Work}
+use Rattle.replay_steps.specs.declared.callers.Entering.{Entering}
+use Rattle.replay_steps.specs.Steps.{calling_by, waiting}
 use Rattle.replay_tasks.specs.Outcomes.{purpose_view}
 use Rattle.replay_tasks.specs.declared.task.Task.{Task as TaskInMemory}
 use Rattle.replay_tasks.specs.declared.task.Task.TheVariants as task
@@ -52,3 +59,26 @@ abbrev pub Resumes : Shared → Reference → CallResult → (old : Activation) 
 Resumes s pending given old s' new =
     (t : Thread) (c : Caller) (callers : List Caller) → t.pending ≡ pending → CallerStands old c
     → return_into s t (given_back pending c.result given) c callers ≡ Advances s' (thread_at t callers new) Quiet
+
+-- a call that is to be entered
+abbrev pub entering_view : Entering → Invocation
+entering_view e = record { line = e.line; function = e.function.now; arguments = map object_value_view e.arguments.items }
+
+-- what is left of a thread whose call in progress is to wait, as this caller, for this call, if few enough calls wait
+abbrev pub called_by : Shared → Thread → (line : ℕ) → Caller → Invocation → Advance
+called_by s t line caller call =
+    if nat_le most_activations (length t.callers + 1) then Advances s t (Trapped CallsTooDeep line)
+    else Advances s (waiting t caller call) Quiet
+
+-- each thread at this call in memory, whose tasks these are, waits for the call of a function as a caller for which the call stands
+pub record CallsFrom (s : Shared) (a : Activation) (line : ℕ) (x : Identifier) (call : Invocation) : Type 0 where
+  pub calling : IsCalling a.work
+  pub caller : Caller
+  pub stands : CallerStands a caller
+  pub calls : (t : Thread) → t.variables ≡ variables_view a.locals.variables → t.frames ≡ a.locals.frames
+      → calling_by s t line x (Some (tasks_left a.work)) ≡ called_by s t line caller call
+
+-- The call in memory makes this one, of the function of this name. Where it makes none, no thread at it can step so.
+abbrev pub MakesCaller : Shared → Activation → (line : ℕ) → Identifier → Option Entering → Type 0
+MakesCaller s a line x (Some e) = CallsFrom s a line x (entering_view e)
+MakesCaller s a line x None = (t : Thread) → calling_by s t line x (Some (tasks_left a.work)) ≡ NoAdvance

@@ -7,7 +7,7 @@ use Rattle.base.specs.Element.{ElementType}
 use Rattle.semantics.specs.CallStep.{call_step, target_element}
 use Rattle.semantics.specs.Effect.{is_given, is_ready, reduce_first}
 use Rattle.semantics.specs.Sight.{Sight}
-use Rattle.semantics.specs.Task.{Task}
+use Rattle.semantics.specs.Task.{Task, Invoke, Operand as OperandOfCall}
 use Rattle.semantics.specs.Thread.{Thread}
 use Rattle.semantics.specs.Value.{Gives, Traps, Stuck}
 use Rattle.replay_tasks.specs.declared.outcome.Outcome.{Outcome}
@@ -32,19 +32,25 @@ use Rattle.replay_tasks.specs.Tasks.{task_view}
 
 -- Where this can be seen, each number is worked out already, or what was done is the step of the first that isn't.
 abbrev pub ReducesFirst : Sight → List Operand → Option ReductionInMemory → List Operand → Type 0
-ReducesFirst sight old None new = (is_ready (map operand_view old) ≡ true) × (new ≡ old)
-ReducesFirst sight old (Some reduction.Reduced) new = (is_ready (map operand_view old) ≡ false)
+ReducesFirst sight old None new = (is_ready sight.number (map operand_view old) ≡ true) × (new ≡ old)
+ReducesFirst sight old (Some reduction.Reduced) new = (is_ready sight.number (map operand_view old) ≡ false)
     × (reduce_first sight (map operand_view old) ≡ Gives (map operand_view new))
 ReducesFirst sight old (Some (reduction.Trapped trap)) new =
-    (is_ready (map operand_view old) ≡ false)
+    (is_ready sight.number (map operand_view old) ≡ false)
     × (reduce_first sight (map operand_view old) ≡ Traps (trap_view trap)) × (new ≡ old)
-ReducesFirst sight old (Some reduction.Stuck) new = (is_ready (map operand_view old) ≡ false)
+ReducesFirst sight old (Some reduction.Stuck) new = (is_ready sight.number (map operand_view old) ≡ false)
     × (reduce_first sight (map operand_view old) ≡ Stuck)
 
 -- the same of one of them, with others after it
 abbrev pub ReducesOne : Sight → Operand → Option ReductionInMemory → Operand → Type 0
-ReducesOne sight old None new = (is_given (operand_view old) ≡ true) × (new ≡ old)
+ReducesOne sight old None new = (is_given sight.number (operand_view old) ≡ true) × (new ≡ old)
 ReducesOne sight old (Some took) new = (rest : List Operand) → ReducesFirst sight (old ∷ rest) (Some took) (new ∷ rest)
+
+-- a task is a call of a function that finds these arguments
+pub record FindsArguments (before : Scene) (line : ℕ) (purpose : PurposeInMemory) (f : JniFunction) (args : List Actual) (new : Task) : Type 0 where
+  pub operands : List OperandOfCall
+  pub is : new ≡ Invoke line (purpose_view line purpose) f operands
+  pub found : args ≡ actuals (sight_in before.shared before.variables) f operands
 
 -- What was done is the call's own step, for each thread of the scene before it, or what it does with its object
 -- refused. It leaves the scene after it.
@@ -52,6 +58,7 @@ abbrev pub MakesCall : (refused : Bool) → Scene → (line : ℕ) → PurposeIn
     → Scene → Type 0
 MakesCall refused before line purpose f args took after =
     (t : Thread) (rest : List Task) (new : TaskInMemory) → Sees before t → t.tasks ≡ Some (task_view new ∷ rest)
+    → FindsArguments before line purpose f args (task_view new)
     → call_step before.unit before.classes before.in_use before.thread before.shared t line
     (purpose_view line purpose) f args rest refused
     ≡ left_by before.thread after.shared (in_scene t after) rest took new

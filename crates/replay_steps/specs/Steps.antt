@@ -1,14 +1,20 @@
 -- What a step of a task does.
-use Rattle.std.specs.Prelude.{◌≡◌, ℕ, Bool, List, [], ◌∷◌, ◌++◌, Option, Some}
+use Rattle.std.specs.Prelude.{◌≡◌, ◌+◌, ℕ, Bool, if◌then◌else◌, nat_le, List, [], ◌∷◌, ◌++◌, drop, length, map, Option, Some, None}
+use Rattle.base.specs.Bytes.{Identifier}
+use Rattle.base.specs.Limits.{most_activations}
+use Rattle.jni.specs.JniFunction.{JniFunction, prototype}
 use Rattle.syntax.specs.Tree.{SourceUnit}
 use Rattle.syntax.specs.Views.{block_tree, unit_tree}
 use Rattle.class_rules.specs.Class.{Classes}
+use Rattle.semantics.specs.Arguments.{actuals, passed_value}
 use Rattle.semantics.specs.Return.{return_step}
-use Rattle.semantics.specs.Object.{Reference}
-use Rattle.semantics.specs.Task.{Task, Branch}
+use Rattle.semantics.specs.Object.{ObjectValue, Reference}
+use Rattle.semantics.specs.Sight.{Sight}
+use Rattle.semantics.specs.Task.{Task, Branch, Invoke, Operand}
 use Rattle.semantics.specs.Term.{Done}
-use Rattle.semantics.specs.Value.{Truth}
-use Rattle.semantics.specs.Thread.{Frame, Thread, Shared, BuffersInUse, Quiet, PrintedNumber, Trapped, Advance, Advances, NoAdvance}
+use Rattle.semantics.specs.Value.{CallsTooDeep, Truth}
+use Rattle.semantics.specs.World.{Invocation}
+use Rattle.semantics.specs.Thread.{Caller, Frame, Thread, Shared, BuffersInUse, Quiet, PrintedNumber, Trapped, Advance, Advances, NoAdvance, sight_of}
 use Rattle.semantics.specs.ThreadStep.{step_within, with_tasks}
 use Rattle.replay_arguments.specs.Shares.{shared_view}
 use Rattle.replay_arguments.specs.declared.scene.Locals.{Locals}
@@ -69,6 +75,23 @@ abbrev pub in_scene : Thread → Scene → Thread
 in_scene t scene =
     record t { variables = variables_view scene.variables; frames = scene.frames; pending = scene.pending }
 
+-- the thread whose call in progress waits, as this caller, for this call, which is to be entered
+abbrev pub waiting : Thread → Caller → Invocation → Thread
+waiting t caller call = record t { calls = call ∷ t.calls; callers = caller ∷ t.callers; tasks = None; variables = []; frames = [] }
+
+-- what a method is given that a function calls with these arguments
+abbrev pub values_passed : Sight → JniFunction → List Operand → List ObjectValue
+values_passed sight f operands = map passed_value (drop 2 (actuals sight f operands))
+
+-- the thread's call in progress waits for the function of this name, which it calls in this line, if few enough calls wait
+abbrev pub calling_by : Shared → Thread → (line : ℕ) → Identifier → Option (List Task) → Advance
+calling_by s t line x (Some (Invoke at target f operands ∷ rest)) =
+    if nat_le most_activations (length t.callers + 1) then Advances s t (Trapped CallsTooDeep line)
+    else Advances s (waiting t
+    (record { target = target; result = (prototype f).result; tasks = rest; variables = t.variables; frames = t.frames })
+    (record { line = line; function = x; arguments = values_passed (sight_of s t) f operands })) Quiet
+calling_by s t line x tasks = NoAdvance
+
 -- what a step leaves of thread k that has this task and then the rest to do
 abbrev pub left_by : (k : ℕ) → Shared → Thread → List Task → Outcome → TaskInMemory → Advance
 left_by k s t rest outcome.Stays new = Advances s (with_tasks t (task_view new ∷ rest)) Quiet
@@ -79,6 +102,7 @@ left_by k s t rest outcome.Ends new = Advances s (with_tasks t rest) Quiet
 left_by k s t rest (outcome.Tests line zero b other) new = Advances s
     (with_tasks t (Branch line (Done (Truth zero)) (block_tree b.now) (else_tree line other) ∷ rest)) Quiet
 left_by k s t rest (outcome.Returned given) new = return_step k s t (result_view given)
+left_by k s t rest (outcome.Calls line x) new = calling_by s (with_tasks t (task_view new ∷ rest)) line x.now (Some (task_view new ∷ rest))
 left_by k s t rest (outcome.Trapped trap line) new = Advances s
     (with_tasks t (task_view new ∷ rest)) (Trapped (trap_view trap) line)
 left_by k s t rest outcome.Impossible new = NoAdvance

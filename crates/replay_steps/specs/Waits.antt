@@ -31,7 +31,7 @@ module _ (classes : Classes) (k : ℕ) (s : Shared) (vs : Contents) (frames : Li
   -- the same of one whose arguments are still to be looked up, or whose numbers still to be worked out
   abbrev pub waits_to_enter : List Operand → Bool
   waits_to_enter operands =
-      is_ready operands && is_kept_out classes k s frames pending (actuals (sight_in s vs) MonitorEnter operands)
+      is_ready (sight_in s vs).number operands && is_kept_out classes k s frames pending (actuals (sight_in s vs) MonitorEnter operands)
 
   -- the same of a call of any function
   abbrev pub call_waits : JniFunction → List Operand → Bool

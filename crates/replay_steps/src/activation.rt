@@ -214,7 +214,8 @@ fn set_tasks<'a>(work: &mut Work<'a>, outcome: Outcome<'a>) -> Result<(), AllocE
     ensures { IfOk result (λ _. AreSet work.old outcome.entry work.new) }
 {
     match outcome {
-        Outcome::Stays | Outcome::Returned(_) | Outcome::Trapped { .. } | Outcome::Impossible => {}
+        Outcome::Stays | Outcome::Returned(_) | Outcome::Calls { .. } => {}
+        Outcome::Trapped { .. } | Outcome::Impossible => {}
         Outcome::Enters(block, end) => enter_block(work, block, end)?,
         Outcome::Printed(_) | Outcome::Sets(_, _) | Outcome::SetsNull(_) => {
             put_task(&mut work.task, None);

@@ -1,6 +1,6 @@
 //! Calls that wait for one that they made, and go on once it has returned.
 
-ghost use Rattle.std.specs.Prelude.{◌≡◌, ℕ, IfOk, length};
+ghost use Rattle.std.specs.Prelude.{◌≡◌, ℕ, IfOk, drop, length, map};
 ghost use Rattle.jni.specs.Table.{result_value};
 ghost use Rattle.semantics.specs.CallStep.{put};
 ghost use Rattle.semantics.specs.Heap.{Heap};
@@ -8,18 +8,57 @@ ghost use Rattle.semantics.specs.Return.{fitted, given_back, nothing_of};
 ghost use Rattle.semantics.specs.Views.{name_of};
 ghost use Rattle.replay_arguments.specs.Shares.{shared_view};
 ghost use Rattle.replay_steps.specs.Activations.{IsAtStatement};
-ghost use Rattle.replay_steps.specs.Callers.{IsCalling, Resumes};
+ghost use Rattle.replay_steps.specs.Callers.{IsCalling, MakesCaller, Resumes};
 ghost use Rattle.replay_tasks.specs.Outcomes.{LeavesVariables, purpose_view, result_view};
 ghost use Rattle.replay_terms.specs.Views.{given_view};
 
 use crate::activation::{Activation, begin, put_task};
 use jni::ResultKind;
+use replay_arguments::actual::{actuals, passed_values};
 use replay_arguments::{Locals, Shared};
 use replay_calls::carry_out::put_local;
 use replay_tasks::{CallResult, Purpose, Task, put_given};
 use replay_terms::{Given, Statics, Value};
-use semantics::ObjectId;
+use semantics::{ObjectId, ObjectValue};
 use std::alloc::{AllocError, Global};
+
+/// A call of a method that another call has made and that is to be entered.
+#[derive(Drop)]
+pub struct Entering<'a> {
+    /// The line of the statement that calls the method.
+    pub line: usize,
+    /// The name of the function.
+    pub function: &'a [u8],
+    pub arguments: Vec<ObjectValue>,
+}
+
+/// The call of the method whose function has this name, which a call in progress makes in this line by its task. Its arguments are
+/// looked up. None where the task is no call.
+pub fn entering_of<'a>(
+    alloc: Global,
+    shared: &Shared<'a>,
+    activation: &Activation<'a>,
+    line: usize,
+    function: &'a [u8],
+) -> Result<Option<Entering<'a>>, AllocError>
+    requires { IsAtStatement activation.now.work }
+    ensures { IfOk result (λ entering. MakesCaller (shared_view shared.now) activation.now line function.entry.now entering) }
+{
+    let Some(task) = &activation.work.task else {
+        return Ok(None);
+    };
+    let Task::Invoke(i) = task else {
+        return Ok(None);
+    };
+    let variables = &activation.locals.variables;
+    let actuals = actuals(alloc, shared, variables, i.function, &i.operands)?;
+    let arguments = passed_values(alloc, &actuals)?;
+    Ok(Some(Entering {
+        line,
+        function,
+        arguments,
+    }))
+}
 
 /// What a caller that wants a result of this kind is given with an exception pending: 0, NULL or nothing.
 fn nothing_of<'a>(kind: ResultKind) -> Given<'a>

@@ -8,7 +8,7 @@ ghost use Rattle.replay_tasks.specs.declared.task.Task.TheVariants as task;
 ghost use Rattle.semantics.specs.Arguments.{Actual as ActualOfCall, address_given};
 ghost use Rattle.semantics.specs.Thread.{Shared as SharedOfThreads};
 ghost use Rattle.replay_arguments.specs.Actuals.{actual_view};
-ghost use Rattle.replay_calls.specs.Answers.{FitsArrays, FitsFrames, answer_view, lent_in, trap_in};
+ghost use Rattle.replay_calls.specs.Answers.{FitsArrays, FitsFrames, answer_view, called_in, lent_in, trap_in};
 ghost use Rattle.replay_steps.specs.Calls.{HasAnswer, MakesCallOf, MakesInvocation, ReducesFirst, ReducesOne, lent_outcome, wanted_element};
 ghost use Rattle.replay_tasks.specs.Outcomes.{outcome_for};
 ghost use Rattle.replay_arguments.specs.declared.scene.Locals.{Locals as LocalsInMemory};
@@ -24,9 +24,11 @@ ghost use Rattle.base.specs.Element.{element_value};
 use replay_arguments::actual::{Actual, actuals, address_given};
 use replay_arguments::{Locals, Scene, Shared, Turn};
 use replay_calls::carry_out::{carry_out, makes_object, put_local, refuse};
-use replay_calls::{Answer, Caller, answer_or_trap, lent_in, tell_copy, trap_in};
+use replay_calls::{Answer, Caller, answer_or_trap, called_in, lent_in, tell_copy, trap_in};
 use replay_tasks::{Invocation, Outcome, Purpose, Target, VariableKind, reduced};
-use replay_terms::{Given, Lent, Operand, Reduction, Term, Variables, is_zero, reduce};
+use replay_terms::{
+    Evaluated, Given, Lent, Operand, Reduction, Term, Variables, is_zero, number_in, reduce,
+};
 use semantics::ObjectId;
 use std::alloc::AllocError;
 use syntax::ElementType;
@@ -136,6 +138,13 @@ fn reduce_one(
             Term::Done(_) => None,
             t => Some(reduce(&shared.store, &shared.statics, variables, t)),
         },
+        Operand::Passed(name) => match number_in(variables, name) {
+            Evaluated::Gives(value) => {
+                *operand = Operand::Number(Term::Done(value));
+                Some(Reduction::Reduced)
+            }
+            Evaluated::Traps(_) | Evaluated::Stuck => None,
+        },
     }
 }
 
@@ -209,6 +218,12 @@ fn call<'a>(
     if let Some(buffer) = lent_in(answer) {
         return lend(locals, i, actuals, buffer);
     }
+    if let Some(function) = called_in(answer) {
+        return Ok(Outcome::Calls {
+            line: i.line,
+            function,
+        });
+    }
     complete(turn, shared, pending, locals, i, answer)
 }
 
@@ -245,7 +260,7 @@ fn refuse_object<'a>(
     outcome_for(i.line, i.purpose, given)
 }
 
-/// What a call does by its answer, which gives no buffer, with no object refused.
+/// What a call does by its answer, which gives no buffer and calls no method, with no object refused.
 #[inline]
 fn complete<'a>(
     turn: Turn<'a>,
@@ -258,6 +273,7 @@ fn complete<'a>(
     requires ways { PurposeInRange i.now.purpose }
     requires goes { trap_in (answer_view answer) ≡ None }
     requires unlent { lent_in (answer_view answer) ≡ None }
+    requires uncalled { called_in (answer_view answer) ≡ None }
     requires fits { FitsFrames locals.old.frames (answer_view answer) }
     requires arrays { FitsArrays shared.old.store (variables_view locals.old.variables) (answer_view answer) }
     ensures step { (args : List ActualOfCall)

@@ -8,5 +8,5 @@ mod step;
 mod wait;
 
 pub use activation::{Activation, Outer, Work, advance, work_of};
-pub use callers::resume;
+pub use callers::{Entering, entering_of, resume};
 pub use wait::waits;

@@ -12,8 +12,10 @@ ghost use Rattle.replay_arguments.specs.Actuals.{actual_view};
 ghost use Rattle.replay_arguments.specs.Shares.{shared_view};
 ghost use Rattle.replay_objects.specs.Monitors.{monitor_view};
 ghost use Rattle.replay_steps.specs.Steps.{scene_with};
+ghost use Rattle.semantics.specs.Sight.{scalar};
+ghost use Rattle.base.specs.Bytes.{lookup};
 ghost use Rattle.replay_steps.specs.Waits.{WaitsIn, call_waits, is_kept_out, task_waits, waits_to_enter};
-ghost use Rattle.replay_terms.specs.Views.{operand_view};
+ghost use Rattle.replay_terms.specs.Views.{operand_view, variables_view};
 
 use crate::activation::Activation;
 use classes::table::ClassTable;
@@ -23,27 +25,28 @@ use replay_arguments::check::check;
 use replay_arguments::{Scene, Shared};
 use replay_objects::Monitor;
 use replay_tasks::Task;
-use replay_terms::{Operand, Term};
+use replay_terms::{Evaluated, Operand, Term, Variables, number_in};
 use semantics::ObjectId;
 use syntax::ElementType;
 
 /// Whether there is nothing to work out of an argument.
-fn is_given(operand: &Operand<'_>) -> bool
-    ensures { result ≡ is_given (operand_view operand.now) }
+fn is_given(variables: &Variables<'_>, operand: &Operand<'_>) -> bool
+    ensures { result ≡ is_given (λ x. scalar (lookup x (variables_view variables.now))) (operand_view operand.now) }
 {
     match operand {
         Operand::Given(_) => true,
+        Operand::Passed(name) => !matches!(number_in(variables, name), Evaluated::Gives(_)),
         Operand::Number(t) => matches!(t, Term::Done(_)),
     }
 }
 
 /// Whether each number among these is worked out.
-fn is_ready(operands: &[Operand<'_>]) -> bool
-    ensures { result ≡ is_ready (map operand_view operands.entry.now) }
+fn is_ready(variables: &Variables<'_>, operands: &[Operand<'_>]) -> bool
+    ensures { result ≡ is_ready (λ x. scalar (lookup x (variables_view variables.now))) (map operand_view operands.entry.now) }
 {
     match operands {
         [] => true,
-        [operand, operands @ ..] => is_given(operand) && is_ready(operands),
+        [operand, operands @ ..] => is_given(variables, operand) && is_ready(variables, operands),
     }
 }
 
@@ -77,7 +80,7 @@ fn waits_to_enter<'a>(scene: Scene<'_, 'a>, thread: usize, operands: &[Operand<'
         scene.entry.locals.now.variables scene.entry.locals.now.frames (name_of scene.entry.pending)
         (map operand_view operands.entry.now) }
 {
-    if !is_ready(operands) {
+    if !is_ready(&scene.locals.variables, operands) {
         return false;
     }
     match operands {

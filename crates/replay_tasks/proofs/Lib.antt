@@ -2,3 +2,4 @@ mod KnownCalls
 pub mod RangeLemmas
 mod PutLemmas
 pub mod EffectLemmas
+pub mod PassedOperands

@@ -9,6 +9,7 @@ use Rattle.std.proofs.lemmas.List.{map-append, take_all}
 use Rattle.std.proofs.lemmas.List.Concat.{flat_map-cons}
 use Rattle.std.proofs.lemmas.List.Folds.{list_all-append}
 use Rattle.jni.specs.declared.kinds.ParameterKind.{ParameterKind}
+use Rattle.jni.specs.Prototype.{Passed}
 use Rattle.jni.specs.Table.{parameter_value}
 use Rattle.syntax.specs.declared.call.Argument.{Argument as ArgumentInMemory}
 use Rattle.syntax.specs.declared.stmt.Block.{Block as BlockInMemory, out-Block}
@@ -174,3 +175,21 @@ pub rest_in_range : (arguments : List ArgumentInMemory) → ArgumentsInRange (ma
 rest_in_range [] h = h
 rest_in_range (a ∷ arguments) h =
     subst (λ (more : List ArgumentInMemory). ArgumentsInRange (map argument_tree more)) (sym (rest_is a arguments)) (argument_parts (argument_tree a) (map argument_tree arguments) h).1
+
+-- what is passed to a method is in range too
+pub passed_in_range : (arguments : List ArgumentInMemory) → ArgumentsInRange (map argument_tree arguments) → ArgumentsInRange (map argument_tree (drop 2 arguments))
+passed_in_range [] h = h
+passed_in_range (a ∷ []) h = (argument_parts (argument_tree a) [] h).1
+passed_in_range (a ∷ b ∷ arguments) h =
+    (argument_parts (argument_tree b) (map argument_tree arguments) (argument_parts (argument_tree a) (map argument_tree (b ∷ arguments)) h).1).1
+
+-- an operand of what is passed, and then those of what more is
+pub passed_first : (before : List Operand) (o : Operand) (a : ArgumentInMemory) (arguments : List ArgumentInMemory) → operand_view o ≡ operand (Passed, argument_tree a) → a ∷ after_first arguments ≡ arguments
+    → map operand_view (before ++ o ∷ []) ++ map (λ b. operand (Passed, b)) (map argument_tree (after_first arguments))
+    ≡ map operand_view before ++ map (λ b. operand (Passed, b)) (map argument_tree arguments)
+passed_first before o a arguments is arguments_are =
+    let more = map (λ b. operand (Passed, b)) (map argument_tree (after_first arguments)) in
+    ap (λ l. l ++ more) (map-append operand_view before (o ∷ []))
+    ∙ append_assoc (map operand_view before) (operand_view o ∷ []) more
+    ∙ ap (λ v. map operand_view before ++ v ∷ more) is
+    ∙ (λ i. map operand_view before ++ map (λ b. operand (Passed, b)) (map argument_tree (arguments_are i)))

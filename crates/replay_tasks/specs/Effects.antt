@@ -34,6 +34,7 @@ effect_by (outcome.Makes T x n) new = MakesArray (element_value T) x.now n
 effect_by (outcome.Enters block e) new = Becomes (tasks_of_statements (statements_in block) ++ end_view e ∷ [])
 effect_by outcome.Ends new = Becomes []
 effect_by (outcome.Returned given) new = Returns (result_view given)
+effect_by (outcome.Calls line x) new = NoEffect
 effect_by (outcome.Trapped trap line) new = TrapsAt (trap_view trap) line
 effect_by outcome.Impossible new = NoEffect
 
@@ -60,5 +61,6 @@ abbrev pub HasEffect : Sight → TaskInMemory → Outcome → TaskInMemory → T
 HasEffect sight old (outcome.Gives to g) new = ⊥
 HasEffect sight old (outcome.Lends to b) new = ⊥
 HasEffect sight old (outcome.Tests line zero b other) new = ⊥
+HasEffect sight old (outcome.Calls line x) new = ⊥
 HasEffect sight old (outcome.Trapped trap line) new = (effect_of sight (task_view old) ≡ TrapsAt (trap_view trap) line) × (task_view new ≡ task_view old)
 HasEffect sight old took new = effect_of sight (task_view old) ≡ effect_by took new

@@ -156,6 +156,7 @@ ElseInRange (Some b) = BlockInRange (block_tree b.now)
 -- the same of the arguments of a call
 abbrev pub OperandInRange : OperandInMemory → Type 0
 OperandInRange (operands.Number t) = NumbersInRange t
+OperandInRange (operands.Passed x) = Unit {0}
 OperandInRange (operands.Given a) = Unit {0}
 
 abbrev pub OperandsInRange : List OperandInMemory → Type 0

@@ -100,6 +100,11 @@ pub enum Outcome<'a> {
     Ends,
     /// The call is over, and gives this.
     Returned(CallResult),
+    /// It waits, a call in a statement of this line, for that of the method whose function has this name, if few enough calls wait.
+    Calls {
+        line: usize,
+        function: &'a [u8],
+    },
     /// The machine stops, by a statement of this line.
     Trapped {
         trap: Trap,

@@ -282,7 +282,8 @@ pub fn set_variables<'a>(
         }
         Outcome::Stays | Outcome::Printed(_) | Outcome::Enters(_, _) | Outcome::Ends => {}
         Outcome::Tests { .. } => {}
-        Outcome::Returned(_) | Outcome::Trapped { .. } | Outcome::Impossible => {}
+        Outcome::Returned(_) | Outcome::Calls { .. } => {}
+        Outcome::Trapped { .. } | Outcome::Impossible => {}
     }
     Ok(true)
 }

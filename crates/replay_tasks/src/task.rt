@@ -1,12 +1,15 @@
 //! Tasks: statements that are begun.
 
-ghost use Rattle.std.specs.Prelude.{◌≡◌, ◌++◌, IfOk, IsTrue, map, not, zip};
+ghost use Rattle.std.specs.Prelude.{◌≡◌, ◌++◌, IfOk, IsTrue, length, map, not, zip};
+ghost use Rattle.jni.specs.Prototype.{Passed};
 ghost use Rattle.std.specs.List.{list_all};
-ghost use Rattle.jni.specs.Table.{parameter_value};
+ghost use Rattle.jni.specs.JniFunction.{parameters_for};
+ghost use Rattle.jni.specs.Table.{function_value, parameter_value};
 ghost use Rattle.syntax.specs.Views.{argument_tree, call_tree, stmt_tree, expr_tree, right_side_tree, test_tree, block_tree};
 ghost use Rattle.syntax.specs.Limits.{numbers_in_range};
 ghost use Rattle.syntax.specs.Parts.{argument_expressions};
-ghost use Rattle.semantics.specs.Task.{Declared, Loop, Print, ReturnValue, SetElement, set_task, right_side_task, if_task, task_of, call_task, operand};
+ghost use Rattle.syntax.specs.Tree.{Value};
+ghost use Rattle.semantics.specs.Task.{Declared, Loop, Print, ReturnValue, SetElement, set_task, right_side_task, if_task, task_of, call_task, operand, passed_operand};
 ghost use Rattle.semantics.specs.Term.{term_of};
 ghost use Rattle.replay_tasks.specs.Outcomes.{else_tree, kind_view, purpose_view, target_view};
 ghost use Rattle.replay_terms.specs.Views.{operand_view};
@@ -14,7 +17,7 @@ ghost use Rattle.replay_tasks.specs.Tasks.{task_view, is_unknown_call, Arguments
 
 use crate::outcome::{Purpose, Target, VariableKind, kind_of};
 use jni::{JniFunction, ParameterKind, function_named};
-use replay_terms::{Operand, Term, term_of};
+use replay_terms::{Operand, Term, calls_method, passed, term_of};
 use std::alloc::{AllocError, Global};
 use syntax::{
     Argument, Block, Call, Constant, ElementType, Expr, Form, Name, RightSide, Stmt, Test,
@@ -135,14 +138,34 @@ fn call_task<'a>(
 {
     let function = function_named(call.function.as_bytes()).unwrap();
     let mut operands = Vec::new(alloc);
-    let parameters = function.prototype().parameters;
-    push_operands(alloc, &mut operands, parameters, &call.arguments)?;
+    push_arguments(alloc, &mut operands, function, &call.arguments)?;
     Ok(Task::Invoke(Invocation {
         line,
         purpose,
         function,
         operands,
     }))
+}
+
+/// Adds the operands of a function's arguments.
+fn push_arguments<'a>(
+    alloc: Global,
+    operands: &mut Vec<Operand<'a>>,
+    function: JniFunction,
+    arguments: &'a [Argument],
+) -> Result<(), AllocError>
+    requires numbers { ArgumentsInRange (map argument_tree arguments.now) }
+    requires range { OperandsInRange operands.old.items }
+    ensures view { IfOk result (λ _. map operand_view operands.new.items ≡ map operand_view operands.old.items
+        ++ map operand (zip (parameters_for (function_value function) (length (map argument_tree arguments.entry.now)))
+        (map argument_tree arguments.entry.now))) }
+    ensures range { IfOk result (λ _. OperandsInRange operands.new.items) }
+{
+    push_operands(alloc, operands, function.prototype().parameters, arguments)?;
+    if !calls_method(function) {
+        return Ok(());
+    }
+    push_passed(alloc, operands, passed(arguments))
 }
 
 /// Adds the operands of these arguments, each for its parameter.
@@ -170,6 +193,45 @@ fn push_operands<'a>(
     }
 }
 
+/// Adds the operands of what a method is given.
+fn push_passed<'a>(
+    alloc: Global,
+    operands: &mut Vec<Operand<'a>>,
+    arguments: &'a [Argument],
+) -> Result<(), AllocError>
+    requires numbers { ArgumentsInRange (map argument_tree arguments.now) }
+    requires range { OperandsInRange operands.old.items }
+    ensures view { IfOk result (λ _. map operand_view operands.new.items ≡ map operand_view operands.old.items
+        ++ map (λ a. operand (Passed, a)) (map argument_tree arguments.entry.now)) }
+    ensures range { IfOk result (λ _. OperandsInRange operands.new.items) }
+{
+    match arguments {
+        [] => Ok(()),
+        [argument, arguments @ ..] => {
+            operands.push(operand_of(alloc, ParameterKind::Passed, argument)?)?;
+            push_passed(alloc, operands, arguments)
+        }
+    }
+}
+
+/// What a method is given, before the call's first step.
+fn passed_operand<'a>(
+    alloc: Global,
+    argument: &'a Argument,
+    e: &'a Expr,
+) -> Result<Operand<'a>, AllocError>
+    requires numbers { ExprInRange (expr_tree e.now) }
+    requires value { argument_tree argument.now ≡ Value (expr_tree e.now) }
+    ensures view { IfOk result (λ o. operand_view o ≡ passed_operand (expr_tree e.entry.now)) }
+    ensures range { IfOk result OperandInRange }
+{
+    match e {
+        Expr::Named(Constant::Null) => Ok(Operand::Given(argument)),
+        Expr::Variable(name) => Ok(Operand::Passed(name)),
+        e => Ok(Operand::Number(term_of(alloc, e)?)),
+    }
+}
+
 /// An argument before the call's first step.
 fn operand_of<'a>(
     alloc: Global,
@@ -183,6 +245,10 @@ fn operand_of<'a>(
     match parameter {
         ParameterKind::IntNumber => match argument {
             Argument::Value(e) => Ok(Operand::Number(term_of(alloc, e)?)),
+            Argument::Text(_) | Argument::AddressOf(_) => Ok(Operand::Given(argument)),
+        },
+        ParameterKind::Passed => match argument {
+            Argument::Value(e) => passed_operand(alloc, argument, e),
             Argument::Text(_) | Argument::AddressOf(_) => Ok(Operand::Given(argument)),
         },
         _ => Ok(Operand::Given(argument)),

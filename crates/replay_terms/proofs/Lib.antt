@@ -3,4 +3,5 @@ pub mod ByNameLemmas
 pub mod VariableLemmas
 pub mod SightLemmas
 pub mod BufferLemmas
+pub mod PassedLemmas
 mod WeakStatics

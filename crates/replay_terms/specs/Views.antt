@@ -14,7 +14,7 @@ use Rattle.semantics.specs.EventViews.{trap_view}
 use Rattle.semantics.specs.Heap.{Heap, number_in, numbers_of}
 use Rattle.semantics.specs.Method.{MethodId}
 use Rattle.semantics.specs.Sight.{Sight, in_range}
-use Rattle.semantics.specs.Task.{Operand, NumberOperand}
+use Rattle.semantics.specs.Task.{Operand, NumberOperand, PassedName}
 use Rattle.semantics.specs.Task as task
 use Rattle.semantics.specs.Term.{Term, Done, Number, Named, Read, Element, IsNull, Prefix, And, Or, Binary, Reduction, binary_term, done, reduce}
 use Rattle.semantics.specs.Value.{Value, Word, Int, Flag, Truth, Outcome, Gives, Traps, Stuck, outcome_then, outcome_map, convert}
@@ -296,6 +296,7 @@ Reduces sight old reduction.Stuck new = reduce sight (term_view old) ≡ Stuck
 -- an argument of a call before the call's own step
 abbrev pub operand_view : OperandInMemory → Operand
 operand_view (operand.Number t) = NumberOperand (term_view t)
+operand_view (operand.Passed x) = PassedName x.now
 operand_view (operand.Given a) = task.Given (argument_tree a.now)
 
 -- what a call gives

@@ -7,18 +7,20 @@ use Rattle.std.proofs.lemmas.List.Concat.{flat_map-cons}
 use Rattle.syntax.specs.Tree.{SourceUnit}
 use Rattle.class_rules.specs.Class.{Classes}
 use Rattle.semantics.specs.Object.{Reference}
-use Rattle.semantics.specs.Reachable.{frame_roots, from_one, loaded_count, roots, thread_roots}
+use Rattle.semantics.specs.Reachable.{argument_roots, frame_roots, from_one, loaded_count, roots, thread_roots}
 use Rattle.semantics.specs.State.{State, views}
 use Rattle.semantics.specs.Thread.{Caller, Frame, Monitor, Shared, Thread}
-use Rattle.semantics.specs.World.{World}
+use Rattle.semantics.specs.World.{Invocation, World}
+use Rattle.semantics.specs.Task.{Task}
+use Rattle.replay_steps.specs.declared.callers.Entering.{Entering}
 use Rattle.replay_steps.specs.declared.activation.Activation.{Activation}
 use Rattle.replay_threads.specs.declared.state.State.{State as StateInMemory}
 use Rattle.replay_threads.specs.declared.thread.Thread.{Thread as ThreadInMemory}
 use Rattle.replay_arguments.specs.Shares.{shared_view}
 use Rattle.replay_objects.specs.Monitors.{owned_objects}
-use Rattle.replay_threads.specs.Rows.{thread_names, activation_names, call_names, root_names}
+use Rattle.replay_threads.specs.Rows.{thread_names, activation_names, call_names, entering_names, root_names}
 use Rattle.replay_threads.specs.States.{Stands, ThreadsStand, viewed_in}
-use Rattle.replay_threads.specs.Threads.{ThreadStands, WorkStands, last_first}
+use Rattle.replay_threads.specs.Threads.{IsDue, ThreadStands, WorkStands, calls_to_come, last_first}
 use Rattle.replay_steps.specs.Callers.{CallerStands}
 use Rattle.replay_threads.proofs.CallerLists.{names_same}
 use Rattle.replay_threads.proofs.StateLemmas.{viewed_same}
@@ -32,12 +34,24 @@ frame_names (Some a) s h = ap (λ (fs : List Frame). flat_map (λ (f : Frame). f
 caller_names : (a : Activation) (c : Caller) → CallerStands a c → call_names a ≡ frame_roots c.frames
 caller_names a c h = ap frame_roots (sym h.frames)
 
+-- what is passed to a call that is to be entered
+argument_names : (o : Option Entering) (tasks : Option (List Task)) (callers : List Caller) (calls : List Invocation) → IsDue o tasks callers → argument_roots callers tasks (calls_to_come o calls) ≡ entering_names o
+argument_names None (Some tasks) [] calls h = refl
+argument_names None (Some tasks) (c ∷ callers) calls h = refl
+argument_names None None [] calls h = refl
+argument_names None None (c ∷ callers) calls h = absurd h
+argument_names (Some e) None (c ∷ callers) calls h = refl
+argument_names (Some e) None [] calls h = absurd h
+argument_names (Some e) (Some tasks) callers calls h = absurd h
+
 names_are : (unit : SourceUnit) (classes : Classes) (t : ThreadInMemory) (s : Thread) → ThreadStands unit classes t s → thread_roots s ≡ thread_names t
 names_are unit classes t s h =
     let callers = flat_map call_names (last_first t.callers.items) in
-    ap (λ (l : List ℕ). l ++ frame_roots s.frames ++ option_to_list s.pending) (sym (names_same call_names (λ (c : Caller). frame_roots c.frames) caller_names (last_first t.callers.items) s.callers h.callers))
-    ∙ ap (λ (l : List ℕ). callers ++ l ++ option_to_list s.pending) (frame_names t.activation s h.work)
-    ∙ ap (λ (r : Reference). callers ++ activation_names t.activation ++ option_to_list r) h.pending
+    let passed = entering_names t.entering in
+    ap (λ (l : List ℕ). l ++ argument_roots s.callers s.tasks s.calls ++ frame_roots s.frames ++ option_to_list s.pending) (sym (names_same call_names (λ (c : Caller). frame_roots c.frames) caller_names (last_first t.callers.items) s.callers h.callers))
+    ∙ ap (λ (l : List ℕ). callers ++ l ++ frame_roots s.frames ++ option_to_list s.pending) (ap (argument_roots s.callers s.tasks) h.calls ∙ argument_names t.entering s.tasks s.callers t.calls.now h.due)
+    ∙ ap (λ (l : List ℕ). callers ++ passed ++ l ++ option_to_list s.pending) (frame_names t.activation s h.work)
+    ∙ ap (λ (r : Reference). callers ++ passed ++ activation_names t.activation ++ option_to_list r) h.pending
 
 module _ (unit : SourceUnit) (classes : Classes) where
   all_names : (ts : List ThreadInMemory) (ss : List Thread) → ThreadsStand unit classes ts ss → flat_map thread_roots ss ≡ flat_map thread_names ts

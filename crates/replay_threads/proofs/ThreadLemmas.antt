@@ -1,10 +1,17 @@
 -- A thread in memory steps as the thread that it stands for.
-use Rattle.std.proofs.Common.{◌≡◌, ◌≤◌, ℕ, Bool, true, false, List, [], ◌∷◌, ◌++◌, length, Option, Some, None, refl, sym, ap, ◌∙◌, IsTrue, subst, arith}
+use Rattle.std.proofs.Common.{◌≡◌, ◌≤◌, ◌<◌, ◌+◌, ℕ, suc, Bool, true, false, List, [], ◌∷◌, ◌++◌, length, Option, Some, None, refl, sym, ap, ◌∙◌, IsTrue, subst, arith}
 use Rattle.std.proofs.lemmas.List.{length-reverse, reverse-reverse}
+use Rattle.std.specs.Prelude.{if◌then◌else◌, nat_le}
 use Rattle.std.specs.List.{list_all}
+use Rattle.std.proofs.lemmas.Bool.Decides.{nat_tests}
+use Rattle.base.specs.Bytes.{Identifier}
+use Rattle.base.specs.Limits.{most_activations}
+use Rattle.semantics.specs.Value.{CallsTooDeep, Trap}
+use Rattle.semantics.specs.declared.event.Event.TheVariants as event
+use Rattle.semantics.specs.declared.trap.Trap.TheVariants as traps
 use Rattle.std.specs.Option.{option_map}
 use Rattle.semantics.specs.CallStep.{waits_with}
-use Rattle.semantics.specs.Task.{Task}
+use Rattle.semantics.specs.Task.{Task, tasks_of}
 use Rattle.semantics.specs.World.{Invocation}
 use Rattle.semantics.specs.Load.{call_loads}
 use Rattle.std.proofs.lemmas.Bool.{and_parts}
@@ -26,14 +33,15 @@ use Rattle.replay_tasks.specs.Outcomes.{result_view}
 use Rattle.replay_tasks.specs.declared.outcome.CallResult.{CallResult as ResultInMemory}
 use Rattle.replay_tasks.specs.declared.outcome.Outcome.TheVariants as outcome
 use Rattle.replay_steps.specs.Activations.{tasks_left, thread_in, advance_by, Advances}
-use Rattle.replay_steps.specs.Callers.{CallerStands, thread_at}
-use Rattle.replay_steps.specs.Steps.{Scene, Sees, scene_with}
+use Rattle.replay_steps.specs.Callers.{CallerStands, MakesCaller, entering_view, thread_at}
+use Rattle.replay_steps.specs.declared.callers.Entering.{Entering}
+use Rattle.replay_steps.specs.Steps.{Scene, Sees, calling_by, scene_with, waiting}
 use Rattle.replay_steps.specs.Waits.{WaitsIn}
 use Rattle.semantics.specs.EventViews.{ending_view, trap_view}
 use Rattle.replay_tasks.specs.declared.outcome.Outcome.{Outcome}
 use Rattle.semantics.specs.declared.event.Event.{Event as EventInMemory}
 use Rattle.replay_threads.proofs.CallerLists.{last_is_first}
-use Rattle.replay_threads.specs.Threads.{AreCalling, CallersStand, IsEntered, HasNoEntry, HasResumed, HasReturned, ReturnsBy, ThreadInRange, ThreadStands, ThreadWaits, WorkInRange, WorkStands, EndsStep, HasLeft, Leaves, StepIs, event_of, last_first, tasks_in}
+use Rattle.replay_threads.specs.Threads.{AreCalling, CallersStand, HasCalled, HasPushed, HasWaited, IsDue, IsEntered, IsStopped, HasNoEntry, HasResumed, HasReturned, ReturnsBy, calls_to_come, ThreadInRange, ThreadStands, ThreadWaits, WorkInRange, WorkStands, EndsStep, HasLeft, Leaves, StepIs, event_of, last_first, tasks_in}
 
 -- where the last comes first there is none, as where the first does
 none_reversed : (xs : List Activation) → last_first xs ≡ [] → xs ≡ []
@@ -49,6 +57,7 @@ taken_back k shared last t rest given a left is e =
       range = e.range;
       resumes = e.resumes;
       callers = e.callers;
+      entering = e.entering;
       calls = e.calls;
       pending = e.pending;
       ending = e.ending;
@@ -64,13 +73,27 @@ none_taken k shared last t rest given left is none e =
       ending = e.ending;
       calls = e.calls;
       callers = e.callers ∙ none ∙ sym is;
+      entering = e.entering;
       shared = e.shared;
     })
 
 -- a call that didn't return goes on
-pub goes_on : (k : ℕ) (shared : Shared) (t : ThreadInMemory) (o : Outcome) (took : Option EventInMemory) → ((given : ResultInMemory) → o ≡ outcome.Returned given → ⊥) → took ≡ event_of o → EndsStep k shared t o took shared t
-goes_on k shared t (outcome.Returned given) took none is = absurd (none given refl)
-goes_on k shared t o took none is = (is, refl, refl)
+pub goes_on : (k : ℕ) (shared : Shared) (t : ThreadInMemory) (o : Outcome) (took : Option EventInMemory) → ((given : ResultInMemory) → o ≡ outcome.Returned given → ⊥) → ((line : ℕ) (x : Bor Identifier) → o ≡ outcome.Calls line x → ⊥) → took ≡ event_of o → EndsStep k shared t o took shared t
+goes_on k shared t (outcome.Returned given) took none uncalled is = absurd (none given refl)
+goes_on k shared t (outcome.Calls line x) took none uncalled is = absurd (uncalled line x refl)
+goes_on k shared t o took none uncalled is = (is, refl, refl)
+
+-- the call in progress would make another, but too many wait
+pub stopped_so : (s : Shared) (t : ThreadInMemory) (a : Activation) (line : ℕ) (x : Identifier) (call : Entering) → t.activation ≡ Some a → MakesCaller s a line x (Some call) → most_activations ≤ length t.callers.items + 1
+    → HasCalled s t t.activation line x (Some (event.Trapped traps.CallsTooDeep line)) t
+stopped_so s t a line x call is makes many =
+    subst (λ (o : Option Activation). HasCalled s t o line x (Some (event.Trapped traps.CallsTooDeep line)) t) (sym is) (record { call = call; calls = makes; many = many; same = refl }, refl, refl)
+
+-- it waits for the other
+pub waited_so : (s : Shared) (t : ThreadInMemory) (a : Activation) (line : ℕ) (x : Identifier) (call : Entering) (left : ThreadInMemory) → t.activation ≡ Some a → MakesCaller s a line x (Some call)
+    → length t.callers.items + 1 < most_activations → HasPushed t a call left → HasCalled s t t.activation line x (Some event.Quiet) left
+waited_so s t a line x call left is makes few pushed =
+    subst (λ (o : Option Activation). HasCalled s t o line x (Some event.Quiet) left) (sym is) (record { call = call; calls = makes; few = few; pushed = pushed })
 
 -- what is known of a thread stays known, with another call in progress
 abbrev range_with : (t left : ThreadInMemory) → WorkInRange left.activation → AreCalling (last_first left.callers.items) → length left.callers.items ≤ length t.callers.items → ThreadInRange t → ThreadInRange left
@@ -95,10 +118,55 @@ module _ (k : ℕ) (shared last : Shared) (t left : ThreadInMemory) (given : Cal
       ) in
       range_with t left (subst WorkInRange (sym e.is) e.range) (subst AreCalling (sym e.callers) callers.1) fewer known
 
+-- the call in progress waits for another
+pushed_range : (shared : Shared) (t : ThreadInMemory) (a : Activation) (line : ℕ) (x : Identifier) (left : ThreadInMemory) → HasWaited shared t a line x left → ThreadInRange t → ThreadInRange left
+pushed_range shared t a line x left e known =
+    let pushed = e.pushed in
+    let more : length left.callers.items ≡ length t.callers.items + 1 = omega (
+      arith,
+      ap (λ (bs : List Activation). length bs) pushed.callers,
+      length-reverse t.callers.items,
+      length-reverse left.callers.items,
+    ) in
+    record {
+      work = subst WorkInRange (sym pushed.activation) tt;
+      callers = subst AreCalling (sym pushed.callers) (e.calls.calling, known.callers);
+      few = omega (arith, more, e.few);
+    }
+
+-- it calls another, or would
+called_range : (shared : Shared) (t : ThreadInMemory) (o : Option Activation) (line : ℕ) (x : Identifier) (took : Option EventInMemory) (left : ThreadInMemory) → HasCalled shared t o line x took left → ThreadInRange t → ThreadInRange left
+called_range shared t None line x took left e known = subst ThreadInRange (sym e.1) known
+called_range shared t (Some a) line x None left e known = subst ThreadInRange (sym e.1) known
+called_range shared t (Some a) line x (Some event.Quiet) left e known = pushed_range shared t a line x left e known
+called_range shared t (Some a) line x (Some (event.Trapped trap at)) left e known = subst ThreadInRange (sym e.0.same) known
+called_range shared t (Some a) line x (Some (event.Printed z)) left e known = absurd e
+
 -- what is known of it after its step
 pub ended_range : (k : ℕ) (shared last : Shared) (t : ThreadInMemory) (o : Outcome) (took : Option EventInMemory) (left : ThreadInMemory) → EndsStep k shared t o took last left → ThreadInRange t → ThreadInRange left
 ended_range k shared last t (outcome.Returned given) took left e known = range_returned k shared last t left (result_view given) known (last_first t.callers.items) refl e.1
+ended_range k shared last t (outcome.Calls line x) took left e known = called_range shared t t.activation line x.now took left e.0 known
 ended_range k shared last t o took left e known = subst ThreadInRange (sym e.1) known
+
+-- the first of the calls to come is one that another has made
+pub called_first : (o : Option Entering) (e : Entering) (calls : List Invocation) → o ≡ Some e → calls_to_come o calls ≡ entering_view e ∷ calls
+called_first o e calls is = ap (λ (p : Option Entering). calls_to_come p calls) is
+
+-- none has made one
+pub world_first : (o : Option Entering) (calls : List Invocation) → o ≡ None → calls_to_come o calls ≡ calls
+world_first o calls none = ap (λ (p : Option Entering). calls_to_come p calls) none
+
+-- none is to be entered while one is in progress
+none_due : (o : Option Entering) (tasks : List Task) (callers : List Caller) → IsDue o (Some tasks) callers → o ≡ None
+none_due None tasks callers h = refl
+none_due (Some e) tasks callers h = absurd h
+
+-- there are as many callers in memory
+as_many_callers : (xs : List Activation) (cs : List Caller) → CallersStand xs cs → length xs ≡ length cs
+as_many_callers [] [] h = refl
+as_many_callers [] (c ∷ cs) h = absurd h
+as_many_callers (x ∷ xs) [] h = absurd h
+as_many_callers (x ∷ xs) (c ∷ cs) h = ap suc (as_many_callers xs cs h.1)
 
 module _ (unit : SourceUnit) (classes : Classes) (in_use : BuffersInUse) (k : ℕ) where
   -- a thread after its call with this ending, and with these calls to come before
@@ -146,31 +214,42 @@ module _ (unit : SourceUnit) (classes : Classes) (in_use : BuffersInUse) (k : �
     advances_so : (o : Outcome) → Advances refused before a.work o end' new.work → thread_step unit classes in_use k shared s refused ≡ advance_by k after next o
     advances_so o does = ap (step_within unit classes in_use k shared s refused) has_tasks ∙ does s sees has_tasks
 
+    -- no call is to be entered while one is in progress
+    uncalled : t.entering ≡ None
+    uncalled = none_due t.entering (tasks_left a.work) s.callers (subst (λ (o : Option (List Task)). IsDue t.entering o s.callers) has_tasks h.due)
+
+    stays_due : (before' after' : List Task) → s.tasks ≡ Some before' → IsDue t.entering (Some after') s.callers
+    stays_due before' after' has = subst (λ (o : Option Entering). IsDue o (Some after') s.callers) (sym uncalled) tt
+
+    calls_are : s.calls ≡ t.calls.now
+    calls_are = h.calls ∙ ap (λ (o : Option Entering). calls_to_come o t.calls.now) uncalled
+
     -- the call goes on
     on : (event : Event) → thread_step unit classes in_use k shared s refused ≡ AdvancesTo after next event
         → Leaves unit classes after stepped event (thread_step unit classes in_use k shared s refused)
     on event does = record {
       next = next;
       advances = does;
-      stands = record { calls = h.calls; callers = h.callers; loads = h.loads; tasks = refl; work = (refl, refl); pending = refl; ending = h.ending };
+      stands = record { calls = h.calls; due = stays_due (tasks_left a.work) (tasks_left new.work) has_tasks; callers = h.callers; loads = h.loads; tasks = refl; work = (refl, refl); pending = refl; ending = h.ending };
     }
 
-    pub goes : (o : Outcome) → ((given : ResultInMemory) → o ≡ outcome.Returned given → ⊥) → Advances refused before a.work o end' new.work
+    pub goes : (o : Outcome) → ((given : ResultInMemory) → o ≡ outcome.Returned given → ⊥) → ((line : ℕ) (x : Bor Identifier) → o ≡ outcome.Calls line x → ⊥) → Advances refused before a.work o end' new.work
         → StepIs unit classes after stepped (event_of o) (thread_step unit classes in_use k shared s refused)
-    goes outcome.Stays other does = on Quiet (advances_so outcome.Stays does)
-    goes (outcome.Printed z) other does = on (PrintedNumber z) (advances_so (outcome.Printed z) does)
-    goes (outcome.Sets x v) other does = on Quiet (advances_so (outcome.Sets x v) does)
-    goes (outcome.SetsNull to) other does = on Quiet (advances_so (outcome.SetsNull to) does)
-    goes (outcome.Gives to g) other does = on Quiet (advances_so (outcome.Gives to g) does)
-    goes (outcome.Lends to b) other does = on Quiet (advances_so (outcome.Lends to b) does)
-    goes (outcome.Tests line zero b d) other does = on Quiet (advances_so (outcome.Tests line zero b d) does)
-    goes (outcome.SetsElement x i z) other does = on Quiet (advances_so (outcome.SetsElement x i z) does)
-    goes (outcome.Makes T x n) other does = on Quiet (advances_so (outcome.Makes T x n) does)
-    goes (outcome.Enters block e) other does = on Quiet (advances_so (outcome.Enters block e) does)
-    goes outcome.Ends other does = on Quiet (advances_so outcome.Ends does)
-    goes (outcome.Returned given) other does = absurd (other given refl)
-    goes (outcome.Trapped trap line) other does = on (Trapped (trap_view trap) line) (advances_so (outcome.Trapped trap line) does)
-    goes outcome.Impossible other does = advances_so outcome.Impossible does
+    goes outcome.Stays other calls_none does = on Quiet (advances_so outcome.Stays does)
+    goes (outcome.Printed z) other calls_none does = on (PrintedNumber z) (advances_so (outcome.Printed z) does)
+    goes (outcome.Sets x v) other calls_none does = on Quiet (advances_so (outcome.Sets x v) does)
+    goes (outcome.SetsNull to) other calls_none does = on Quiet (advances_so (outcome.SetsNull to) does)
+    goes (outcome.Gives to g) other calls_none does = on Quiet (advances_so (outcome.Gives to g) does)
+    goes (outcome.Lends to b) other calls_none does = on Quiet (advances_so (outcome.Lends to b) does)
+    goes (outcome.Tests line zero b d) other calls_none does = on Quiet (advances_so (outcome.Tests line zero b d) does)
+    goes (outcome.SetsElement x i z) other calls_none does = on Quiet (advances_so (outcome.SetsElement x i z) does)
+    goes (outcome.Makes T x n) other calls_none does = on Quiet (advances_so (outcome.Makes T x n) does)
+    goes (outcome.Enters block e) other calls_none does = on Quiet (advances_so (outcome.Enters block e) does)
+    goes outcome.Ends other calls_none does = on Quiet (advances_so outcome.Ends does)
+    goes (outcome.Returned given) other calls_none does = absurd (other given refl)
+    goes (outcome.Calls line x) other calls_none does = absurd (calls_none line x refl)
+    goes (outcome.Trapped trap line) other calls_none does = on (Trapped (trap_view trap) line) (advances_so (outcome.Trapped trap line) does)
+    goes outcome.Impossible other calls_none does = advances_so outcome.Impossible does
 
     -- the call is over, and so is what the thread called
     ends : (given : ResultInMemory) (last : Shared) (left : ThreadInMemory) → s.callers ≡ [] → left.callers.items ≡ [] → Advances refused before a.work (outcome.Returned given) end' new.work → HasLeft k after stepped last left
@@ -179,9 +258,10 @@ module _ (unit : SourceUnit) (classes : Classes) (in_use : BuffersInUse) (k : �
         let e : Ending = ending_view left.ending in
         record {
           next = thread_after e t.calls.now;
-          advances = advances_so (outcome.Returned given) does ∙ left_by after last next (result_view given) e t.calls.now (name_of pending) alone h.calls refl over.ending over.shared;
+          advances = advances_so (outcome.Returned given) does ∙ left_by after last next (result_view given) e t.calls.now (name_of pending) alone calls_are refl over.ending over.shared;
           stands = record {
-            calls = sym over.calls;
+            calls = sym over.calls ∙ ap (λ (o : Option Entering). calls_to_come o left.calls.now) (sym (over.entering ∙ uncalled));
+            due = subst (λ (o : Option Entering). IsDue o None []) (sym (over.entering ∙ uncalled)) tt;
             callers = subst (λ (xs : List Activation). CallersStand (last_first xs) []) (sym none) tt;
             loads = subst (λ (cs : List Invocation). IsTrue (list_all (call_loads unit classes) cs)) (sym over.calls) (loads_after e t.calls.now h.loads);
             tasks = ap tasks_in (sym over.activation);
@@ -202,7 +282,8 @@ module _ (unit : SourceUnit) (classes : Classes) (in_use : BuffersInUse) (k : �
           ∙ ap (return_by k after next (result_view given)) called
           ∙ goes.resumes next c cs refl stands;
       stands = record {
-        calls = h.calls ∙ ap (λ (b : Bor (List Invocation)). b.now) (sym goes.calls);
+        calls = h.calls ∙ ap (λ (b : Bor (List Invocation)). calls_to_come t.entering b.now) (sym goes.calls) ∙ ap (λ (o : Option Entering). calls_to_come o left.calls.now) (sym goes.entering);
+        due = subst (λ (o : Option Entering). IsDue o (Some (tasks_left goes.activation.work)) cs) (sym (goes.entering ∙ uncalled)) tt;
         callers = subst (λ (bs : List Activation). CallersStand bs cs) (sym goes.callers) others;
         loads = subst (λ (b : Bor (List Invocation)). IsTrue (list_all (call_loads unit classes) b.now)) (sym goes.calls) h.loads;
         tasks = ap tasks_in (sym goes.is);
@@ -222,19 +303,68 @@ module _ (unit : SourceUnit) (classes : Classes) (in_use : BuffersInUse) (k : �
     returns given last left (x ∷ xs) [] is called stands does by = absurd stands
     returns given last left (x ∷ xs) (c ∷ cs) is called stands does by = back given last left x xs c cs called stands.0 stands.1 does by
 
+    -- the call makes another, and waits for it
+    waits_for : (line : ℕ) (x : Identifier) (left : ThreadInMemory) → HasWaited after stepped new line x left → thread_step unit classes in_use k shared s refused ≡ calling_by after next line x (Some (tasks_left new.work))
+        → Leaves unit classes after left Quiet (thread_step unit classes in_use k shared s refused)
+    waits_for line x left e does =
+        let call = entering_view e.call in
+        let caller = e.calls.caller in
+        let pushed = e.pushed in
+        let shallow : nat_le most_activations (length s.callers + 1) ≡ false = grind (arith, nat_tests, e.few, length-reverse t.callers.items, as_many_callers (last_first t.callers.items) s.callers h.callers) in
+        record {
+          next = waiting next caller call;
+          advances =
+              does ∙ e.calls.calls next refl refl
+              ∙ ap (λ b. if b then AdvancesTo after next (Trapped CallsTooDeep line) else AdvancesTo after (waiting next caller call) Quiet) shallow;
+          stands = record {
+            calls = ap (λ (cs : List Invocation). call ∷ cs) (calls_are ∙ ap (λ (b : Bor (List Invocation)). b.now) (sym pushed.calls)) ∙ ap (λ (o : Option Entering). calls_to_come o left.calls.now) (sym pushed.entering);
+            due = subst (λ (o : Option Entering). IsDue o None (caller ∷ s.callers)) (sym pushed.entering) tt;
+            callers = subst (λ (bs : List Activation). CallersStand bs (caller ∷ s.callers)) (sym pushed.callers) (e.calls.stands, h.callers);
+            loads = subst (λ (b : Bor (List Invocation)). IsTrue (list_all (call_loads unit classes) b.now)) (sym pushed.calls) h.loads;
+            tasks = ap tasks_in (sym pushed.activation);
+            work = subst (λ (o : Option Activation). WorkStands o (waiting next caller call)) (sym pushed.activation) (refl, refl);
+            pending = ap name_of (sym pushed.pending);
+            ending = h.ending ∙ ap ending_view (sym pushed.ending);
+          };
+        }
+
+    -- it would, but too many wait
+    stops_at : (line : ℕ) (x : Identifier) (left : ThreadInMemory) → IsStopped after stepped new line x left → thread_step unit classes in_use k shared s refused ≡ calling_by after next line x (Some (tasks_left new.work))
+        → Leaves unit classes after left (Trapped CallsTooDeep line) (thread_step unit classes in_use k shared s refused)
+    stops_at line x left e does =
+        let call = entering_view e.call in
+        let caller = e.calls.caller in
+        let deep : nat_le most_activations (length s.callers + 1) ≡ true = grind (arith, nat_tests, e.many, length-reverse t.callers.items, as_many_callers (last_first t.callers.items) s.callers h.callers) in
+        subst (λ (u : ThreadInMemory). Leaves unit classes after u (Trapped CallsTooDeep line) (thread_step unit classes in_use k shared s refused)) (sym e.same)
+        (on (Trapped CallsTooDeep line) (does ∙ e.calls.calls next refl refl
+        ∙ ap (λ b. if b then AdvancesTo after next (Trapped CallsTooDeep line) else AdvancesTo after (waiting next caller call) Quiet) deep))
+
+    -- whichever
+    calls_so : (line : ℕ) (x : Identifier) (took : Option EventInMemory) (left : ThreadInMemory) → HasCalled after stepped (Some new) line x took left → thread_step unit classes in_use k shared s refused ≡ calling_by after next line x (Some (tasks_left new.work))
+        → StepIs unit classes after left took (thread_step unit classes in_use k shared s refused)
+    calls_so line x None left e does = does ∙ e.0 next
+    calls_so line x (Some event.Quiet) left e does = waits_for line x left e does
+    calls_so line x (Some (event.Trapped trap at)) left e does =
+        subst (λ (l : ℕ). Leaves unit classes after left (Trapped (trap_view trap) l) (thread_step unit classes in_use k shared s refused)) (sym e.2)
+        (subst (λ (found : Trap). Leaves unit classes after left (Trapped found line) (thread_step unit classes in_use k shared s refused)) (sym e.1) (stops_at line x left e.0 does))
+    calls_so line x (Some (event.Printed z)) left e does = absurd e
+
     -- what a step of the call did is the thread's step
     pub ended_step : (o : Outcome) (took : Option EventInMemory) (last : Shared) (left : ThreadInMemory) → EndsStep k after stepped o took last left → Advances refused before a.work o end' new.work
         → StepIs unit classes last left took (thread_step unit classes in_use k shared s refused)
     ended_step (outcome.Returned given) took last left e does = rw e.0 (returns given last left (last_first t.callers.items) s.callers refl refl h.callers does e.1)
+    ended_step (outcome.Calls line x) took last left e does =
+        subst (λ (y : Shared). StepIs unit classes y left took (thread_step unit classes in_use k shared s refused)) (sym e.1)
+        (calls_so line x.now took left e.0 (advances_so (outcome.Calls line x) does))
     ended_step o took last left e does =
         let taken = thread_step unit classes in_use k shared s refused in
         subst (λ (x : Shared). StepIs unit classes x left took taken) (sym e.2)
-        (subst (λ (w : Option EventInMemory). StepIs unit classes after left w taken) (sym e.0) (subst (λ (u : ThreadInMemory). StepIs unit classes after u (event_of o) taken) (sym e.1) (goes o (λ g r. absurd (cc)) does)))
+        (subst (λ (w : Option EventInMemory). StepIs unit classes after left w taken) (sym e.0) (subst (λ (u : ThreadInMemory). StepIs unit classes after u (event_of o) taken) (sym e.1) (goes o (λ g r. absurd (cc)) (λ line x r. absurd (cc)) does)))
 
   -- the entry into the next call
-  pub enters : (shared : Shared) (t : ThreadInMemory) (call : Invocation) (rest : List Invocation) (o : Option Activation) (s : Thread) → IsEntered unit classes call o → t.activation ≡ None → t.calls.now ≡ call ∷ rest → ThreadStands unit classes t s
-      → (after : Bor (List Invocation)) → after.now ≡ rest → Leaves unit classes shared (record t { calls = after; activation = o }) Quiet (thread_step unit classes in_use k shared s false)
-  enters shared t call rest o s e idle calls h after is = record {
+  pub enters : (shared : Shared) (t : ThreadInMemory) (call : Invocation) (rest : List Invocation) (o : Option Activation) (s : Thread) → IsEntered unit classes call o → t.activation ≡ None → calls_to_come t.entering t.calls.now ≡ call ∷ rest → ThreadStands unit classes t s
+      → (left : Option Entering) (after : Bor (List Invocation)) → left ≡ None → after.now ≡ rest → IsTrue (list_all (call_loads unit classes) rest) → Leaves unit classes shared (record t { entering = left; calls = after; activation = o }) Quiet (thread_step unit classes in_use k shared s false)
+  enters shared t call rest o s e idle calls h left after none is loads = record {
     next = entered s rest e.function e.class call.arguments;
     advances =
         ap (step_within unit classes in_use k shared s false) (h.tasks ∙ ap tasks_in idle)
@@ -242,34 +372,34 @@ module _ (unit : SourceUnit) (classes : Classes) (in_use : BuffersInUse) (k : �
         ∙ ap (λ (p : Option Function). entry_advance shared (entered_function classes s call rest p)) e.found
         ∙ ap (λ (p : Option ℕ). entry_advance shared (option_map (λ d. entered s rest e.function d call.arguments) p)) e.its_class;
     stands = record {
-      calls = sym is;
+      calls = sym is ∙ ap (λ (o : Option Entering). calls_to_come o after.now) (sym none);
+      due = subst (λ (o : Option Entering). IsDue o (Some (tasks_of e.function.body)) s.callers) (sym none) tt;
       callers = h.callers;
-      loads = subst (λ (cs : List Invocation). IsTrue (list_all (call_loads unit classes) cs)) (sym is) parts.1;
+      loads = subst (λ (cs : List Invocation). IsTrue (list_all (call_loads unit classes) cs)) (sym is) loads;
       tasks = ap Some (sym e.tasks) ∙ ap tasks_in (sym e.is);
       work = subst (λ (p : Option Activation). WorkStands p (entered s rest e.function e.class call.arguments)) (sym e.is) (sym e.variables, sym e.frames);
       pending = h.pending;
       ending = h.ending;
     };
   }
-    where
-      loads : IsTrue (list_all (call_loads unit classes) (call ∷ rest))
-      loads = subst (λ (cs : List Invocation). IsTrue (list_all (call_loads unit classes) cs)) calls h.loads
 
-      parts : (call_loads unit classes call ≡ true) × (list_all (call_loads unit classes) rest ≡ true)
-      parts = and_parts (call_loads unit classes call) (list_all (call_loads unit classes) rest) loads
+  -- those after the first load as well
+  pub rest_loads : (calls : List Invocation) (call : Invocation) (rest : List Invocation) → calls ≡ call ∷ rest → IsTrue (list_all (call_loads unit classes) calls) → IsTrue (list_all (call_loads unit classes) rest)
+  rest_loads calls call rest are loads =
+      (and_parts (call_loads unit classes call) (list_all (call_loads unit classes) rest) (subst (λ (cs : List Invocation). IsTrue (list_all (call_loads unit classes) cs)) are loads)).1
 
   -- an entry makes no object that could be refused
   pub none_refused : (shared : Shared) (t : ThreadInMemory) (s : Thread) → t.activation ≡ None → ThreadStands unit classes t s → thread_step unit classes in_use k shared s true ≡ NoAdvance
   none_refused shared t s idle h = ap (step_within unit classes in_use k shared s true) (h.tasks ∙ ap tasks_in idle)
 
   -- no call is to come
-  pub no_entry : (shared : Shared) (t : ThreadInMemory) (s : Thread) → t.activation ≡ None → t.calls.now ≡ [] → ThreadStands unit classes t s → thread_step unit classes in_use k shared s false ≡ NoAdvance
+  pub no_entry : (shared : Shared) (t : ThreadInMemory) (s : Thread) → t.activation ≡ None → calls_to_come t.entering t.calls.now ≡ [] → ThreadStands unit classes t s → thread_step unit classes in_use k shared s false ≡ NoAdvance
   no_entry shared t s idle none h =
       ap (step_within unit classes in_use k shared s false) (h.tasks ∙ ap tasks_in idle)
       ∙ ap (λ (cs : List Invocation). entry_advance shared (enter unit classes s cs)) (h.calls ∙ none)
 
   -- the next call cannot begin
-  pub no_next : (shared : Shared) (t : ThreadInMemory) (call : Invocation) (rest : List Invocation) (s : Thread) → HasNoEntry unit classes call → t.activation ≡ None → t.calls.now ≡ call ∷ rest → ThreadStands unit classes t s
+  pub no_next : (shared : Shared) (t : ThreadInMemory) (call : Invocation) (rest : List Invocation) (s : Thread) → HasNoEntry unit classes call → t.activation ≡ None → calls_to_come t.entering t.calls.now ≡ call ∷ rest → ThreadStands unit classes t s
       → thread_step unit classes in_use k shared s false ≡ NoAdvance
   no_next shared t call rest s never idle calls h =
       ap (step_within unit classes in_use k shared s false) (h.tasks ∙ ap tasks_in idle)

@@ -1,6 +1,8 @@
 -- Threads that lie in memory, as those of the language, and what a step of one does.
-use Rattle.std.specs.Prelude.{◌≡◌, ◌≤◌, ℕ, Bool, true, false, List, [], ◌∷◌, length, map, filter_map, reverse, zip, Option, Some, None, IsTrue}
+use Rattle.std.specs.Prelude.{◌≡◌, ◌≤◌, ◌<◌, ◌+◌, ℕ, Bool, true, false, List, [], ◌∷◌, length, map, filter_map, reverse, zip, Option, Some, None, IsTrue}
 use Rattle.std.specs.List.{AllByRecursion, list_all}
+use Rattle.base.specs.Bytes.{Identifier}
+use Rattle.base.specs.Limits.{most_activations}
 use Rattle.syntax.specs.declared.unit.Function.{Function}
 use Rattle.syntax.specs.Tree.{SourceUnit, Function as FunctionOfUnit}
 use Rattle.syntax.specs.Views.{function_tree}
@@ -14,7 +16,7 @@ use Rattle.semantics.specs.Task.{Task, tasks_of}
 use Rattle.semantics.specs.CallEffects.{CallResult}
 use Rattle.semantics.specs.Thread.{Unfinished, Caller, Thread, Shared, BuffersInUse, Event, Advance, Advances, NoAdvance}
 use Rattle.semantics.specs.ThreadStep.{thread_step, waits}
-use Rattle.semantics.specs.Value.{Int}
+use Rattle.semantics.specs.Value.{CallsTooDeep, Int}
 use Rattle.semantics.specs.Variable.{Variable, Scalar, LocalRef}
 use Rattle.semantics.specs.Views.{name_of}
 use Rattle.replay_steps.specs.declared.activation.Activation.{Activation}
@@ -22,13 +24,14 @@ use Rattle.replay_tasks.specs.declared.outcome.Outcome.{Outcome}
 use Rattle.replay_tasks.specs.declared.outcome.Outcome.TheVariants as outcome
 use Rattle.replay_threads.specs.declared.thread.Thread.{Thread as ThreadInMemory}
 use Rattle.replay_steps.specs.Activations.{tasks_left, IsAtStatement}
-use Rattle.replay_steps.specs.Callers.{CallerStands, IsCalling, Resumes}
+use Rattle.replay_steps.specs.Callers.{CallerStands, CallsFrom, IsCalling, MakesCaller, Resumes, entering_view}
+use Rattle.replay_steps.specs.declared.callers.Entering.{Entering}
 use Rattle.replay_tasks.specs.Outcomes.{result_view}
 use Rattle.replay_arguments.specs.declared.scene.Turn.{Turn}
 use Rattle.replay_terms.specs.Views.{in_use_view}
 use Rattle.semantics.specs.declared.event.Event.{Event as EventInMemory}
 use Rattle.semantics.specs.declared.event.Event.TheVariants as event
-use Rattle.semantics.specs.EventViews.{ending_view, event_view}
+use Rattle.semantics.specs.EventViews.{ending_view, event_view, trap_view}
 use Rattle.replay_terms.specs.Views.{assign_all, variables_view}
 use Rattle.semantics.specs.declared.object_value.ObjectValue.{ObjectValue as ObjectValueInMemory}
 use Rattle.world_values.specs.Views.{object_value_view}
@@ -47,6 +50,18 @@ WorkStands (Some a) s = (s.variables ≡ variables_view a.locals.variables) × (
 abbrev pub last_first : List Activation → List Activation
 last_first callers = reverse callers
 
+-- the calls to come, of which the first is one that another has made, if there is one
+abbrev pub calls_to_come : Option Entering → List Invocation → List Invocation
+calls_to_come None calls = calls
+calls_to_come (Some e) calls = entering_view e ∷ calls
+
+-- a call that another has made is to be entered exactly where there are callers and no call is in progress
+abbrev pub IsDue : Option Entering → Option (List Task) → List Caller → Type 0
+IsDue None (Some tasks) callers = Unit {0}
+IsDue None None [] = Unit {0}
+IsDue (Some e) None (c ∷ callers) = Unit {0}
+IsDue e tasks callers = ⊥
+
 -- each stands for the caller at the same place
 abbrev pub CallersStand : List Activation → List Caller → Type 0
 CallersStand [] [] = Unit {0}
@@ -63,11 +78,11 @@ WorkInRange (Some a) = IsAtStatement a.work
 abbrev pub AreCalling : List Activation → Type 0
 AreCalling callers = AllByRecursion (λ (a : Activation). IsCalling a.work) callers
 
--- the same of a thread, and that it has fewer than 64 callers
+-- the same of a thread, and that it has few callers
 pub record ThreadInRange (t : ThreadInMemory) : Type 0 where
   pub work : WorkInRange t.activation
   pub callers : AreCalling (last_first t.callers.items)
-  pub few : length t.callers.items ≤ 63
+  pub few : length t.callers.items < most_activations
 
 -- ---- steps
 
@@ -124,6 +139,7 @@ pub record HasLeft (k : ℕ) (s : Shared) (old : ThreadInMemory) (after : Shared
   pub ending : ending_view new.ending ≡ ending_after s.heap (name_of old.pending) old.calls.now
   pub calls : new.calls.now ≡ calls_after (ending_view new.ending) old.calls.now
   pub callers : new.callers.items ≡ old.callers.items
+  pub entering : new.entering ≡ old.entering
   pub shared : after ≡ record s { monitors = monitors_after (ending_view new.ending) k s.monitors }
 
 -- the last of a thread's callers goes on with what the call in progress returned, and these are those that are left
@@ -134,6 +150,7 @@ pub record HasResumed (s : Shared) (old : ThreadInMemory) (given : CallResult) (
   pub range : IsAtStatement activation.work
   pub resumes : Resumes s (name_of old.pending) given caller after activation
   pub callers : last_first new.callers.items ≡ left
+  pub entering : new.entering ≡ old.entering
   pub calls : new.calls ≡ old.calls
   pub pending : new.pending ≡ old.pending
   pub ending : new.ending ≡ old.ending
@@ -147,14 +164,47 @@ ReturnsBy k s old given (caller ∷ callers) after new = HasResumed s old given 
 abbrev pub HasReturned : (k : ℕ) → Shared → ThreadInMemory → CallResult → Shared → ThreadInMemory → Type 0
 HasReturned k s old given after new = ReturnsBy k s old given (last_first old.callers.items) after new
 
--- what others see of what a call in progress did, which was left if it returned
+-- the call in progress, which is this one, waits for one that is to be entered
+pub record HasPushed (old : ThreadInMemory) (caller : Activation) (call : Entering) (new : ThreadInMemory) : Type 0 where
+  pub activation : new.activation ≡ None
+  pub entering : new.entering ≡ Some call
+  pub callers : last_first new.callers.items ≡ caller ∷ last_first old.callers.items
+  pub calls : new.calls ≡ old.calls
+  pub pending : new.pending ≡ old.pending
+  pub ending : new.ending ≡ old.ending
+
+-- it waits for the call of the function of this name that it makes in this line, with few enough callers
+pub record HasWaited (s : Shared) (old : ThreadInMemory) (a : Activation) (line : ℕ) (x : Identifier) (new : ThreadInMemory) : Type 0 where
+  pub call : Entering
+  pub calls : CallsFrom s a line x (entering_view call)
+  pub few : length old.callers.items + 1 < most_activations
+  pub pushed : HasPushed old a call new
+
+-- it would make that call, with too many callers, so the run stops
+pub record IsStopped (s : Shared) (old : ThreadInMemory) (a : Activation) (line : ℕ) (x : Identifier) (new : ThreadInMemory) : Type 0 where
+  pub call : Entering
+  pub calls : CallsFrom s a line x (entering_view call)
+  pub many : most_activations ≤ length old.callers.items + 1
+  pub same : new ≡ old
+
+-- what others see of a call of the function of this name by a call in progress, and what that did to its thread
+abbrev pub HasCalled : Shared → ThreadInMemory → Option Activation → (line : ℕ) → Identifier → Option EventInMemory → ThreadInMemory → Type 0
+HasCalled s old None line x took new = (took ≡ None) × (new ≡ old)
+HasCalled s old (Some a) line x None new = MakesCaller s a line x None × (new ≡ old)
+HasCalled s old (Some a) line x (Some event.Quiet) new = HasWaited s old a line x new
+HasCalled s old (Some a) line x (Some (event.Trapped trap at)) new = IsStopped s old a line x new × (trap_view trap ≡ CallsTooDeep) × (at ≡ line)
+HasCalled s old (Some a) line x (Some (event.Printed z)) new = ⊥
+
+-- what others see of what a call in progress did, which was left if it returned, and waits if it called a method
 abbrev pub EndsStep : (k : ℕ) → Shared → ThreadInMemory → Outcome → Option EventInMemory → Shared → ThreadInMemory → Type 0
 EndsStep k shared old (outcome.Returned given) took after new = (took ≡ Some event.Quiet) × HasReturned k shared old (result_view given) after new
+EndsStep k shared old (outcome.Calls line x) took after new = HasCalled shared old old.activation line x.now took new × (after ≡ shared)
 EndsStep k shared old o took after new = (took ≡ event_of o) × (new ≡ old) × (after ≡ shared)
 
 -- a thread in memory stands for one of the language
 pub record ThreadStands (unit : SourceUnit) (classes : Classes) (t : ThreadInMemory) (s : Thread) : Type 0 where
-  pub calls : s.calls ≡ t.calls.now
+  pub calls : s.calls ≡ calls_to_come t.entering t.calls.now
+  pub due : IsDue t.entering s.tasks s.callers
   pub callers : CallersStand (last_first t.callers.items) s.callers
   pub loads : IsTrue (list_all (call_loads unit classes) t.calls.now)
   pub tasks : s.tasks ≡ tasks_in t.activation

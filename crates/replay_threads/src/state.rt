@@ -1,7 +1,7 @@
 //! The state of a replay, and what an entry does to it.
 
-ghost use Rattle.std.specs.Prelude.{◌≡◌, ◌*◌, [], IfOk, IfSome, IfNone, is_some, map, ◌≤◌, flat_map, length, sum_by};
-ghost use Rattle.base.specs.Limits.{most_copied, most_views};
+ghost use Rattle.std.specs.Prelude.{◌≡◌, ◌<◌, ◌*◌, [], IfOk, IfSome, IfNone, is_some, map, ◌≤◌, flat_map, length, sum_by};
+ghost use Rattle.base.specs.Limits.{most_activations, most_copied, most_views};
 ghost use Rattle.syntax.specs.Limits.{IsTree};
 ghost use Rattle.syntax.specs.Views.{unit_tree};
 ghost use Rattle.type_rules.specs.SortRules.{IsSorted};
@@ -129,7 +129,7 @@ fn place_of(state: &State<'_>, k: u8) -> Option<usize>
 
 /// What the buffers of these calls take together.
 fn taken_by_calls(callers: &[Activation<'_>]) -> BuffersInUse
-    requires { length callers.now ≤ 63 }
+    requires { length callers.now < most_activations }
     ensures copied { result.copied ≡ sum_by call_copies (last_first callers.now) }
     ensures views { result.views ≡ length (flat_map call_views (last_first callers.now)) }
     ensures within { result.copied ≤ 63 * most_copied }

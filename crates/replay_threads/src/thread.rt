@@ -1,6 +1,6 @@
 //! Threads: calls in progress and to come.
 
-ghost use Rattle.std.specs.Prelude.{◌≡◌, ◌++◌, ◌∷◌, [], IfOk, Some, None, filter_map, map, zip};
+ghost use Rattle.std.specs.Prelude.{◌≡◌, ◌++◌, ◌∷◌, [], IfOk, IsSome, Some, None, false, filter_map, map, zip};
 ghost use Rattle.syntax.specs.Limits.{IsTree};
 ghost use Rattle.syntax.specs.Views.{function_tree, parameter_tree, unit_tree};
 ghost use Rattle.type_rules.specs.SortRules.{IsSorted};
@@ -13,7 +13,8 @@ ghost use Rattle.semantics.specs.Variable.{LocalRef};
 ghost use Rattle.semantics.specs.Views.{name_of};
 ghost use Rattle.class_rules.specs.ClassIds.{number_of};
 ghost use Rattle.class_rules.specs.Grown.{IsGrown};
-ghost use Rattle.replay_threads.specs.Threads.{argument_content, AreCalling, BeginsNext, IsBegun, EndsStep, HasLeft, HasResumed, HasReturned, TakesTurn, ThreadInRange, ThreadWaits, event_of, last_first};
+ghost use Rattle.semantics.specs.World.{Invocation};
+ghost use Rattle.replay_threads.specs.Threads.{argument_content, AreCalling, BeginsNext, IsBegun, EndsStep, HasCalled, HasLeft, HasPushed, HasResumed, HasReturned, TakesTurn, ThreadInRange, ThreadWaits, WorkInRange, event_of, last_first};
 ghost use Rattle.replay_steps.specs.Callers.{IsCalling};
 ghost use Rattle.replay_tasks.specs.Outcomes.{result_view};
 ghost use Rattle.replay_tasks.specs.Tasks.{StatementsInRange};
@@ -27,17 +28,22 @@ use classes::table::ClassTable;
 use functions::Functions;
 use replay_arguments::{Locals, Shared, Turn};
 use replay_objects::{Frames, Names, Store};
-use replay_steps::{Activation, advance, resume, waits, work_of};
+use replay_steps::{Activation, Entering, advance, entering_of, resume, waits, work_of};
 use replay_tasks::{CallResult, Outcome};
 use replay_terms::{Content, Value, Variables};
-use semantics::{CALL_LEVEL, Ending, Event, ObjectId};
+use semantics::{CALL_LEVEL, Ending, Event, ObjectId, Trap};
 use std::alloc::{AllocError, Global};
 use syntax::{Function, Parameter};
 use world_values::{Call, ObjectValue, World};
 
+/// How many calls of a thread may be in progress, each but the first made by the one before it.
+const MOST_ACTIVATIONS: usize = 64;
+
 /// A thread: the calls to come, the one in progress, those from which it was made, the pending exception, and how it has
 /// ended.
 pub struct Thread<'a> {
+    /// One that another has made, which is to be entered before those that the world has.
+    pub entering: Option<Entering<'a>>,
     pub calls: &'a [Call],
     pub activation: Option<Activation<'a>>,
     /// Each made the one after it, and the last one made the call in progress.
@@ -50,12 +56,14 @@ pub struct Thread<'a> {
 impl Drop for Thread<'_> {
     fn drop(self) {
         let Thread {
+            entering,
             calls: _,
             activation,
             callers,
             pending: _,
             ending: _,
         } = self;
+        drop(entering);
         drop(activation);
         drop(callers);
     }
@@ -193,28 +201,103 @@ fn begin_call<'a>(
     Ok(())
 }
 
-/// Begins this call in the place of the one in progress; false where its function or the function's class is unknown.
+/// Begins the call of the function of this name in the place of the one in progress; false where the function or its class is
+/// unknown.
 #[inline]
 fn begin_next<'a>(
     alloc: Global,
     functions: &Functions<'a>,
     world: &World,
-    call: &Call,
+    name: &[u8],
+    arguments: &[ObjectValue],
     place: &mut Option<Activation<'a>>,
 ) -> Result<bool, AllocError>
     requires tree { IsTree (unit_tree functions.now) }
     requires sorted { IsSorted (unit_tree functions.now) }
-    ensures { IfOk result (λ begun.
-        BeginsNext (unit_tree functions.now) world.now.classes call.now begun place.old place.new) }
+    ensures { IfOk result (λ begun. (call : Invocation) → call.function ≡ name.now → call.arguments ≡ map object_value_view arguments.now
+        → BeginsNext (unit_tree functions.now) world.now.classes call begun place.old place.new) }
 {
-    let Some(found) = functions.find(call.function()) else {
+    let Some(found) = functions.find(name) else {
         return Ok(false);
     };
     let Some(class) = class_of(alloc, world, found.function)? else {
         return Ok(false);
     };
-    begin_call(alloc, place, found.function, class, call.arguments())?;
+    begin_call(alloc, place, found.function, class, arguments)?;
     Ok(true)
+}
+
+/// Enters the call that another has made; none where that isn't possible.
+fn enter_called<'a>(
+    functions: &Functions<'a>,
+    world: &World,
+    turn: Turn<'a>,
+    thread: &mut Thread<'a>,
+) -> Result<Option<Event>, AllocError>
+    requires tree { IsTree (unit_tree functions.now) }
+    requires sorted { IsSorted (unit_tree functions.now) }
+    requires classes { turn.classes.now ≡ world.now.classes }
+    requires goes { turn.refused ≡ false }
+    requires idle { thread.old.activation ≡ None }
+    requires range { ThreadInRange thread.old }
+    requires called { IsSome thread.old.entering }
+    ensures step { IfOk result (λ took. (shared : SharedOfThreads)
+        → TakesTurn (unit_tree functions.now) turn.entry shared thread.old took shared thread.new) }
+    ensures range { IfOk result (λ _. ThreadInRange thread.new) }
+{
+    let Some(call) = &thread.entering else {
+        unreachable!()
+    };
+    let place = &mut thread.activation;
+    if !begin_next(
+        turn.alloc,
+        functions,
+        world,
+        call.function,
+        &call.arguments,
+        place,
+    )? {
+        return Ok(None);
+    }
+    thread.entering = None;
+    Ok(Some(Event::Quiet))
+}
+
+/// Enters the next of the calls that the world has; none where that isn't possible.
+fn enter_next<'a>(
+    functions: &Functions<'a>,
+    world: &World,
+    turn: Turn<'a>,
+    thread: &mut Thread<'a>,
+) -> Result<Option<Event>, AllocError>
+    requires tree { IsTree (unit_tree functions.now) }
+    requires sorted { IsSorted (unit_tree functions.now) }
+    requires classes { turn.classes.now ≡ world.now.classes }
+    requires goes { turn.refused ≡ false }
+    requires idle { thread.old.activation ≡ None }
+    requires range { ThreadInRange thread.old }
+    requires uncalled { thread.old.entering ≡ None }
+    ensures step { IfOk result (λ took. (shared : SharedOfThreads)
+        → TakesTurn (unit_tree functions.now) turn.entry shared thread.old took shared thread.new) }
+    ensures range { IfOk result (λ _. ThreadInRange thread.new) }
+{
+    let Some((call, rest)) = thread.calls.split_first() else {
+        return Ok(None);
+    };
+    let name = call.function();
+    let arguments = call.arguments();
+    if !begin_next(
+        turn.alloc,
+        functions,
+        world,
+        name,
+        arguments,
+        &mut thread.activation,
+    )? {
+        return Ok(None);
+    }
+    thread.calls = rest;
+    Ok(Some(Event::Quiet))
 }
 
 /// Enters the next call; none where that isn't possible.
@@ -237,14 +320,10 @@ fn enter<'a>(
     if turn.refused {
         return Ok(None);
     }
-    let Some((call, rest)) = thread.calls.split_first() else {
-        return Ok(None);
-    };
-    if !begin_next(turn.alloc, functions, world, call, &mut thread.activation)? {
-        return Ok(None);
+    match &thread.entering {
+        Some(_) => enter_called(functions, world, turn, thread),
+        None => enter_next(functions, world, turn, thread),
     }
-    thread.calls = rest;
-    Ok(Some(Event::Quiet))
 }
 
 /// What others see of what a call in progress did; none where it did nothing that is possible.
@@ -257,7 +336,7 @@ fn event_of(outcome: Outcome<'_>) -> Option<Event>
         Outcome::SetsElement { .. } => Some(Event::Quiet),
         Outcome::Tests { .. } | Outcome::Makes { .. } => Some(Event::Quiet),
         Outcome::Enters(_, _) => Some(Event::Quiet),
-        Outcome::Ends | Outcome::Returned(_) => Some(Event::Quiet),
+        Outcome::Ends | Outcome::Returned(_) | Outcome::Calls { .. } => Some(Event::Quiet),
         Outcome::Printed(z) => Some(Event::Printed(z)),
         Outcome::Trapped { trap, line } => Some(Event::Trapped { trap, line }),
         Outcome::Impossible => None,
@@ -335,7 +414,48 @@ fn return_from<'a>(
     }
 }
 
-/// Leaves the call in progress of thread `k` if it returned. Tells what others see of what it did; none where it did
+/// Lets the call in progress wait for this one, which is to be entered.
+fn push_caller<'a>(thread: &mut Thread<'a>, call: Entering<'a>) -> Result<(), AllocError>
+    requires { IsSome thread.old.activation }
+    ensures { IfOk result (λ _. (caller : _) → thread.old.activation ≡ Some caller → HasPushed thread.old caller call.entry thread.new) }
+{
+    thread.callers.reserve(1)?;
+    let Some(caller) = thread.activation.take() else {
+        unreachable!()
+    };
+    thread.callers.push(caller)?;
+    thread.entering = Some(call);
+    Ok(())
+}
+
+/// Lets the call in progress call the method whose function has this name, in this line: it waits for that call, or the run stops,
+/// where 64 calls are in progress already.
+#[inline(never)]
+fn call_method<'a>(
+    alloc: Global,
+    shared: &Shared<'a>,
+    thread: &mut Thread<'a>,
+    line: usize,
+    function: &'a [u8],
+) -> Result<Option<Event>, AllocError>
+    requires { WorkInRange thread.old.activation }
+    ensures { IfOk result (λ took. HasCalled (shared_view shared.now) thread.old thread.old.activation line function.entry.now took thread.new) }
+{
+    let Some(activation) = &thread.activation else {
+        return Ok(None);
+    };
+    let Some(call) = entering_of(alloc, shared, activation, line, function)? else {
+        return Ok(None);
+    };
+    if thread.callers.len() + 1 >= MOST_ACTIVATIONS {
+        let trap = Trap::CallsTooDeep;
+        return Ok(Some(Event::Trapped { trap, line }));
+    }
+    push_caller(thread, call)?;
+    Ok(Some(Event::Quiet))
+}
+
+/// Leaves the call in progress of thread `k` if it returned, and lets it wait if it calls a method. Tells what others see of what it did; none where it did
 /// nothing that is possible.
 #[inline]
 fn end_step<'a>(
@@ -345,7 +465,8 @@ fn end_step<'a>(
     thread: &mut Thread<'a>,
     outcome: Outcome<'a>,
 ) -> Result<Option<Event>, AllocError>
-    requires { AreCalling (last_first thread.old.callers.items) }
+    requires callers { AreCalling (last_first thread.old.callers.items) }
+    requires work { WorkInRange thread.old.activation }
     ensures { IfOk result (λ took. EndsStep k (shared_view shared.old) thread.old outcome.entry took
         (shared_view shared.new) thread.new) }
 {
@@ -354,6 +475,7 @@ fn end_step<'a>(
             return_from(alloc, shared, k, thread, returned)?;
             Ok(Some(Event::Quiet))
         }
+        Outcome::Calls { line, function } => call_method(alloc, shared, thread, line, function),
         outcome => Ok(event_of(outcome)),
     }
 }

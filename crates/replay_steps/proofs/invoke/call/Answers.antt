@@ -1,5 +1,7 @@
 use Rattle.std.proofs.Common.{◌≡◌, ℕ, Result, Ok, Err, List, IfOk, is_some, sym, ap, ◌∙◌, subst, map}
+use Rattle.std.specs.Borrow.{Bor}
 use Rattle.std.specs.Option.{option_map}
+use Rattle.replay_tasks.specs.declared.outcome.Outcome.TheVariants as outcome
 use Rattle.jni.specs.Table.{function_value}
 use Rattle.replay_arguments.specs.Actuals.{actual_view}
 use Rattle.syntax.specs.Tree.{SourceUnit}
@@ -22,7 +24,7 @@ use Rattle.replay_terms.specs.Views.{in_use_view, variables_view}
 use Rattle.replay_steps.specs.Calls.{MakesCall, wanted_element}
 use Rattle.replay_steps.specs.Steps.{Scene, scene_of}
 use Rattle.replay_calls.proofs.FittingFrames.{told_copies, told_fits}
-use Rattle.replay_steps.proofs.CallLemmas.{buffer_lent, call_stopped}
+use Rattle.replay_steps.proofs.CallLemmas.{buffer_lent, call_stopped, method_waited}
 use Rattle.replay_steps.proofs.invoke.call.Goals as goal
 
 -- the answer, by the element type that is wanted
@@ -108,6 +110,21 @@ returns-in-Some-lent_in-clause-step c =
     buffer_lent (unit_tree turn.unit.now) turn.classes.now (in_use_view turn.in_use) turn.thread s locals.variables locals.frames (name_of c.args.pending.now) i.line i.purpose f args
     a c.in-Some-lent_in.buffer c.lend.new.locals.variables c.lend.new.locals.frames o has (sym c.lent_in.ensures ∙ c.in-Some-lent_in.is) (varied s.heap) c.lend.ensures.frames is_for)
     c.lend.ensures.variables c.lend.ensures.outcome)
+
+pub returns-in-Some-called_in-clause-step : goal.returns-in-Some-called_in-clause-step
+returns-in-Some-called_in-clause-step c =
+    let i = c.args.i.now in
+    let turn = c.args.turn in
+    let s = shared_view c.args.shared.now in
+    let locals = c.args.locals.now in
+    let f = function_value i.function in
+    let args = map actual_view c.args.actuals.now in
+    let a = answer_view c.answer_or_trap-answer.result in
+    let before : Scene = scene_of turn s locals c.args.pending.now in
+    let has = answer_for a (unit_tree turn.unit.now) turn.classes.now (in_use_view turn.in_use) turn.thread s.monitors s.heap (variables_view locals.variables) locals.frames (name_of c.args.pending.now) f args (element_value c.wanted_element.result) (wanted_element locals.variables i.purpose) c.wanted_element.ensures c.answer_or_trap-answer.ensures in
+    subst (λ b. MakesCall b before i.line i.purpose f args (outcome.Calls i.line c.in-Some-called_in.function) before) (sym c.if-turn.false)
+    (method_waited (unit_tree turn.unit.now) turn.classes.now (in_use_view turn.in_use) turn.thread s locals.variables locals.frames (name_of c.args.pending.now) i.line i.purpose f args
+    a c.in-Some-called_in.function has (sym c.called_in.ensures ∙ ap (option_map (λ (x : Bor (List ℕ)). x.now)) c.in-Some-called_in.is))
 
 pub returns-clause-step : goal.returns-clause-step
 returns-clause-step c =

@@ -46,7 +46,7 @@ loop-place-preserved c =
     let step = subst (λ (p : Operand). ReducesOne sight p took new) (sym c.index-operands-place.is) c.reduce_one-reduction.ensures.step in
     let kept = none_step sight os c.loop-place.place o new took (sym c.is_some.ensures ∙ c.if-is_some.false) at c.loop-place.invariant.1 step in (
       kept.0 ∙ c.loop-place.invariant.0,
-      subst (λ (xs : List Operand). AreGiven xs (c.loop-place.place + 1)) (sym kept.0) kept.1,
+      subst (λ (xs : List Operand). AreGiven sight xs (c.loop-place.place + 1)) (sym kept.0) kept.1,
       operand_set os c.loop-place.place new c.loop-place.invariant.2 c.reduce_one-reduction.ensures.numbers,
     )
 
@@ -55,7 +55,7 @@ returns-clause-step c =
     let sight = sight_in (shared_view c.args.shared.now) c.args.variables.now in
     let os = c.loop-place.operands in
     let none = none_first sight os (λ i o low there. c.loop-place.invariant.1 i o (omega (arith, low, c.loop-place-test.false, c.loop-place.auto.operands)) there) in
-    (subst (λ (xs : List Operand). is_ready (map operand_view xs) ≡ true) c.loop-place.invariant.0 none.0, c.loop-place.invariant.0)
+    (subst (λ (xs : List Operand). is_ready sight.number (map operand_view xs) ≡ true) c.loop-place.invariant.0 none.0, c.loop-place.invariant.0)
 
 pub returns-clause-numbers : goal.returns-clause-numbers
 returns-clause-numbers c = c.loop-place.invariant.2

@@ -8,6 +8,7 @@ returns c = record {
   range = c.in_ok-resume.ensures.range;
   resumes = c.in_ok-resume.ensures.step;
   callers = refl;
+  entering = refl;
   calls = refl;
   pending = refl;
   ending = refl;

@@ -8,8 +8,11 @@ use Rattle.replay_terms.specs.Views.{in_use_view}
 use Rattle.replay_threads.proofs.ThreadLemmas.{ended_range, ended_step, range_begun}
 use Rattle.replay_threads.proofs.thread.take_step.Goals as goal
 
-pub end_step-requires : goal.end_step-requires
-end_step-requires c = c.requires.range.callers
+pub end_step-requires-clause-callers : goal.end_step-requires-clause-callers
+end_step-requires-clause-callers c = c.requires.range.callers
+
+pub end_step-requires-clause-work : goal.end_step-requires-clause-work
+end_step-requires-clause-work c = c.in_ok-outcome.ensures.range
 
 pub returns-clause-step : goal.returns-clause-step
 returns-clause-step c = IfOk-weaker c.end_step.result _ _ (λ took ends.

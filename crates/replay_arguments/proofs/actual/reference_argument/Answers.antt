@@ -1,0 +1,5 @@
+use Rattle.jni.specs.Prototype.{Nullable}
+use Rattle.replay_arguments.proofs.actual.reference_argument.Goals as goal
+
+pub returns-in-Variable : goal.returns-in-Variable
+returns-in-Variable c = rw c.in-Variable.is (c.named_reference.ensures Nullable)

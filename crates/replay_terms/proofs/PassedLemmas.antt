@@ -1,0 +1,42 @@
+-- The arguments of a call with their parameters: what a method is given comes after the function's own.
+use Rattle.std.proofs.Common.{◌≡◌, ◌-◌, ℕ, Bool, true, false, List, [], ◌∷◌, ◌++◌, length, map, drop, refl, sym, ap, ◌∙◌, append-nil, arith}
+use Rattle.std.specs.Prelude.{if◌then◌else◌, replicate, zip}
+use Rattle.jni.specs.JniFunction.{JniFunction, CallStaticVoidMethod, CallStaticIntMethod, CallStaticObjectMethod, calls_method, parameters_for, prototype}
+use Rattle.jni.specs.Prototype.{ParameterKind, Passed}
+
+-- an argument that a method is given
+abbrev pub as_passed : {A : Type 0} → A → ParameterKind × A
+as_passed a = (Passed, a)
+
+-- all of them are
+all_passed : {A : Type 0} (args : List A) → zip (replicate (length args) Passed) args ≡ map as_passed args
+all_passed [] = refl
+all_passed {A = A} (a ∷ args) = ap (λ (l : List (ParameterKind × A)). as_passed a ∷ l) (all_passed args)
+
+-- those after as many as there are parameters
+passed_after : {A : Type 0} (own : List ParameterKind) (args : List A) → zip (own ++ replicate (length args - length own) Passed) args ≡ zip own args ++ map as_passed (drop (length own) args)
+passed_after {A = A} [] args =
+    let all : length args - 0 ≡ length args = omega arith in
+    ap (λ n. zip (replicate n Passed) args) all ∙ all_passed args
+passed_after {A = A} (p ∷ own) [] = refl
+passed_after {A = A} (p ∷ own) (a ∷ args) =
+    let fewer : length (a ∷ args) - length (p ∷ own) ≡ length args - length own = omega arith in
+    ap (λ n. (p, a) ∷ zip (own ++ replicate n Passed) args) fewer
+    ∙ ap (λ (l : List (ParameterKind × A)). (p, a) ∷ l) (passed_after own args)
+
+-- a function that calls a method has two parameters of its own
+has_two : (f : JniFunction) → calls_method f ≡ true → length (prototype f).parameters ≡ 2
+has_two CallStaticVoidMethod calls = refl
+has_two CallStaticIntMethod calls = refl
+has_two CallStaticObjectMethod calls = refl
+has_two f calls = absurd (cc)
+
+-- either way
+parted : {A : Type 0} (own : List ParameterKind) (args : List A) (b : Bool) → (b ≡ true → length own ≡ 2)
+    → zip (own ++ (if b then replicate (length args - length own) Passed else [])) args ≡ zip own args ++ (if b then map as_passed (drop 2 args) else [])
+parted {A = A} own args true two = passed_after own args ∙ ap (λ n. zip own args ++ map as_passed (drop n args)) (two refl)
+parted {A = A} own args false two = ap (λ (ps : List ParameterKind). zip ps args) (append-nil own) ∙ sym (append-nil (zip own args))
+
+-- a function's own arguments, and then what a method is given
+pub arguments_parted : {A : Type 0} (f : JniFunction) (args : List A) → zip (parameters_for f (length args)) args ≡ zip (prototype f).parameters args ++ (if calls_method f then map as_passed (drop 2 args) else [])
+arguments_parted {A = A} f args = parted (prototype f).parameters args (calls_method f) (has_two f)
