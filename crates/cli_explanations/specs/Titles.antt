@@ -50,9 +50,13 @@ fault_title number = title_in number (faults_near (number / 10))
 unfoldable pub traps_0 : Titles
 traps_0 = (1, codes "a division or a remainder by zero") ∷ (2, codes "a shift by 32 or more") ∷ (3, codes "an element past the end") ∷ (4, codes "NULL where an object is wanted") ∷ (5, codes "a call while an exception is pending") ∷ (6, codes "an object isn't of the kind that is wanted") ∷ (7, codes "a deleted global reference") ∷ (8, codes "no room for a local reference") ∷ (9, codes "FatalError") ∷ []
 
+-- the traps from 10 to 19
+unfoldable pub traps_10 : Titles
+traps_10 = (10, codes "too many calls within one another") ∷ []
+
 -- the traps of a number's ten
 unfoldable pub traps_near : (ten : ℕ) → Titles
-traps_near ten = if ten == 0 then traps_0 else []
+traps_near ten = if ten == 0 then traps_0 else if ten == 1 then traps_10 else []
 
 -- the title of a trap
 abbrev pub trap_title : (number : ℕ) → Option (List ℕ)

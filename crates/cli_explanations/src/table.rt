@@ -2,7 +2,7 @@
 
 ghost use Rattle.std.specs.Prelude.{◌≡◌, ◌/◌, map};
 ghost use Rattle.cli_explanations.specs.Numbered.{titled};
-ghost use Rattle.cli_explanations.specs.Titles.{faults_0, faults_10, faults_20, faults_30, faults_40, faults_50, faults_60, faults_80, faults_90, traps_0, faults_near, traps_near};
+ghost use Rattle.cli_explanations.specs.Titles.{faults_0, faults_10, faults_20, faults_30, faults_40, faults_50, faults_60, faults_80, faults_90, traps_0, traps_10, faults_near, traps_near};
 
 use crate::Explanation;
 
@@ -90,7 +90,7 @@ static FAULTS_20: [Explanation; 8] = [
     Explanation {
         number: 25,
         title: b"a wrong number of arguments",
-        text: b"fault 25: a wrong number of arguments\n\nGive as many as the function has parameters after env (JNI Specification, chapter 4).\n\n    JNIEXPORT void JNICALL Java_A_f(JNIEnv *env, jclass cls)\n    {\n        jint length = (*env)->GetArrayLength(env);\n        return;\n    }\n\nfault 25 line 3\n",
+        text: b"fault 25: a wrong number of arguments\n\nGive as many as the function has parameters after env (JNI Specification, chapter 4). CallStaticVoidMethod,\nCallStaticIntMethod and CallStaticObjectMethod take the class, the method, and up to 16 more, which the method is\ngiven.\n\n    JNIEXPORT void JNICALL Java_A_f(JNIEnv *env, jclass cls)\n    {\n        jint length = (*env)->GetArrayLength(env);\n        return;\n    }\n\nfault 25 line 3\n\n    JNIEXPORT void JNICALL Java_A_f(JNIEnv *env, jclass cls)\n    {\n        (*env)->CallStaticVoidMethod(env, cls);\n        return;\n    }\n\nfault 25 line 3\n",
     },
     Explanation {
         number: 26,
@@ -341,17 +341,17 @@ static TRAPS_0: [Explanation; 9] = [
     Explanation {
         number: 4,
         title: b"NULL where an object is wanted",
-        text: b"trap 4: NULL where an object is wanted\n\nThe JNI doesn't check its arguments (JNI Specification, chapter 2, \"Reporting Programming Errors\"). Test the reference\nfirst. A thread that would enter the monitor of NULL doesn't wait, but traps.\n\n    JNIEXPORT void JNICALL Java_A_f(JNIEnv *env, jclass cls, jintArray array)\n    {\n        jint length = (*env)->GetArrayLength(env, array);\n        return;\n    }\n\n    heap 512\n    class A\n    thread Java_A_f null\n\nT1 trap 4 line 3\n\n    static jobject lock = NULL;\n    \n    JNIEXPORT void JNICALL Java_A_f(JNIEnv *env, jclass cls)\n    {\n        (*env)->MonitorEnter(env, lock);\n        return;\n    }\n\n    heap 512\n    class A\n    thread Java_A_f\n\nT1 trap 4 line 5\n",
+        text: b"trap 4: NULL where an object is wanted\n\nThe JNI doesn't check its arguments (JNI Specification, chapter 2, \"Reporting Programming Errors\"). Test the reference,\nthe field ID or the method ID first. A thread that would enter the monitor of NULL doesn't wait, but traps. What a\nmethod is passed may be NULL.\n\n    JNIEXPORT void JNICALL Java_A_f(JNIEnv *env, jclass cls, jintArray array)\n    {\n        jint length = (*env)->GetArrayLength(env, array);\n        return;\n    }\n\n    heap 512\n    class A\n    thread Java_A_f null\n\nT1 trap 4 line 3\n\n    static jobject lock = NULL;\n    \n    JNIEXPORT void JNICALL Java_A_f(JNIEnv *env, jclass cls)\n    {\n        (*env)->MonitorEnter(env, lock);\n        return;\n    }\n\n    heap 512\n    class A\n    thread Java_A_f\n\nT1 trap 4 line 5\n",
     },
     Explanation {
         number: 5,
         title: b"a call while an exception is pending",
-        text: b"trap 5: a call while an exception is pending\n\nOnly the functions that ask for an exception, clear it or release what is held (a buffer, a reference, a frame, a\nmonitor), and PushLocalFrame, may be called then (JNI Specification, chapter 2, \"Exceptions\"). Test for the exception\nafter the call that may throw it, and return or clear it. MonitorExit throws where the thread doesn't own the monitor.\n\n    JNIEXPORT void JNICALL Java_A_f(JNIEnv *env, jclass cls)\n    {\n        jclass missing = (*env)->FindClass(env, \"B\");\n        jclass above = (*env)->GetSuperclass(env, cls);\n        return;\n    }\n\n    heap 512\n    class A\n    thread Java_A_f\n\nT1 trap 5 line 4\n\n    JNIEXPORT void JNICALL Java_A_f(JNIEnv *env, jclass cls)\n    {\n        (*env)->MonitorExit(env, cls);\n        (*env)->MonitorEnter(env, cls);\n        return;\n    }\n\n    heap 512\n    class A\n    thread Java_A_f\n\nT1 trap 5 line 4\n",
+        text: b"trap 5: a call while an exception is pending\n\nOnly the functions that ask for an exception, clear it or release what is held (a buffer, a reference, a frame, a\nmonitor), and PushLocalFrame, may be called then (JNI Specification, chapter 2, \"Exceptions\"). Test for the exception\nafter the call that may throw it, and return or clear it. MonitorExit throws where the thread doesn't own the monitor.\nAn exception that is pending where a called method returns stays pending in its caller.\n\n    JNIEXPORT void JNICALL Java_A_f(JNIEnv *env, jclass cls)\n    {\n        jclass missing = (*env)->FindClass(env, \"B\");\n        jclass above = (*env)->GetSuperclass(env, cls);\n        return;\n    }\n\n    heap 512\n    class A\n    thread Java_A_f\n\nT1 trap 5 line 4\n\n    JNIEXPORT void JNICALL Java_A_f(JNIEnv *env, jclass cls)\n    {\n        (*env)->MonitorExit(env, cls);\n        (*env)->MonitorEnter(env, cls);\n        return;\n    }\n\n    heap 512\n    class A\n    thread Java_A_f\n\nT1 trap 5 line 4\n",
     },
     Explanation {
         number: 6,
         title: b"an object isn't of the kind that is wanted",
-        text: b"trap 6: an object isn't of the kind that is wanted\n\nChapter 4 of the JNI Specification says with each function what is wanted: an array, for GetArrayLength; one of\njint, for GetIntArrayRegion; a class object, for GetSuperclass; an object that has the field, of the function's\ntype, for GetIntField; a class whose objects no other function makes, for AllocObject. Give an object of that kind.\n\n    JNIEXPORT void JNICALL Java_A_f(JNIEnv *env, jclass cls, jobject object)\n    {\n        jint length = (*env)->GetArrayLength(env, object);\n        return;\n    }\n\n    heap 512\n    class A\n    thread Java_A_f class:A\n\nT1 trap 6 line 3\n",
+        text: b"trap 6: an object isn't of the kind that is wanted\n\nChapter 4 of the JNI Specification says with each function what is wanted: an array, for GetArrayLength; one of\njint, for GetIntArrayRegion; a class object, for GetSuperclass; an object that has the field, of the function's\ntype, for GetIntField; a class whose objects no other function makes, for AllocObject. Give an object of that kind.\nA call of a method is given the class that the method's ID was got from, asks for the result that the method has, and\npasses as many numbers and references as the method takes, each in its place.\n\n    JNIEXPORT void JNICALL Java_A_f(JNIEnv *env, jclass cls, jobject object)\n    {\n        jint length = (*env)->GetArrayLength(env, object);\n        return;\n    }\n\n    heap 512\n    class A\n    thread Java_A_f class:A\n\nT1 trap 6 line 3\n\n    JNIEXPORT jint JNICALL Java_A_g(JNIEnv *env, jclass cls, jint n)\n    {\n        return n;\n    }\n    \n    JNIEXPORT void JNICALL Java_A_f(JNIEnv *env, jclass cls)\n    {\n        jmethodID method = (*env)->GetStaticMethodID(env, cls, \"g\", \"(I)I\");\n        (*env)->CallStaticVoidMethod(env, cls, method, 1);\n        return;\n    }\n\n    heap 512 methods\n    class A\n    thread Java_A_f\n\nT1 trap 6 line 9\n",
     },
     Explanation {
         number: 7,
@@ -378,6 +378,21 @@ fn traps_0() -> &'static [Explanation]
     &TRAPS_0
 }
 
+/// The traps from 10 to 19, by rising numbers.
+static TRAPS_10: [Explanation; 1] = [Explanation {
+    number: 10,
+    title: b"too many calls within one another",
+    text: b"trap 10: too many calls within one another\n\nA thread has at most 64 calls in progress: the one that the world asks for, and those that are made from one another. A\nvirtual machine has room for many more, and where that ends throws an exception that a native method can't count on. The\nline is that of the call that would be the 65th. End the recursion earlier, or write a loop.\n\n    JNIEXPORT void JNICALL Java_A_f(JNIEnv *env, jclass cls)\n    {\n        jmethodID method = (*env)->GetStaticMethodID(env, cls, \"f\", \"()V\");\n        (*env)->CallStaticVoidMethod(env, cls, method);\n        return;\n    }\n\n    heap 512 methods\n    class A\n    thread Java_A_f\n\nT1 trap 10 line 4\n",
+}];
+
+/// These, as a slice.
+#[tactic(auto, unfolding(crate::specs::Titles::traps_10))]
+fn traps_10() -> &'static [Explanation]
+    ensures { map titled result.now ≡ traps_10 }
+{
+    &TRAPS_10
+}
+
 /// The traps of a number's ten.
 #[tactic(auto, unfolding(crate::specs::Titles::traps_near))]
 pub fn traps_near(number: u32) -> &'static [Explanation]
@@ -385,6 +400,7 @@ pub fn traps_near(number: u32) -> &'static [Explanation]
 {
     match number / 10 {
         0 => traps_0(),
+        1 => traps_10(),
         _ => &[],
     }
 }

@@ -25,9 +25,9 @@ no_faults n ten h =
       ne_eqb ten 9 (omega arith),
     ) refl
 
-no_traps : (n ten : ℕ) → 1 ≤ ten → title_in n (traps_near ten) ≡ None
+no_traps : (n ten : ℕ) → 10 ≤ ten → title_in n (traps_near ten) ≡ None
 unfolding traps_near
-no_traps n ten h = rw (ne_eqb ten 0 (omega arith)) refl
+no_traps n ten h = rw (ne_eqb ten 0 (omega arith), ne_eqb ten 1 (omega arith)) refl
 
 -- a number that a text spells and that isn't read is too large
 too_large : {E : Type 0} (text : List ℕ) (r : Result ℕ E) (n : ℕ) → ParsesUnsigned 32 10 text r → ((m : ℕ) → r ≡ Ok m → ⊥) → Spells text n → 100 ≤ n
