@@ -30,6 +30,7 @@ mod Exceptions
 mod ExceptionsPending
 mod Fields
 mod FieldsFound
+mod MethodCalls
 mod Methods
 mod Frames
 mod Globals

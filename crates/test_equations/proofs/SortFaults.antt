@@ -1,7 +1,7 @@
 -- The cases of texts/sort_faults.cases, as gate/worked_equations writes them.
 use Rattle.std.specs.Prelude.{◌∷◌, true, false, [], codes, refl}
 use Rattle.base.specs.Element.{JInt}
-use Rattle.syntax.specs.Tree.{Add, Assign, AssignElement, Binary, Declare, DeclareBuffer, DeclareChars, Equal, FromCall, FromExpr, If, JIntArray, JIntVariable, JObject, JString, Named, Null, Number, Perform, PutJint, ReferenceVariable, Return, SourceUnit, TestExpr, UInt32, Value, Variable, Void}
+use Rattle.syntax.specs.Tree.{Add, Assign, AssignElement, Binary, Declare, DeclareBuffer, DeclareChars, Equal, FromCall, FromExpr, If, JIntArray, JIntVariable, JObject, JString, Named, Null, Number, Perform, PutJint, ReferenceVariable, Return, SourceUnit, TestExpr, True, UInt32, Value, Variable, Void}
 use Rattle.type_rules.specs.SortRules.{UnknownName, DeclaredTwice, SortMisfit, UnknownFunction, ArgumentCount, ReferenceCopied, BadMode, ReadOnlyWrite}
 use Rattle.test_equations.specs.Claims.{IsRefused}
 use Rattle.test_equations.proofs.Programs.{unit_of, native, block, static_reference, reference_parameter, int_parameter, call, given}
@@ -249,6 +249,71 @@ too_few_arguments =
 too_few_arguments-refused : IsRefused too_few_arguments 25 1
 unfolding opened
 too_few_arguments-refused = badly_sorted too_few_arguments ArgumentCount 1 refl refl
+
+-- a method without its ID
+-- JNIEXPORT void JNICALL Java_A_f(JNIEnv *env, jclass cls) { (*env)->CallStaticVoidMethod(env, cls); return; }
+abbrev pub a_method_without_its_id : SourceUnit
+a_method_without_its_id =
+    unit_of
+    (native 1 Void (codes "Java_A_f") []
+    (Perform 1 (call (codes "CallStaticVoidMethod") (given (codes "cls") ∷ []))
+    ∷ Return 1
+    ∷ [])
+    1
+    ∷ [])
+
+a_method_without_its_id-refused : IsRefused a_method_without_its_id 25 1
+unfolding opened
+a_method_without_its_id-refused = badly_sorted a_method_without_its_id ArgumentCount 1 refl refl
+
+-- seventeen arguments for a method
+-- JNIEXPORT void JNICALL Java_A_f(JNIEnv *env, jclass cls) {
+-- (*env)->CallStaticVoidMethod(env, cls, NULL, 1, 2, 3, 4, 5, 6, 7, 8, 9, 10, 11, 12, 13, 14, 15, 16, 17); return; }
+abbrev pub seventeen_arguments_for_a_method : SourceUnit
+seventeen_arguments_for_a_method =
+    unit_of
+    (native 1 Void (codes "Java_A_f") []
+    (Perform 2 (call (codes "CallStaticVoidMethod") (given (codes "cls") ∷ Value (Named Null) ∷ Value (Number 1 false) ∷ Value (Number 2 false) ∷ Value (Number 3 false) ∷ Value (Number 4 false) ∷ Value (Number 5 false) ∷ Value (Number 6 false) ∷ Value (Number 7 false) ∷ Value (Number 8 false) ∷ Value (Number 9 false) ∷ Value (Number 10 false) ∷ Value (Number 11 false) ∷ Value (Number 12 false) ∷ Value (Number 13 false) ∷ Value (Number 14 false) ∷ Value (Number 15 false) ∷ Value (Number 16 false) ∷ Value (Number 17 false) ∷ []))
+    ∷ Return 2
+    ∷ [])
+    2
+    ∷ [])
+
+seventeen_arguments_for_a_method-refused : IsRefused seventeen_arguments_for_a_method 25 2
+unfolding opened
+seventeen_arguments_for_a_method-refused = badly_sorted seventeen_arguments_for_a_method ArgumentCount 2 refl refl
+
+-- a flag for a method
+-- JNIEXPORT void JNICALL Java_A_f(JNIEnv *env, jclass cls) { (*env)->CallStaticVoidMethod(env, cls, NULL, 1, JNI_TRUE); return; }
+abbrev pub a_flag_for_a_method : SourceUnit
+a_flag_for_a_method =
+    unit_of
+    (native 1 Void (codes "Java_A_f") []
+    (Perform 1 (call (codes "CallStaticVoidMethod") (given (codes "cls") ∷ Value (Named Null) ∷ Value (Number 1 false) ∷ Value (Named True) ∷ []))
+    ∷ Return 1
+    ∷ [])
+    1
+    ∷ [])
+
+a_flag_for_a_method-refused : IsRefused a_flag_for_a_method 23 1
+unfolding opened
+a_flag_for_a_method-refused = badly_sorted a_flag_for_a_method SortMisfit 1 refl refl
+
+-- nothing as a number
+-- JNIEXPORT void JNICALL Java_A_f(JNIEnv *env, jclass cls) { jint n = (*env)->CallStaticVoidMethod(env, cls, NULL); return; }
+abbrev pub nothing_as_a_number : SourceUnit
+nothing_as_a_number =
+    unit_of
+    (native 1 Void (codes "Java_A_f") []
+    (Declare 1 JIntVariable (codes "n") (FromCall (call (codes "CallStaticVoidMethod") (given (codes "cls") ∷ Value (Named Null) ∷ [])))
+    ∷ Return 1
+    ∷ [])
+    1
+    ∷ [])
+
+nothing_as_a_number-refused : IsRefused nothing_as_a_number 23 1
+unfolding opened
+nothing_as_a_number-refused = badly_sorted nothing_as_a_number SortMisfit 1 refl refl
 
 -- copied reference
 -- JNIEXPORT void JNICALL Java_A_f(JNIEnv *env, jclass cls, jobject o) { jobject x = o;
