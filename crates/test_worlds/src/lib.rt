@@ -6,6 +6,7 @@
 mod class_tables;
 #[cfg(test)]
 mod methods;
+#[cfg(test)]
 mod reading;
 #[cfg(test)]
 mod writing;
