@@ -42,6 +42,12 @@ pub const MOST_ENTRIES: usize = 1_000_000;
 /// The greatest name of an object that a journal's text may have.
 pub const MOST_NAME: u64 = 4_294_967_295;
 
+/// The most calls of a thread that are made from one another: the one in progress with its callers.
+pub const MOST_ACTIVATIONS: usize = 64;
+
+/// The most arguments of a call of a method, after its class and its method ID.
+pub const MOST_FURTHER: usize = 16;
+
 /// The most local references for which a thread's frames have capacity, all together.
 pub const MOST_REFERENCES: u32 = 1_024;
 

@@ -2,7 +2,7 @@
 
 ghost use Rattle.std.specs.Prelude.{◌≡◌, [], ◌∷◌, List, length, zip, IfSome, IfNone};
 ghost use Rattle.syntax.specs.Tree.{Argument};
-ghost use Rattle.jni.specs.JniFunction.{calls_method, parameters_for};
+ghost use Rattle.jni.specs.JniFunction.{parameters_for};
 ghost use Rattle.jni.specs.Table.{function_value, parameter_value};
 ghost use Rattle.code_meaning.specs.Arguments.{paired};
 
@@ -16,18 +16,6 @@ pub struct Parameters {
     calls: bool,
 }
 
-/// Whether a function calls a method.
-fn calls_method(function: JniFunction) -> bool
-    ensures { result ≡ calls_method (function_value function) }
-{
-    matches!(
-        function,
-        JniFunction::CallStaticVoidMethod
-            | JniFunction::CallStaticIntMethod
-            | JniFunction::CallStaticObjectMethod
-    )
-}
-
 impl Parameters {
     /// Those of all arguments of a call.
     #[tactic(auto, using(crate::proofs::Given::paired_alike))]
@@ -36,7 +24,7 @@ impl Parameters {
     {
         Parameters {
             own: function.prototype().parameters,
-            calls: calls_method(function),
+            calls: function.calls_method(),
         }
     }
 

@@ -3,7 +3,7 @@
 ghost use Rattle.std.specs.Prelude.{◌≡◌, ◌<◌, ◌≤◌, ◌-◌, [], Some, length, map, find, get_or, take, drop, slice_get};
 ghost use Rattle.std.specs.Option.{option_map};
 ghost use Rattle.base.specs.Element.{element_value};
-ghost use Rattle.jni.specs.JniFunction.{access_functions, all_functions, function_named, typed_functions};
+ghost use Rattle.jni.specs.JniFunction.{access_functions, all_functions, calls_method, function_named, typed_functions};
 ghost use Rattle.jni.specs.Table.{access_value, all_rows, facts, facts_of, function_value, functions_value, has_name};
 
 use crate::access::Access;
@@ -417,6 +417,19 @@ impl JniFunction {
         ensures { facts result.now ≡ facts_of (function_value self) }
     {
         row(self.number())
+    }
+
+    /// Whether the function calls a method, which is given the arguments after the class and the method ID (JNI
+    /// Specification, chapter 4, Calling Static Methods).
+    pub fn calls_method(self) -> bool
+        ensures { result ≡ calls_method (function_value self) }
+    {
+        matches!(
+            self,
+            JniFunction::CallStaticVoidMethod
+                | JniFunction::CallStaticIntMethod
+                | JniFunction::CallStaticObjectMethod
+        )
     }
 
     /// Whether this is the function's name.

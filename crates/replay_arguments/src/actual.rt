@@ -24,7 +24,7 @@ pub use jni::ReleaseMode;
 use jni::{JniFunction, ParameterKind};
 use replay_terms::{
     Content, MethodId, Operand, StaticReference, Term, Value, Variables, as_reference,
-    calls_method, held_reference, passed,
+    held_reference, passed,
 };
 use semantics::{Level, NO_OBJECT, ObjectId, ObjectValue};
 use std::alloc::{AllocError, Global};
@@ -67,7 +67,7 @@ pub fn actuals<'a>(
         function.prototype().parameters,
         operands,
     )?;
-    if !calls_method(function) {
+    if !function.calls_method() {
         return Ok(actuals);
     }
     push_passed(&mut actuals, shared, variables, passed(operands))?;

@@ -17,7 +17,7 @@ ghost use Rattle.replay_tasks.specs.Tasks.{task_view, is_unknown_call, Arguments
 
 use crate::outcome::{Purpose, Target, VariableKind, kind_of};
 use jni::{JniFunction, ParameterKind, function_named};
-use replay_terms::{Operand, Term, calls_method, passed, term_of};
+use replay_terms::{Operand, Term, passed, term_of};
 use std::alloc::{AllocError, Global};
 use syntax::{
     Argument, Block, Call, Constant, ElementType, Expr, Form, Name, RightSide, Stmt, Test,
@@ -162,7 +162,7 @@ fn push_arguments<'a>(
     ensures range { IfOk result (λ _. OperandsInRange operands.new.items) }
 {
     push_operands(alloc, operands, function.prototype().parameters, arguments)?;
-    if !calls_method(function) {
+    if !function.calls_method() {
         return Ok(());
     }
     push_passed(alloc, operands, passed(arguments))

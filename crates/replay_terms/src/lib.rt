@@ -15,7 +15,7 @@ mod variable;
 
 pub use buffers::BuffersInUse;
 pub use given::{Given, Lent, is_zero, static_result};
-pub use method::{MethodId, calls_method, passed};
+pub use method::{MethodId, passed};
 pub use operand::Operand;
 pub use reduction::{Reduction, reduce};
 pub use sight::{Indexed, held_reference, number_in, place_in};

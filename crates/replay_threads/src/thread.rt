@@ -22,6 +22,7 @@ ghost use Rattle.syntax.specs.declared.stmt.Block.{out-Block};
 ghost use Rattle.replay_arguments.specs.Shares.{shared_view};
 ghost use Rattle.replay_terms.specs.Views.{assign_all, content_view, variables_view};
 
+use base::limits::MOST_ACTIVATIONS;
 use class_queries::native_class;
 use class_rules::ClassId;
 use classes::table::ClassTable;
@@ -35,9 +36,6 @@ use semantics::{CALL_LEVEL, Ending, Event, ObjectId, Trap};
 use std::alloc::{AllocError, Global};
 use syntax::{Function, Parameter};
 use world_values::{Call, ObjectValue, World};
-
-/// How many calls of a thread may be in progress, each but the first made by the one before it.
-const MOST_ACTIVATIONS: usize = 64;
 
 /// A thread: the calls to come, the one in progress, those from which it was made, the pending exception, and how it has
 /// ended.

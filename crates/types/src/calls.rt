@@ -8,7 +8,7 @@ ghost use Rattle.syntax.specs.Views.{expr_tree, argument_tree, call_tree};
 ghost use Rattle.base.specs.Options.{some_passes};
 ghost use Rattle.type_rules.specs.Sorts.{is_unknown, is_null, is_reference, is_any_reference, name_sort, value_fits, address_fits, text_fits, argument_fits, arguments_fit, call_arguments_fit};
 ghost use Rattle.type_rules.specs.SortRules.{is_formed, is_mode, modes_fit, has_wrong_count, has_wrong_mode, result_fits, is_droppable, is_push, call_fits, may_be_dropped, may_be_tested};
-ghost use Rattle.jni.specs.JniFunction.{calls_method, takes_count};
+ghost use Rattle.jni.specs.JniFunction.{takes_count};
 ghost use Rattle.jni.specs.Prototype.{Passed};
 ghost use Rattle.jni.specs.Table.{function_value, parameter_value, result_value};
 ghost use Rattle.type_rules.specs.SortViews.{sort_value};
@@ -21,12 +21,10 @@ use crate::scope::{is_unknown, sort_in};
 use crate::sort::{
     is_array_of, is_buffer_for, is_field, is_flag, is_global, is_jint, is_method, is_ref, is_weak,
 };
+use base::limits::MOST_FURTHER;
 use jni::{JniFunction, ParameterKind, ResultKind};
 use syntax::{Argument, Call, Constant, Expr, Name};
 use type_rules::{Known, Sort};
-
-/// The most arguments of a call of a method, after its class and its method ID.
-pub(crate) const MOST_FURTHER: usize = 16;
 
 /// Whether an expression is NULL or the bare name of a reference.
 fn is_reference(known: &Known<'_, Sort>, e: &Expr) -> bool
@@ -132,18 +130,6 @@ fn arguments_fit(
     }
 }
 
-/// Whether a function calls a method.
-pub(crate) fn calls_method(function: JniFunction) -> bool
-    ensures { result ≡ calls_method (function_value function) }
-{
-    matches!(
-        function,
-        JniFunction::CallStaticVoidMethod
-            | JniFunction::CallStaticIntMethod
-            | JniFunction::CallStaticObjectMethod
-    )
-}
-
 /// Whether an argument is a release mode.
 fn is_mode(argument: &Argument) -> bool
     ensures { result ≡ is_mode (argument_tree argument.now) }
@@ -186,7 +172,7 @@ pub(crate) fn call_arguments_fit(
         Some(f) => arguments_fit(
             known,
             f.prototype().parameters,
-            calls_method(f),
+            f.calls_method(),
             &call.arguments,
         ),
     }
@@ -197,7 +183,7 @@ fn takes_count(function: JniFunction, count: usize) -> bool
     ensures { result ≡ takes_count (function_value function) count }
 {
     let own = function.prototype().parameters.len();
-    count == own || (calls_method(function) && own <= count && count <= own + MOST_FURTHER)
+    count == own || (function.calls_method() && own <= count && count <= own + MOST_FURTHER)
 }
 
 /// Whether a call has a number of arguments that its function doesn't take, as far as that is known.

@@ -1,11 +1,12 @@
 //! What is told of a broken rule: what was found, and what was wanted.
 
-use crate::calls::{MOST_FURTHER, argument_fits, calls_method};
+use crate::calls::argument_fits;
 use crate::expressions::{is_null, sort_of};
 use crate::fault::SortRule;
 use crate::scope::{has_name, is_unknown, sort_in};
 use crate::sort::{has_elements, is_index};
 use crate::statements::{declared, function_called, statement_fits};
+use base::limits::MOST_FURTHER;
 use details::{Detail, Question, first_name};
 use jni::{Access, JniFunction, ParameterKind, ResultKind};
 use syntax::{
@@ -394,7 +395,7 @@ fn unformed_argument(known: &Known<'_, Sort>, argument: &Argument) -> Option<Det
 fn parameter(function: JniFunction, number: usize) -> Option<ParameterKind> {
     match function.prototype().parameters.get(number) {
         Some(kind) => Some(*kind),
-        None if calls_method(function) => Some(ParameterKind::Passed),
+        None if function.calls_method() => Some(ParameterKind::Passed),
         None => None,
     }
 }
@@ -475,7 +476,7 @@ fn declared_name(form: &Form) -> Option<&Name> {
 fn with_count(detail: Detail, function: JniFunction) -> Detail {
     let own = function.prototype().parameters.len();
     let detail = detail.number(own);
-    if calls_method(function) {
+    if function.calls_method() {
         return detail
             .words(b" to ")
             .number(own.saturating_add(MOST_FURTHER));
