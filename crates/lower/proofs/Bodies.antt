@@ -1,7 +1,7 @@
 -- The code of a block stands for its statements, wherever it is.
 use Rattle.code.specs.declared.instr.Instr.{Instr}
 use Rattle.code.specs.Call as calls
-use Rattle.lower.proofs.CallSteps.{untouched_are_begun, untouched_are_held}
+use Rattle.lower.proofs.CallOperands.{untouched_are_begun, untouched_are_held}
 use Rattle.std.specs.Prelude.{zip}
 use Rattle.std.specs.List.{AllZip}
 use Rattle.std.proofs.Common.{◌≡◌, ℕ, ◌+◌, ◌⊎◌, inl, inr, Bool, true, false, List, [], ◌∷◌, ◌++◌, length, Option, Some, refl, sym, ap, ◌∙◌, subst, arith, length-append, map, suc}

@@ -4,6 +4,7 @@ pub mod Layouts
 pub mod Bodies
 pub mod WaysReturn
 pub mod Steps
+pub mod CallOperands
 pub mod CallSteps
 pub mod BlockSteps
 pub mod EntryLaws
