@@ -6,7 +6,7 @@ use Rattle.syntax.specs.Tree.{SourceUnit}
 use Rattle.semantics.specs.Journal.{Entry, Step, Journal}
 use Rattle.semantics.specs.Schedule.{Schedule}
 use Rattle.semantics.specs.World.{World}
-use Rattle.semantics.specs.Run.{EachFrom, replay, replay_from, Follows, Over, Collects, Clears, Waits, Steps, ClearsAndSteps}
+use Rattle.semantics.specs.Run.{EachFrom, replay, replay_from, Follows, Over, Collects, Clears, Slices, SliceClears, Waits, Steps, ClearsAndSteps}
 use Rattle.semantics.specs.Start.{start}
 use Rattle.semantics.specs.State.{State}
 use Rattle.semantics.specs.Step.{world_step}
@@ -33,6 +33,8 @@ module _ (unit : SourceUnit) (w : World) where
   follows-replay (Over s) = refl
   follows-replay (Collects s end j words l h) = follows-replay h
   follows-replay (Clears s next end names j words c h) = ap (option_and_then (λ s'. replay_from unit w s' j)) c.possible ∙ follows-replay h
+  follows-replay (Slices s end j words h) = follows-replay h
+  follows-replay (SliceClears s next end names j words c h) = ap (option_and_then (λ s'. replay_from unit w s' j)) c ∙ follows-replay h
   follows-replay (Waits s end k j words e h) = follows-replay h
   follows-replay (Steps s next end k refused j words c e h) = ap (option_and_then (λ s'. replay_from unit w s' j)) e ∙ follows-replay h
   follows-replay (ClearsAndSteps s between next end names k refused j words c m l e h) =
@@ -43,6 +45,8 @@ module _ (unit : SourceUnit) (w : World) where
   follows-append k more end (Over s) g = g
   follows-append k more end (Collects s m j words l h) g = Collects s end (j ++ k) (words ++ more) l (follows-append k more end h g)
   follows-append k more end (Clears s next m names j words c h) g = Clears s next end names (j ++ k) (words ++ more) c (follows-append k more end h g)
+  follows-append k more end (Slices s m j words h) g = Slices s end (j ++ k) (words ++ more) (follows-append k more end h g)
+  follows-append k more end (SliceClears s next m names j words c h) g = SliceClears s next end names (j ++ k) (words ++ more) c (follows-append k more end h g)
   follows-append k more end (Waits s m n j words e h) g = Waits s end n (j ++ k) (words ++ more) e (follows-append k more end h g)
   follows-append k more end (Steps s next m n refused j words c e h) g = Steps s next end n refused (j ++ k) (words ++ more) c e (follows-append k more end h g)
   follows-append k more end (ClearsAndSteps s between next m names n refused j words c made l e h) g =

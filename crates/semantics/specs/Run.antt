@@ -5,7 +5,7 @@ use Rattle.syntax.specs.Tree.{SourceUnit}
 use Rattle.semantics.specs.Journal.{Entry, Step, Clearing, Journal, is_step_of}
 use Rattle.semantics.specs.Object.{Object, sizes}
 use Rattle.semantics.specs.declared.printed.Printed.{Printed}
-use Rattle.semantics.specs.declared.schedule.ScheduleWord.TheVariants.{Turn, Collect}
+use Rattle.semantics.specs.declared.schedule.ScheduleWord.TheVariants.{Turn, Collect, Slice}
 use Rattle.semantics.specs.Schedule.{Schedule}
 use Rattle.semantics.specs.World.{World}
 use Rattle.semantics.specs.Reachable.{live_size}
@@ -46,13 +46,17 @@ pub record ClearsLost (w : World) (s : State) (names : List ℕ) (next : State) 
 
 -- Walking the schedule and the replay together, from a state to another. A thread's word gives its entry where the thread can step, marked
 -- or not, and none where it can't; where the step makes objects, the clearing of all that is lost may stand before it. A collection gives
--- that clearing, and no entry where nothing is lost.
+-- that clearing, and no entry where nothing is lost. A slice gives no entry, or one clearing that is possible.
 pub data Follows (unit : SourceUnit) (w : World) : State → Journal → Schedule → State → Type 0 where
   Over : (s : State) → Follows unit w s [] [] s
   Collects : (s end : State) (journal : Journal) (words : Schedule) → lost w s ≡ []
       → Follows unit w s journal words end → Follows unit w s journal (Collect ∷ words) end
   Clears : (s next end : State) (names : List ℕ) (journal : Journal) (words : Schedule) → ClearsLost w s names next
       → Follows unit w next journal words end → Follows unit w s (Clearing names ∷ journal) (Collect ∷ words) end
+  Slices : (s end : State) (journal : Journal) (words : Schedule)
+      → Follows unit w s journal words end → Follows unit w s journal (Slice ∷ words) end
+  SliceClears : (s next end : State) (names : List ℕ) (journal : Journal) (words : Schedule) → clearing_step w s names ≡ Some next
+      → Follows unit w next journal words end → Follows unit w s (Clearing names ∷ journal) (Slice ∷ words) end
   Waits : (s end : State) (k : ℕ) (journal : Journal) (words : Schedule) → can_step w.classes s k ≡ false
       → Follows unit w s journal words end → Follows unit w s journal (Turn k ∷ words) end
   Steps : (s next end : State) (k : ℕ) (refused : Bool) (journal : Journal) (words : Schedule)

@@ -7,4 +7,6 @@ pub enum ScheduleWord {
     Turn(u8),
     /// A collection of the heap.
     Collect,
+    /// A slice of a marking.
+    Slice,
 }
