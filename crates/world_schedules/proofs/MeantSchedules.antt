@@ -13,7 +13,7 @@ use Rattle.std.proofs.lemmas.List.Concat.{flat_map-cons}
 use Rattle.std.proofs.lemmas.List.Sums.{sum_by-cons}
 use Rattle.std.proofs.lemmas.Str.Parse.{numerals_by_value, tells_all_ascii_digits}
 use Rattle.semantics.specs.declared.schedule.ScheduleWord.{ScheduleWord}
-use Rattle.semantics.specs.declared.schedule.ScheduleWord.TheVariants.{Turn, Collect}
+use Rattle.semantics.specs.declared.schedule.ScheduleWord.TheVariants.{Turn, Collect, Slice}
 use Rattle.world_schedules.specs.declared.schedule.Repetition.{Repetition}
 use Rattle.world_schedules.specs.Numbers.{digits_number, natural_of}
 use Rattle.world_schedules.specs.Split.{parts_of}
@@ -47,10 +47,11 @@ natural_of-decimal n low small =
 named : (k : ℕ) → 1 ≤ k → k ≤ 8 → named_word (48 + k) ≡ Some (Turn k)
 named k low high =
     let n : ((48 + k) == 99) ≡ false = grind (arith, nat_tests) in
+    let s : ((48 + k) == 115) ≡ false = grind (arith, nat_tests) in
     let a : nat_le 49 (48 + k) ≡ true = grind (arith, nat_tests) in
     let b : nat_le (48 + k) 56 ≡ true = grind (arith, nat_tests) in
     let c : (48 + k) - 48 ≡ k = omega arith in
-    rw (n, a, b, c) refl
+    rw (n, s, a, b, c) refl
 
 -- the repetition that is read of a word
 abbrev pub repetition_for : ScheduleWord × Option ℕ → Repetition
@@ -94,10 +95,13 @@ word_is_read threads (Turn k, Some n) most turn count =
     record { name = 48 + k; rest = 42 ∷ decimal n; bytes = ap (λ (ds : List ℕ). ds ++ codes "*" ++ decimal n) (decimal_digit k (omega arith)); is = often_read (48 + k) (Turn k) n (named k t.0 high) count }
 word_is_read threads (Collect, None) most turn count = record { name = 99; rest = []; bytes = refl; is = once_read 99 Collect refl }
 word_is_read threads (Collect, Some n) most turn count = record { name = 99; rest = 42 ∷ decimal n; bytes = refl; is = often_read 99 Collect n refl count }
+word_is_read threads (Slice, None) most turn count = record { name = 115; rest = []; bytes = refl; is = once_read 115 Slice refl }
+word_is_read threads (Slice, Some n) most turn count = record { name = 115; rest = 42 ∷ decimal n; bytes = refl; is = often_read 115 Slice n refl count }
 
 known_turn : (threads : ℕ) (word : ScheduleWord) → is_turn threads word ≡ true → is_known_turn threads word ≡ true
 known_turn threads (Turn k) t = (both_true (nat_le 1 k) (nat_le k threads) t).1
 known_turn threads Collect t = refl
+known_turn threads Slice t = refl
 
 -- ---- all words
 

@@ -15,7 +15,7 @@ use Rattle.std.proofs.lemmas.List.Sums.{sum_by-cons}
 use Rattle.std.proofs.lemmas.Str.Parse.{numerals_by_value, tells_all_ascii_digits}
 use Rattle.base.specs.Bytes.{is_some_byte}
 use Rattle.semantics.specs.declared.schedule.ScheduleWord.{ScheduleWord}
-use Rattle.semantics.specs.declared.schedule.ScheduleWord.TheVariants.{Turn, Collect}
+use Rattle.semantics.specs.declared.schedule.ScheduleWord.TheVariants.{Turn, Collect, Slice}
 use Rattle.world_schedules.specs.declared.schedule.Repetition.{Repetition}
 use Rattle.world_schedules.specs.Numbers.{digits_number, natural_of}
 use Rattle.world_schedules.specs.Split.{parts_of}
@@ -78,6 +78,7 @@ pub record IsWord (name : ℕ) (word : ScheduleWord) : Type 0 where
 pub known_is : (threads : ℕ) (word : ScheduleWord) → is_turn 8 word ≡ true → is_known_turn threads word ≡ is_turn threads word
 known_is threads (Turn k) h = ap (λ b. b && nat_le k threads) (sym (both_true (nat_le 1 k) (nat_le k 8) h).0)
 known_is threads Collect h = refl
+known_is threads Slice h = refl
 
 turn_read : (name : ℕ) (word : ScheduleWord) → named_turn name ≡ Some word → IsWord name word
 turn_read name word h =
@@ -93,12 +94,19 @@ turn_read name word h =
 word_read : (name : ℕ) (word : ScheduleWord) → named_word name ≡ Some word → IsWord name word
 word_read name word h = by_test (name == 99) refl h
   where
-    by_test : (b : Bool) → (name == 99) ≡ b → cond b (Some Collect) (named_turn name) ≡ Some word → IsWord name word
+    other : (b : Bool) → (name == 115) ≡ b → cond b (Some Slice) (named_turn name) ≡ Some word → IsWord name word
+    other true t h =
+        let mark : 115 ≡ name = grind (arith, nat_tests, t) in
+        let same : Slice ≡ word = cc (h) in
+        subst (IsWord name) same (record { text = ap (λ n. n ∷ []) mark; allowed = refl })
+    other false t h = turn_read name word h
+
+    by_test : (b : Bool) → (name == 99) ≡ b → cond b (Some Collect) (cond (name == 115) (Some Slice) (named_turn name)) ≡ Some word → IsWord name word
     by_test true t h =
         let mark : 99 ≡ name = grind (arith, nat_tests, t) in
         let same : Collect ≡ word = cc (h) in
         subst (IsWord name) same (record { text = ap (λ n. n ∷ []) mark; allowed = refl })
-    by_test false t h = turn_read name word h
+    by_test false t h = other (name == 115) refl h
 
 -- a word with its repetition, and what it stands for
 pub record IsRepetition (bytes : List ℕ) (r : Repetition) : Type 0 where

@@ -3,7 +3,7 @@ use Rattle.std.specs.Prelude.{◌≡◌, ℕ, ◌≤◌, Bool, true, ◌&&◌, L
 use Rattle.std.specs.List.{list_all}
 use Rattle.base.specs.Limits.{most_entries}
 use Rattle.semantics.specs.declared.schedule.ScheduleWord.{ScheduleWord}
-use Rattle.semantics.specs.declared.schedule.ScheduleWord.TheVariants.{Turn, Collect}
+use Rattle.semantics.specs.declared.schedule.ScheduleWord.TheVariants.{Turn, Collect, Slice}
 use Rattle.semantics.specs.Schedule.{Schedule}
 use Rattle.world_schedules.specs.Words.{words_of, is_thread}
 
@@ -11,6 +11,7 @@ use Rattle.world_schedules.specs.Words.{words_of, is_thread}
 abbrev pub turn_text : ScheduleWord → List ℕ
 turn_text (Turn k) = decimal k
 turn_text Collect = codes "c"
+turn_text Slice = codes "s"
 
 -- a word, or a word and *N, which stands for N of them
 abbrev pub schedule_word : ScheduleWord × Option ℕ → List ℕ
@@ -22,10 +23,11 @@ abbrev pub words_meant : ScheduleWord × Option ℕ → Schedule
 words_meant (word, None) = word ∷ []
 words_meant (word, Some n) = replicate n word
 
--- a turn of a thread that the world has, or a collection
+-- a turn of a thread that the world has, a collection, or a slice
 abbrev pub is_turn : (threads : ℕ) → ScheduleWord → Bool
 is_turn threads (Turn k) = is_thread threads k
 is_turn threads Collect = true
+is_turn threads Slice = true
 
 -- a number that may come after *
 abbrev pub is_count : Option ℕ → Bool

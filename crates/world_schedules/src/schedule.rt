@@ -68,7 +68,7 @@ impl Word for Repetition {
     fn is_known(&self, threads: u8) -> bool {
         match self.word {
             ScheduleWord::Turn(thread) => thread <= threads,
-            ScheduleWord::Collect => true,
+            ScheduleWord::Collect | ScheduleWord::Slice => true,
         }
     }
 
@@ -92,12 +92,13 @@ fn repetition_of(bytes: &[u8]) -> Option<Repetition>
     }
 }
 
-/// The turn of the thread of this digit, or a collection.
+/// The turn of the thread of this digit, a collection, or a slice.
 fn word_of(name: u8) -> Option<ScheduleWord>
     ensures { result ≡ named_word name }
 {
     match name {
         b'c' => Some(ScheduleWord::Collect),
+        b's' => Some(ScheduleWord::Slice),
         b'1'..=b'8' => Some(ScheduleWord::Turn(name - b'0')),
         _ => None,
     }
