@@ -6,7 +6,7 @@ use Rattle.std.proofs.lemmas.Bool.Decides.{eqb_tells}
 use Rattle.std.proofs.lemmas.List.{length-set}
 use Rattle.heap.specs.declared.value.Value.{Value}
 use Rattle.heap.specs.declared.value.Value.TheVariants.{Block as Reference}
-use Rattle.heap.specs.Heap.{Block, Space, IsAddress, block_at, fresh_block, with_block, with_changed, with_pins, with_value}
+use Rattle.heap.specs.Heap.{Block, Space, IsAddress, block_at, fresh_block, with_block, with_changed, with_noted, with_pins, with_value}
 use Rattle.heap.proofs.Changes.{LeavesPlace, changed, changed_here, changed_elsewhere}
 use Rattle.heap.proofs.Spaces.{block_at-changed}
 use Rattle.compact.specs.Reach.{IsClosed, AreAddresses}
@@ -15,6 +15,11 @@ use Rattle.compact.specs.Reach.{IsClosed, AreAddresses}
 
 pub none_named : (s : Space) → AreAddresses s []
 none_named s a m = absurd (omega (arith, m.1))
+
+-- ---- a block noted
+
+pub closed_noted : (s : Space) (v : Value) → IsClosed s → IsClosed (with_noted v s)
+closed_noted s v closed a b some r = closed a b some (record { place = r.place; value = r.value })
 
 -- ---- a further block
 
@@ -122,7 +127,7 @@ module _ (s : Space) (at place : ℕ) (v : Value) where
   value_named = changed_named s at change leaves
 
   pub closed_with_value : ((x : ℕ) → v ≡ Reference x → IsAddress s x) → IsClosed s → IsClosed (with_value s at place v)
-  closed_with_value value = closed_changed s at change leaves (λ b k c e. ⊎_elim (λ (old : slice_get b.values k ≡ Some (Reference c)). inl old) (λ (new : v ≡ Reference c). inr (value c new)) (set_cases b.values place k v (Reference c) e))
+  closed_with_value value closed = closed_noted (with_changed s at change) v (closed_changed s at change leaves (λ b k c e. ⊎_elim (λ (old : slice_get b.values k ≡ Some (Reference c)). inl old) (λ (new : v ≡ Reference c). inr (value c new)) (set_cases b.values place k v (Reference c) e)) closed)
 
 -- other pins
 module _ (s : Space) (at n : ℕ) where

@@ -6,7 +6,7 @@ ghost use Rattle.heap.specs.Heap.{IsAddress};
 ghost use Rattle.compact.specs.Reach.{IsClosed, AreAddresses};
 
 use base::limits::MOST_CELLS;
-use compact::{Roots, WeakList, collect, collect_weak};
+use compact::{Roots, WeakList, collect, collect_weak, mark_on, slice};
 use heap::{Addr, Heap, MOST_PINS, Value};
 use std::alloc::{AllocError, Global};
 
@@ -137,6 +137,21 @@ impl Closed {
     /// Ends all roots.
     pub fn forget_roots(&mut self) {
         self.roots.places.clear();
+    }
+
+    /// Takes a slice of a marking.
+    pub fn slice(&mut self, alloc: Global) -> Result<(), AllocError> {
+        slice(alloc, &mut self.heap, &mut self.roots, &mut self.weak)
+    }
+
+    /// Marks on as a slice does, where more blocks wait than a slice marks. Whether it did.
+    pub fn mark_on(&mut self) -> bool {
+        mark_on(&mut self.heap)
+    }
+
+    /// How many blocks the marking has marked that is under way.
+    pub fn marked(&self) -> Option<usize> {
+        self.heap.marked()
     }
 
     /// Collects; weak references end before.

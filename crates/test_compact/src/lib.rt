@@ -5,3 +5,5 @@
 mod closed;
 #[cfg(test)]
 mod collections;
+#[cfg(test)]
+mod slices;

@@ -14,3 +14,6 @@ invariant_of-self c =
       rooted = subst (λ (s : Space). AreAddresses s old.roots.places.items) (sym c.set.ensures) (value_named old.heap a c.args.index v old.roots.places.items old.rooted);
       followed = subst (λ (s : Space). AreAddresses s old.weak.places.items) (sym c.set.ensures) (value_named old.heap a c.args.index v old.weak.places.items old.followed);
     }
+
+pub set-requires-clause-target : goal.set-requires-clause-target
+set-requires-clause-target c some b e = c.value_of-value.ensures b e
