@@ -3,10 +3,13 @@ use Rattle.std.proofs.Common.{◌≡◌, ◌≤◌, ℕ, List, [], ◌∷◌, �
 use Rattle.std.specs.List.{AllZip}
 use Rattle.std.proofs.Math.ListN.{drop_of_length-le}
 use Rattle.std.proofs.Math.Seq.{drop-append_seam}
+use Rattle.heap.specs.declared.value.Value.{Value}
+use Rattle.heap.specs.declared.value.Value.TheVariants.{Number as Word, Null, Block as Address}
 use Rattle.heap.specs.Heap.{Space, left_of, name_at}
 use Rattle.heap.specs.Layout.{layout_of}
+use Rattle.heap.proofs.Staying.{stays_same}
 use Rattle.semantics.specs.Heap.{Heap}
-use Rattle.semantics.specs.Object.{Reference, sizes}
+use Rattle.semantics.specs.Object.{ObjectValue, Number, Refers, Reference, sizes}
 use Rattle.semantics.specs.Thread as source
 use Rattle.semantics.specs.Thread.{Shared}
 use Rattle.semantics.specs.Variable.{StaticReference, Empty, Live, Weakly, Cleared, Deleted, Statics}
@@ -15,7 +18,7 @@ use Rattle.machine_scenes.specs.declared.references.Held.{Held}
 use Rattle.machine_scenes.specs.declared.references.Held.TheVariants as held
 use Rattle.machine_scenes.specs.Locals.{FrameAgrees, FramesAgree, IsKeyOf, KeysAgree}
 use Rattle.tables.specs.Locals.{LocalTable, FrameSlots, by_frame}
-use Rattle.machine_scenes.specs.HeapAgrees.{ReferenceAgrees, NamesAgree, SlotsAgree}
+use Rattle.machine_scenes.specs.HeapAgrees.{ReferenceAgrees, ValueAgrees, ValuesAgree, NamesAgree, SlotsAgree}
 use Rattle.machine_scenes.specs.StoreAgrees.{AreWeaklyThere, HeldAgrees, Keeps, StaticsAgree}
 use Rattle.machine_scenes.proofs.ObjectExtents.{none_laid}
 
@@ -37,6 +40,7 @@ keeps_same space shared = record {
   shapes = λ n o at. (o, at, refl, refl);
   room = none_made space shared.heap shared.heap (omega arith);
   laid = none_laid (layout_of space) (layout_of space) (length shared.heap + 1) shared.heap shared.heap (omega arith) refl;
+  marking = stays_same space.marking;
   few = omega arith;
 }
 
@@ -49,13 +53,27 @@ module _ (space space' : Space) (names : (a n : ℕ) → name_at space a ≡ Som
   reference_stays (Some a) None h = h
   reference_stays (Some a) (Some n) h = names a n h
 
+  pub value_stays : (w : Value) (v : ObjectValue) → ValueAgrees space w v → ValueAgrees space' w v
+  value_stays (Word n) (Number z) h = h
+  value_stays (Word n) (Refers r) h = h
+  value_stays Null (Number z) h = h
+  value_stays Null (Refers r) h = reference_stays None r h
+  value_stays (Address a) (Number z) h = h
+  value_stays (Address a) (Refers r) h = reference_stays (Some a) r h
+
+  pub values_stay : (ws : List Value) (vs : List ObjectValue) → ValuesAgree space ws vs → ValuesAgree space' ws vs
+  values_stay [] [] h = h
+  values_stay [] (v ∷ vs) h = h
+  values_stay (w ∷ ws) [] h = h
+  values_stay (w ∷ ws) (v ∷ vs) h = (value_stays w v h.0, values_stay ws vs h.1)
+
   pub names_stay : (xs ns : List ℕ) → NamesAgree space xs ns → NamesAgree space' xs ns
   names_stay [] [] h = h
   names_stay [] (n ∷ ns) h = h
   names_stay (a ∷ xs) [] h = h
   names_stay (a ∷ xs) (n ∷ ns) h = (names a n h.0, names_stay xs ns h.1)
 
-  held_stays : (h : Held) (r : StaticReference) → HeldAgrees space h r → HeldAgrees space' h r
+  pub held_stays : (h : Held) (r : StaticReference) → HeldAgrees space h r → HeldAgrees space' h r
   held_stays held.Empty Empty e = e
   held_stays held.Empty (Live n) e = e
   held_stays held.Empty (Weakly n) e = e

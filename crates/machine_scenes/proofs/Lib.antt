@@ -9,6 +9,7 @@ pub mod KeyLaws
 pub mod Loaded
 pub mod LocalFrames
 pub mod LookUps
+pub mod Noted
 pub mod ObjectExtents
 pub mod ObjectsAtAddresses
 pub mod OperandsThere

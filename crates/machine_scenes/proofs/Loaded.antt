@@ -1,11 +1,12 @@
 -- Objects that are made one after another.
-use Rattle.std.proofs.Common.{◌≡◌, ℕ, suc, ◌+◌, ◌≤◌, Bool, true, false, cond, eqb, List, [], ◌∷◌, ◌++◌, length, map, Option, refl, sym, ap, ◌∙◌, subst, arith, ⊎_elim, length-append}
-use Rattle.std.specs.Option.{option_map_or}
+use Rattle.std.proofs.Common.{◌≡◌, ℕ, suc, ◌+◌, ◌≤◌, Bool, true, false, cond, eqb, List, [], ◌∷◌, ◌++◌, length, map, Option, None, refl, sym, ap, ◌∙◌, subst, arith, ⊎_elim, length-append}
+use Rattle.std.specs.Option.{option_map, option_map_or}
 use Rattle.std.proofs.lemmas.Bool.Decides.{eqb_tells}
 use Rattle.std.proofs.lemmas.List.{map-append}
 use Rattle.heap.specs.declared.value.Value.{Value}
 use Rattle.heap.specs.Heap.{Block, Space, block_end, end_from, end_of, left_of, LieFrom, IsLaidOut, values_at, with_block, with_changed}
 use Rattle.heap.specs.Layout.{top_from}
+use Rattle.heap.specs.Marks.{with_new}
 use Rattle.heap.proofs.Extents.{top_is}
 use Rattle.heap.proofs.Layouts.{from_below_end, LieFrom-push}
 use Rattle.semantics.specs.Object.{Object, ObjectValue, size, sizes}
@@ -16,13 +17,14 @@ use Rattle.machine_scenes.proofs.HeapLaws.{IsNext, block_new, agrees_with_block,
 use Rattle.machine_scenes.proofs.Taken.{unpinned_push}
 
 -- nothing has been made
-pub none_made : (cells : ℕ) → AreMade (record { cells = cells; blocks = [] }) [] []
+pub none_made : (cells : ℕ) → AreMade (record { cells = cells; blocks = []; marking = None }) [] []
 none_made cells = record {
   agree = record { blocks = tt; unique = λ i j d below within. absurd (omega arith) };
   table = record { counted = refl; named = λ i a at. absurd (cc) };
   laid_out = let low : 0 ≤ cells = omega arith in low;
   laid = refl;
   unpinned = λ a. refl;
+  unmarked = refl;
 }
 
 -- as many cells as values
@@ -50,6 +52,7 @@ made_more s addresses objects b o h next room =
       laid_out = LieFrom-push 0 s.blocks b s.cells h.laid_out (omega arith) (omega arith);
       laid = laid_more s b objects o h.laid birth after (omega (arith, long));
       unpinned = unpinned_push s b next.unpinned h.unpinned;
+      unmarked = ap (option_map (with_new b.address)) h.unmarked;
     }
 
 -- ---- a change of the highest block
@@ -65,8 +68,8 @@ blocks_below change from a (b ∷ bs) cells h e =
     ∙ ap (λ (l : List Block). b ∷ l) (blocks_below change (block_end b) a bs cells h.1 e))
     (eqb_tells b.address a)
 
-pub changed_new : (s : Space) (b : Block) (change : Block → Block) → IsLaidOut s → b.address ≡ end_of s → with_changed (with_block s b) b.address change ≡ with_block s (change b)
-changed_new s b change laid after =
+pub changed_new : (s : Space) (b : Block) (change : Block → Block) → IsLaidOut s → b.address ≡ end_of s → (change b).address ≡ b.address → with_changed (with_block s b) b.address change ≡ with_block s (change b)
+changed_new s b change laid after same =
     let here : map (λ (c : Block). cond (eqb c.address b.address) (change c) c) (b ∷ []) ≡ change b ∷ [] =
     ⊎_elim
     (λ (t : (eqb b.address b.address ≡ true) × (b.address ≡ b.address)). ap (λ (c : Bool). cond c (change b) b ∷ []) t.0)
@@ -76,7 +79,8 @@ changed_new s b change laid after =
     map-append (λ (c : Block). cond (eqb c.address b.address) (change c) c) s.blocks (b ∷ [])
     ∙ ap (λ (l : List Block). l ++ map (λ (c : Block). cond (eqb c.address b.address) (change c) c) (b ∷ [])) (blocks_below change 0 b.address s.blocks s.cells laid (omega arith))
     ∙ ap (λ (l : List Block). s.blocks ++ l) here in
-    ap (λ (l : List Block). let t : Space = record { cells = s.cells; blocks = l } in t) all
+    ap (λ (l : List Block). let t : Space = record s { blocks = l; marking = option_map (with_new b.address) s.marking } in t) all
+    ∙ ap (λ (a : ℕ). let t : Space = record s { blocks = s.blocks ++ change b ∷ []; marking = option_map (with_new a) s.marking } in t) (sym same)
 
 pub values_new : (s : Space) (b : Block) → IsLaidOut s → b.address ≡ end_of s → values_at (with_block s b) b.address ≡ b.values
 values_new s b laid after = ap (λ (o : Option Block). option_map_or (λ (b : Block). b.values) o []) (block_new s b laid after)

@@ -91,3 +91,4 @@ pub record AreMade (space : Space) (addresses : List ℕ) (objects : Heap) : Typ
   pub laid_out : IsLaidOut space
   pub laid : layout_of space ≡ laid_from 1 0 objects
   pub unpinned : (a : ℕ) → pins_at space a ≡ 0
+  pub unmarked : space.marking ≡ None

@@ -6,6 +6,7 @@ use Rattle.syntax.specs.Tree.{Static}
 use Rattle.syntax.specs.Views.{unit_tree}
 use Rattle.heap.specs.Heap.{Space, IsLaidOut, left_of, name_at}
 use Rattle.heap.specs.Layout.{layout_of}
+use Rattle.heap.specs.Marking.{MarkingStays}
 use Rattle.semantics.specs.Heap.{Heap, next_name, object_at}
 use Rattle.semantics.specs.Object.{Object, sizes}
 use Rattle.semantics.specs.World.{World, loaded_objects}
@@ -89,5 +90,7 @@ pub record Keeps (space : Space) (shared : Shared) (space' : Space) (shared' : S
   -- what was made had room after the highest block, where it lies now; no other block went elsewhere, and none is gone
   pub room : sizes (drop (length shared.heap) shared'.heap) ≤ left_of space
   pub laid : layout_of space' ≡ with_objects (layout_of space) (next_name shared.heap) (drop (length shared.heap) shared'.heap)
+  -- a marking goes on: what it keeps it still keeps
+  pub marking : MarkingStays space.marking space'.marking
   -- no step makes more than two objects
   pub few : length shared'.heap ≤ length shared.heap + 2
