@@ -1,6 +1,6 @@
 //! The objects that are there when a run begins.
 
-ghost use Rattle.std.specs.Prelude.{◌≡◌, ◌+◌, ◌^◌, ◌<◌, ◌≤◌, [], ◌∷◌, ◌++◌, length, map, replicate, take, IfOk, OnOk, IsTrue};
+ghost use Rattle.std.specs.Prelude.{◌≡◌, ◌+◌, ◌^◌, ◌<◌, ◌≤◌, [], ◌∷◌, ◌++◌, length, map, replicate, take, None, IfOk, OnOk, IsTrue};
 ghost use Rattle.std.specs.List.{list_all};
 ghost use Rattle.heap.specs.Heap.{IsLaidOut, left_of};
 ghost use Rattle.machine_scenes.specs.HeapAgrees.{AreMade};
@@ -147,6 +147,7 @@ fn make(
     requires room { 3 + length values.now ≤ left_of heap.old }
     requires few { length loaded.old.items < MOST_CELLS }
     requires laid_out { IsLaidOut heap.old }
+    requires unmarked { heap.old.marking ≡ None }
     requires given { IsTrue (list_all (is_argument (length loaded.old.items)) (map object_value_view values.now)) }
     ensures made { (objects : Objects) → AreMade heap.old loaded.old.items objects
         → OnOk result (AreMade heap.new loaded.new.items (objects ++ record { class = class.number; values = map object_value_view values.now } ∷ [])) }

@@ -1,17 +1,18 @@
-use Rattle.std.proofs.Common.{◌≡◌, ℕ, suc, ◌+◌, ◌<◌, true, List, [], ◌∷◌, ◌++◌, length, map, Some, sym, ap, ◌∙◌, subst, arith}
-use Rattle.std.specs.Prelude.{slice_get, slice_index_or}
+use Rattle.std.proofs.Common.{◌≡◌, ℕ, suc, ◌+◌, ◌<◌, true, false, List, [], ◌∷◌, ◌++◌, length, map, Option, Some, None, sym, ap, ◌∙◌, subst, arith}
+use Rattle.std.specs.Prelude.{slice_get, slice_index_or, IsSome}
 use Rattle.std.specs.Option.{option_map}
 use Rattle.std.proofs.lemmas.List.{length-map}
 use Rattle.std.proofs.lemmas.Option.{slice_get-map, slice_get-get_or}
 use Rattle.heap.specs.declared.value.Value.TheVariants.{Null}
 use Rattle.heap.specs.Heap.{Space, end_of, fresh_block, with_block, with_value, values_at}
+use Rattle.heap.specs.Marks.{Marks, with_new}
 use Rattle.semantics.specs.Object.{ObjectValue}
 use Rattle.world_values.proofs.LoadedWorlds.{passes_at}
 use Rattle.world_values.specs.CallArguments.{is_argument}
 use Rattle.semantics.specs.declared.object_value.ObjectValue.{ObjectValue as InMemory}
 use Rattle.world_values.specs.Views.{object_value_view}
 use Rattle.machine_threads.specs.Held.{held_value}
-use Rattle.machine_scenes.proofs.FilledBlocks.{filled_block, filled_fresh, filled_within, filled_more}
+use Rattle.machine_scenes.proofs.FilledBlocks.{filled_block, filled_fresh, filled_within, filled_more, quiet_unmarked}
 use Rattle.machine_threads.proofs.FilledObjects.{filled_made}
 use Rattle.machine_threads.proofs.objects.make.Goals as goal
 
@@ -45,8 +46,8 @@ held-requires c =
     subst (λ n. is_argument n (object_value_view (slice_index_or xs i (InMemory.Number (lib.IntN.pos 0)))) ≡ true) same
     (passes_at (is_argument (length c.args.loaded.now.items)) (map object_value_view xs) i _ c.requires.given (value_read xs i _ c.loop-place-test.true))
 
-pub set-requires : goal.set-requires
-set-requires c =
+pub set-requires-clause-place : goal.set-requires-clause-place
+set-requires-clause-place c =
     let s = c.args.heap.now in
     let vs = map object_value_view c.args.values.now in
     let held = map (held_value c.args.loaded.now.items) vs in
@@ -58,6 +59,11 @@ set-requires c =
     ∙ filled_within s c.args.class.number birth held c.loop-place.place c.requires.laid_out in
     let long = length-map vs (held_value c.args.loaded.now.items) ∙ length-map c.args.values.now object_value_view in
     omega (arith, c.loop-place-test.true)
+
+pub set-requires-clause-target : goal.set-requires-clause-target
+set-requires-clause-target c some b is =
+    let none : c.loop-place.heap.marking ≡ None = ap (λ (t : Space). t.marking) c.loop-place.invariant ∙ ap (option_map (with_new (end_of c.args.heap.now))) c.requires.unmarked in
+    absurd (let no : false ≡ true = subst (λ (o : Option Marks). IsSome o) none some in cc)
 
 pub loop-place-preserved : goal.loop-place-preserved
 loop-place-preserved c =
@@ -75,7 +81,7 @@ loop-place-preserved c =
     ∙ ap (λ (t : Space). with_value t c.unwrap-addr.result i c.held.result) c.loop-place.invariant
     ∙ ap (λ (a : ℕ). with_value (with_block s (filled_block s c.args.class.number birth held i)) a i c.held.result) address
     ∙ ap (λ w. with_value (with_block s (filled_block s c.args.class.number birth held i)) (end_of s) i w) value
-    ∙ filled_more s c.args.class.number birth held i (held_value loaded v) c.requires.laid_out (value_held loaded xs i _ c.loop-place-test.true)
+    ∙ filled_more s c.args.class.number birth held i (held_value loaded v) c.requires.laid_out (value_held loaded xs i _ c.loop-place-test.true) (quiet_unmarked s (held_value loaded v) c.requires.unmarked)
     ∙ ap (λ (k : ℕ). with_block s (filled_block s c.args.class.number birth held k)) next
 
 pub returns-clause-made : goal.returns-clause-made
