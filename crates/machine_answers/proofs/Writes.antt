@@ -1,5 +1,5 @@
 -- A store in which values of an object change stands for the source's heap in which they do.
-use Rattle.std.proofs.Common.{inl, ◌≡◌, ◌≢◌, ℕ, zero, suc, ◌+◌, ◌-◌, ◌<◌, ◌≤◌, Bool, true, false, cond, eqb, List, [], ◌∷◌, length, map, get_or, Option, Some, None, refl, sym, ap, ◌∙◌, subst, arith, ⊎_elim}
+use Rattle.std.proofs.Common.{inl, ◌≡◌, ◌≢◌, ℕ, zero, suc, ◌+◌, ◌-◌, ◌<◌, ◌≤◌, Bool, true, false, cond, eqb, List, [], ◌∷◌, length, map, get_or, Option, Some, refl, sym, ap, ◌∙◌, subst, arith, ⊎_elim}
 use Rattle.std.specs.Prelude.{find, slice_get, slice_set}
 use Rattle.std.specs.Option.{option_map, option_map_or}
 use Rattle.std.proofs.lemmas.Bool.{cases_eq}
@@ -11,12 +11,13 @@ use Rattle.heap.specs.Layout.{layout_of}
 use Rattle.heap.proofs.Extents.{layout_values}
 use Rattle.machine_scenes.proofs.ObjectExtents.{none_laid}
 use Rattle.heap.specs.declared.value.Value.{Value}
-use Rattle.heap.specs.declared.value.Value.TheVariants.{Number as Word, Null, Block as Address}
 use Rattle.heap.proofs.Changes.{LeavesPlace, changed, changed_elsewhere, changed_here}
 use Rattle.heap.proofs.Names.{AreNamesUnique-with_changed, one_address}
 use Rattle.heap.proofs.Spaces.{IsLaidOut-with_changed, part-changed}
+use Rattle.heap.proofs.Staying.{stays_noted, stays_same}
+use Rattle.heap.specs.Marks.{noted_in}
 use Rattle.semantics.specs.Heap.{Heap, class_of, object_at, values_of, with_values}
-use Rattle.semantics.specs.Object.{Object, ObjectValue, Number, Refers}
+use Rattle.semantics.specs.Object.{Object, ObjectValue}
 use Rattle.semantics.specs.Thread.{Shared}
 use Rattle.semantics.specs.World.{World, loaded_objects}
 use Rattle.code_meaning.specs.Lowered.{Lowered}
@@ -30,7 +31,8 @@ use Rattle.machine_scenes.specs.HeapAgrees.{BlockAgrees, BlocksAgree, ValueAgree
 use Rattle.machine_scenes.proofs.BlocksOfNames.{Named, named}
 use Rattle.machine_answers.proofs.SetPlaces.{get_set_same, get_set_other}
 use Rattle.machine_scenes.proofs.Taken.{taken_changed}
-use Rattle.machine_scenes.proofs.Keeping.{none_made, slots_stay, reference_stays, statics_stay, weaks_stay}
+use Rattle.machine_scenes.proofs.Keeping.{none_made, slots_stay, statics_stay, values_stay, weaks_stay}
+use Rattle.machine_scenes.proofs.Noted.{keeps_noted, store_noted}
 
 -- ---- each block is found at its address
 
@@ -76,20 +78,6 @@ module _ (space : Space) (heap : Heap) (a : ℕ) (vs : List Value → List Value
 
   pub names_stay : (x n : ℕ) → name_at space x ≡ Some n → name_at written x ≡ Some n
   names_stay x n h = names_same x ∙ h
-
-  value_stays : (w : Value) (u : ObjectValue) → ValueAgrees space w u → ValueAgrees written w u
-  value_stays (Word n) (Number z) h = h
-  value_stays (Word n) (Refers r) h = h
-  value_stays Null (Number z) h = h
-  value_stays Null (Refers r) h = reference_stays space written names_stay None r h
-  value_stays (Address x) (Number z) h = h
-  value_stays (Address x) (Refers r) h = reference_stays space written names_stay (Some x) r h
-
-  values_stay : (ws : List Value) (us : List ObjectValue) → ValuesAgree space ws us → ValuesAgree written ws us
-  values_stay [] [] h = h
-  values_stay [] (u ∷ us) h = h
-  values_stay (w ∷ ws) [] h = h
-  values_stay (w ∷ ws) (u ∷ us) h = (value_stays w u h.0, values_stay ws us h.1)
 
   -- the changed object
   abbrev new : Object
@@ -142,12 +130,12 @@ module _ (space : Space) (heap : Heap) (a : ℕ) (vs : List Value → List Value
           object = new;
           is = ap (object_at heap_after) birth ∙ object_here h.object is;
           class = h.class ∙ sym class;
-          values = values_stay (vs b.values) us (agrees b.values (subst (λ (us : List ObjectValue). ValuesAgree space b.values us) (sym values) h.values));
+          values = values_stay space written names_stay (vs b.values) us (agrees b.values (subst (λ (us : List ObjectValue). ValuesAgree space b.values us) (sym values) h.values));
         }
 
     -- another block
     block_elsewhere : (b : Block) → b.birth ≢ name → BlockAgrees space heap b → BlockAgrees written heap_after b
-    block_elsewhere b other h = record { object = h.object; is = object_elsewhere b.birth h.object object_there.0 object_there.1 other h.is; class = h.class; values = values_stay b.values h.object.values h.values }
+    block_elsewhere b other h = record { object = h.object; is = object_elsewhere b.birth h.object object_there.0 object_there.1 other h.is; class = h.class; values = values_stay space written names_stay b.values h.object.values h.values }
 
     block_after : (b : Block) → block_at space b.address ≡ Some b → BlockAgrees space heap b → BlockAgrees written heap_after (changed a change b)
     block_after b found h =
@@ -224,6 +212,7 @@ module _ (p : Lowered) (w : World) (store : Store) (shared : Shared) (a : ℕ) (
     shapes = λ n o at. shapes_after store.heap shared.heap a vs name us h.laid_out h.heap.unique there keeps n o object_is.0 many object_is.1 at;
     room = none_made store.heap shared.heap heap_then (omega (arith, count));
     laid = none_laid (layout_of store.heap) (layout_of store_then.heap) (length shared.heap + 1) shared.heap heap_then (omega (arith, count)) (layout_values store.heap a vs keeps);
+    marking = stays_same store.heap.marking;
     few = omega (arith, count);
   }
 
@@ -244,13 +233,24 @@ module _ (p : Lowered) (w : World) (store : Store) (shared after : Shared) (a pl
   abbrev values_then : List ObjectValue
   values_then = slice_set (values_of shared.heap writes.name) place writes.value
 
+  -- the store before what the value refers to is noted
+  abbrev changed_store : Store
+  changed_store = record store { heap = with_changed store.heap a (λ b. record b { values = slice_set b.values place v }) }
+
+  -- the shared state of the source with the value
+  abbrev shared_then : Shared
+  shared_then = record shared { heap = with_values shared.heap writes.name values_then }
+
   pub written_agrees : StoreAgrees p w store_after after all
   written_agrees =
       subst (λ (x : Shared). StoreAgrees p w store_after x all) (sym writes.is)
+      (store_noted p w changed_store (noted_in v store.heap.marking) shared_then all
       (values_agree p w store shared a (λ ws. slice_set ws place v) writes.name values_then all h writes.there (λ ws. length-set ws place v) (length-set (values_of shared.heap writes.name) place writes.value)
-      (λ ws agree. values_set store.heap v writes.value writes.agrees ws (values_of shared.heap writes.name) place agree))
+      (λ ws agree. values_set store.heap v writes.value writes.agrees ws (values_of shared.heap writes.name) place agree)))
 
   pub written_keeps : Keeps store.heap shared store_after.heap after
   written_keeps =
       subst (λ (s : Shared). Keeps store.heap shared store_after.heap s) (sym writes.is)
+      (keeps_noted changed_store.heap (noted_in v store.heap.marking) store.heap shared shared_then
       (values_keep p w store shared a (λ ws. slice_set ws place v) writes.name values_then all h writes.there (λ ws. length-set ws place v) (length-set (values_of shared.heap writes.name) place writes.value))
+      (stays_noted v store.heap.marking))

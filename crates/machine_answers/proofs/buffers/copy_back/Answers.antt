@@ -30,8 +30,8 @@ listed elements space object key h is can =
 pub loop-place-init : goal.loop-place-init
 loop-place-init c = sym (none_overlaid c.args.heap.now c.args.object 0)
 
-pub set-requires : goal.set-requires
-set-requires c =
+pub set-requires-clause-place : goal.set-requires-clause-place
+set-requires-clause-place c =
     let s = c.args.heap.now in
     let it = listed c.args.elements.now s c.args.object c.in-Copy.key c.args.held c.in-Copy.is c.requires in
     let words = map (cast_unsigned w32) (numbers_at c.args.elements.now c.in-Copy.key) in

@@ -19,8 +19,8 @@ overflow_add-region c =
     let few = few_values c.args.heap.now c.args.region.now.object c.count.ensures.laid_out (omega arith) in
     Fits-of_lt {w = w64} (omega (arith, few, c.requires.within, c.loop-place-test.true))
 
-pub set-requires : goal.set-requires
-set-requires c =
+pub set-requires-clause-place : goal.set-requires-clause-place
+set-requires-clause-place c =
     let region = c.args.region.now in
     let there : length (values_at c.loop-place.heap region.object) ≡ length (values_at c.args.heap.now region.object) =
     ap (λ (t : Space). length (values_at t region.object)) c.loop-place.invariant
