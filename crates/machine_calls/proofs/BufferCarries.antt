@@ -14,6 +14,7 @@ use Rattle.code_meaning.specs.Lowered.{Lowered}
 use Rattle.heap.specs.Heap.{Block, Space, name_at, pins_at, values_at, with_pins}
 use Rattle.heap.specs.Layout.{layout_of}
 use Rattle.heap.proofs.Extents.{layout_pins}
+use Rattle.heap.proofs.Staying.{stays_is, stays_on}
 use Rattle.heap.specs.declared.value.Value.{Value}
 use Rattle.heap.specs.declared.value.Value.TheVariants as value
 use Rattle.jni.specs.Prototype.{ResultKind}
@@ -302,6 +303,7 @@ module _ (p : Lowered) (w : World) (store : Store) (pending : Option ℕ) (local
         pub stands : StoreAgrees p w (record store { heap = space; elements = elements; views = views }) shared' next
         pub names : (y m : ℕ) → name_at store_back.heap y ≡ Some m → name_at space y ≡ Some m
         pub layout : layout_of space ≡ layout_of store_back.heap
+        pub marking : space.marking ≡ store_back.heap.marking
 
       given_up : (y : Buffer) (c : variable.Buffer) → BufferAgrees store.heap store.elements owner y c → lookup x s.variables ≡ Some (Elements type c) → GivesUp y store_back.heap store.elements store.views space elements views → LeavesStore
       given_up held.Null (Copy m zs) agree there gives = absurd agree
@@ -316,6 +318,7 @@ module _ (p : Lowered) (w : World) (store : Store) (pending : Option ℕ) (local
             stands = subst (λ (z : Store). StoreAgrees p w z shared' next) (sym same) (agrees_same p w store_back shared' all before next (lost (beside_freed others s x type NoBuffer there)));
             names = λ z m e. ap (λ (t : Space). name_at t z) heap ∙ e;
             layout = ap layout_of heap;
+            marking = ap (λ (t : Space). t.marking) heap;
           }
         where
           lost : IsMoreBy NoBuffer next all → SameAcquired all next
@@ -328,6 +331,7 @@ module _ (p : Lowered) (w : World) (store : Store) (pending : Option ℕ) (local
                 (left_copy store_back.heap elements store.elements store.views (length shared'.heap) owner m zs next all (beside_freed others s x type (Copy m zs) there) (fewer (owned owner zs) agree) before.buffers));
             names = λ z i e. ap (λ (t : Space). name_at t z) heap ∙ e;
             layout = ap layout_of heap;
+            marking = ap (λ (t : Space). t.marking) heap;
           }
       given_up (held.View y) (View m) agree there (heap, lists', as_many) =
           let count = pins_at store_back.heap y - 1 in
@@ -340,6 +344,7 @@ module _ (p : Lowered) (w : World) (store : Store) (pending : Option ℕ) (local
                 (left_view store_back.heap store.elements store.views (length shared'.heap) y m next all (beside_freed others s x type (View m) there) before.heap.unique named_there within.1 before.buffers));
             names = λ z i e. ap (λ (t : Space). name_at t z) heap ∙ names_pinned store_back.heap y count z i e;
             layout = ap layout_of heap ∙ layout_pins store_back.heap y count;
+            marking = ap (λ (t : Space). t.marking) heap;
           }
 
     -- ---- both
@@ -357,7 +362,15 @@ module _ (p : Lowered) (w : World) (store : Store) (pending : Option ℕ) (local
           let first = backed t e in
           let second = given_up (shared_back t) first.stands first.keeps.names space elements views r.held b agrees at gives in
           effected (answer.Releases r) after given.Nothing (shared_back t) (with_freed s x) NoResult refl refl statics
-          (record { names = λ y m at'. second.names y m (first.keeps.names y m at'); statics = first.keeps.statics; shapes = first.keeps.shapes; room = first.keeps.room; laid = second.layout ∙ first.keeps.laid; few = first.keeps.few })
+          (record {
+            names = λ y m at'. second.names y m (first.keeps.names y m at');
+            statics = first.keeps.statics;
+            shapes = first.keeps.shapes;
+            room = first.keeps.room;
+            laid = second.layout ∙ first.keeps.laid;
+            marking = stays_on store.heap.marking store_back.heap.marking space.marking first.keeps.marking (stays_is store_back.heap.marking space.marking second.marking);
+            few = first.keeps.few;
+          })
           second.stands (no_result after)
 
       pub releases : MayGiveUp (gives_up r.mode) r.held store_back.heap store.elements store.views space elements views → Carries (answer.Releases r) effect after given.Nothing

@@ -1,5 +1,6 @@
 -- A store whose buffers change stands for the source's shared state yet.
 use Rattle.std.proofs.Common.{◌≡◌, ℕ, ◌+◌, Bool, true, false, cond, eqb, List, [], ◌∷◌, length, map, Option, Some, None, refl, ◌∙◌, arith, inl}
+use Rattle.heap.proofs.Staying.{stays_same}
 use Rattle.heap.specs.Heap.{Block, Space, name_at, with_pins}
 use Rattle.heap.specs.Layout.{layout_of}
 use Rattle.heap.proofs.Extents.{layout_pins}
@@ -132,5 +133,6 @@ module _ (p : Lowered) (w : World) (store : Store) (shared : Shared) (all : Acqu
     shapes = λ n o at. (o, at, refl, refl);
     room = none_made store.heap shared.heap shared.heap (omega arith);
     laid = none_laid (layout_of store.heap) (layout_of (with_pins store.heap a count)) (length shared.heap + 1) shared.heap shared.heap (omega arith) (layout_pins store.heap a count);
+    marking = stays_same store.heap.marking;
     few = omega arith;
   }

@@ -4,6 +4,7 @@ use Rattle.std.specs.Global.{Vec}
 use Rattle.std.specs.Option.{option_to_list}
 use Rattle.base.specs.Bytes.{Identifier}
 use Rattle.heap.specs.Heap.{name_at}
+use Rattle.heap.proofs.Staying.{stays_on}
 use Rattle.heap.specs.Layout.{Layout, layout_of}
 use Rattle.machine_scenes.specs.Layouts.{with_objects}
 use Rattle.machine_scenes.proofs.ObjectExtents.{more_laid, with_both}
@@ -608,6 +609,8 @@ module _ (p : Lowered) (w : World) (store : Store) (pending : Option ℕ) (local
               shapes = λ n x at. (x, object_kept shared.heap (string ∷ exception ∷ []) n x at, refl, refl);
               room = more_made store.heap shared.heap (string ∷ exception ∷ []) both_fit;
               laid = more_laid (layout_of store.heap) (layout_of after.heap) (length shared.heap + 1) shared.heap (string ∷ exception ∷ []) both_laid;
+              marking = stays_on store.heap.marking between.heap.marking after.heap.marking (making.made_keeps p w texts store between shared (Text place) string message all h.store_agrees first described).marking
+                  (making.made_keeps p w texts between after told (Exception class message) exception a all agrees second described_so).marking;
               few = omega (arith, length-append shared.heap (string ∷ exception ∷ []));
             };
             pending_agrees =

@@ -1,4 +1,5 @@
 pub mod AnswerCases
+pub mod Barriers
 pub mod BufferCarries
 pub mod BufferLaws
 pub mod BufferStores
@@ -8,4 +9,5 @@ pub mod HeldStatics
 pub mod Makes
 pub mod MonitorCarries
 pub mod NewValues
+pub mod NotedBlocks
 pub mod StaticStores

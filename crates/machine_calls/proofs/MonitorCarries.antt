@@ -2,6 +2,7 @@
 use Rattle.std.proofs.Common.{◌≡◌, ℕ, pos, ◌∷◌, false, List, Option, Some, refl, sym, ◌∙◌, subst, arith, inl, length, ◌+◌}
 use Rattle.std.specs.Prelude.{map}
 use Rattle.code_meaning.specs.Lowered.{Lowered}
+use Rattle.heap.proofs.Staying.{stays_same}
 use Rattle.heap.specs.Heap.{Space}
 use Rattle.heap.specs.Layout.{layout_of}
 use Rattle.machine_scenes.proofs.ObjectExtents.{none_laid}
@@ -65,6 +66,7 @@ keeps_monitors space shared ss = record {
   shapes = λ n o at. (o, at, refl, refl);
   room = none_made space shared.heap shared.heap (omega arith);
   laid = none_laid (layout_of space) (layout_of space) (length shared.heap + 1) shared.heap shared.heap (omega arith) refl;
+  marking = stays_same space.marking;
   few = omega arith;
 }
 

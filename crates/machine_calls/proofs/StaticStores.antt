@@ -2,6 +2,7 @@
 use Rattle.std.proofs.Common.{◌≡◌, ◌<◌, ℕ, List, ◌∷◌, length, Option, Some, None, refl, sym, ap, ◌∙◌, subst, arith, ◌+◌}
 use Rattle.std.specs.Global.{Vec}
 use Rattle.std.specs.Prelude.{slice_get, slice_set, IsSome}
+use Rattle.heap.proofs.Staying.{stays_same}
 use Rattle.heap.specs.Heap.{name_at}
 use Rattle.heap.specs.Layout.{layout_of}
 use Rattle.machine_scenes.proofs.ObjectExtents.{none_laid}
@@ -214,5 +215,6 @@ module _ (p : Lowered) (w : World) (store : Store) (shared : Shared) (all : Acqu
     shapes = λ n o at. (o, at, refl, refl);
     room = none_made store.heap shared.heap shared.heap (omega arith);
     laid = none_laid (layout_of store.heap) (layout_of store.heap) (length shared.heap + 1) shared.heap shared.heap (omega arith) refl;
+    marking = stays_same store.heap.marking;
     few = omega arith;
   }

@@ -1,2 +1,3 @@
 pub mod Made
+pub mod Barrier
 pub mod CarriedOut

@@ -1,26 +1,40 @@
 -- A new object in memory.
-use Rattle.std.specs.Prelude.{◌≡◌, ℕ, ◌+◌, ◌<◌, ◌≤◌, List, length, Option, Some, None}
+use Rattle.std.specs.Prelude.{◌≡◌, ℕ, ◌+◌, ◌<◌, ◌≤◌, List, length, slice_index_or, Option, Some, None}
 use Rattle.class_rules.specs.Class.{Classes}
 use Rattle.class_rules.specs.declared.class_id.ClassId.{ClassId}
 use Rattle.semantics.specs.Object.{object_size}
-use Rattle.heap.specs.Heap.{Block, Space, end_of, left_of, with_block}
+use Rattle.heap.specs.Heap.{Block, Space, IsAddress, end_of, left_of, with_block, with_noted}
 use Rattle.heap.specs.declared.value.Value.{Value}
+use Rattle.heap.specs.declared.value.Value.TheVariants.{Null, Block as Refers}
 use Rattle.machine_answers.specs.declared.answer.Answer.{Answer}
 use Rattle.machine_answers.specs.declared.answer.Answer.TheVariants as answer
 use Rattle.machine_scenes.specs.declared.new_object.New.{New}
-use Rattle.machine_scenes.specs.declared.new_object.New.TheVariants.{Fresh, Text, Exception}
+use Rattle.machine_scenes.specs.declared.new_object.New.TheVariants.{Fresh, Array, Text, Exception}
 use Rattle.machine_scenes.specs.declared.store.Store.{Store}
-use Rattle.machine_scenes.specs.NewObjects.{IsOfBytes, cells_of_new, class_of_new, values_of_new}
+use Rattle.machine_scenes.specs.NewObjects.{IsOfBytes, cells_of_new, class_of_new, values_of_exception, values_of_new}
 
 -- the next block, after all others
 abbrev pub next_block : Space → (class birth : ℕ) → List Value → Block
 next_block space class birth values = record { address = end_of space; class = class; birth = birth; values = values; pins = 0 }
 
--- the heap with a further block, where it has room, and else as it was
-abbrev pub Allocates : Space → (class birth : ℕ) → List Value → Space → Option ℕ → Type 0
-Allocates old class birth values new None = (new ≡ old) × (left_of old < object_size (length values))
-Allocates old class birth values new (Some a) = (new ≡ with_block old (next_block old class birth values))
+-- The heap with a further block, where it has room, and else as it was. While a marking is under way what this value refers to is noted
+-- before.
+abbrev pub Allocates : (noted : Value) → Space → (class birth : ℕ) → List Value → Space → Option ℕ → Type 0
+Allocates noted old class birth values new None = (new ≡ old) × (left_of old < object_size (length values))
+Allocates noted old class birth values new (Some a) = (new ≡ with_block (with_noted noted old) (next_block old class birth values))
     × (object_size (length values) ≤ left_of old) × (a ≡ end_of old)
+
+-- the only value of a new object that can be a reference: that of an array's elements, and the message of an exception that has one
+abbrev pub noted_of_new : Classes → New → Value
+noted_of_new classes (Array array) = array.value
+noted_of_new classes (Exception class message) = slice_index_or (values_of_exception classes class.number message) 0 Null
+noted_of_new classes new = Null
+
+-- what a new object is to refer to is there
+abbrev pub RefersThere : Space → New → Type 0
+RefersThere space (Array array) = (a : ℕ) → array.value ≡ Refers a → IsAddress space a
+RefersThere space (Exception class message) = IsAddress space message
+RefersThere space new = Unit {0}
 
 -- the block of a new object in a store
 abbrev pub new_block : Classes → (texts : List (List ℕ)) → Store → New → Block
@@ -31,7 +45,7 @@ pub record HasMade (classes : Classes) (texts : List (List ℕ)) (before : Store
   pub room : cells_of_new classes texts new ≤ left_of before.heap
   pub bytes : IsOfBytes texts new
   pub address : a ≡ end_of before.heap
-  pub heap : after.heap ≡ with_block before.heap (new_block classes texts before new)
+  pub heap : after.heap ≡ with_block (with_noted (noted_of_new classes new) before.heap) (new_block classes texts before new)
   pub loaded : after.loaded ≡ before.loaded
   pub births : after.births ≡ before.births + 1
   pub statics : after.statics ≡ before.statics

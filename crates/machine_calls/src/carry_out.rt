@@ -1,17 +1,19 @@
 //! What a call does to the store, and which exception is pending then.
 
-ghost use Rattle.std.specs.Prelude.{◌≡◌, ◌+◌, ◌-◌, ◌<◌, ◌≤◌, ◌^◌, ℕ, List, Option, length, nat_le, slice_get, true, false, IfOk, OnErr};
+ghost use Rattle.std.specs.Prelude.{◌≡◌, ◌+◌, ◌-◌, ◌<◌, ◌≤◌, ◌^◌, ℕ, List, Option, length, nat_le, slice_get, true, false, IfOk, OnOk, OnErr};
 ghost use Rattle.base.specs.Limits.{most_references};
 ghost use Rattle.heap.specs.Heap.{left_of};
 ghost use Rattle.jni.specs.Table.{result_value};
 ghost use Rattle.tables.specs.Elements.{OwnedNumbers};
 ghost use Rattle.tables.specs.Locals.{capacities, ensured, popped};
 ghost use Rattle.machine_answers.specs.Answers.{is_carried};
+ghost use Rattle.machine_calls.specs.Barrier.{IsNoted, written_by};
 ghost use Rattle.machine_calls.specs.CarriedOut.{CarriesOutAnswer, CarriesOutBuffers, CarriesOutMonitors, CarriesOutReferences, CopiesStay, HasAnswer, HasAnswerOfBuffers, HasAnswerOfMonitors, HasAnswerOfReferences, IsNewCopy, buffers_after, failed, is_of_buffers, is_of_frames, is_of_monitors, is_of_references, slots_after, takes_memory};
 ghost use Rattle.machine_calls.specs.Made.{cells_of};
 ghost use Rattle.machine_scenes.specs.NewObjects.{texts_in};
 ghost use Rattle.machine_answers.specs.declared.answer.Given.TheVariants.{Number};
 
+use crate::barrier::{note, note_given, note_pending};
 use crate::make::{can_raise, make, raise};
 use classes::table::ClassTable;
 use code::instr::Call;
@@ -71,6 +73,7 @@ pub fn carry_out(
     requires runs { is_carried answer ≡ true }
     ensures carried { IfOk result (λ carried. CarriesOutAnswer world.now store.old store.new pending.old pending.new
         activation.old activation.new call.now thread owner answer carried) }
+    ensures barrier { OnOk result (IsNoted (written_by answer) store.old.heap store.new.heap) }
     ensures slots { IfOk result (λ carried. activation.new.slots.numbers.items
         ≡ slots_after store.old.heap answer activation.old.slots.numbers.items) }
     ensures buffer_slots { IfOk result (λ carried. activation.new.slots.buffers.items
@@ -94,10 +97,13 @@ pub fn carry_out(
     let kind = call.result;
     let texts: &[Vec<u8>] = &call.texts;
     match answer {
-        Answer::Gives(given) => Ok(Carried {
-            given,
-            refused: false,
-        }),
+        Answer::Gives(given) => {
+            note_given(&mut store.heap, &given);
+            Ok(Carried {
+                given,
+                refused: false,
+            })
+        }
         Answer::Writes {
             object: addr,
             place,
@@ -153,6 +159,7 @@ pub fn carry_out(
             })
         }
         Answer::Pends { exception, given } => {
+            note_pending(&mut store.heap, &exception, &given);
             *pending = exception;
             Ok(Carried {
                 given,
@@ -188,6 +195,7 @@ fn carry_out_buffers(
     requires possible { HasAnswerOfBuffers world.now store.old pending.old locals.old buffers.old thread owner answer }
     ensures carried { IfOk result (λ carried. CarriesOutBuffers world.now store.old store.new pending.old pending.new
         locals.old locals.new buffers.old thread owner answer carried) }
+    ensures barrier { OnOk result (IsNoted (written_by answer) store.old.heap store.new.heap) }
     ensures slots { IfOk result (λ carried. buffers.new ≡ buffers_after answer buffers.old) }
     ensures copies { IfOk result (λ carried. CopiesStay answer store.old.elements store.new.elements) }
     ensures new_copy { IfOk result (λ carried. IsNewCopy store.old.elements carried.given) }
@@ -244,6 +252,7 @@ fn carry_out_monitors(
     requires possible { HasAnswerOfMonitors world.now store.old pending.old locals.old thread answer }
     ensures carried { IfOk result (λ carried. CarriesOutMonitors world.now store.old store.new pending.old pending.new
         locals.old locals.new thread answer carried) }
+    ensures barrier { OnOk result (IsNoted (written_by answer) store.old.heap store.new.heap) }
     ensures elements { store.new.elements ≡ store.old.elements }
     ensures new_copy { IfOk result (λ carried. (copies : List (Option OwnedNumbers)) → IsNewCopy copies carried.given) }
     ensures store { OnErr result (store.new ≡ store.old) }
@@ -283,6 +292,7 @@ fn carry_out_references(
     requires possible { HasAnswerOfReferences world.now store.old pending.old locals.old answer }
     ensures carried { IfOk result (λ carried. CarriesOutReferences world.now store.old store.new pending.old pending.new
         locals.old locals.new answer carried) }
+    ensures barrier { OnOk result (IsNoted (written_by answer) store.old.heap store.new.heap) }
     ensures elements { store.new.elements ≡ store.old.elements }
     ensures new_copy { IfOk result (λ carried. (copies : List (Option OwnedNumbers)) → IsNewCopy copies carried.given) }
     ensures store { OnErr result (store.new ≡ store.old) }
@@ -298,7 +308,9 @@ fn carry_out_references(
             })
         }
         Answer::MakesGlobal(reference) => {
+            let written = reference;
             let held = make_global(&mut store.globals, reference)?;
+            note(&mut store.heap, &written);
             Ok(Carried {
                 given: Given::Global(held),
                 refused: false,
@@ -312,7 +324,9 @@ fn carry_out_references(
             })
         }
         Answer::MakesWeak(reference) => {
+            let written = reference;
             let held = make_weak(&mut store.weaks, reference)?;
+            note(&mut store.heap, &written);
             Ok(Carried {
                 given: Given::Global(held),
                 refused: false,
@@ -329,19 +343,23 @@ fn carry_out_references(
     }
 }
 
-/// Does to a call's frames what an answer of frames says; the store stays.
+/// Does to a call's frames what an answer of frames says. Of the store only a marking that is under way changes.
 #[inline(always)]
 fn carry_out_frames(
     world: &World,
-    store: &Store,
+    store: &mut Store,
     pending: &mut Option<Addr>,
     locals: &mut Locals,
     answer: Answer,
 ) -> Result<Carried, AllocError>
-    requires { is_of_frames answer ≡ true }
-    ensures carried { IfOk result (λ carried. CarriesOutReferences world.now store.now store.now pending.old pending.new
+    requires of_frames { is_of_frames answer ≡ true }
+    requires possible { HasAnswerOfReferences world.now store.old pending.old locals.old answer }
+    ensures carried { IfOk result (λ carried. CarriesOutReferences world.now store.old store.new pending.old pending.new
         locals.old locals.new answer carried) }
+    ensures barrier { OnOk result (IsNoted (written_by answer) store.old.heap store.new.heap) }
+    ensures elements { store.new.elements ≡ store.old.elements }
     ensures new_copy { IfOk result (λ carried. (copies : List (Option OwnedNumbers)) → IsNewCopy copies carried.given) }
+    ensures store { OnErr result (store.new ≡ store.old) }
     ensures pending { OnErr result (pending.new ≡ pending.old) }
     ensures locals { OnErr result (locals.new ≡ locals.old) }
 {
@@ -369,6 +387,7 @@ fn carry_out_frames(
         Answer::RefusesFrames => Ok(refuse_frames(world, store, pending)),
         Answer::Pops(reference) => {
             pop_frame(locals);
+            note(&mut store.heap, &reference);
             Ok(Carried {
                 given: Given::Reference(reference),
                 refused: false,

@@ -1,11 +1,12 @@
 //! Making objects.
 
-ghost use Rattle.std.specs.Prelude.{◌≡◌, ◌+◌, ◌<◌, ◌^◌, nat_le, replicate, IfSome};
+ghost use Rattle.std.specs.Prelude.{◌≡◌, ◌+◌, ◌<◌, ◌^◌, ℕ, nat_le, replicate, slice_index_or, IfSome};
 ghost use Rattle.class_rules.specs.BuiltIns.{string_class};
 ghost use Rattle.classes.specs.Views.{field_type_view};
-ghost use Rattle.heap.specs.Heap.{left_of};
+ghost use Rattle.heap.specs.Heap.{IsAddress, left_of};
+ghost use Rattle.heap.specs.declared.value.Value.TheVariants.{Null, Block as Refers};
 ghost use Rattle.machine_answers.specs.declared.answer.Answer.TheVariants as answer;
-ghost use Rattle.machine_calls.specs.Made.{cells_of, Allocates, Makes, Raises};
+ghost use Rattle.machine_calls.specs.Made.{cells_of, noted_of_new, Allocates, Makes, Raises, RefersThere};
 ghost use Rattle.machine_scenes.specs.NewObjects.{class_of_new, initial_value, initial_values, texts_in, units, values_of_exception, values_of_new, AreBytes, IsOfBytes};
 
 use class_layouts::LayoutFields;
@@ -22,6 +23,7 @@ use machine_scenes::store::Store;
 pub fn make(classes: &ClassTable, texts: &[Vec<u8>], store: &mut Store, new: New) -> Option<Addr>
     requires class { class_of_new new < 2 ^ 32 }
     requires few { store.old.births + 1 < 2 ^ 32 }
+    requires there { RefersThere store.old.heap new }
     ensures { Makes classes.now (texts_in texts.now) store.old new store.new result }
 {
     let birth = store.births + 1;
@@ -77,8 +79,10 @@ fn allocate(
     new: New,
     birth: u32,
 ) -> Option<Addr>
-    requires { class_of_new new < 2 ^ 32 }
-    ensures made { Allocates heap.old (class_of_new new) birth (values_of_new classes.now (texts_in texts.now) new) heap.new result }
+    requires class { class_of_new new < 2 ^ 32 }
+    requires there { RefersThere heap.old new }
+    ensures made { Allocates (noted_of_new classes.now new) heap.old (class_of_new new) birth
+        (values_of_new classes.now (texts_in texts.now) new) heap.new result }
     ensures bytes { IfSome result (λ a. IsOfBytes (texts_in texts.now) new) }
 {
     match new {
@@ -94,7 +98,7 @@ fn allocate(
 /// Makes the block of an object with zero and null fields.
 fn allocate_fresh(classes: &ClassTable, heap: &mut Heap, class: ClassId, birth: u32) -> Option<Addr>
     requires { class.number < 2 ^ 32 }
-    ensures { Allocates heap.old class.number birth (initial_values classes.now class.number) heap.new result }
+    ensures { Allocates Null heap.old class.number birth (initial_values classes.now class.number) heap.new result }
 {
     // The proof reads off this call how the heap lies.
     let _ = heap.count();
@@ -120,8 +124,10 @@ fn allocate_exception(
     message: Addr,
     birth: u32,
 ) -> Option<Addr>
-    requires { class.number < 2 ^ 32 }
-    ensures { Allocates heap.old class.number birth (values_of_exception classes.now class.number message) heap.new result }
+    requires class { class.number < 2 ^ 32 }
+    requires message { IsAddress heap.old message }
+    ensures { Allocates (slice_index_or (values_of_exception classes.now class.number message) 0 Null)
+        heap.old class.number birth (values_of_exception classes.now class.number message) heap.new result }
 {
     // The proof reads off this call how the heap lies.
     let _ = heap.count();
@@ -138,8 +144,9 @@ fn allocate_exception(
 
 /// Makes the block of an array.
 fn allocate_array(heap: &mut Heap, array: &NewArray, birth: u32) -> Option<Addr>
-    requires { array.now.class.number < 2 ^ 32 }
-    ensures { Allocates heap.old array.now.class.number birth (replicate array.now.count array.now.value) heap.new result }
+    requires class { array.now.class.number < 2 ^ 32 }
+    requires value { (a : ℕ) → array.now.value ≡ Refers a → IsAddress heap.old a }
+    ensures { Allocates array.now.value heap.old array.now.class.number birth (replicate array.now.count array.now.value) heap.new result }
 {
     let count = array.count as usize;
     match heap.alloc(array.class.number as u32, birth, count, array.value) {
@@ -150,7 +157,7 @@ fn allocate_array(heap: &mut Heap, array: &NewArray, birth: u32) -> Option<Addr>
 
 /// Makes the block of a string.
 fn allocate_text(heap: &mut Heap, bytes: &[u8], birth: u32) -> Option<Addr>
-    ensures made { Allocates heap.old string_class birth (units bytes.now) heap.new result }
+    ensures made { Allocates Null heap.old string_class birth (units bytes.now) heap.new result }
     ensures bytes { IfSome result (λ a. AreBytes bytes.now) }
 {
     // The proof reads off this call how the heap lies.

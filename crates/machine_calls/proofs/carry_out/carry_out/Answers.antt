@@ -37,7 +37,10 @@ use Rattle.machine_calls.specs.Made.{HasMade, Makes, Raises}
 use Rattle.machine_scenes.specs.declared.new_object.New.{New}
 use Rattle.machine_scenes.specs.declared.new_object.New.TheVariants.{Fresh}
 use Rattle.machine_scenes.specs.NewObjects.{cells_of_new, class_of_new, texts_in}
-use Rattle.machine_calls.proofs.AnswerCases.{makes_it, throws_it}
+use Rattle.machine_calls.proofs.AnswerCases.{gives_it, makes_it, throws_it}
+use Rattle.machine_calls.proofs.Barriers as barriers
+use Rattle.machine_calls.proofs.Makes.{refers_there}
+use Rattle.machine_calls.specs.Barrier.{noted_at, reference_given}
 use Rattle.machine_calls.proofs.CarryOuts as carries
 use Rattle.machine_answers.proofs.LongTables.{classes_loaded}
 use Rattle.machine_calls.proofs.carry_out.carry_out.Goals as goal
@@ -79,6 +82,17 @@ make-requires-clause-class c =
     let brought = brings (unit_tree r.0.unit) texts c.args.activation.now.slots.numbers.items c.args.activation.now.slots.buffers.items c.args.store.now c.args.thread c.args.owner r.2 r.4 r.1 in
     small w (class_of_new c.in-Makes.new) c.threads.ensures.sound
     (makes_it w.classes brought c.args.store.now.heap c.args.activation.now.locals kind r.3 r.4 c.in-Makes.new r.5 (subst (λ (a : Answer). IsAnswer w.classes brought c.args.store.now.heap c.args.activation.now.locals kind r.3 r.4 a r.5) c.in-Makes.is r.7)).describes.makeable.high
+
+-- what a new object is to refer to is there
+pub make-requires-clause-there : goal.make-requires-clause-there
+make-requires-clause-there c =
+    let r = c.requires.possible in
+    let w = c.args.world.now in
+    let kind = result_value c.args.call.now.result in
+    let space = c.args.store.now.heap in
+    let brought = brings (unit_tree r.0.unit) (texts_in c.args.call.now.texts.items) c.args.activation.now.slots.numbers.items c.args.activation.now.slots.buffers.items c.args.store.now c.args.thread c.args.owner r.2 r.4 r.1 in
+    let it = makes_it w.classes brought space c.args.activation.now.locals kind r.3 r.4 c.in-Makes.new r.5 (subst (λ (a : Answer). IsAnswer w.classes brought space c.args.activation.now.locals kind r.3 r.4 a r.5) c.in-Makes.is r.7) in
+    refers_there w.classes brought.texts space c.in-Makes.new it.object it.describes.object
 
 pub make-requires-in-Throws-clause-class : goal.make-requires-in-Throws-clause-class
 make-requires-in-Throws-clause-class c =
@@ -159,7 +173,23 @@ returns-in-Gives-clause-carried c p array others shared s effect h does =
     let texts = texts_in c.args.call.now.texts.items in
     let brought = brings (unit_tree p.unit) texts c.args.activation.now.slots.numbers.items c.args.activation.now.slots.buffers.items c.args.store.now c.args.thread c.args.owner others s array in
     let old = c.args.store.now in
-    carries.by_answer p w old.heap c.args.activation.now.locals kind others c.args.owner shared s effect brought c.args.answer (answer.Gives c.in-Gives.given) c.in-Gives.is _ _ _ _ _ (λ gives. carries.gives p w old c.args.pending.now c.args.activation.now.locals kind others c.args.owner shared s h brought refl c.in-Gives.given effect gives) does
+    carries.by_answer p w old.heap c.args.activation.now.locals kind others c.args.owner shared s effect brought c.args.answer (answer.Gives c.in-Gives.given) c.in-Gives.is _ _ _ _ _ (λ gives.
+    barriers.noted_so p w old.heap c.args.activation.now.locals (answer.Gives c.in-Gives.given) kind others c.args.owner shared s effect old (noted_at (reference_given c.in-Gives.given) old.heap.marking) c.note_given.new.heap c.args.pending.now c.args.activation.now.locals c.in-Gives.given c.note_given.ensures (barriers.stays_at (reference_given c.in-Gives.given) old.heap.marking)
+    (carries.gives p w old c.args.pending.now c.args.activation.now.locals kind others c.args.owner shared s h brought refl c.in-Gives.given effect gives)) does
+
+-- what is given is there
+pub note_given-requires : goal.note_given-requires
+note_given-requires c =
+    let r = c.requires.possible in
+    let w = c.args.world.now in
+    let kind = result_value c.args.call.now.result in
+    let space = c.args.store.now.heap in
+    let brought = brings (unit_tree r.0.unit) (texts_in c.args.call.now.texts.items) c.args.activation.now.slots.numbers.items c.args.activation.now.slots.buffers.items c.args.store.now c.args.thread c.args.owner r.2 r.4 r.1 in
+    let it = gives_it w.classes brought space c.args.activation.now.locals kind r.3 r.4 c.in-Gives.given r.5 (subst (λ (a : Answer). IsAnswer w.classes brought space c.args.activation.now.locals kind r.3 r.4 a r.5) c.in-Gives.is r.7) in
+    barriers.given_there brought.unit w.classes space kind c.in-Gives.given it.gave it.agrees
+
+pub returns-in-Gives-clause-barrier : goal.returns-in-Gives-clause-barrier
+returns-in-Gives-clause-barrier c = barriers.notes_given c.args.store.now.heap c.note_given.new.heap c.args.answer c.in-Gives.given c.in-Gives.is c.note_given.ensures
 
 -- what is told of an answer of buffers, of each kind of result
 told_on : {T E : Type 0} (P Q : T → Type 0) (r : Result T E) → ((x : T) → P x → Q x) → IfOk r P → IfOk r Q
@@ -247,7 +277,31 @@ returns-in-Pends-clause-carried c p array others shared s effect h does =
     let brought = brings (unit_tree p.unit) texts c.args.activation.now.slots.numbers.items c.args.activation.now.slots.buffers.items c.args.store.now c.args.thread c.args.owner others s array in
     let old = c.args.store.now in
     carries.by_answer p w old.heap c.args.activation.now.locals kind others c.args.owner shared s effect brought c.args.answer (answer.Pends c.in-Pends.exception c.in-Pends.given) c.in-Pends.is _ _ _ _ _ (λ pends.
-    carries.pends p w old c.args.pending.now c.args.activation.now.locals kind others c.args.owner shared s h brought refl c.in-Pends.exception c.in-Pends.given effect pends) does
+    barriers.noted_so p w old.heap c.args.activation.now.locals (answer.Pends c.in-Pends.exception c.in-Pends.given) kind others c.args.owner shared s effect old (noted_at (reference_given c.in-Pends.given) (noted_at c.in-Pends.exception old.heap.marking)) c.note_pending.new.heap c.in-Pends.exception c.args.activation.now.locals c.in-Pends.given c.note_pending.ensures (barriers.stays_both c.in-Pends.exception (reference_given c.in-Pends.given) old.heap.marking)
+    (carries.pends p w old c.args.pending.now c.args.activation.now.locals kind others c.args.owner shared s h brought refl c.in-Pends.exception c.in-Pends.given effect pends)) does
+
+-- what is to be pending is there
+pub note_pending-requires-clause-exception : goal.note_pending-requires-clause-exception
+note_pending-requires-clause-exception c =
+    let r = c.requires.possible in
+    let w = c.args.world.now in
+    let space = c.args.store.now.heap in
+    let brought = brings (unit_tree r.0.unit) (texts_in c.args.call.now.texts.items) c.args.activation.now.slots.numbers.items c.args.activation.now.slots.buffers.items c.args.store.now c.args.thread c.args.owner r.2 r.4 r.1 in
+    let does = subst (λ (a : Answer). IsAnswer w.classes brought space c.args.activation.now.locals (result_value c.args.call.now.result) r.3 r.4 a r.5) c.in-Pends.is r.7 in
+    barriers.reference_there space c.in-Pends.exception does.0 does.1
+
+pub note_pending-requires-clause-given : goal.note_pending-requires-clause-given
+note_pending-requires-clause-given c =
+    let r = c.requires.possible in
+    let w = c.args.world.now in
+    let kind = result_value c.args.call.now.result in
+    let space = c.args.store.now.heap in
+    let brought = brings (unit_tree r.0.unit) (texts_in c.args.call.now.texts.items) c.args.activation.now.slots.numbers.items c.args.activation.now.slots.buffers.items c.args.store.now c.args.thread c.args.owner r.2 r.4 r.1 in
+    let does = subst (λ (a : Answer). IsAnswer w.classes brought space c.args.activation.now.locals kind r.3 r.4 a r.5) c.in-Pends.is r.7 in
+    barriers.given_there brought.unit w.classes space kind c.in-Pends.given does.2.0 does.2.1
+
+pub returns-in-Pends-clause-barrier : goal.returns-in-Pends-clause-barrier
+returns-in-Pends-clause-barrier c = barriers.notes_pending c.args.store.now.heap c.note_pending.new.heap c.args.answer c.in-Pends.exception c.in-Pends.given c.in-Pends.is c.note_pending.ensures
 
 pub returns-in-CopiesOut-clause-carried : goal.returns-in-CopiesOut-clause-carried
 returns-in-CopiesOut-clause-carried c p array others shared s effect h does =

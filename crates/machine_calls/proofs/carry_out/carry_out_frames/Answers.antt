@@ -18,7 +18,10 @@ use Rattle.tables.specs.declared.fault.TableFault.{TableFault}
 use Rattle.tables.specs.declared.fault.TableFault.TheVariants as fault
 use Rattle.tables.specs.Locals.{LocalTable, capacities, pushed}
 use Rattle.machine_answers.specs.declared.answer.Answer.TheVariants as answer
+use Rattle.machine_answers.specs.Answers.{IsAnswer}
+use Rattle.machine_calls.proofs.Barriers as barriers
 use Rattle.machine_calls.proofs.CarryOuts as carries
+use Rattle.machine_calls.specs.Barrier.{noted_at}
 use Rattle.machine_calls.proofs.carry_out.carry_out_frames.Goals as goal
 
 module _ (p : Lowered) (w : World) (space : Space) (before : LocalTable) (a : Answer) (kind : ResultKind) (others : Acquired) (owner : ℕ) (shared : Shared) (s : Thread) (effect : CallEffect) where
@@ -107,8 +110,20 @@ returns-in-Pops-clause-carried c p kind brought others owner shared s effect h d
     let locals = c.args.locals.now in
     let a = c.in-Pops.reference in
     carries.by_answer p w old.heap locals kind others owner shared s effect brought c.args.answer (answer.Pops a) c.in-Pops.is _ _ _ _ _ (λ pops.
-    some_or_none (length locals.frames)
+    barriers.noted_so p w old.heap locals (answer.Pops a) kind others owner shared s effect old (noted_at a old.heap.marking) c.note.new.heap c.args.pending.now c.pop_frame.new.locals (given.Reference a) c.note.ensures (barriers.stays_at a old.heap.marking)
+    (some_or_none (length locals.frames)
     (λ none. subst (λ (l : LocalTable). CarriesOut p w old.heap locals (answer.Pops a) kind others owner shared s effect false old c.args.pending.now l (given.Reference a)) (sym (c.pop_frame.ensures.none none))
     (carries.pops_none p w old c.args.pending.now locals kind others owner shared s h brought a effect pops none))
     (λ some. subst (λ (l : LocalTable). CarriesOut p w old.heap locals (answer.Pops a) kind others owner shared s effect false old c.args.pending.now l (given.Reference a)) (sym (c.pop_frame.ensures.some some))
-    (carries.pops p w old c.args.pending.now locals kind others owner shared s h brought a effect pops))) does
+    (carries.pops p w old c.args.pending.now locals kind others owner shared s h brought a effect pops)))) does
+
+pub note-requires : goal.note-requires
+note-requires c =
+    let r = c.requires.possible in
+    let w = c.args.world.now in
+    let old = c.args.store.now in
+    let pops = subst (λ (a : Answer). IsAnswer w.classes r.2 old.heap c.args.locals.now r.1 r.4 r.5 a r.6) c.in-Pops.is r.8 in
+    barriers.reference_there old.heap c.in-Pops.reference pops.1.0 pops.1.1
+
+pub returns-in-Pops-clause-barrier : goal.returns-in-Pops-clause-barrier
+returns-in-Pops-clause-barrier c = barriers.notes_popped c.args.store.now.heap c.note.new.heap c.args.answer c.in-Pops.reference c.in-Pops.is c.note.ensures

@@ -7,7 +7,9 @@ use Rattle.machine_scenes.specs.Buffers.{acquired_by, beside}
 use Rattle.machine_calls.specs.CarriedOut.{CarriesOut}
 use Rattle.tables.specs.Locals.{LocalTable, without}
 use Rattle.machine_answers.specs.declared.answer.Answer.TheVariants as answer
+use Rattle.machine_calls.proofs.Barriers as barriers
 use Rattle.machine_calls.proofs.CarryOuts as carries
+use Rattle.machine_calls.specs.Barrier.{noted_at}
 use Rattle.machine_calls.proofs.StaticStores.{live_there, static_within}
 use Rattle.machine_scenes.specs.Statics.{StaticReference, without_weak}
 use Rattle.semantics.specs.declared.static_reference.StaticReference.TheVariants as static
@@ -42,7 +44,19 @@ returns-in_ok-held-in-MakesGlobal-clause-carried c p kind brought others owner s
     let w = c.args.world.now in
     let old = c.args.store.now in
     carries.by_answer p w old.heap c.args.locals.now kind others owner shared s effect brought c.args.answer (answer.MakesGlobal c.in-MakesGlobal.reference) c.in-MakesGlobal.is _ _ _ _ _ (λ makes.
-    carries.makes_global p w old c.args.pending.now c.args.locals.now kind others owner shared s h brought c.make_global.new.globals c.in_ok-held-in-MakesGlobal.held effect c.in-MakesGlobal.reference makes.1.0 makes.0 makes.1.1 makes.1.2 c.in_ok-held-in-MakesGlobal.ensures.made) does
+    barriers.noted_so p w old.heap c.args.locals.now (answer.MakesGlobal c.in-MakesGlobal.reference) kind others owner shared s effect (record old { globals = c.make_global.new.globals }) (noted_at c.in-MakesGlobal.reference old.heap.marking) c.note.new.heap c.args.pending.now c.args.locals.now (given.Global c.in_ok-held-in-MakesGlobal.held) c.note.ensures (barriers.stays_at c.in-MakesGlobal.reference old.heap.marking)
+    (carries.makes_global p w old c.args.pending.now c.args.locals.now kind others owner shared s h brought c.make_global.new.globals c.in_ok-held-in-MakesGlobal.held effect c.in-MakesGlobal.reference makes.1.0 makes.0 makes.1.1 makes.1.2 c.in_ok-held-in-MakesGlobal.ensures.made)) does
+
+pub note-requires : goal.note-requires
+note-requires c =
+    let r = c.requires.possible in
+    let w = c.args.world.now in
+    let old = c.args.store.now in
+    let makes = subst (λ (a : Answer). IsAnswer w.classes r.2 old.heap c.args.locals.now r.1 r.4 r.5 a r.6) c.in-MakesGlobal.is r.8 in
+    barriers.reference_there old.heap c.in-MakesGlobal.reference makes.1.0 makes.1.1
+
+pub returns-in_ok-held-in-MakesGlobal-clause-barrier : goal.returns-in_ok-held-in-MakesGlobal-clause-barrier
+returns-in_ok-held-in-MakesGlobal-clause-barrier c = barriers.notes_global c.args.store.now.heap c.note.new.heap c.args.answer c.in-MakesGlobal.reference c.in-MakesGlobal.is c.note.ensures
 
 -- the static that is marked is there
 pub delete_weak-requires : goal.delete_weak-requires
@@ -70,7 +84,19 @@ returns-in_ok-held-in-MakesWeak-clause-carried c p kind brought others owner sha
     let w = c.args.world.now in
     let old = c.args.store.now in
     carries.by_answer p w old.heap c.args.locals.now kind others owner shared s effect brought c.args.answer (answer.MakesWeak c.in-MakesWeak.reference) c.in-MakesWeak.is _ _ _ _ _ (λ makes.
-    carries.makes_weak p w old c.args.pending.now c.args.locals.now kind others owner shared s h brought c.make_weak.new.weaks c.in_ok-held-in-MakesWeak.held effect c.in-MakesWeak.reference makes.1.0 makes.0 makes.1.1 makes.1.2 c.in_ok-held-in-MakesWeak.ensures.made) does
+    barriers.noted_so p w old.heap c.args.locals.now (answer.MakesWeak c.in-MakesWeak.reference) kind others owner shared s effect (record old { weaks = c.make_weak.new.weaks }) (noted_at c.in-MakesWeak.reference old.heap.marking) c.note-in-MakesWeak.new.heap c.args.pending.now c.args.locals.now (given.Global c.in_ok-held-in-MakesWeak.held) c.note-in-MakesWeak.ensures (barriers.stays_at c.in-MakesWeak.reference old.heap.marking)
+    (carries.makes_weak p w old c.args.pending.now c.args.locals.now kind others owner shared s h brought c.make_weak.new.weaks c.in_ok-held-in-MakesWeak.held effect c.in-MakesWeak.reference makes.1.0 makes.0 makes.1.1 makes.1.2 c.in_ok-held-in-MakesWeak.ensures.made)) does
+
+pub note-requires-in-MakesWeak : goal.note-requires-in-MakesWeak
+note-requires-in-MakesWeak c =
+    let r = c.requires.possible in
+    let w = c.args.world.now in
+    let old = c.args.store.now in
+    let makes = subst (λ (a : Answer). IsAnswer w.classes r.2 old.heap c.args.locals.now r.1 r.4 r.5 a r.6) c.in-MakesWeak.is r.8 in
+    barriers.reference_there old.heap c.in-MakesWeak.reference makes.1.0 makes.1.1
+
+pub returns-in_ok-held-in-MakesWeak-clause-barrier : goal.returns-in_ok-held-in-MakesWeak-clause-barrier
+returns-in_ok-held-in-MakesWeak-clause-barrier c = barriers.notes_weak c.args.store.now.heap c.note-in-MakesWeak.new.heap c.args.answer c.in-MakesWeak.reference c.in-MakesWeak.is c.note-in-MakesWeak.ensures
 
 pub returns-in-Deletes-clause-carried : goal.returns-in-Deletes-clause-carried
 returns-in-Deletes-clause-carried c p kind brought others owner shared s effect h does =

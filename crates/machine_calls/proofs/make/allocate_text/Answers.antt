@@ -8,10 +8,11 @@ use Rattle.class_rules.specs.BuiltIns.{string_class}
 use Rattle.heap.specs.declared.value.Value.{Value}
 use Rattle.heap.specs.declared.value.Value.TheVariants as value
 use Rattle.heap.specs.declared.value.Value.TheVariants.{Null}
+use Rattle.heap.specs.Marks.{noted_in}
 use Rattle.heap.specs.Heap.{Space, end_of, fresh_block, with_block, with_value, values_at}
 use Rattle.machine_calls.specs.Made.{next_block}
 use Rattle.machine_scenes.specs.NewObjects.{units}
-use Rattle.machine_scenes.proofs.FilledBlocks.{cells_all, filled_block, filled_fresh, filled_within, filled_more}
+use Rattle.machine_scenes.proofs.FilledBlocks.{cells_all, filled_block, filled_fresh, filled_within, filled_more, marking_with}
 use Rattle.machine_calls.proofs.make.allocate_text.Goals as goal
 
 many : (bytes : List ℕ) → length (units bytes) ≡ length bytes
@@ -31,8 +32,11 @@ loop-place-init c =
       λ i b below. absurd (omega arith),
     )
 
-pub set-requires : goal.set-requires
-set-requires c =
+pub set-requires-clause-target : goal.set-requires-clause-target
+set-requires-clause-target c under a e = absurd (let clash : value.Number (slice_index_or c.args.bytes.now c.loop-place.place 0) ≡ value.Block a = sym c.unit.ensures.unit ∙ e in cc)
+
+pub set-requires-clause-place : goal.set-requires-clause-place
+set-requires-clause-place c =
     let s = c.args.heap.now in
     let bytes = c.args.bytes.now in
     let there : length (values_at c.loop-place.heap c.in-Ok.addr) ≡ length (units bytes) =
@@ -51,7 +55,7 @@ loop-place-preserved c =
       c.set.ensures
           ∙ ap (λ (t : Space). with_value t c.in-Ok.addr i c.unit.result) c.loop-place.invariant.0
           ∙ ap (λ (a : ℕ). with_value (with_block s (filled_block s string_class birth (units bytes) i)) a i c.unit.result) c.in-Ok.ensures.address
-          ∙ filled_more s string_class birth (units bytes) i c.unit.result c.count.ensures.laid_out (unit_at bytes i c.loop-place-test.true ∙ ap (λ (v : Value). Some v) (sym c.unit.ensures.unit))
+          ∙ filled_more s string_class birth (units bytes) i c.unit.result c.count.ensures.laid_out (unit_at bytes i c.loop-place-test.true ∙ ap (λ (v : Value). Some v) (sym c.unit.ensures.unit)) (ap (λ (v : Value). noted_in v (marking_with s)) c.unit.ensures.unit)
           ∙ ap (λ (k : ℕ). with_block s (filled_block s string_class birth (units bytes) k)) next,
       λ j b below at. ⊎_elim
           (λ (old : j < i). c.loop-place.invariant.1 j b old at)

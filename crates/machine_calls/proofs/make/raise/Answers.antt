@@ -7,7 +7,7 @@ use Rattle.machine_scenes.specs.declared.new_object.New.TheVariants.{Exception, 
 use Rattle.machine_scenes.specs.declared.store.Store.{Store}
 use Rattle.machine_calls.specs.Made.{HasMade, Makes, Raises}
 use Rattle.machine_scenes.specs.NewObjects.{cells_of_new, texts_in}
-use Rattle.machine_calls.proofs.Makes.{left_after}
+use Rattle.machine_calls.proofs.Makes.{left_after, made_there}
 use Rattle.machine_calls.proofs.NewValues.{same_cells}
 use Rattle.machine_calls.proofs.make.raise.Goals as goal
 
@@ -16,6 +16,13 @@ module _ (classes : Classes) (texts : List (List ℕ)) (old between after : Stor
   raised : (o : Option ℕ) → Makes classes texts between (Exception class message) after o → Raises classes texts old class place after o
   raised (Some a) made = (between, message, first, made)
   raised None made = absurd (omega (arith, made.1, room, left_after classes texts old between (Text place) message first, same_cells classes texts class message))
+
+-- the message is there
+pub make-requires-2-clause-there : goal.make-requires-2-clause-there
+make-requires-2-clause-there c =
+    let classes = c.args.classes.now in
+    let texts = texts_in c.args.texts.now in
+    made_there classes texts c.args.store.now c.make.new.store (Text c.args.place) c.unwrap-message.result (subst (Makes classes texts c.args.store.now (Text c.args.place) c.make.new.store) c.unwrap-message.ensures c.make.ensures)
 
 pub returns : goal.returns
 returns c =
