@@ -755,7 +755,7 @@ module _ (p : Lowered) (w : World) (old : Space) (old_copies : List (Option Owne
             ap (put (Assigned x) c next) (resumed_is line f args rest s left q c untold told (Assigned x))
             ∙ ap (put_assigned x c next (resuming s.variables)) unnamed;
         store_agrees = with_static p w store next (beside others (taken_by s.variables)) (plain_shares plain s.variables refl) statics x i n.held h assigned place n.agrees (keys_put store.globals store.statics.items i n.held n.fresh.live shares.keys) (weak_keys_put store.weaks store.statics.items i n.held n.fresh.weak shares.weak_keys);
-        keeps = record { names = keeps.names; statics = inr (x, h, now_statics); shapes = keeps.shapes; room = keeps.room; laid = keeps.laid; few = keeps.few };
+        keeps = record { names = keeps.names; statics = inr (x, h, now_statics); shapes = keeps.shapes; room = keeps.room; laid = keeps.laid; marking = keeps.marking; few = keeps.few };
         views = plain_views s.variables receives.buffers refl;
         stands = fewer_stands p w.classes space store.elements k after own (put_owners (Assigned x) own s.variables) now (resuming s.variables) (frames_received kind c left) rest (fewer_static x own s.variables unnamed) (record {
           code = code;

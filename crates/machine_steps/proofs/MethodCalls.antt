@@ -22,12 +22,10 @@ use Rattle.machine_steps.specs.declared.invoke.Invoked.TheVariants as invoked
 use Rattle.semantics.specs.CallEffects.{Enters}
 use Rattle.semantics.specs.CallStep.{after_call, checked, effect_of_call, trap_of_call}
 use Rattle.semantics.specs.CallTable.{call_effect}
-use Rattle.semantics.specs.Effect.{Calls, effect_of}
+use Rattle.semantics.specs.Effect.{effect_of}
 use Rattle.semantics.specs.Task.{Task}
-use Rattle.semantics.specs.Thread as source
 use Rattle.semantics.specs.Thread.{Shared, Thread, sight_of}
 use Rattle.semantics.specs.ThreadStep.{after_effect}
-use Rattle.semantics.specs.Value as value
 use Rattle.semantics.specs.Value.{Trap}
 use Rattle.semantics.specs.World.{World}
 use Rattle.semantics.specs.declared.trap.Trap.TheVariants as trap

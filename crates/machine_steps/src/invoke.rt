@@ -4,6 +4,7 @@ ghost use Rattle.std.specs.Prelude.{◌≡◌, ℕ, ◌+◌, ◌<◌, ◌^◌, �
 ghost use Rattle.code.specs.Call.{IsPrepared};
 ghost use Rattle.code_meaning.specs.Lowered.{Lowered};
 ghost use Rattle.heap.specs.Heap.{left_of};
+ghost use Rattle.machine_calls.specs.Barrier.{IsNoted, written_by};
 ghost use Rattle.machine_calls.specs.CarriedOut.{takes_memory};
 ghost use Rattle.machine_calls.specs.Made.{cells_of};
 ghost use Rattle.machine_scenes.specs.NewObjects.{texts_in};
@@ -19,6 +20,7 @@ use crate::fault::StepFault;
 use crate::monitor::{answer_at_once, change_monitor};
 use crate::receive::{receive, receive_number};
 use crate::scene::scene_of;
+use base::limits::MOST_ACTIVATIONS;
 use classes::table::ClassTable;
 use code::instr::{Call, Operand};
 use code_meaning::Program;
@@ -31,9 +33,6 @@ use machine_scenes::store::Store;
 use semantics::Trap;
 use std::alloc::AllocError;
 use world_values::World;
-
-/// The most calls of a thread that are made from one another.
-const MOST_ACTIVATIONS: u16 = 64;
 
 /// What a call of a function of the JNI came to.
 #[derive(Clone, Copy)]
@@ -177,7 +176,7 @@ fn called_at(thread: u8, owner: u16) -> Invoked
     ensures { (below : ℕ) → owner ≡ owner_at thread below → result ≡ called_from below }
 {
     let eight_below = owner - thread as u16;
-    if eight_below < 8 * (MOST_ACTIVATIONS - 1) {
+    if eight_below < 8 * (MOST_ACTIVATIONS as u16 - 1) {
         Invoked::Calls
     } else {
         Invoked::Trapped(Trap::CallsTooDeep)
@@ -258,6 +257,7 @@ fn finish(
         activation.old activation.new call.now thread owner done) }
     ensures calls { IfOk result (λ done. done ≡ Invoked.Calls → IsAsBefore store.old store.new pending.old pending.new
         activation.old activation.new) }
+    ensures barrier { OnOk result (IsNoted (written_by answer) store.old.heap store.new.heap) }
     ensures refused { result ≡ Ok Invoked.Refused
         → left_of store.old.heap < cells_of world.now.classes (texts_in call.now.texts.items) answer }
     ensures memory { OnErr result (takes_memory answer ≡ true) }
