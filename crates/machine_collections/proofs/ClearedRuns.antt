@@ -1,4 +1,4 @@
--- A journal that goes on with the clearing of all that is lost.
+-- A journal that goes on with a clearing.
 use Rattle.std.proofs.Common.{◌≡◌, ◌≢◌, ℕ, suc, Bool, true, false, if◌then◌else◌, List, [], ◌∷◌, ◌++◌, append-nil, Option, Some, None, refl, sym, ap, ◌∙◌, subst}
 use Rattle.syntax.specs.Tree.{SourceUnit}
 use Rattle.semantics.specs.Journal.{Entry, Step, Clearing, Journal, steps_in}
@@ -36,16 +36,14 @@ clears_to w s names next h = by_test (may_clear w s names) h
     by_test false e = absurd (cc)
 
 module _ (unit : SourceUnit) (w : World) where
-  -- the state that it leads to
+  -- The state that it leads to, where the clearing is possible.
+  pub replays_with : (journal : Journal) (s : State) (names : List ℕ) → (names ≢ [] → clearing_step w s names ≡ Some (with_cleared names s)) → replay unit w journal ≡ Some s → replay unit w (journal ++ clearing_of names) ≡ Some (with_cleared names s)
+  replays_with journal s [] possible h = ap (replay unit w) (append-nil journal) ∙ h ∙ ap (λ (t : State). Some t) (sym (same_state s))
+  replays_with journal s (n ∷ names) possible h = replay_more unit w journal (Clearing (n ∷ names)) s (with_cleared (n ∷ names) s) h (possible (λ none. (let both : n ∷ names ≡ [] = none in cc)))
+
+  -- that of all that is lost is
   pub replays_cleared : (journal : Journal) (s : State) → replay unit w journal ≡ Some s → replay unit w (journal ++ clearing_of (lost w s)) ≡ Some (with_cleared (lost w s) s)
-  replays_cleared journal s h = by_names (lost w s) refl
-    where
-      by_names : (names : List ℕ) → lost w s ≡ names → replay unit w (journal ++ clearing_of names) ≡ Some (with_cleared names s)
-      by_names [] e = ap (replay unit w) (append-nil journal) ∙ h ∙ ap (λ (t : State). Some t) (sym (same_state s))
-      by_names (n ∷ names) e =
-          let some : lost w s ≢ [] = λ none. (let both : n ∷ names ≡ [] = sym e ∙ none in cc) in
-          let c = lost_are_cleared w s some in
-          subst (λ (l : List ℕ). replay unit w (journal ++ Clearing l ∷ []) ≡ Some (with_cleared l s)) e (replay_more unit w journal (Clearing (lost w s)) s (with_cleared (lost w s) s) h (c.1 ∙ ap (λ (t : State). Some t) (clears_to w s (lost w s) c.0 c.1)))
+  replays_cleared journal s h = replays_with journal s (lost w s) (λ some. let c = lost_are_cleared w s some in c.1 ∙ ap (λ (t : State). Some t) (clears_to w s (lost w s) c.0 c.1)) h
 
   -- what holds of each entry, and of a clearing always
   each_cleared : (Holds : State → Entry → Type 0) → ((s : State) (names : List ℕ) → Holds s (Clearing names)) → (o : Option State) (journal : Journal) (names : List ℕ) → EachFrom unit w Holds o journal → EachFrom unit w Holds o (journal ++ clearing_of names)

@@ -1,10 +1,10 @@
--- A whole collection clears the weak references to what is lost, and to nothing else.
-use Rattle.std.proofs.Common.{◌≡◌, ℕ, zero, suc, Bool, true, false, List, [], ◌∷◌, length, Option, Some, None, refl, sym, ap, ◌∙◌, subst, arith, ⊎_elim}
-use Rattle.std.specs.Prelude.{slice_get, not, if◌then◌else◌}
+-- A collection clears the weak references to what it doesn't keep, and to nothing else; a whole one those to what is lost.
+use Rattle.std.proofs.Common.{◌≡◌, ℕ, zero, suc, Bool, true, false, List, [], ◌∷◌, length, Option, Some, None, refl, sym, ap, ◌∙◌, subst, arith, inl, inr, ◌⊎◌, ⊎_elim}
+use Rattle.std.specs.Prelude.{slice_get, not, if◌then◌else◌, Contains}
 use Rattle.std.specs.Option.{option_map}
-use Rattle.std.proofs.lemmas.Bool.{false≢true, both_ways}
+use Rattle.std.proofs.lemmas.Bool.{both_ways, false≢true, false_from_ne_true}
 use Rattle.base.specs.Bytes.{Identifier}
-use Rattle.heap.specs.Heap.{Space, name_at}
+use Rattle.heap.specs.Heap.{AreNamesUnique, Space, name_at}
 use Rattle.heap.proofs.Names.{one_address}
 use Rattle.semantics.specs.declared.static_reference.StaticReference.TheVariants as static
 use Rattle.semantics.specs.Reachable.{Reachable, from_one, is_in, reachable, rising}
@@ -26,9 +26,10 @@ use Rattle.machine_scenes.specs.Statics as memory
 use Rattle.machine_scenes.specs.StoreAgrees.{HeldAgrees, StaticsAgree}
 use Rattle.machine_scenes.proofs.BlocksOfNames.{name_within}
 use Rattle.machine_collections.specs.Clearing.{AreCleared, WasCleared}
+use Rattle.machine_collections.specs.Kept.{AreNotKept}
 use Rattle.machine_collections.specs.Moving.{AreFollowed, moved_slots}
 use Rattle.machine_collections.proofs.Collections.{address_moved, name_moved}
-use Rattle.machine_collections.proofs.KeptReferences.{AllHeldAreKept, HeldIsKept}
+use Rattle.machine_collections.proofs.KeptReferences.{AllHeldAreKept, HasKept, HeldIsKept}
 use Rattle.machine_collections.proofs.Rising.{from_one_rises, from_passed, in_passed, one_rising, rise_filter, rise_from}
 
 -- ---- statics that hold weak references
@@ -110,54 +111,56 @@ module _ (space : Space) (globals : List (Option ℕ)) (weaks : List (Option (Op
       held_here r y statics n (weak_named (value_at weaks key) a n r is named (subst (λ (z : StaticReference). HeldAgrees space (memory.held globals weaks z) r) same h.0))
   held_weakly_by (x ∷ xs) ((y, r) ∷ statics) (suc slot) key a n h at is named = held_later r y statics n (held_weakly_by xs statics slot key a n h.1 at is named)
 
--- ---- what is lost
+-- ---- what was cleared
 
-module _ (w : World) (s : State) (space t : Space) (agrees : HeapAgrees space s.shared.heap) (Kept : ℕ → Type 0) (to : ℕ → ℕ) (m : MovesBy Kept to space t)
-    (kept_reached : (a : ℕ) → Kept a → (n : ℕ) × (name_at space a ≡ Some n) × Reachable w s n) (reached_kept : (n : ℕ) → Reachable w s n → (a : ℕ) × (name_at space a ≡ Some n) × Kept a) where
-  -- an object is kept exactly where it can be reached
-  pub listed_kept : (a n : ℕ) → name_at space a ≡ Some n → In (reachable w s) n → Kept a
-  listed_kept a n named k =
-      let r = reached_kept n (from_listed w s n k) in
-      subst Kept (one_address space r.0 a n agrees.unique r.1 named) r.2
+module _ (space t : Space) (unique : AreNamesUnique space) (Kept : ℕ → Type 0) (to : ℕ → ℕ) (globals : List (Option ℕ)) (weaks after : List (Option (Option ℕ))) (f : AreFollowed Kept to weaks after) (xs : List StaticReference) (statics : Statics)
+    (stands : StaticsAgree space (all_held globals weaks xs) statics) (names : List ℕ) (c : AreCleared space xs weaks after names) where
+  was_held : (n : ℕ) → WasCleared space xs weaks after n → In (weakly_held statics) n
+  was_held n h = held_weakly_by space globals weaks xs statics h.slot h.key h.address n stands h.of_static h.held h.named
 
-  pub unlisted_gone : (a n : ℕ) → name_at space a ≡ Some n → is_in (reachable w s) n ≡ false → ¬ (Kept a)
-  unlisted_gone a n named out k =
-      let r = kept_reached a k in
-      let both : Some r.0 ≡ Some n = sym r.1 ∙ named in
-      let same : r.0 ≡ n = cc in
-      both_ways (is_in (reachable w s) n) out (is_reachable w s n (subst (λ (j : ℕ). Reachable w s j) same r.2))
+  -- what was cleared has no block that is kept
+  cleared_gone : (n : ℕ) → WasCleared space xs weaks after n → ¬ (HasKept Kept space n)
+  cleared_gone n h k =
+      let same : k.0 ≡ h.address = one_address space k.0 h.address n unique k.1 h.named in
+      let stays : value_at after h.key ≡ Some (Some (to h.address)) = f.kept h.key h.address h.held (subst Kept same k.2) in
+      let both : ◌≡◌ {A = Option (Option ℕ)} (Some (Some (to h.address))) (Some None) = sym stays ∙ h.gone in
+      cc
 
-  module _ (globals : List (Option ℕ)) (weaks after : List (Option (Option ℕ))) (f : AreFollowed Kept to weaks after) (xs : List StaticReference) (statics : Statics) (same_statics : s.shared.statics ≡ statics)
-      (stands : StaticsAgree space (all_held globals weaks xs) statics) (names : List ℕ) (c : AreCleared space xs weaks after names) where
-    -- what was cleared can't be reached
+  -- and what is held weakly and has none was cleared
+  gone_cleared : (n : ℕ) → In (weakly_held statics) n → ¬ (HasKept Kept space n) → In names n
+  gone_cleared n k out =
+      let h = all_found space globals weaks xs statics n stands k in
+      contains_in names n (c.complete n (record {
+        slot = h.slot;
+        key = h.key;
+        address = h.address;
+        of_static = h.of_static;
+        held = h.is;
+        named = h.named;
+        gone = f.gone h.key h.address h.is (λ kept. out (h.address, h.named, kept));
+      }))
+
+  pub cleared_are : (s : State) → s.shared.statics ≡ statics → AreNotKept s (HasKept Kept space) names
+  cleared_are s same = record {
+    rising = c.rising;
+    held = λ n k. subst (λ (l : Statics). Contains (weakly_held l) n) (sym same) (to_contains (weakly_held statics) n (was_held n (c.sound n k)));
+    gone = λ n k. cleared_gone n (c.sound n k);
+    all = λ n k out. to_contains names n (gone_cleared n (contains_in (weakly_held statics) n (subst (λ (l : Statics). Contains (weakly_held l) n) same k)) out);
+  }
+
+  -- where just what can be reached is kept, that is what is lost
+  module _ (w : World) (s : State) (same_statics : s.shared.statics ≡ statics) (agrees : HeapAgrees space s.shared.heap) (kept_reached : (a : ℕ) → Kept a → (n : ℕ) × (name_at space a ≡ Some n) × Reachable w s n)
+      (reached_kept : (n : ℕ) → Reachable w s n → HasKept Kept space n) where
     cleared_unlisted : (n : ℕ) → WasCleared space xs weaks after n → is_in (reachable w s) n ≡ false
-    cleared_unlisted n h = by_test (is_in (reachable w s) n) refl
-      where
-        by_test : (b : Bool) → is_in (reachable w s) n ≡ b → b ≡ false
-        by_test false e = refl
-        by_test true e =
-            let stays : value_at after h.key ≡ Some (Some (to h.address)) = f.kept h.key h.address h.held (listed_kept h.address n h.named e) in
-            let both : ◌≡◌ {A = Option (Option ℕ)} (Some (Some (to h.address))) (Some None) = sym stays ∙ h.gone in
-            absurd (cc)
+    cleared_unlisted n h = false_from_ne_true (is_in (reachable w s) n) (λ e. cleared_gone n h (reached_kept n (from_listed w s n e)))
 
-    -- and what is held weakly and can't be was cleared
     unlisted_cleared : (n : ℕ) → In (weakly_held statics) n → is_in (reachable w s) n ≡ false → In names n
     unlisted_cleared n k out =
-        let h = all_found space globals weaks xs statics n stands k in
-        contains_in names n (c.complete n (record {
-          slot = h.slot;
-          key = h.key;
-          address = h.address;
-          of_static = h.of_static;
-          held = h.is;
-          named = h.named;
-          gone = f.gone h.key h.address h.is (unlisted_gone h.address n h.named out);
-        }))
+        gone_cleared n k (λ kept.
+        let r = kept_reached kept.0 kept.2 in
+        let same : r.0 ≡ n = let both : Some r.0 ≡ Some n = sym r.1 ∙ kept.1 in cc in
+        both_ways (is_in (reachable w s) n) out (is_reachable w s n (subst (λ (j : ℕ). Reachable w s j) same r.2)))
 
-    was_held : (n : ℕ) → WasCleared space xs weaks after n → In (weakly_held statics) n
-    was_held n h = held_weakly_by space globals weaks xs statics h.slot h.key h.address n stands h.of_static h.held h.named
-
-    -- the objects whose weak references were cleared are those that are lost
     pub lost_is : names ≡ lost w s
     lost_is =
         one_rising 0 0 names (lost w s)
@@ -181,9 +184,10 @@ module _ (w : World) (s : State) (space t : Space) (agrees : HeapAgrees space s.
         not_true true e = absurd (false≢true e)
         not_true false e = refl
 
-    -- ---- what the statics hold then
+  -- ---- what the statics hold then
 
-    -- a static's object is among the cleared exactly where it can't be reached
+  module _ (m : MovesBy Kept to space t) (decides : (a : ℕ) → Kept a ⊎ ¬ (Kept a)) where
+    -- a static's object is held weakly
     abbrev Tells : source.StaticReference → Type 0
     Tells r = (n : ℕ) → r ≡ Weakly n → In (weakly_held statics) n
 
@@ -203,24 +207,16 @@ module _ (w : World) (s : State) (space t : Space) (agrees : HeapAgrees space s.
     weak_cleared (Some (Some a)) o' (Live n) free was kept gone tells h = absurd h
     weak_cleared (Some (Some a)) o' Cleared free was kept gone tells h = absurd h
     weak_cleared (Some (Some a)) o' Deleted free was kept gone tells h = absurd h
-    weak_cleared (Some (Some a)) o' (Weakly n) free was kept gone tells h = by_test (is_in (reachable w s) n) refl
+    weak_cleared (Some (Some a)) o' (Weakly n) free was kept gone tells h = by_kept (decides a)
       where
-        in_names : (b : Bool) → is_in names n ≡ b → source.StaticReference
-        in_names b e = if b then Cleared else Weakly n
-
-        by_test : (b : Bool) → is_in (reachable w s) n ≡ b → HeldAgrees t (held_weakly o') (if is_in names n then Cleared else Weakly n)
-        by_test true e =
-            let k = listed_kept a n h e in
-            let out : is_in names n ≡ false = not_in (is_in names n) refl in
+        by_kept : Kept a ⊎ ¬ (Kept a) → HeldAgrees t (held_weakly o') (if is_in names n then Cleared else Weakly n)
+        by_kept (inl k) =
+            let still : is_in names n ≡ false = false_from_ne_true (is_in names n) (λ e. cleared_gone n (c.sound n (to_contains names n e)) (a, h, k)) in
             subst (λ (q : Option (Option ℕ)). HeldAgrees t (held_weakly q) (if is_in names n then Cleared else Weakly n)) (sym (kept a refl k))
-            (subst (λ (b : Bool). HeldAgrees t (held.Weakly (to a)) (if b then Cleared else Weakly n)) (sym out) (name_moved Kept to space t m a n k h))
-          where
-            not_in : (b : Bool) → is_in names n ≡ b → b ≡ false
-            not_in false f = refl
-            not_in true f = absurd (both_ways (is_in (reachable w s) n) (cleared_unlisted n (c.sound n (to_contains names n f))) e)
-        by_test false e =
-            let inside : is_in names n ≡ true = unlisted_cleared n (tells n refl) e in
-            subst (λ (q : Option (Option ℕ)). HeldAgrees t (held_weakly q) (if is_in names n then Cleared else Weakly n)) (sym (gone a refl (unlisted_gone a n h e)))
+            (subst (λ (b : Bool). HeldAgrees t (held.Weakly (to a)) (if b then Cleared else Weakly n)) (sym still) (name_moved Kept to space t m a n k h))
+        by_kept (inr out) =
+            let inside : is_in names n ≡ true = gone_cleared n (tells n refl) (λ k. out (subst Kept (one_address space k.0 a n unique k.1 h) k.2)) in
+            subst (λ (q : Option (Option ℕ)). HeldAgrees t (held_weakly q) (if is_in names n then Cleared else Weakly n)) (sym (gone a refl out))
             (subst (λ (b : Bool). HeldAgrees t held.Cleared (if b then Cleared else Weakly n)) (sym inside) tt)
 
     at_cleared : (o : Option ℕ) (r : source.StaticReference) → HeldIsKept Kept (held_at o) → HeldAgrees space (held_at o) r → HeldAgrees t (held_at (option_map to o)) (cleared names r)
@@ -275,6 +271,6 @@ module _ (w : World) (s : State) (space t : Space) (agrees : HeapAgrees space s.
       all_cleared ys ss kept.1 (λ n k. within n (held_later space globals weaks r x ss n k)) h.1,
     )
 
-    -- they stand for those of the source, of which what is lost is cleared
+    -- they stand for those of the source, of which what isn't kept is cleared
     pub statics_cleared : AllHeldAreKept Kept (all_held globals weaks xs) → StaticsAgree t (all_held (moved_slots to globals) after xs) (cleared_statics names statics)
     statics_cleared kept = all_cleared xs statics kept (λ n k. k) stands

@@ -15,8 +15,9 @@ use Rattle.semantics.proofs.ReachableLemmas.{In, contains_in, in_cases, in_head,
 use Rattle.semantics.proofs.ShownRows.{from_one-contains}
 use Rattle.machine_scenes.specs.HeapAgrees.{HeapAgrees, ValuesAgree}
 use Rattle.machine_scenes.proofs.BlocksOfNames.{Named, named, name_within}
-use Rattle.compact.specs.Reach.{IsKept}
+use Rattle.compact.specs.Reach.{IsKept, Refers}
 use Rattle.compact.specs.Reach.IsKept.{root, pinned, referred}
+use Rattle.machine_collections.proofs.KeptReferences.{HasKept}
 
 -- an address among values that agree refers to an object of its name
 pub referred_name : (space : Space) (ws : List Value) (vs : List ObjectValue) (place b : ℕ) → ValuesAgree space ws vs → slice_get ws place ≡ Some (Address b) → (n : ℕ) × (name_at space b ≡ Some n) × In (filter_map reference_in vs) n
@@ -77,12 +78,15 @@ module _ (w : World) (s : State) (space : Space) (agrees : HeapAgrees space s.sh
         FromObject r.0 t.0 r.2 (from_one-contains (length heap) t.0 low.0 low.1) (to_contains (references_of heap r.0) t.0 (subst (λ (vs : List ObjectValue). In (filter_map reference_in vs) t.0) (sym v.1) t.2)),
       )
 
-  -- Where each root of the source is kept, as what is viewed is by its pins, so is what can be reached.
-  pub reachable_kept : ((n : ℕ) → Contains (roots w s) n → (a : ℕ) × (name_at space a ≡ Some n) × IsKept space places a) → (n : ℕ) → Reachable w s n → (a : ℕ) × (name_at space a ≡ Some n) × IsKept space places a
-  reachable_kept held n (FromRoot m a c) = held m c
-  reachable_kept held n (FromObject m q r a c) =
-      let k = reachable_kept held m r in
+  -- what an object with a kept block refers to has one, where kept blocks refer to kept ones alone
+  pub referred_kept : (Kept : ℕ → Type 0) → ((a b : ℕ) → Kept a → Refers space a b → Kept b) → (m n : ℕ) → HasKept Kept space m → Contains (references_of heap m) n → HasKept Kept space n
+  referred_kept Kept closed m n k c =
       let b = named space heap k.0 m agrees k.1 in
       let v = values_there k.0 m b in
-      let t = referred_address space b.block.values b.agrees.object.values q b.agrees.values (subst (λ (vs : List ObjectValue). In (filter_map reference_in vs) q) v.1 (contains_in (references_of heap m) q c)) in
-      (t.1, t.3, referred k.2 (record { place = t.0; value = ap (λ (l : List Value). slice_get l t.0) v.0 ∙ t.2 }))
+      let t = referred_address space b.block.values b.agrees.object.values n b.agrees.values (subst (λ (vs : List ObjectValue). In (filter_map reference_in vs) n) v.1 (contains_in (references_of heap m) n c)) in
+      (t.1, t.3, closed k.0 t.1 k.2 (record { place = t.0; value = ap (λ (l : List Value). slice_get l t.0) v.0 ∙ t.2 }))
+
+  -- Where each root of the source is kept, as what is viewed is by its pins, so is what can be reached.
+  pub reachable_kept : ((n : ℕ) → Contains (roots w s) n → HasKept (IsKept space places) space n) → (n : ℕ) → Reachable w s n → HasKept (IsKept space places) space n
+  reachable_kept held n (FromRoot m a c) = held m c
+  reachable_kept held n (FromObject m q r a c) = referred_kept (IsKept space places) (λ x y k f. referred k f) m q (reachable_kept held m r) c

@@ -3,7 +3,7 @@ use Rattle.std.specs.Prelude.{◌≡◌, ℕ, List, [], ◌∷◌, Option, Some,
 use Rattle.std.specs.List.{AllByRecursion}
 use Rattle.heap.specs.declared.value.Value.{Value}
 use Rattle.heap.specs.declared.value.Value.TheVariants.{Number, Null, Block as Address}
-use Rattle.heap.specs.Heap.{Block, Space, IsAddress, block_at}
+use Rattle.heap.specs.Heap.{Block, Space, IsAddress, block_at, name_at}
 use Rattle.tables.specs.References.{references_in}
 use Rattle.machine_threads.specs.declared.thread.Thread.{Thread}
 use Rattle.machine_scenes.specs.declared.activation.Activation.{Activation}
@@ -30,6 +30,10 @@ ValuesAreKept Kept (v ∷ rest) = ValueIsKept Kept v × ValuesAreKept Kept rest
 pub record IsClosedUnder (Kept : ℕ → Type 0) (s : Space) : Type 0 where
   pub there : (a : ℕ) → Kept a → IsAddress s a
   pub values : (a : ℕ) (b : Block) → Kept a → block_at s a ≡ Some b → ValuesAreKept Kept b.values
+
+-- an object has a block that is kept
+abbrev pub HasKept : (ℕ → Type 0) → Space → ℕ → Type 0
+HasKept Kept s n = (a : ℕ) × (name_at s a ≡ Some n) × Kept a
 
 -- ---- statics
 

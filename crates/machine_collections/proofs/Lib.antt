@@ -9,6 +9,7 @@ pub mod GivenArguments
 pub mod LiveBlocks
 pub mod KeptCells
 pub mod KeptNames
+pub mod KeptSets
 pub mod Collections
 pub mod PackedLayouts
 pub mod OnePacking
@@ -18,6 +19,8 @@ pub mod ClearedStatics
 pub mod ClearedThreads
 pub mod PutWeaks
 pub mod ListedNames
+pub mod PutTogether
 pub mod CollectedStores
 pub mod CollectedThreads
 pub mod ClearedRuns
+pub mod KeptSources

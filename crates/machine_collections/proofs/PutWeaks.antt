@@ -7,6 +7,7 @@ use Rattle.std.proofs.lemmas.Bool.Decides.{eqb_tells}
 use Rattle.std.proofs.lemmas.List.{length-map}
 use Rattle.std.proofs.lemmas.Option.{get_or_from_slice_get, slice_get_within}
 use Rattle.compact.specs.Same as compact
+use Rattle.semantics.proofs.ReachableLemmas.{in_head, to_contains}
 use Rattle.tables.specs.Keys.{value_at}
 use Rattle.tables.specs.Weaks.{weak_places, with_weak}
 use Rattle.tables.proofs.Keys.{set_other}
@@ -118,3 +119,11 @@ none_cleared space statics weaks after names none empty = subst (AreCleared spac
   sound = λ n there. absurd (omega (arith, there.1));
   complete = λ n h. absurd (let no = none_has weaks none h.key in cc (h.held, no));
 })
+
+-- where each is as it was, none is cleared
+pub none_gone : (space : Space) (statics : List StaticReference) (weaks : List (Option (Option ℕ))) (names : List ℕ) → AreCleared space statics weaks weaks names → names ≡ []
+none_gone space statics weaks [] h = refl
+none_gone space statics weaks (n ∷ names) h =
+    let was = h.sound n (to_contains (n ∷ names) n (in_head n names)) in
+    let both : ◌≡◌ {A = Option (Option ℕ)} (Some (Some was.address)) (Some None) = sym was.held ∙ was.gone in
+    absurd (cc)

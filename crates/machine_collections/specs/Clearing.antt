@@ -79,6 +79,11 @@ pub record ListsNames (those names : List ℕ) : Type 0 where
   pub sound : (n : ℕ) → Contains names n → Contains those n
   pub complete : (n : ℕ) → Contains those n → Contains names n
 
+-- of the objects that statics held weakly, static by static, those whose references are cleared now
+abbrev pub ListsCleared : List (Option ObjectId) → List (Option (Option ℕ)) → List StaticReference → List ℕ → Type 0
+ListsCleared objects weaks statics names =
+    ListsNames (cleared_names (map (option_map (λ (o : ObjectId). o.number)) objects) (map (holds_cleared weaks) statics)) names
+
 -- ---- in a journal
 
 -- the entry of a clearing, which there is none of where nothing is cleared

@@ -2,3 +2,6 @@ pub mod Roots
 pub mod Moving
 pub mod Packing
 pub mod Clearing
+pub mod Gathering
+pub mod Kept
+pub mod Slices

@@ -65,10 +65,9 @@ pub record IsMoved (f : ℕ → ℕ) (store : Store) (t : Space) (after : Store)
   pub views : after.views ≡ store.views
   pub monitors : after.monitors ≡ moved_monitors f store.monitors
 
--- the roots have the new addresses, and nothing else has changed
+-- the roots have the new addresses, and nothing else has changed, but for weak references
 pub record AreMoved (f : ℕ → ℕ) (store : Store) (threads : List Thread) (after : Store) (later : List Thread) : Type 0 where
   pub moved : IsMoved f store store.heap after
-  pub weaks : after.weaks ≡ store.weaks
   pub follow : later ≡ map (moved_thread f) threads
 
 -- ---- a collection
@@ -79,12 +78,16 @@ pub record AreReferred (store : Store) (threads : List Thread) : Type 0 where
   pub roots : ThreadsAreStacked threads → compact.AreAddresses store.heap (root_places store threads)
   pub weaks : compact.AreAddresses store.heap (weak_places store.weaks)
 
--- The blocks that roots or views lead to were moved together, and the roots follow, and the weak references. What is viewed is pinned, and
--- stays where it is, so slots have its address yet.
-pub record AreCollected (store : Store) (threads : List Thread) (after : Store) (later : List Thread) : Type 0 where
+-- The blocks that are kept were moved together, and the roots follow, and the weak references. What is viewed is pinned, and stays where
+-- it is, so slots have its address yet.
+pub record AreMovedTogether (Kept : ℕ → Type 0) (store : Store) (threads : List Thread) (after : Store) (later : List Thread) : Type 0 where
   pub to : ℕ → ℕ
-  pub blocks : MovesBy (IsKept store.heap (root_places store threads)) to store.heap after.heap
+  pub blocks : MovesBy Kept to store.heap after.heap
   pub moved : IsMoved to store after.heap after
-  pub weaks : AreFollowed (IsKept store.heap (root_places store threads)) to store.weaks after.weaks
+  pub weaks : AreFollowed Kept to store.weaks after.weaks
   pub follow : later ≡ map (moved_thread to) threads
   pub stacked : ThreadsAreStacked threads
+
+-- a whole collection keeps the blocks that roots or views lead to
+abbrev pub AreCollected : (store : Store) (threads : List Thread) (after : Store) (later : List Thread) → Type 0
+AreCollected store threads after later = AreMovedTogether (IsKept store.heap (root_places store threads)) store threads after later

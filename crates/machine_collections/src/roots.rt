@@ -68,8 +68,9 @@ pub fn gather(alloc: Global, store: &Store, threads: &[Thread]) -> Result<RootPl
 /// Puts the roots back, where a collection has moved what they name.
 pub(crate) fn put_back(roots: &RootPlaces, store: &mut Store, threads: &mut [Thread])
     requires { (to : ℕ → ℕ) × (roots.now.places.items ≡ moved_slots to (root_places store.old threads.old)) }
-    ensures { (to : ℕ → ℕ) → roots.now.places.items ≡ moved_slots to (root_places store.old threads.old)
+    ensures moved { (to : ℕ → ℕ) → roots.now.places.items ≡ moved_slots to (root_places store.old threads.old)
         → AreMoved to store.old threads.old store.new threads.new }
+    ensures weaks { store.new.weaks ≡ store.old.weaks }
 {
     let next = put_loaded(&mut store.loaded, roots);
     let next = put_globals(&mut store.globals, roots, next);

@@ -7,7 +7,7 @@ ghost use Rattle.tables.specs.Keys.{value_at};
 ghost use Rattle.tables.specs.Weaks.{weak_places};
 ghost use Rattle.semantics.specs.Views.{names_of};
 ghost use Rattle.semantics.specs.declared.object_id.ObjectId.{ObjectId as Object};
-ghost use Rattle.machine_collections.specs.Clearing.{AreNamed, ArePut, ListsNames, cleared_name, cleared_names, holds_cleared, weak_name};
+ghost use Rattle.machine_collections.specs.Clearing.{AreNamed, ArePut, ListsCleared, cleared_name, cleared_names, holds_cleared, weak_name};
 
 use compact::WeakList;
 use heap::Heap;
@@ -131,7 +131,7 @@ pub(crate) fn list_cleared(
     requires names { (names.old.items ≡ []) × (length objects.now ≤ vec_capacity names.old) }
     requires cleared { (cleared.old.items ≡ []) × (length objects.now ≤ vec_capacity cleared.old) }
     requires count { length objects.now ≡ length statics.now }
-    ensures { ListsNames (cleared_names (map (option_map (λ (o : Object). o.number)) objects.now) (map (holds_cleared weaks.now) statics.now)) (names_of cleared.new.items) }
+    ensures { ListsCleared objects.now weaks.now statics.now (names_of cleared.new.items) }
 {
     push_cleared(names, objects, weaks, statics);
     names.sort_unstable();

@@ -1,4 +1,4 @@
-use Rattle.std.proofs.Common.{ℕ, List, Option, refl, sym, ◌∙◌, subst}
+use Rattle.std.proofs.Common.{◌≡◌, ℕ, List, Option, refl, sym, ap, ◌∙◌, subst}
 use Rattle.heap.specs.Heap.{Space}
 use Rattle.compact.specs.Reach.{IsKept}
 use Rattle.compact.specs.Same.{IsSame, MovesBy}
@@ -18,17 +18,22 @@ returns-clause-ok c =
     let left = same (goal.at.returns-clause-ok c).After-put_back in
     let s = c.args.store.now.heap in
     let places = root_places c.args.store.now c.args.threads.now in
-    let back = c.put_back.ensures left.to left.places in
+    let back = c.put_back.ensures.moved left.to left.places in
     record {
       to = left.to;
       blocks = subst (λ (t : Space). MovesBy (IsKept s places) left.to s t) (sym back.moved.heap) left.blocks;
       moved = record { heap = refl; loaded = back.moved.loaded; births = back.moved.births; statics = back.moved.statics; globals = back.moved.globals; elements = back.moved.elements; views = back.moved.views; monitors = back.moved.monitors };
-      weaks = none_followed (IsKept s places) left.to c.args.store.now.weaks c.put_back.new.store.weaks c.requires.none (back.weaks ∙ c.requires.none);
+      weaks = none_followed (IsKept s places) left.to c.args.store.now.weaks c.put_back.new.store.weaks c.requires.none (c.put_back.ensures.weaks ∙ c.requires.none);
       follow = back.follow;
       stacked = c.in_ok-roots.ensures.stacked;
     }
 
 pub returns-clause-weaks : goal.returns-clause-weaks
-returns-clause-weaks c =
-    let left = same (goal.at.returns-clause-weaks c).After-put_back in
-    (c.put_back.ensures left.to left.places).weaks ∙ c.requires.none
+returns-clause-weaks c = c.put_back.ensures.weaks ∙ c.requires.none
+
+pub returns-clause-none : goal.returns-clause-none
+returns-clause-none c =
+    let left = same (goal.at.returns-clause-none c).After-put_back in
+    let back = c.put_back.ensures.moved left.to left.places in
+    let heap : c.put_back.new.store.heap ≡ c.collect.new.heap = back.moved.heap in
+    ap (λ (t : Space). t.marking) heap ∙ c.in_ok-collect.ensures.none

@@ -31,8 +31,8 @@ put_monitors-requires c =
     let last = c.put_threads-next.ensures.next ∙ ap (λ (n : ℕ). n + length (flat_map thread_places c.args.threads.now)) further in
     (c.requires.0, subst (λ (n : ℕ). AreMovedAt c.requires.0 (addresses c.args.store.now.monitors) c.args.roots.now.places.items n) (sym last) parts.3)
 
-pub returns : goal.returns
-returns c = λ to h.
+pub returns-clause-moved : goal.returns-clause-moved
+returns-clause-moved c = λ to h.
     let items = c.args.roots.now.places.items in
     let parts = parts_moved to c.args.store.now c.args.threads.now items h in
     let next = c.put_loaded-next.ensures.next ∙ ap (λ (l : List ℕ). length l) c.deref_mut.ensures.value in
@@ -52,6 +52,5 @@ returns c = λ to h.
         views = refl;
         monitors = c.put_monitors.ensures to (subst (λ (n : ℕ). AreMovedAt to (addresses c.args.store.now.monitors) items n) (sym last) parts.3);
       };
-      weaks = refl;
       follow = c.put_threads-next.ensures.moved to (subst (λ (n : ℕ). AreMovedAt to (flat_map thread_places c.args.threads.now) items n) (sym further) parts.2);
     }
