@@ -1,5 +1,5 @@
 -- A step that is asked for again after a collection takes no host memory either: a clearing changes none that makes objects.
-use Rattle.std.proofs.Common.{◌≡◌, ◌≢◌, ◌++◌, ℕ, zero, suc, ◌+◌, ◌<◌, false, true, List, [], ◌∷◌, set, Some, refl, sym, ap, ◌∙◌, subst, arith}
+use Rattle.std.proofs.Common.{◌≡◌, ◌≢◌, ◌++◌, ℕ, zero, suc, ◌+◌, ◌<◌, false, true, List, [], ◌∷◌, set, Some, refl, sym, ap, ◌∙◌, subst, arith, None}
 use Rattle.std.specs.Prelude.{slice_get, slice_index_or}
 use Rattle.std.proofs.lemmas.Option.{get_or_from_slice_get}
 use Rattle.syntax.specs.Views.{unit_tree}
@@ -105,16 +105,16 @@ module _ (p : Lowered) (w : World) (store : Store) (ts : List Thread) (index : �
   shared_there = shared_agrees p w store ts s.printed s.stop s.journal s.stands (suc index) index (slice_index_or ts index d) refl there
 
   -- a collection, which clears the weak references to these objects, where what the step makes had no room
-  module _ (lacks : (t : Thread) → slice_get ts index ≡ Some t → LacksRoom p w (suc index) store t) (after : Store) (later : List Thread) (names : List ℕ) (h : AreCollected store ts after later) (cl : AreCleared store.heap store.statics.items store.weaks after.weaks names) where
+  module _ (lacks : (t : Thread) → slice_get ts index ≡ Some t → LacksRoom p w (suc index) store t) (after : Store) (later : List Thread) (names : List ℕ) (h : AreCollected store ts after later) (cl : AreCleared store.heap store.statics.items store.weaks after.weaks names) (unmarked : after.heap.marking ≡ None) where
     abbrev pub before : State
     before = s.stands.state
 
     -- the machine after it
     abbrev pub now : Corresponds p w after later s.printed s.stop (s.journal ++ clearing_of names)
-    now = stands_after p w store ts s.printed s.stop s.journal s.stands after later names h cl
+    now = stands_after p w store ts s.printed s.stop s.journal s.stands after later names h cl unmarked
 
     pub state_now : now.state ≡ with_cleared names before
-    state_now = state_after p w store ts s.printed s.stop s.journal s.stands after later names h cl
+    state_now = state_after p w store ts s.printed s.stop s.journal s.stands after later names h cl unmarked
 
     -- the source's thread, which names no weak reference but where it makes no object
     pub there_before : thread_at before (suc index) ≡ Some found.source

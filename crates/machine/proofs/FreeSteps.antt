@@ -27,8 +27,8 @@ use Rattle.machine_threads.specs.declared.thread.Thread.{Thread}
 use Rattle.machine_steps.specs.Advances.{Stands}
 use Rattle.machine_steps.specs.Moved.{IsSilent}
 use Rattle.machine.specs.declared.turn.Turn.TheVariants as turn
-use Rattle.machine.specs.Run.{Run, CanGoOn, Corresponds, RunsAlong, WentOn, seen, stepped}
-use Rattle.machine.proofs.Collected.{left_seen}
+use Rattle.machine.specs.Run.{Run, CanGoOn, Corresponds, RunsAlong, WentOn, seen, stepped, slices_of}
+use Rattle.machine.proofs.Moved.{left_seen}
 use Rattle.machine.proofs.Runs.{along_both, none_yet, replicate_more, turned}
 use Rattle.machine.proofs.Steps.{StepsFreely, can_turn_here, is_free, make_freely, none_printed, owners, rest, stands, steps_freely, the_thread}
 
@@ -71,7 +71,7 @@ module _ (p : Lowered) (w : World) (store : Store) (ts : List Thread) (index : �
         let make = make_freely p w store (slice_set ts index t) printed None journal c k index t h.number thread_at after e freely refl lives in
         let left = left_seen p w store journal c.store_agrees.cells in
         let now : Run = seen p w store (journal ++ Step k false ∷ []) in
-        let is : now ≡ stepped (seen p w store journal) c.state k = ap (λ (l : Layout). let r : Run = record { unit = p.unit; world = w; journal = journal ++ Step k false ∷ []; layout = l } in r) make.1 in
+        let is : now ≡ stepped (seen p w store journal) c.state k = ap (λ (l : Layout). let r : Run = record { unit = p.unit; world = w; journal = journal ++ Step k false ∷ []; layout = l; slices = slices_of store.heap.marking } in r) make.1 in
         let room : sizes (made (unit_tree p.unit) w c.state k) ≤ left_of store.heap = make.0 in
         record {
           stands =

@@ -4,7 +4,11 @@ pub mod KeptThreads
 pub mod Notes
 pub mod OwnerSteps
 pub mod Reports
+pub mod NotedThreads
+pub mod Moved
 pub mod Collected
+pub mod Sliced
+pub mod Slices
 pub mod Steps
 pub mod Turns
 pub mod Advancing

@@ -50,7 +50,7 @@ use Rattle.semantics.specs.EventViews.{stop_view}
 use Rattle.machine.specs.Run as run
 use Rattle.semantics.specs.Run.{MarkedAreFair, UnmarkedFit}
 use Rattle.machine_scenes.specs.declared.store.Store.{Store}
-use Rattle.machine.specs.Run.{Run, Corresponds, WritesRun, AllRest, AreShown, ShowsObjects, ShowsStandings, IsFinished, standings_in}
+use Rattle.machine.specs.Run.{Run, Corresponds, WritesRun, AllRest, AreShown, ShowsObjects, ShowsStandings, IsFinished, standings_in, slices_of}
 use Rattle.machine_collections.specs.Roots.{AreAddresses, pinned_names, root_places, ThreadsAreStacked}
 use Rattle.machine_scenes.specs.Given.{object_there}
 use Rattle.std.specs.Prelude.{Contains}
@@ -75,10 +75,10 @@ report_is p world store ts printed stop journal c shown_standings rows told show
 -- ---- the end
 
 pub is_finished : (p : Lowered) (world : World) (store : Store) (ts : List Thread) (printed : List Printed) (stop : Option Stop) (journal : List Entry) (c : Corresponds p world store ts printed stop journal) (now : Run)
-    → ◌≡◌ {A = Run} (record { unit = p.unit; world = world; journal = journal; layout = layout_of store.heap }) now
+    → ◌≡◌ {A = Run} (record { unit = p.unit; world = world; journal = journal; layout = layout_of store.heap; slices = slices_of store.heap.marking }) now
     → (stopped : Bool) → stopped ≡ is_some stop → (rest : Bool) → AllRest now rest → IsFinished now (stopped || rest)
 is_finished p world store ts printed stop journal c now view stopped is rest h =
-    let here : AllRest (record { unit = p.unit; world = world; journal = journal; layout = layout_of store.heap }) rest = subst (λ (r : Run). AllRest r rest) (sym view) h in
+    let here : AllRest (record { unit = p.unit; world = world; journal = journal; layout = layout_of store.heap; slices = slices_of store.heap.marking }) rest = subst (λ (r : Run). AllRest r rest) (sym view) h in
     let state_is : here.0 ≡ c.state = cc (here.1, c.replays) in
     let same : rest ≡ run.all_rest world.classes c.state = subst (λ (x : State). rest ≡ run.all_rest world.classes x) state_is here.2 in
     subst (λ (r : Run). IsFinished r (stopped || rest)) view (c.state, c.replays, (λ i. (is ∙ has_stopped stop ∙ ap (λ (o : Option state.Stop). is_some o) (sym c.same_stop)) i || same i))
@@ -247,7 +247,7 @@ module _ (p : Lowered) (world : World) (store : Store) (ts : List Thread) (print
       })
 
 module _ (p : Lowered) (world : World) (store : Store) (ts : List Thread) (printed : List Printed) (stop : Option Stop) (journal : List Entry) (c : Corresponds p world store ts printed stop journal) (now : Run)
-    (view : ◌≡◌ {A = Run} (record { unit = p.unit; world = world; journal = journal; layout = layout_of store.heap }) now) where
+    (view : ◌≡◌ {A = Run} (record { unit = p.unit; world = world; journal = journal; layout = layout_of store.heap; slices = slices_of store.heap.marking }) now) where
   -- the names of the tables lead to what is shown
   pub are_shown : (objects : Heap) (names : List ℕ) → AreSeen store.heap c.state.shared.heap objects → names ≡ map (object_there store.heap) (references_in (root_places store ts)) ++ pinned_names store.heap.blocks → ThreadsAreStacked ts → AreShown now objects names
   are_shown objects names h n stacked =
@@ -268,9 +268,9 @@ module _ (p : Lowered) (world : World) (store : Store) (ts : List Thread) (print
       → sink.Writes old new result (report_text (report_with numbers told rows) ++ journal_line entries)
       → WritesRun now old new result
   writes_run old new result numbers told rows entries n s shows e h =
-      let there : ShowsObjects (record { unit = p.unit; world = world; journal = journal; layout = layout_of store.heap }) rows = subst (λ (r : Run). ShowsObjects r rows) (sym view) shows in
+      let there : ShowsObjects (record { unit = p.unit; world = world; journal = journal; layout = layout_of store.heap; slices = slices_of store.heap.marking }) rows = subst (λ (r : Run). ShowsObjects r rows) (sym view) shows in
       let state_is : there.0 ≡ c.state = cc (there.1, c.replays) in
-      let stood : ShowsStandings (record { unit = p.unit; world = world; journal = journal; layout = layout_of store.heap }) (map standing_view told) = subst (λ (r : Run). ShowsStandings r (map standing_view told)) (sym view) s in
+      let stood : ShowsStandings (record { unit = p.unit; world = world; journal = journal; layout = layout_of store.heap; slices = slices_of store.heap.marking }) (map standing_view told) = subst (λ (r : Run). ShowsStandings r (map standing_view told)) (sym view) s in
       let stood_is : stood.0 ≡ c.state = cc (stood.1, c.replays) in
       let standings_shown = subst (λ (x : State). map standing_view told ≡ standings_in world.classes x) stood_is stood.2 in
       let rows_shown = subst (λ (x : State). rows ≡ map (shown_row world.classes x.shared.heap) (shown world x)) state_is there.2 in

@@ -15,10 +15,10 @@ use Rattle.syntax.specs.declared.unit.Item.{Item}
 use Rattle.class_rules.specs.Class.{Classes}
 use Rattle.semantics.specs.Journal.{Entry, Step}
 use Rattle.semantics.specs.declared.schedule.ScheduleWord.{ScheduleWord}
-use Rattle.semantics.specs.declared.schedule.ScheduleWord.TheVariants.{Turn, Collect}
+use Rattle.semantics.specs.declared.schedule.ScheduleWord.TheVariants.{Turn, Collect, Slice}
 use Rattle.semantics.specs.World.{World}
 use Rattle.semantics.specs.Schedule.{Schedule}
-use Rattle.semantics.specs.Run.{replay, replay_from, Follows, Over, Collects, Clears, Waits, Steps, ClearsAndSteps, ClearsLost, made}
+use Rattle.semantics.specs.Run.{replay, replay_from, Follows, Over, Collects, Clears, Slices, SliceClears, Waits, Steps, ClearsAndSteps, ClearsLost, made}
 use Rattle.semantics.specs.WeakReferences.{lost, with_cleared}
 use Rattle.semantics.proofs.WeakLaws.{lost_are_cleared}
 use Rattle.semantics.specs.Object.{sizes}
@@ -28,6 +28,8 @@ use Rattle.semantics.specs.State.{State, Stop, thread_at, views}
 use Rattle.heap.specs.Layout.{Extent, Layout}
 use Rattle.machine_collections.specs.Packing.{IsPacked}
 use Rattle.machine_collections.proofs.PackedLayouts.{packed_still}
+use Rattle.machine_collections.specs.Kept.{AreNotKept, HoldReachable}
+use Rattle.machine_collections.proofs.KeptSources.{not_kept_clears}
 use Rattle.machine_collections.proofs.ClearedRuns.{clears_to, replays_cleared, same_state}
 use Rattle.machine_collections.specs.Clearing.{clearing_of}
 use Rattle.semantics.specs.Step.{can_step, clearing_step, is_blocked, is_live, is_waiting, turn_step}
@@ -38,7 +40,7 @@ use Rattle.machine_threads.proofs.Lists.{take_next}
 use Rattle.machine.specs.declared.fault.RunFault.{RunFault}
 use Rattle.machine.specs.declared.fault.RunFault.TheVariants as running
 use Rattle.machine.specs.Run.AreTaken.{NoWord, Taken}
-use Rattle.machine.specs.Run.{Run, replay_of, can_turn, AreTaken, IsTaken, CouldStep, EndsAt, FindsRoom, HasEnded, HasNoRoom, InState, IsCollected, IsOrderly, TurnHolds, GivesNoStep, RunsAlong, RunsInto, refused, stepped}
+use Rattle.machine.specs.Run.{Run, replay_of, can_turn, AreTaken, IsTaken, CouldStep, EndsAt, FindsRoom, HasEnded, HasNoRoom, HasBlock, InState, IsCollected, IsOrderly, IsSliced, IsSlicedBy, MarkingEnds, MarkingGoesOn, TurnHolds, GivesNoStep, RunsAlong, RunsInto, refused, stepped}
 
 -- the walk from a state of a run along these words
 abbrev pub Walk : Run → State → List Entry → Schedule → State → Type 0
@@ -131,13 +133,12 @@ none_yet r d = by_state (replay_of r) refl d
 
 -- ---- one word
 
-no_step : (r : Run) (word : ScheduleWord) → (word ≡ Collect → ⊥) → GivesNoStep r word → RunsAlong r r (word ∷ [])
-no_step r Collect other h = absurd (other refl)
-no_step r (Turn k) other h = record { taken = once r r (Turn k) (inl (refl, h)); same_unit = refl; same_world = refl; steps = []; journal = sym (append-nil r.journal); before = h.0; replays = h.1; after = h.0; follows = Waits h.0 h.0 k [] [] h.2 (Over h.0) }
+no_step : (r : Run) (k : ℕ) → GivesNoStep r (Turn k) → RunsAlong r r (Turn k ∷ [])
+no_step r k h = record { taken = once r r (Turn k) (inl (refl, h)); same_unit = refl; same_world = refl; steps = []; journal = sym (append-nil r.journal); before = h.0; replays = h.1; after = h.0; follows = Waits h.0 h.0 k [] [] h.2 (Over h.0) }
 
-pub words_without_step : (r : Run) (word : ScheduleWord) (n : ℕ) → (word ≡ Collect → ⊥) → GivesNoStep r word → IsSome (replay_of r) → RunsAlong r r (replicate n word)
-words_without_step r word zero other h d = none_yet r d
-words_without_step r word (suc n) other h d = along_both r r r (word ∷ []) (replicate n word) (no_step r word other h) (words_without_step r word n other h d)
+pub turns_without_step : (r : Run) (k n : ℕ) → GivesNoStep r (Turn k) → IsSome (replay_of r) → RunsAlong r r (replicate n (Turn k))
+turns_without_step r k zero h d = none_yet r d
+turns_without_step r k (suc n) h d = along_both r r r (Turn k ∷ []) (replicate n (Turn k)) (no_step r k h) (turns_without_step r k n h d)
 
 -- ---- collections
 
@@ -199,7 +200,8 @@ collected_still r new can h =
     record {
       state = s;
       replays = collected_replays r new h;
-      same = ap (λ (j : List Entry). let x : Run = record new { journal = j } in x) (sym (append-nil new.journal) ∙ ap (λ (l : List ℕ). new.journal ++ clearing_of l) (sym none));
+      same = ap (λ (j : List Entry). let x : Run = record new { journal = j } in x) (sym (append-nil new.journal) ∙ ap (λ (l : List ℕ). new.journal ++ clearing_of l) (sym none))
+          ∙ ap (λ (o : Option ℕ). let x : Run = record new { journal = new.journal ++ clearing_of (lost new.world s); slices = o } in x) (ap (λ (x : Run). x.slices) h.same);
       packed = subst (λ (w : World). IsPacked (Reachable w s) (Contains (views s)) new.layout new.layout) (sym world)
           (packed_still (Reachable r.world h.state) (Contains (views h.state)) r.layout new.layout can.rising viewed h.packed);
       more = omega arith;
@@ -221,6 +223,52 @@ collected_often r new (suc n) some can h e = along_both r new new (Collect ∷ [
 pub collection_refused : (r new : Run) (times : ℕ) → (times ≡ 0 → ⊥) → new ≡ r → IsSome (replay_of r) → RunsInto r new (replicate times Collect) running.Memory
 collection_refused r new zero some same d = absurd (some refl)
 collection_refused r new (suc n) some same d = subst (λ (x : Run). RunsInto r x (replicate (suc n) Collect) running.Memory) (sym same) (begun r r [] Collect (replicate n Collect) running.Memory (none_yet r d) tt)
+
+-- ---- slices
+
+-- a slice gives the clearing of what isn't kept
+slice_clears : (unit : SourceUnit) (w : World) (s : State) (Kept : ℕ → Type 0) (names : List ℕ) → HoldReachable w s Kept → AreNotKept s Kept names → Follows unit w s (clearing_of names) (Slice ∷ []) (with_cleared names s)
+slice_clears unit w s Kept [] holds cleared = subst (λ (t : State). Follows unit w s [] (Slice ∷ []) t) (sym (same_state s)) (Slices s s [] [] (Over s))
+slice_clears unit w s Kept (n ∷ names) holds cleared =
+    let next = with_cleared (n ∷ names) s in
+    SliceClears s next next (n ∷ names) [] [] (not_kept_clears w s Kept (n ∷ names) holds cleared (λ none. (let both : n ∷ names ≡ [] = none in cc))) (Over next)
+
+ended_once : (r new : Run) → new.slices ≡ None → MarkingEnds r new → RunsAlong r new (Slice ∷ [])
+ended_once r new none h = record {
+  taken = once r new Slice (subst (λ (o : Option ℕ). IsSlicedBy o r new) (sym none) h);
+  same_unit = ap (λ (x : Run). x.unit) h.same;
+  same_world = ap (λ (x : Run). x.world) h.same;
+  steps = clearing_of h.names;
+  journal = ap (λ (x : Run). x.journal) h.same;
+  before = h.state;
+  replays = h.replays;
+  after = with_cleared h.names h.state;
+  follows = slice_clears (unit_tree r.unit) r.world h.state (HasBlock new.layout) h.names h.holds h.cleared;
+}
+
+went_on_once : (r new : Run) (n : ℕ) → new.slices ≡ Some n → MarkingGoesOn r new → IsSome (replay_of r) → RunsAlong r new (Slice ∷ [])
+went_on_once r new n some h d = by_state (replay_of r) refl d
+  where
+    by_state : (o : Option State) → replay_of r ≡ o → IsSome o → RunsAlong r new (Slice ∷ [])
+    by_state None e d = absurd (let f : false ≡ true = d in cc)
+    by_state (Some s) e d = record {
+      taken = once r new Slice (subst (λ (o : Option ℕ). IsSlicedBy o r new) (sym some) h);
+      same_unit = ap (λ (x : Run). x.unit) h;
+      same_world = ap (λ (x : Run). x.world) h;
+      steps = [];
+      journal = ap (λ (x : Run). x.journal) h ∙ sym (append-nil r.journal);
+      before = s;
+      replays = e;
+      after = s;
+      follows = Slices s s [] [] (Over s);
+    }
+
+pub sliced_once : (r new : Run) → IsSliced r new → IsSome (replay_of r) → RunsAlong r new (Slice ∷ [])
+sliced_once r new h d = by_slices new.slices refl h
+  where
+    by_slices : (o : Option ℕ) → new.slices ≡ o → IsSlicedBy o r new → RunsAlong r new (Slice ∷ [])
+    by_slices None e k = ended_once r new e k
+    by_slices (Some n) e k = went_on_once r new n e k d
 
 -- ---- turns that give no step
 
@@ -246,7 +294,7 @@ blocked_waits classes s k h = and_right (is_none s.stop && is_live (thread_at s 
 
 -- the run with these entries more, and with its blocks where they lie then
 abbrev pub with_entries : (old new : Run) → List Entry → Run
-with_entries old new entries = record old { journal = old.journal ++ entries; layout = new.layout }
+with_entries old new entries = record old { journal = old.journal ++ entries; layout = new.layout; slices = new.slices }
 
 -- the step of a journal with one more entry
 step_of : (r new : Run) (k : ℕ) (refused : Bool) (s : State) → new ≡ with_entries r new (Step k refused ∷ []) → replay_of r ≡ Some s → IsSome (replay_of new)
@@ -287,7 +335,7 @@ stepped_after : (r mid new : Run) (k : ℕ) (refused : Bool) → IsCollected r m
 stepped_after r mid new k refused h less could is defined each =
     let names = lost r.world h.state in
     let between = with_cleared names h.state in
-    let left : Run = record r { journal = r.journal ++ clearing_of names; layout = mid.layout } in
+    let left : Run = record r { journal = r.journal ++ clearing_of names; layout = mid.layout; slices = None } in
     let now : new ≡ with_entries left new (Step k refused ∷ []) = is ∙ ap (λ (x : Run). with_entries x new (Step k refused ∷ [])) h.same in
     let led : replay_of left ≡ Some between = replays_cleared (unit_tree r.unit) r.world r.journal h.state h.replays in
     let n = step_of left new k refused between now led defined in
@@ -313,7 +361,9 @@ stepped_after r mid new k refused h less could is defined each =
 entry_more : (mid new : Run) (e : Entry) (layout : Layout) → new ≡ record mid { journal = mid.journal ++ e ∷ []; layout = layout } → new ≡ with_entries mid new (e ∷ [])
 entry_more mid new e layout is =
     let there : new.layout ≡ layout = ap (λ (r : Run). r.layout) is in
+    let same : new.slices ≡ mid.slices = ap (λ (r : Run). r.slices) is in
     is ∙ ap (λ (l : Layout). let r : Run = record mid { journal = mid.journal ++ e ∷ []; layout = l } in r) (sym there)
+    ∙ ap (λ (o : Option ℕ). let r : Run = record mid { journal = mid.journal ++ e ∷ []; layout = new.layout; slices = o } in r) (sym same)
 
 did_more : (mid new : Run) (k : ℕ) → InState mid (λ s. new ≡ stepped mid s k) → new ≡ with_entries mid new (Step k false ∷ [])
 did_more mid new k h = entry_more mid new (Step k false) _ h.2
@@ -339,7 +389,7 @@ adds_after old mid new k refused h is =
       which = inr refl;
       is =
           is ∙ ap (λ (x : Run). with_entries x new (Step k refused ∷ [])) h.same
-          ∙ ap (λ (j : List Entry). let r : Run = record old { journal = j; layout = new.layout } in r) (append_assoc old.journal (clearing_of names) (Step k refused ∷ []));
+          ∙ ap (λ (j : List Entry). let r : Run = record old { journal = j; layout = new.layout; slices = new.slices } in r) (append_assoc old.journal (clearing_of names) (Step k refused ∷ []));
     }
 
 pub did_add : (old new : Run) (k : ℕ) → TurnHolds old k new turn.Stepped → AddsStep old k false new
@@ -358,17 +408,14 @@ did_add old new k h = by_room h.1.1
 pub refused_add : (old new : Run) (k : ℕ) → TurnHolds old k new turn.Short → AddsStep old k true new
 refused_add old new k h = adds_after old h.1.0 new k true h.1.1.collected (refused_more h.1.0 new k h.1.2)
 
-turn_other : {k : ℕ} → Turn k ≡ Collect → ⊥
-turn_other same = absurd (cc)
-
 -- a turn, but where the journal is full
 pub turned : (r new : Run) (k : ℕ) (t : Answer) → TurnHolds r k new t → IsSome (replay_of new) → (t ≡ turn.Full → ⊥) → RunsAlong r new (Turn k ∷ [])
 turned r new k turn.Stopped h defined full =
-    subst (λ x. RunsAlong r x (Turn k ∷ [])) (sym h.0) (no_step r (Turn k) turn_other (h.1.0, h.1.1, stopped_waits r.world.classes h.1.0 k h.1.2))
+    subst (λ x. RunsAlong r x (Turn k ∷ [])) (sym h.0) (no_step r k (h.1.0, h.1.1, stopped_waits r.world.classes h.1.0 k h.1.2))
 turned r new k turn.Ended h defined full =
-    subst (λ x. RunsAlong r x (Turn k ∷ [])) (sym h.0) (no_step r (Turn k) turn_other (h.1.0, h.1.1, ended_waits r.world.classes h.1.0 k h.1.2))
+    subst (λ x. RunsAlong r x (Turn k ∷ [])) (sym h.0) (no_step r k (h.1.0, h.1.1, ended_waits r.world.classes h.1.0 k h.1.2))
 turned r new k (turn.Blocked all) h defined full =
-    subst (λ x. RunsAlong r x (Turn k ∷ [])) (sym h.0) (no_step r (Turn k) turn_other (h.1.0, h.1.1, blocked_waits r.world.classes h.1.0 k h.1.2.waits))
+    subst (λ x. RunsAlong r x (Turn k ∷ [])) (sym h.0) (no_step r k (h.1.0, h.1.1, blocked_waits r.world.classes h.1.0 k h.1.2.waits))
 turned r new k turn.Full h defined full = absurd (full refl)
 turned r new k turn.Short h defined full =
     let found = h.1.1 in

@@ -23,7 +23,7 @@ use Rattle.machine_threads.specs.declared.thread.Thread.{Thread}
 use Rattle.machine_threads.proofs.ThreadLoads.{agree_length}
 use Rattle.semantics.specs.EventViews.{ending_view, stop_view}
 use Rattle.semantics.specs.declared.event.Stop.{Stop}
-use Rattle.machine.specs.Run.{Run, Corresponds, InState, Waits, AllRest, ShowsStandings, all_rest, is_resting, standings_in}
+use Rattle.machine.specs.Run.{Run, Corresponds, InState, Waits, AllRest, ShowsStandings, all_rest, is_resting, standings_in, slices_of}
 use Rattle.machine.proofs.OwnerSteps.{Found, found}
 
 -- ---- lists
@@ -64,9 +64,9 @@ one_fails p (y ∷ xs) (suc i) x h one = ap (λ b. p y && b) (one_fails p xs i x
 -- ---- one thread of several
 
 module _ (p : Lowered) (world : World) (store : Store) (ts : List Thread) (printed : List Printed) (stop : Option Stop) (journal : List Entry) (c : Corresponds p world store ts printed stop journal) (now : Run)
-    (view : ◌≡◌ {A = Run} (record { unit = p.unit; world = world; journal = journal; layout = layout_of store.heap }) now) where
+    (view : ◌≡◌ {A = Run} (record { unit = p.unit; world = world; journal = journal; layout = layout_of store.heap; slices = slices_of store.heap.marking }) now) where
   abbrev seen : Run
-  seen = record { unit = p.unit; world = world; journal = journal; layout = layout_of store.heap }
+  seen = record { unit = p.unit; world = world; journal = journal; layout = layout_of store.heap; slices = slices_of store.heap.marking }
 
   -- a fact of the state is one of the run, and the other way round
   pub told : (P : Run → State → Type 0) → P seen c.state → InState now (P now)

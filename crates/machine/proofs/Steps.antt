@@ -50,7 +50,8 @@ use Rattle.machine_steps.specs.Advances.{Advances, AdvancesAlways, HoldsAlways, 
 use Rattle.machine_steps.specs.Moved.{IsSilent}
 use Rattle.machine_steps.specs.declared.advance.Advanced.{Advanced}
 use Rattle.machine_steps.specs.declared.advance.Advanced.TheVariants as advanced
-use Rattle.machine.specs.Run.{Run, acquired, Corresponds, LacksRoom, event_of, is_refused, turn_at_rest, HasEnded}
+use Rattle.machine.specs.Run.{Run, acquired, Corresponds, LacksRoom, event_of, is_refused, turn_at_rest, HasEnded, slices_of}
+use Rattle.machine.proofs.Slices.{evenly_stays, slices_stay}
 use Rattle.machine.proofs.KeptThreads.{changed}
 use Rattle.machine.proofs.TakenBuffers.{in_use_same, joined, others, own_viewed, parted, taken}
 use Rattle.machine_steps.proofs.Acquisitions.{store_taken}
@@ -289,6 +290,7 @@ module _ (p : Lowered) (world : World) (store : Store) (ts : List Thread) (print
   -- what a step makes that wasn't refused had room, and lies behind the other blocks
   pub did_make : (store' : Store) (after : Thread) (e : Event) → stop ≡ None → t.ending ≡ Unfinished → Free → StepsAlways p world k store store' t after false e
       → (sizes (made (unit_tree p.unit) world c.state k) ≤ left_of store.heap) × (layout_of store'.heap ≡ with_objects (layout_of store.heap) (next_name c.state.shared.heap) (made (unit_tree p.unit) world c.state k))
+      × (slices_of store'.heap.marking ≡ slices_of store.heap.marking)
   did_make store' after e goes live free advances =
       let f = the_thread in
       let a = advances rest (owners k) c.state.shared f.source shared_agrees f.agrees steady (ready free) in
@@ -297,7 +299,7 @@ module _ (p : Lowered) (world : World) (store : Store) (ts : List Thread) (print
       let objects : made (unit_tree p.unit) world c.state k ≡ drop (length c.state.shared.heap) a.next_shared.heap =
       ap (made_between c.state) step ∙ ap (λ (x : Shared). drop (length c.state.shared.heap) x.heap) (shared_next c.state k a.next_shared a.next e) in
       let room : sizes (drop (length c.state.shared.heap) a.next_shared.heap) ≤ left_of store.heap = a.keeps.room in
-      (omega (arith, ap sizes objects, room), a.keeps.laid ∙ ap (with_objects (layout_of store.heap) (next_name c.state.shared.heap)) (sym objects))
+      (omega (arith, ap sizes objects, room), a.keeps.laid ∙ ap (with_objects (layout_of store.heap) (next_name c.state.shared.heap)) (sym objects), slices_stay store.heap.marking store'.heap.marking a.keeps.marking)
 
   -- where nothing is viewed, all cells are left but those of what can be reached
   abbrev AreLeft : Type 0
@@ -367,11 +369,13 @@ module _ (p : Lowered) (world : World) (store : Store) (ts : List Thread) (print
             omega (arith, c.born, before, now, a.keeps.few, steps_more journal k refused);
         count = length-set ts i after ∙ c.count;
         few = subst (λ n. n ≤ 8) (sym (length-set ts i after)) c.few;
+        sliced = evenly_stays store.heap.marking store'.heap.marking a.keeps.marking c.sliced;
       }
 
   -- what a step makes, by what is told of it
   pub makes_by : (store' : Store) (after : Thread) (e : Event) → stop ≡ None → t.ending ≡ Unfinished → Free → AdvancesAlways p world k store store' t after (advanced.Did e)
       → (sizes (made (unit_tree p.unit) world c.state k) ≤ left_of store.heap) × (layout_of store'.heap ≡ with_objects (layout_of store.heap) (next_name c.state.shared.heap) (made (unit_tree p.unit) world c.state k))
+      × (slices_of store'.heap.marking ≡ slices_of store.heap.marking)
   makes_by store' after e goes live free advances = did_make store' after e goes live free advances
 
   -- the same by what is told of the step
@@ -390,6 +394,7 @@ module _ (p : Lowered) (world : World) (store : Store) (ts : List Thread) (print
 
     pub make_freely : stop ≡ None → t.ending ≡ Unfinished
         → (sizes (made (unit_tree p.unit) world c.state k) ≤ left_of store.heap) × (layout_of store.heap ≡ with_objects (layout_of store.heap) (next_name c.state.shared.heap) (made (unit_tree p.unit) world c.state k))
+        × (slices_of store.heap.marking ≡ slices_of store.heap.marking)
     make_freely goes live = did_make store after e goes live is_free advances_freely
 
     pub steps_freely : stop ≡ None → t.ending ≡ Unfinished → Corresponds p world store (slice_set ts i after) (printed_after printed k e) (stop_after stop k e) (journal ++ Step k false ∷ [])

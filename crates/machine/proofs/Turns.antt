@@ -24,9 +24,10 @@ use Rattle.machine_steps.specs.declared.advance.Advanced.{Advanced}
 use Rattle.machine_steps.specs.declared.advance.Advanced.TheVariants as advanced
 use Rattle.machine_steps.specs.Advances.{AdvancesAlways}
 use Rattle.machine_threads.specs.declared.thread.Thread.{Thread}
-use Rattle.machine.specs.Run.{AdvancesFrom, CanAdvance, Corresponds, Run, CouldStep, FindsNoRoom, FindsRoom, HasNoRoom, HasRoom, IsAfterCollection, IsAsItWas, IsCollected, LacksRoom, TurnHolds, cells_left, makes, turn_after, can_turn, replay_of, event_of, is_refused, seen}
+use Rattle.machine.specs.Run.{AdvancesFrom, CanAdvance, Corresponds, Run, CouldStep, FindsNoRoom, FindsRoom, HasNoRoom, HasRoom, IsAfterCollection, IsAsItWas, IsCollected, LacksRoom, TurnHolds, cells_left, makes, turn_after, can_turn, replay_of, event_of, is_refused, seen, slices_of}
 use Rattle.machine.proofs.Advancing.{can_still, state_now}
-use Rattle.machine.proofs.Collected.{left_between, left_seen, lives_between, refused_after, run_after, stands_between, state_between}
+use Rattle.machine.proofs.Moved.{left_seen}
+use Rattle.machine.proofs.Collected.{left_between, lives_between, refused_after, run_after, stands_between, state_between}
 use Rattle.machine.proofs.Steps.{can_go, makes_by, no_room_yet, short_by, steps_by}
 
 -- an element within a list
@@ -89,8 +90,8 @@ module _ (p : Lowered) (w : World) (store : Store) (ts : List Thread) (printed :
     free_between (inl h) =
         ap (λ (s : state.State). is_blocked w.classes s k) (state_between p w store ts index printed stop journal c f.between f.among cleared x (inl h) ∙ ap (λ (l : List ℕ). with_cleared l c.state) h.none ∙ same_state c.state) ∙ r.free
     free_between (inr h) =
-        let still = can_still p w store ts index can_advance r.thread h.lacks f.between f.among cleared h.collected h.clears in
-        let left = state_now p w store ts index can_advance r.thread h.lacks f.between f.among cleared h.collected h.clears in
+        let still = can_still p w store ts index can_advance r.thread h.lacks f.between f.among cleared h.collected h.clears h.unmarked in
+        let left = state_now p w store ts index can_advance r.thread h.lacks f.between f.among cleared h.collected h.clears h.unmarked in
         ap (λ (s : state.State). is_blocked w.classes s k) (state_between p w store ts index printed stop journal c f.between f.among cleared x (inr h) ∙ sym left)
         ∙ subst (λ (n : ℕ). is_blocked w.classes still.stands.state n ≡ false) (sym number) still.ready
 
@@ -118,7 +119,7 @@ module _ (p : Lowered) (w : World) (store : Store) (ts : List Thread) (printed :
     mid_left = left_seen p w f.between noted between.store_agrees.cells
 
     collected : IsAfterCollection p w store ts index f.between f.among cleared → IsCollected now mid
-    collected h = run_after _ _ _ _ _ _ _ c f.between f.among cleared now view h.collected h.clears
+    collected h = run_after _ _ _ _ _ _ _ c f.between f.among cleared now view h.collected h.clears h.unmarked
 
     had_no_room : IsAfterCollection p w store ts index f.between f.among cleared → HasNoRoom now k
     had_no_room h =
@@ -132,6 +133,7 @@ module _ (p : Lowered) (w : World) (store : Store) (ts : List Thread) (printed :
       does = subst (AdvancesAlways p w k f.between store' f.old f.new) is advances_here
 
       made_here : (sizes (makes mid between.state k) ≤ left_of f.between.heap) × (layout_of store'.heap ≡ with_objects (layout_of f.between.heap) (next_name between.state.shared.heap) (makes mid between.state k))
+          × (slices_of store'.heap.marking ≡ slices_of f.between.heap.marking)
       made_here = makes_by _ _ _ _ _ _ _ between k index f.old number f.at store' f.new e r.goes still_live still_free does
 
       has_room : HasRoom mid k
@@ -165,7 +167,8 @@ module _ (p : Lowered) (w : World) (store : Store) (ts : List Thread) (printed :
           between.state,
           between.replays,
           ap (λ (j : List Entry). seen p w store' j) more
-              ∙ ap (λ (l : Layout). let q : Run = record mid { journal = noted ++ Step k false ∷ []; layout = l } in q) (made_here e is).1,
+              ∙ ap (λ (l : Layout). let q : Run = record mid { journal = noted ++ Step k false ∷ []; layout = l; slices = slices_of store'.heap.marking } in q) (made_here e is).1
+              ∙ ap (λ (o : Option ℕ). let q : Run = record mid { journal = noted ++ Step k false ∷ []; layout = with_objects mid.layout (next_name between.state.shared.heap) (makes mid between.state k); slices = o } in q) (made_here e is).2,
         ),
       ),
     )
@@ -176,6 +179,6 @@ module _ (p : Lowered) (w : World) (store : Store) (ts : List Thread) (printed :
             mid,
             none_found is,
             ap (λ (j : List Entry). seen p w store' j) more
-                ∙ ap (λ (h : Space). let q : Run = record mid { journal = noted ++ Step k true ∷ []; layout = layout_of h } in q) short.1,
+                ∙ ap (λ (h : Space). let q : Run = record mid { journal = noted ++ Step k true ∷ []; layout = layout_of h; slices = slices_of h.marking } in q) short.1,
           ),
         )

@@ -1,6 +1,6 @@
 -- A run, as its program, its world, its journal and where the blocks of its objects lie.
-use Rattle.std.specs.Prelude.{◌≡◌, ◌≢◌, ℕ, ◌+◌, ◌-◌, ◌*◌, ◌<◌, ◌≤◌, ◌⊎◌, Bool, true, false, List, [], ◌∷◌, ◌++◌, length, map, slice_get, slice_set, replicate, Option, Some, None, Result, Ok, Err, IsSome, is_some, not, ◌||◌, suc}
-use Rattle.std.specs.Option.{option_map}
+use Rattle.std.specs.Prelude.{◌≡◌, ◌≢◌, ℕ, ◌+◌, ◌-◌, ◌*◌, ◌/◌, ◌<◌, ◌≤◌, ◌⊎◌, Bool, true, false, List, [], ◌∷◌, ◌++◌, length, map, slice_get, slice_set, replicate, Option, Some, None, Result, Ok, Err, IfSome, IsSome, is_some, not, ◌||◌, suc}
+use Rattle.std.specs.Option.{option_map, option_map_or}
 use Rattle.std.specs.List.{Contains, list_all, enumerate_from, sum_by}
 use Rattle.base.specs.Limits.{most_cells, most_entries}
 use Rattle.syntax.specs.declared.unit.Item.{Item}
@@ -11,7 +11,7 @@ use Rattle.semantics.specs.Journal.{Entry, Step, steps_in}
 use Rattle.semantics.specs.WeakReferences.{lost, with_cleared}
 use Rattle.semantics.specs.declared.printed.Printed.{Printed}
 use Rattle.semantics.specs.declared.schedule.ScheduleWord.{ScheduleWord}
-use Rattle.semantics.specs.declared.schedule.ScheduleWord.TheVariants.{Turn, Collect}
+use Rattle.semantics.specs.declared.schedule.ScheduleWord.TheVariants.{Turn, Collect, Slice}
 use Rattle.semantics.specs.Schedule.{Schedule}
 use Rattle.sinks.specs.Sink as sink
 use Rattle.sinks.specs.Sink.{Written}
@@ -22,6 +22,8 @@ use Rattle.semantics.specs.ReportOf.{shown, shown_row, standing_of}
 use Rattle.semantics.specs.Heap.{Heap, next_name}
 use Rattle.report_objects.specs.Rows.{AreReported}
 use Rattle.heap.specs.Heap.{left_of}
+use Rattle.heap.specs.Marks.{Marks}
+use Rattle.compact.specs.Slices.{slice_size}
 use Rattle.heap.specs.Layout.{Extent, Layout, layout_of, top_of}
 use Rattle.semantics.specs.Object.{Object, sizes}
 use Rattle.semantics.specs.Reachable.{live_size, Reachable}
@@ -56,17 +58,20 @@ use Rattle.machine_steps.specs.Executes.{cells_made, in_use_with}
 use Rattle.machine_threads.specs.Callers.{beside_callers}
 use Rattle.machine_threads.specs.ThreadAgrees.{ThreadsAgree}
 use Rattle.machine_collections.specs.Clearing.{AreCleared, clearing_of}
+use Rattle.machine_collections.specs.Kept.{AreNotKept, HoldReachable}
 use Rattle.machine_collections.specs.Moving.{AreCollected}
 use Rattle.machine_collections.specs.Packing.{IsPacked, RiseFrom}
 use Rattle.machine_scenes.specs.Layouts.{laid_from, with_objects}
 use Rattle.semantics.specs.EventViews.{stop_view}
 
--- a program's items, the world, what the run did, and the extents of the heap's blocks
+-- a program's items, the world, what the run did, the extents of the heap's blocks, and how many slices the marking that is under way has
+-- had, if one is
 pub record Run : Type 0 where
   pub unit : List Item
   pub world : World
   pub journal : List Entry
   pub layout : Layout
+  pub slices : Option ℕ
 
 -- the cells after the highest block
 abbrev pub cells_left : Run → ℕ
@@ -86,10 +91,15 @@ pub record IsUnstarted (unit : List Item) (world : World) (r : Run) : Type 0 whe
   pub on_world : r.world ≡ world
   pub unstarted : r.journal ≡ []
   pub laid : r.layout ≡ laid_from 1 0 (loaded_objects world)
+  pub unmarked : r.slices ≡ None
 
 -- what the buffers of all threads take
 abbrev pub acquired : State → Acquired
 acquired s = record { copied = copied s; viewed = views s }
+
+-- how many slices a marking has had, which marks as many objects in each
+abbrev pub slices_of : Option Marks → Option ℕ
+slices_of marking = option_map (λ (m : Marks). m.marked / slice_size) marking
 
 -- The machine stands for the state that its journal leads to.
 pub record Corresponds (p : Lowered) (world : World) (store : Store) (threads : List Thread) (printed : List Printed)
@@ -115,6 +125,8 @@ pub record Corresponds (p : Lowered) (world : World) (store : Store) (threads : 
   pub fair : MarkedAreFair (unit_tree p.unit) world journal
   pub count : length threads ≡ length world.threads
   pub few : length threads ≤ 8
+  -- a marking that is under way has marked a slice's number of objects in each of its slices
+  pub sliced : IfSome store.heap.marking (λ m. m.marked ≡ slice_size * (m.marked / slice_size))
 
 -- what a step lets others see; a refused allocation nothing
 abbrev pub event_of : Advanced → Event
@@ -151,6 +163,7 @@ pub record IsAfterCollection (p : Lowered) (w : World) (store : Store) (threads 
     (among : List Thread) (cleared : List ℕ) : Type 0 where
   pub lacks : (t : Thread) → slice_get threads index ≡ Some t → LacksRoom p w (suc index) store t
   pub collected : AreCollected store threads between among
+  pub unmarked : between.heap.marking ≡ None
   pub clears : AreCleared store.heap store.statics.items store.weaks between.weaks cleared
 
 -- the thread at a place took its step, with a collection before it, which cleared the weak references to these objects, or without one
@@ -250,19 +263,57 @@ HasRoom r k = InState r (λ s. sizes (makes r s k) ≤ cells_left r)
 abbrev pub HasNoRoom : Run → ℕ → Type 0
 HasNoRoom r k = InState r (λ s. cells_left r < sizes (makes r s k))
 
--- What a collection leaves. The journal goes on with the one clearing of all that is lost, and with no entry where nothing is. The blocks are
+-- What a collection leaves, which gives up a marking that is under way. The journal goes on with the one clearing of all that is lost, and with no entry where nothing is. The blocks are
 -- those of what can be reached; those that are viewed stay, and the others have the lowest cells. So no fewer cells are left, and where nothing
 -- is viewed all but those of these blocks.
 pub record IsCollected (old new : Run) : Type 0 where
   pub state : State
   pub replays : replay_of old ≡ Some state
-  pub same : new ≡ record old { journal = old.journal ++ clearing_of (lost old.world state); layout = new.layout }
+  pub same : new ≡ record old { journal = old.journal ++ clearing_of (lost old.world state); layout = new.layout; slices = None }
   pub packed : IsPacked (Reachable old.world state) (Contains (views state)) old.layout new.layout
   pub more : cells_left old ≤ cells_left new
   pub live : cells_taken new ≡ live_size old.world state
   pub tight : views state ≡ [] → cells_left new ≡ old.world.cells - live_size old.world state
   -- and a thread waits for a monitor exactly where it did
   pub waits : (k : ℕ) → is_blocked old.world.classes (with_cleared (lost old.world state) state) k ≡ is_blocked old.world.classes state k
+
+-- ---- slices of a marking
+
+-- how many slices a marking has had; none where none is under way
+abbrev pub slices_before : Run → ℕ
+slices_before r = option_map_or (λ n. n) r.slices 0
+
+-- a slice let the marking go on, or began one that goes on: nothing else has changed
+abbrev pub MarkingGoesOn : (old new : Run) → Type 0
+MarkingGoesOn old new = new ≡ record old { slices = Some (suc (slices_before old)) }
+
+-- an object has a block there
+abbrev pub HasBlock : Layout → ℕ → Type 0
+HasBlock layout n = Contains (map (λ (e : Extent). e.name) layout) n
+
+-- What the slice leaves that ends a marking: the blocks of what the marking keeps, which are no fewer than it has marked, and which hold all
+-- that can be reached. What is viewed stays, and the others have the lowest cells. The journal goes on with the one clearing of what is held
+-- weakly and isn't kept, and with no entry where nothing is.
+pub record MarkingEnds (old new : Run) : Type 0 where
+  pub state : State
+  pub replays : replay_of old ≡ Some state
+  pub holds : HoldReachable old.world state (HasBlock new.layout)
+  pub packed : IsPacked (HasBlock new.layout) (Contains (views state)) old.layout new.layout
+  pub many : slice_size * slices_before old ≤ length new.layout
+  pub more : cells_left old ≤ cells_left new
+  pub names : List ℕ
+  pub cleared : AreNotKept state (HasBlock new.layout) names
+  pub same : new ≡ record old { journal = old.journal ++ clearing_of names; layout = new.layout; slices = None }
+  -- and a thread waits for a monitor exactly where it did
+  pub waits : (k : ℕ) → is_blocked old.world.classes (with_cleared names state) k ≡ is_blocked old.world.classes state k
+
+-- what a slice leaves, by whether a marking is under way after it
+abbrev pub IsSlicedBy : Option ℕ → (old new : Run) → Type 0
+IsSlicedBy None old new = MarkingEnds old new
+IsSlicedBy (Some n) old new = MarkingGoesOn old new
+
+abbrev pub IsSliced : (old new : Run) → Type 0
+IsSliced old new = IsSlicedBy new.slices old new
 
 -- as each run of a machine is: its blocks lie by rising addresses, none over another, and what is viewed can be reached
 pub record IsOrderly (r : Run) : Type 0 where
@@ -317,23 +368,27 @@ PrintedBy r printed = InState r (λ s. printed ≡ s.printed)
 -- a word of a schedule that gives no step of the run
 abbrev pub GivesNoStep : Run → ScheduleWord → Type 0
 GivesNoStep r Collect = InState r (λ s. Unit {0})
+GivesNoStep r Slice = InState r (λ s. Unit {0})
 GivesNoStep r (Turn k) = InState r (λ s. can_turn r s k ≡ false)
 
 -- a word of a schedule that is the turn of a thread that can step
 abbrev pub GivesStep : Run → ScheduleWord → Type 0
 GivesStep r Collect = ⊥
+GivesStep r Slice = ⊥
 GivesStep r (Turn k) = InState r (λ s. can_turn r s k ≡ true)
 
 -- A word at which a run ends by a fault: the turn of a thread that can step, where the journal is full or where it has room and memory
--- was refused, or a collection that memory was refused to.
+-- was refused, or a collection or a slice that memory was refused to.
 abbrev pub EndsAt : Run → RunFault → ScheduleWord → Type 0
 EndsAt r running.Full word = (most_entries ≤ steps_in r.journal) × GivesStep r word
 EndsAt r running.Memory Collect = Unit {0}
+EndsAt r running.Memory Slice = Unit {0}
 EndsAt r running.Memory (Turn k) = (steps_in r.journal < most_entries) × GivesStep r (Turn k)
 
--- A word of a schedule was taken: a collection was made; a turn was the step of its thread, or gave none where the thread couldn't take it.
+-- A word of a schedule was taken: a collection was made, or a slice of a marking; a turn was the step of its thread, or gave none where the thread couldn't take it.
 abbrev pub IsTaken : Run → ScheduleWord → Run → Type 0
 IsTaken old Collect new = IsCollected old new
+IsTaken old Slice new = IsSliced old new
 IsTaken old (Turn k) new = ((new ≡ old) × GivesNoStep old (Turn k)) ⊎ (TurnHolds old k new turn.Stepped ⊎ TurnHolds old k new turn.Short)
 
 -- the words of a schedule were taken, one after another
@@ -355,7 +410,7 @@ pub record RunsAlong (old new : Run) (schedule : Schedule) : Type 0 where
 
 -- The run of a machine with this journal.
 abbrev pub seen : Lowered → World → Store → List Entry → Run
-seen p w store journal = record { unit = p.unit; world = w; journal = journal; layout = layout_of store.heap }
+seen p w store journal = record { unit = p.unit; world = w; journal = journal; layout = layout_of store.heap; slices = slices_of store.heap.marking }
 
 -- Thread k, the one at a place among those of a machine with this journal, has not ended, and no trap has stopped the machine.
 pub record CanGoOn (p : Lowered) (w : World) (store : Store) (threads : List Thread) (index : ℕ)

@@ -1,7 +1,9 @@
 //! The machine.
 
-ghost use Rattle.std.specs.Prelude.{◌≡◌, ℕ, ◌+◌, ◌-◌, ◌<◌, ◌≤◌, ◌^◌, [], ◌∷◌, ◌++◌, List, length, map, replicate, slice_get, IfOk, IfErr, OnOk, OnErr, IfSome, IfNone, IsSome, Err, None, is_some, nat_le, vec_len, vec_capacity};
+ghost use Rattle.std.specs.Prelude.{◌≡◌, ℕ, ◌+◌, ◌-◌, ◌*◌, ◌<◌, ◌≤◌, ◌^◌, true, false, [], ◌∷◌, ◌++◌, List, length, map, replicate, slice_get, IfOk, IfErr, OnOk, OnErr, IfSome, IfNone, IsSome, Err, None, is_some, nat_le, vec_len, vec_capacity};
+ghost use Rattle.std.specs.Option.{option_map};
 ghost use Rattle.base.specs.Limits.{most_entries};
+ghost use Rattle.compact.specs.Slices.{slice_size};
 ghost use Rattle.syntax.specs.Views.{unit_tree};
 ghost use Rattle.sinks.specs.Sink.{CanFail};
 ghost use Rattle.report.specs.ThreadStatus.{standing_view};
@@ -22,7 +24,7 @@ ghost use Rattle.machine_steps.specs.Executes.{IsSteady};
 ghost use Rattle.machine_threads.specs.Loading.{IsLoadFault};
 ghost use Rattle.machine_threads.specs.ThreadAgrees.{ThreadAgrees};
 ghost use Rattle.semantics.specs.Journal.{Step, steps_in};
-ghost use Rattle.machine.specs.Run.{replay_of, AdvancesAndNotes, CanAdvance, CanGoOn, WentOn, CollectionsHaveOneOutcome, Corresponds, EndsAt, IsCollected, IsOrderly, IsUnstarted, CouldStep, TurnHolds, RunsAlong, RunsInto, PrintedBy, IsFinished, AllRest, Waits, ReportsRun, AreShown, ShowsObjects, ShowsStandings, GivesNoStep, LacksRoom, StoppedBy, cells_left, event_of, is_refused, turn_after, turn_at_rest};
+ghost use Rattle.machine.specs.Run.{replay_of, AdvancesAndNotes, CanAdvance, CanGoOn, WentOn, CollectionsHaveOneOutcome, Corresponds, EndsAt, IsCollected, IsOrderly, IsSliced, IsUnstarted, CouldStep, TurnHolds, RunsAlong, RunsInto, PrintedBy, IsFinished, AllRest, Waits, ReportsRun, AreShown, ShowsObjects, ShowsStandings, GivesNoStep, LacksRoom, StoppedBy, cells_left, event_of, is_refused, turn_after, turn_at_rest};
 
 use crate::fault::{ReportFault, RunFault};
 use crate::journal::Journal;
@@ -30,8 +32,10 @@ use crate::rows::{NamedBlocks, named_blocks};
 use crate::turn::Turn;
 use arrayvec::ArrayVec;
 use code_meaning::Program;
+use compact::SLICE;
 use machine_collections::collecting::collect_blocks;
 use machine_collections::roots::{gather, push_viewed, root_names};
+use machine_collections::slicing::slice_blocks;
 use machine_scenes::store::Store;
 use machine_steps::advance::{Advanced, advance, advance_plainly};
 use machine_steps::fault::StepFault;
@@ -89,13 +93,13 @@ impl<'a> Model for Machine<'a> {
     ghost use Rattle.std.specs.Coded.{codes as all_codes};
     ghost use Rattle.syntax.specs.contracts.unit.Item as item;
     ghost use Rattle.heap.specs.Layout.{layout_of};
-    ghost use Rattle.machine.specs.Run.{Run, Corresponds};
+    ghost use Rattle.machine.specs.Run.{Run, Corresponds, slices_of};
 
     ghost Value = { Run };
 
     ghost coded = { Prim.hlevel (all_codes, item.the_row.coded) };
 
-    ghost view = { λ m. record { unit = m.program.unit; world = m.world; journal = m.journal.entries; layout = layout_of m.store.heap } };
+    ghost view = { λ m. record { unit = m.program.unit; world = m.world; journal = m.journal.entries; layout = layout_of m.store.heap; slices = slices_of m.store.heap.marking } };
 
     ghost invariant = { λ m. Corresponds m.program m.world m.store m.threads.items m.printed.items m.stop m.journal.entries };
 }
@@ -171,7 +175,8 @@ impl<'a> Machine<'a> {
         &self.printed
     }
 
-    /// Moves the objects that can still be reached together; the others are gone.
+    /// Moves the objects that can still be reached together; the others are gone, and a marking that is under way is given
+    /// up.
     /// What is viewed can be reached, and stays where it is, so that a view shows the present elements of its array
     /// through any collection. Weak global references to what is gone are cleared, by one entry of the journal, and
     /// there is no entry where none is.
@@ -186,6 +191,41 @@ impl<'a> Machine<'a> {
         let cleared = collect_blocks(self.alloc, &mut self.store, &mut self.threads)?;
         self.journal.push_clearing(cleared);
         Ok(())
+    }
+
+    /// Takes one slice of a marking, and begins one where none is under way: the objects that roots name are listed then.
+    /// A slice marks 64 objects of the list, or all where it runs empty before; to mark one is to list what it refers to,
+    /// each object once at most. Between slices the threads step: what they write a reference to is listed, and what they
+    /// make counts as marked.
+    ///
+    /// The slice that leaves the list empty ends the marking: it moves together what the marking keeps, and all else is
+    /// gone. No object that can be reached is lost; one that can't be reached any more may be kept. Weak global references
+    /// to what is gone are cleared, by one entry of the journal. A marking that no collection gives up ends with its
+    /// `n / 64 + 1`st slice at the latest, where `n` objects are kept.
+    ///
+    /// An `Err` says that host memory was refused. Nothing has changed then, and the same slice can be asked again.
+    pub fn slice(&mut self) -> Result<(), AllocError>
+        ensures ok { OnOk result (IsSliced self.old self.new) }
+        ensures err { OnErr result (self.new ≡ self.old) }
+        ensures runs { IsSome (replay_of self.new) }
+    {
+        self.journal.reserve_clearing()?;
+        let gone = slice_blocks(self.alloc, &mut self.store, &mut self.threads)?;
+        self.journal.push_clearing(gone);
+        Ok(())
+    }
+
+    /// Of the marking that is under way how many slices it has had, and how many objects they marked, 64 each; none where
+    /// none is under way.
+    pub fn marking(&self) -> Option<(usize, usize)>
+        ensures { result ≡ option_map (λ n. (n, slice_size * n)) self.now.slices }
+    {
+        // Here the proof takes up the machine's invariant.
+        let _ = &self.world;
+        match self.store.heap.marked() {
+            Some(marked) => Some((marked / SLICE as usize, marked)),
+            None => None,
+        }
     }
 
     /// The turn of thread `k`, counted from 1, where it has no step to take: a trap has stopped the machine, the thread
@@ -247,17 +287,14 @@ impl<'a> Machine<'a> {
         ))
     }
 
-    /// The thread of a schedule's word, where it is a turn of a thread that the world has.
-    fn turn_of(&self, word: ScheduleWord) -> Option<u8>
-        ensures turn { IfSome result (λ k. (word ≡ ScheduleWord.Turn k) × (0 < k) × (k ≤ length self.now.world.threads)) }
-        ensures none { IfNone result (GivesNoStep self.now word) }
+    /// Whether the world has a thread of this number, counted from 1.
+    fn has_thread(&self, k: u8) -> bool
+        ensures there { result ≡ true → (0 < k) × (k ≤ length self.now.world.threads) }
+        ensures none { result ≡ false → GivesNoStep self.now (ScheduleWord.Turn k) }
     {
         // Here the proof takes up the machine's invariant.
         let _ = &self.world;
-        match word {
-            ScheduleWord::Turn(k) if k > 0 && usize::from(k) <= self.threads.len() => Some(k),
-            _ => None,
-        }
+        k > 0 && usize::from(k) <= self.threads.len()
     }
 
     /// Lets thread `k` take a turn of a schedule.
@@ -289,20 +326,33 @@ impl<'a> Machine<'a> {
         Ok(self.collect()?)
     }
 
-    /// Takes a word this many times.
-    fn repeat(&mut self, word: ScheduleWord, times: u32) -> Result<(), RunFault>
-        ensures ok { OnOk result (RunsAlong self.old self.new (replicate times word)) }
-        ensures err { IfErr result (RunsInto self.old self.new (replicate times word)) }
+    /// Takes the word for a slice this many times.
+    fn slice_for(&mut self, times: u32) -> Result<(), RunFault>
+        ensures ok { OnOk result (RunsAlong self.old self.new (replicate times ScheduleWord.Slice)) }
+        ensures err { IfErr result (RunsInto self.old self.new (replicate times ScheduleWord.Slice)) }
         ensures runs { IsSome (replay_of self.new) }
     {
         // Here the proof takes up the machine's invariant.
         let _ = &self.world;
-        if let ScheduleWord::Collect = word {
-            return self.collect_for(times);
+        let mut left = times;
+        while left > 0 {
+            self.slice()?;
+            left -= 1;
         }
-        let Some(k) = self.turn_of(word) else {
+        Ok(())
+    }
+
+    /// Takes the word for a turn of thread `k` this many times. The turns of a thread that the world lacks give no step.
+    fn turn_for(&mut self, k: u8, times: u32) -> Result<(), RunFault>
+        ensures ok { OnOk result (RunsAlong self.old self.new (replicate times (ScheduleWord.Turn k))) }
+        ensures err { IfErr result (RunsInto self.old self.new (replicate times (ScheduleWord.Turn k))) }
+        ensures runs { IsSome (replay_of self.new) }
+    {
+        // Here the proof takes up the machine's invariant.
+        let _ = &self.world;
+        if !self.has_thread(k) {
             return Ok(());
-        };
+        }
         let mut left = times;
         while left > 0 {
             left -= self.run_plainly(k, left);
@@ -313,6 +363,19 @@ impl<'a> Machine<'a> {
             left -= 1;
         }
         Ok(())
+    }
+
+    /// Takes a word this many times.
+    fn repeat(&mut self, word: ScheduleWord, times: u32) -> Result<(), RunFault>
+        ensures ok { OnOk result (RunsAlong self.old self.new (replicate times word)) }
+        ensures err { IfErr result (RunsInto self.old self.new (replicate times word)) }
+        ensures runs { IsSome (replay_of self.new) }
+    {
+        match word {
+            ScheduleWord::Turn(k) => self.turn_for(k, times),
+            ScheduleWord::Collect => self.collect_for(times),
+            ScheduleWord::Slice => self.slice_for(times),
+        }
     }
 
     /// Lets thread `k` take steps one after another, no more than this many, and answers how many it took.
@@ -343,12 +406,12 @@ impl<'a> Machine<'a> {
         )
     }
 
-    /// Lets the threads take steps in the order of the schedule, with its collections between them.
-    /// A collection and a turn of a thread that the world lacks give none.
+    /// Lets the threads take steps in the order of the schedule, with its collections and slices between them.
+    /// A collection, a slice and a turn of a thread that the world lacks give none.
     ///
     /// After an `Err` the steps of a beginning of the schedule stay, and the next word is the turn of a thread that
-    /// could step, where the journal was full, or had room and host memory was refused, or it is a collection that host
-    /// memory was refused to.
+    /// could step, where the journal was full, or had room and host memory was refused, or it is a collection or a slice
+    /// that host memory was refused to.
     pub fn run(&mut self, schedule: &Schedule) -> Result<(), RunFault>
         ensures ok { OnOk result (RunsAlong self.old self.new schedule.now) }
         ensures err { IfErr result (RunsInto self.old self.new schedule.now) }
@@ -483,6 +546,7 @@ fn load_parts(
     ensures begins { IfOk result (λ parts. Corresponds program.now world.now parts.0 parts.1.items [] None []) }
     ensures fits { OnOk result (first_load_fault (unit_tree program.now.unit) world.now ≡ None) }
     ensures laid { IfOk result (λ parts. layout_of parts.0.heap ≡ laid_from 1 0 (loaded_objects world.now)) }
+    ensures unmarked { IfOk result (λ parts. parts.0.heap.marking ≡ None) }
     ensures fault { IfErr result (IsLoadFault (unit_tree program.now.unit) world.now) }
 {
     // The proof reads off this call what is known of a world.

@@ -14,7 +14,7 @@ use Rattle.machine_collections.specs.Clearing.{clearing_of}
 use Rattle.machine_collections.specs.Moving.{moved_thread}
 use Rattle.machine_steps.specs.Advances.{AdvancesAlways}
 use Rattle.machine.specs.Run.{CanAdvance, LacksRoom}
-use Rattle.machine.proofs.Collected.{are_referred}
+use Rattle.machine.proofs.Moved.{are_referred}
 use Rattle.machine.proofs.Advancing.{can_still, found, is_ready, is_steady, lives_there, makes_still, numbered, own, rest, shared_there, there, unhindered}
 use Rattle.machine.proofs.machine.collect_and_advance.Goals as goal
 use Rattle.machine.proofs.machine.collect_and_advance.Goals.{After-push_clearing}
@@ -36,7 +36,7 @@ still : (c : After-push_clearing) → CanAdvance c.args.program.now c.args.world
 still c =
     can_still c.args.program.now c.args.world.now c.args.store.now c.args.threads.now c.args.index c.requires.stands c.requires.stands.thread
     (λ t at. subst (λ (n : ℕ). LacksRoom c.args.program.now c.args.world.now n c.args.store.now t) (sym (numbered c.args.k c.args.index c.requires.number)) (c.requires.lacks t at))
-    c.collect_blocks.new.store c.collect_blocks.new.threads (names_of c.in_ok-cleared.cleared.items) c.in_ok-cleared.ensures.ok c.in_ok-cleared.ensures.cleared
+    c.collect_blocks.new.store c.collect_blocks.new.threads (names_of c.in_ok-cleared.cleared.items) c.in_ok-cleared.ensures.ok c.in_ok-cleared.ensures.cleared c.in_ok-cleared.ensures.none
 
 -- and makes objects by it
 makes_after : (c : After-push_clearing) → 0 < sizes (made (unit_tree c.args.program.now.unit) c.args.world.now (still c).stands.state (suc c.args.index))
@@ -44,7 +44,7 @@ unfolding still can_still
 makes_after c =
     makes_still c.args.program.now c.args.world.now c.args.store.now c.args.threads.now c.args.index c.requires.stands c.requires.stands.thread
     (λ t at. subst (λ (n : ℕ). LacksRoom c.args.program.now c.args.world.now n c.args.store.now t) (sym (numbered c.args.k c.args.index c.requires.number)) (c.requires.lacks t at))
-    c.collect_blocks.new.store c.collect_blocks.new.threads (names_of c.in_ok-cleared.cleared.items) c.in_ok-cleared.ensures.ok c.in_ok-cleared.ensures.cleared
+    c.collect_blocks.new.store c.collect_blocks.new.threads (names_of c.in_ok-cleared.cleared.items) c.in_ok-cleared.ensures.ok c.in_ok-cleared.ensures.cleared c.in_ok-cleared.ensures.none
 
 pub advance-requires-clause-agrees : goal.advance-requires-clause-agrees
 advance-requires-clause-agrees c =
@@ -97,6 +97,7 @@ returns-clause-advances c =
         is = inr (record {
           lacks = λ t at. subst (λ (n : ℕ). LacksRoom c.args.program.now c.args.world.now n c.args.store.now t) (sym (numbered c.args.k c.args.index c.requires.number)) (c.requires.lacks t at);
           collected = c.in_ok-cleared.ensures.ok;
+          unmarked = c.in_ok-cleared.ensures.none;
           clears = c.in_ok-cleared.ensures.cleared;
         });
         old = slice_index_or c.collect_blocks.new.threads c.args.index c.index-threads-index.result;

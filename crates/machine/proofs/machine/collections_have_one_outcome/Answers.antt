@@ -1,4 +1,4 @@
-use Rattle.std.proofs.Common.{◌≡◌, ◌⊎◌, ◌++◌, ℕ, Bool, true, false, inl, inr, List, Contains, refl, sym, ap, ◌∙◌, subst}
+use Rattle.std.proofs.Common.{◌≡◌, ◌⊎◌, ◌++◌, ℕ, Bool, true, false, inl, inr, List, Contains, None, refl, sym, ap, ◌∙◌, subst}
 use Rattle.std.proofs.lemmas.Bool.{false≢true}
 use Rattle.heap.specs.Layout.{Layout}
 use Rattle.semantics.specs.Reachable.{Reachable, is_in}
@@ -27,6 +27,6 @@ returns c old new other orderly first second =
     let q = subst (λ (s : State). IsPacked (Reachable old.world s) (Contains (views s)) old.layout other.layout) two second.packed in
     let same = packed_once (Reachable old.world orderly.state) (Contains (views orderly.state)) old.layout orderly.rising (listed (views orderly.state)) orderly.viewed new.layout other.layout p q in
     first.same
-    ∙ ap (λ (s : State). let r : Run = record old { journal = old.journal ++ clearing_of (lost old.world s); layout = new.layout } in r) (one ∙ sym two)
-    ∙ ap (λ (l : Layout). let r : Run = record old { journal = old.journal ++ clearing_of (lost old.world second.state); layout = l } in r) same
+    ∙ ap (λ (s : State). let r : Run = record old { journal = old.journal ++ clearing_of (lost old.world s); layout = new.layout; slices = None } in r) (one ∙ sym two)
+    ∙ ap (λ (l : Layout). let r : Run = record old { journal = old.journal ++ clearing_of (lost old.world second.state); layout = l; slices = None } in r) same
     ∙ sym second.same

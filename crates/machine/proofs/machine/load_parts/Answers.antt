@@ -26,6 +26,7 @@ use Rattle.monitors.specs.declared.monitors.Monitor.{Monitor}
 use Rattle.machine_scenes.specs.Statics.{StaticReference}
 use Rattle.semantics.specs.declared.static_reference.StaticReference.TheVariants.{Empty}
 use Rattle.machine_calls.proofs.HeldStatics.{names_begin, no_keys, no_weak_keys, statics_begin}
+use Rattle.machine.proofs.Slices.{IsSlicedEvenly}
 use Rattle.machine.proofs.machine.load_parts.Goals as goal
 
 -- there are no weak references
@@ -90,4 +91,5 @@ returns-clause-begins c =
       fair = tt;
       count = count;
       few = omega (arith, count, c.threads.ensures.sound.few_threads);
+      sliced = subst IsSlicedEvenly (sym made.unmarked) tt;
     }

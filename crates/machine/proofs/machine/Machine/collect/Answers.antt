@@ -6,7 +6,8 @@ use Rattle.machine_threads.specs.declared.thread.Thread.{Thread}
 use Rattle.machine_collections.specs.Clearing.{clearing_of}
 use Rattle.machine_collections.specs.Moving.{AreCollected, AreReferred}
 use Rattle.machine.specs.Run.{Corresponds, IsCollected, seen}
-use Rattle.machine.proofs.Collected.{are_referred, run_after, stands_after}
+use Rattle.machine.proofs.Collected.{run_after, stands_after}
+use Rattle.machine.proofs.Moved.{are_referred}
 use Rattle.machine.proofs.machine.Machine.collect.Goals as goal
 use Rattle.machine.proofs.machine.Machine.collect.Goals.{After-push_clearing}
 
@@ -38,7 +39,7 @@ invariant_of-self-2 c =
     let later = c.collect_blocks.new.threads in
     subst (λ (ts : List Thread). Corresponds i.program i.world after ts i.printed.items i.stop c.push_clearing.new.self.entries) (sym (with_items_is i.threads later (search (rules, places))))
     (subst (λ (j : List Entry). Corresponds i.program i.world after later i.printed.items i.stop j) (sym (told a))
-    (stands_after _ _ _ _ _ _ _ c.self.invariant after later (cleared a) (collected a) c.in_ok-cleared.ensures.cleared))
+    (stands_after _ _ _ _ _ _ _ c.self.invariant after later (cleared a) (collected a) c.in_ok-cleared.ensures.cleared c.in_ok-cleared.ensures.none))
 
 pub returns-clause-ok : goal.returns-clause-ok
 returns-clause-ok c =
@@ -46,7 +47,7 @@ returns-clause-ok c =
     let i = c.self.inside in
     let after = c.collect_blocks.new.store in
     subst (λ (j : List Entry). IsCollected c.args.self.now (seen i.program i.world after j)) (sym (told a))
-    (run_after _ _ _ _ _ _ _ c.self.invariant after c.collect_blocks.new.threads (cleared a) c.args.self.now c.self.view_is (collected a) c.in_ok-cleared.ensures.cleared)
+    (run_after _ _ _ _ _ _ _ c.self.invariant after c.collect_blocks.new.threads (cleared a) c.args.self.now c.self.view_is (collected a) c.in_ok-cleared.ensures.cleared c.in_ok-cleared.ensures.none)
 
 pub returns-clause-runs : goal.returns-clause-runs
 returns-clause-runs c = rw (invariant_of-self-2 c).replays refl

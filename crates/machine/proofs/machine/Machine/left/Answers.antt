@@ -1,6 +1,7 @@
 use Rattle.std.proofs.Common.{sym, ap, ◌∙◌, subst}
 use Rattle.machine.specs.Run.{IsOrderly, cells_left}
-use Rattle.machine.proofs.Collected.{left_seen, orderly}
+use Rattle.machine.proofs.Collected.{orderly}
+use Rattle.machine.proofs.Moved.{left_seen}
 use Rattle.machine.proofs.machine.Machine.left.Goals as goal
 
 pub returns-clause-left : goal.returns-clause-left

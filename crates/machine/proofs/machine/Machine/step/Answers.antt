@@ -9,7 +9,7 @@ use Rattle.semantics.specs.World.{World}
 use Rattle.heap.specs.Layout.{layout_of}
 use Rattle.semantics.specs.EventViews.{printed_after}
 use Rattle.machine_threads.specs.declared.thread.Thread.{Thread}
-use Rattle.machine.specs.Run.{AdvancesAndNotes, CanAdvance, Corresponds, Run, CouldStep, replay_of, event_of, is_refused}
+use Rattle.machine.specs.Run.{AdvancesAndNotes, CanAdvance, Corresponds, Run, CouldStep, replay_of, event_of, is_refused, slices_of}
 use Rattle.machine_scenes.specs.declared.store.Store.{Store}
 use Rattle.machine.proofs.Steps.{counted_from}
 use Rattle.machine.proofs.Turns.{Ready, next, ready, turn_here}
@@ -41,12 +41,12 @@ returns-in_err-make_room-clause-runs c = rw (invariant_of-self c).replays refl
 
 -- with this journal and this store the machine is seen as it was
 err_so : {T E : Type 0} (unit : List Item) (world : World) (journal before : List Entry) (store had : Store) (now : Run) (k : ℕ) (r : Result T E) → journal ≡ before → store ≡ had
-    → ◌≡◌ {A = Run} (record { unit = unit; world = world; journal = before; layout = layout_of had.heap }) now → CouldStep now k
-    → OnErr r ((◌≡◌ {A = Run} (record { unit = unit; world = world; journal = journal; layout = layout_of store.heap }) now) × CouldStep now k)
+    → ◌≡◌ {A = Run} (record { unit = unit; world = world; journal = before; layout = layout_of had.heap; slices = slices_of had.heap.marking }) now → CouldStep now k
+    → OnErr r ((◌≡◌ {A = Run} (record { unit = unit; world = world; journal = journal; layout = layout_of store.heap; slices = slices_of store.heap.marking }) now) × CouldStep now k)
 err_so unit world journal before store had now k (Ok x) same kept view could = tt
 err_so unit world journal before store had now k (Err e) same kept view could = (
-  ap (λ (j : List Entry). let r : Run = record { unit = unit; world = world; journal = j; layout = layout_of store.heap } in r) same
-      ∙ ap (λ (h : Store). let r : Run = record { unit = unit; world = world; journal = before; layout = layout_of h.heap } in r) kept ∙ view,
+  ap (λ (j : List Entry). let r : Run = record { unit = unit; world = world; journal = j; layout = layout_of store.heap; slices = slices_of store.heap.marking } in r) same
+      ∙ ap (λ (h : Store). let r : Run = record { unit = unit; world = world; journal = before; layout = layout_of h.heap; slices = slices_of h.heap.marking } in r) kept ∙ view,
   could,
 )
 
