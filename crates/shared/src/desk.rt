@@ -1,6 +1,6 @@
 // The state that the lock protects.
 ghost use Rattle.std.specs.Prelude.{◌≡◌, ℕ, ◌+◌, IfOk, OnOk, OnErr, IsSome, All};
-ghost use Rattle.machine.specs.Run.{CouldStep, IsCollected, TurnHolds, replay_of};
+ghost use Rattle.machine.specs.Run.{CouldStep, IsCollected, IsSliced, TurnHolds, replay_of};
 ghost use Rattle.shared_accounts.specs.Accounts.{account_of, kept_after, Agrees, taken, EndsSo};
 
 use crate::seat::Seat;
@@ -85,6 +85,19 @@ impl<'a, J: Naming> Desk<'a, J> {
         ensures runs { IsSome (replay_of self.new) }
     {
         self.machine.collect()
+    }
+
+    /// Lets the machine take a slice of a marking. The journal may go on with a clearing of weak references; no account
+    /// changes.
+    pub fn slice(&mut self) -> Result<(), AllocError>
+        ensures unit { self.old.unit ≡ J.unit }
+        ensures world { self.old.world ≡ J.world }
+        ensures accounts { (k : ℕ) → account_of self.new k ≡ account_of self.old k }
+        ensures ok { OnOk result (IsSliced self.old self.new) }
+        ensures err { OnErr result (self.new ≡ self.old) }
+        ensures runs { IsSome (replay_of self.new) }
+    {
+        self.machine.slice()
     }
 
     /// The machine that the lock protects; the seats agree with it.

@@ -3,7 +3,7 @@ ghost use Rattle.std.specs.Prelude.{◌≡◌, [], true, false, length, IfOk, If
 ghost use Rattle.crossbeam_utils.specs.Seq.{cell_view};
 ghost use Rattle.machine.specs.Run.{replay_of};
 ghost use Rattle.shared_passes.specs.Tokens.{knower, unknown};
-ghost use Rattle.shared_accounts.specs.Accounts.{Agrees, is_one_each, seats_of, SeatTurn, SharedCollection};
+ghost use Rattle.shared_accounts.specs.Accounts.{Agrees, is_one_each, seats_of, SeatTurn, SharedCollection, SharedSlice};
 
 use crate::desk::Desk;
 use crate::seat::{Seat, give_all, one_each};
@@ -74,6 +74,15 @@ impl<'a, J: Naming> Shared<'a, J> {
         ensures { SharedCollection J.unit J.world result }
     {
         self.desk.lock(rt).collect()
+    }
+
+    /// Lets the machine take a slice of a marking, and waits for the lock as a turn does. The journal may go on with one
+    /// entry, a clearing of weak references, which is no thread's step: no seat's account changes.
+    /// An `Err` says that host memory was refused; then nothing has changed.
+    pub fn slice<R: Wait>(&self, rt: &R) -> Result<(), AllocError>
+        ensures { SharedSlice J.unit J.world result }
+    {
+        self.desk.lock(rt).slice()
     }
 
     /// The numbers that the seat's thread has printed.

@@ -17,7 +17,7 @@ use Rattle.semantics.specs.Run as source
 use Rattle.semantics.specs.Run.{account}
 use Rattle.machine.specs.declared.turn.Turn.{Turn}
 use Rattle.machine.specs.declared.turn.Turn.TheVariants.{Stopped, Ended, Blocked, Full, Short, Stepped}
-use Rattle.machine.specs.Run.{CouldStep, IsCollected, Run, TurnHolds, replay_of}
+use Rattle.machine.specs.Run.{CouldStep, IsCollected, IsSliced, Run, TurnHolds, replay_of}
 use Rattle.shared_passes.specs.declared.view.Account.{Account}
 use Rattle.shared_passes.specs.declared.view.Ending.{Ending}
 use Rattle.shared_passes.specs.declared.view.Ending.TheVariants as seen
@@ -168,13 +168,21 @@ pub record SeatTurn {E : Type 0} (unit : List Item) (world : World) (before afte
   pub counted : after.account.entries ≡ before.account.entries + taken result
   pub ended : IfOk result (EndsSo after.account)
 
--- What a collection behind the lock was: one of a run, after which each thread's account is what it was.
-pub record SharedCollection {T E : Type 0} (unit : List Item) (world : World) (result : Result T E) : Type 0 where
+-- What the collector did behind the lock, which left a run so: each thread's account is what it was.
+pub record SharedWork (Leaves : Run → Run → Type 0) {T E : Type 0} (unit : List Item) (world : World) (result : Result T E) : Type 0 where
   pub old : Run
   pub new : Run
   pub of_unit : old.unit ≡ unit
   pub on_world : old.world ≡ world
-  pub ok : OnOk result (IsCollected old new)
+  pub ok : OnOk result (Leaves old new)
   pub err : OnErr result (new ≡ old)
   pub runs : IsSome (replay_of new)
   pub accounts : (k : ℕ) → account_of new k ≡ account_of old k
+
+-- a collection
+abbrev pub SharedCollection : {T E : Type 0} (unit : List Item) (world : World) (result : Result T E) → Type 0
+SharedCollection unit world result = SharedWork IsCollected unit world result
+
+-- a slice of a marking
+abbrev pub SharedSlice : {T E : Type 0} (unit : List Item) (world : World) (result : Result T E) → Type 0
+SharedSlice unit world result = SharedWork IsSliced unit world result
