@@ -18,7 +18,7 @@ use Rattle.semantics.specs.Journal.{Entry, Journal, steps_in}
 use Rattle.semantics.specs.World.{World}
 use Rattle.world_values.specs.WorldRules.{IsWorldText}
 use Rattle.semantics.specs.State.{State}
-use Rattle.semantics.specs.Run.{Over, Collects, Clears, Waits, Steps, ClearsAndSteps, Follows, JournalFollows, MarkedAreFair, UnmarkedFit, replay}
+use Rattle.semantics.specs.Run.{Over, Collects, Clears, Slices, SliceClears, Waits, Steps, ClearsAndSteps, Follows, JournalFollows, MarkedAreFair, UnmarkedFit, replay}
 use Rattle.report.specs.RunText.{Writes}
 use Rattle.semantics.specs.Start.{start}
 use Rattle.lower.specs.declared.fault.LowerError.{LowerError}
@@ -53,6 +53,8 @@ follows_short : {unit : SourceUnit} {w : World} {s end : State} {journal : Journ
 follows_short (Over s) = omega arith
 follows_short (Collects s end journal words l h) = let short : steps_in journal ≤ length words = follows_short h in omega (arith, short)
 follows_short (Clears s next end names journal words c h) = let short : steps_in journal ≤ length words = follows_short h in omega (arith, short)
+follows_short (Slices s end journal words h) = let short : steps_in journal ≤ length words = follows_short h in omega (arith, short)
+follows_short (SliceClears s next end names journal words c h) = let short : steps_in journal ≤ length words = follows_short h in omega (arith, short)
 follows_short (Waits s end k journal words e h) = let short : steps_in journal ≤ length words = follows_short h in omega (arith, short)
 follows_short (Steps s next end k refused journal words c e h) = let short : steps_in journal ≤ length words = follows_short h in omega (arith, short)
 follows_short (ClearsAndSteps s between next end names k refused journal words c m l e h) =
@@ -133,10 +135,10 @@ module _ (program world schedule : List ℕ) (old : Written) where
       (along.after, subst (λ (j : Journal). Follows (unit_tree items) meant (start (unit_tree items) meant) j words along.after) steps on_world)
 
   -- the unit and the world of a run stay
-  same_parts : (items : List Item) (meant : World) (begun ended : Run) (words : Schedule) → IsUnstarted items meant begun → RunsAlong begun ended words → ended ≡ record { unit = items; world = meant; journal = ended.journal; layout = ended.layout }
+  same_parts : (items : List Item) (meant : World) (begun ended : Run) (words : Schedule) → IsUnstarted items meant begun → RunsAlong begun ended words → ended ≡ record { unit = items; world = meant; journal = ended.journal; layout = ended.layout; slices = ended.slices }
   same_parts items meant begun ended words un along =
-      ap (λ (u : List Item). let r : Run = record { unit = u; world = ended.world; journal = ended.journal; layout = ended.layout } in r) (along.same_unit ∙ un.of_unit)
-      ∙ ap (λ (s : World). let r : Run = record { unit = items; world = s; journal = ended.journal; layout = ended.layout } in r) (along.same_world ∙ un.on_world)
+      ap (λ (u : List Item). let r : Run = record { unit = u; world = ended.world; journal = ended.journal; layout = ended.layout; slices = ended.slices } in r) (along.same_unit ∙ un.of_unit)
+      ∙ ap (λ (s : World). let r : Run = record { unit = items; world = s; journal = ended.journal; layout = ended.layout; slices = ended.slices } in r) (along.same_world ∙ un.on_world)
 
   -- the texts' meaning, from what the layers answered
   abbrev pub meaning_of : (items : List Item) (meant : World) (words : Schedule) → IsProgram program (unit_tree items) → world_of_text world ≡ Ok meant → schedule_of schedule (length meant.threads) ≡ Ok words → first_load_fault (unit_tree items) meant ≡ None → Meaning program world schedule
