@@ -1,12 +1,12 @@
 -- Collections in schedules.
 use Rattle.std.proofs.Common.{◌≡◌, ℕ, List, [], ◌∷◌, Option, Some, sym, ◌∙◌, subst}
 use Rattle.syntax.specs.Tree.{SourceUnit}
-use Rattle.semantics.specs.declared.schedule.ScheduleWord.TheVariants.{Turn, Collect}
-use Rattle.semantics.specs.Journal.{Journal, Entry, Step}
+use Rattle.semantics.specs.declared.schedule.ScheduleWord.TheVariants.{Turn, Collect, Slice}
+use Rattle.semantics.specs.Journal.{Journal, Entry, Step, Clearing}
 use Rattle.semantics.specs.Schedule.{Schedule}
 use Rattle.semantics.specs.World.{World}
 use Rattle.semantics.specs.WeakReferences.{lost}
-use Rattle.semantics.specs.Run.{Follows, Over, Collects, Clears, Waits, Steps, ClearsAndSteps, ClearsLost}
+use Rattle.semantics.specs.Run.{Follows, Over, Collects, Clears, Slices, SliceClears, Waits, Steps, ClearsAndSteps, ClearsLost}
 use Rattle.semantics.specs.State.{State}
 use Rattle.semantics.specs.Step.{clearing_step, world_step}
 use Rattle.test_equations.specs.Laws.{without_collections, LosesNothing}
@@ -30,6 +30,8 @@ module _ (unit : SourceUnit) (w : World) where
   without (Over s) n = Over s
   without (Collects s end journal words e h) n = without h n
   without (Clears s next end names journal words c h) n = absurd (clears_none s next names c n.0)
+  without (Slices s end journal words h) n = Slices s end journal (without_collections words) (without h n)
+  without (SliceClears s next end names journal words c h) n = SliceClears s next end names journal (without_collections words) c (without h (nor_later s next (Clearing names) journal c n))
   without (Waits s end k journal words e h) n = Waits s end k journal (without_collections words) e (without h n)
   without (Steps s next end k refused journal words c e h) n = Steps s next end k refused journal (without_collections words) c e (without h (nor_later s next (Step k refused) journal e n))
   without (ClearsAndSteps s between next end names k refused journal words c some l e h) n = absurd (clears_none s between names l n.0)
@@ -37,6 +39,8 @@ module _ (unit : SourceUnit) (w : World) where
   pub with_them : (words : Schedule) {s end : State} {journal : Journal} → Follows unit w s journal (without_collections words) end → LosesNothing unit w (Some s) journal → Follows unit w s journal words end
   with_them [] h n = h
   with_them (Collect ∷ words) {s} {end} {journal} h n = Collects s end journal words (nothing_lost s journal n) (with_them words h n)
+  with_them (Slice ∷ words) (Slices s end journal rest h) n = Slices s end journal words (with_them words h n)
+  with_them (Slice ∷ words) (SliceClears s next end names journal rest c h) n = SliceClears s next end names journal words c (with_them words h (nor_later s next (Clearing names) journal c n))
   with_them (Turn k ∷ words) (Waits s end m journal rest e h) n = Waits s end m journal words e (with_them words h n)
   with_them (Turn k ∷ words) (Steps s next end m refused journal rest c e h) n = Steps s next end m refused journal words c e (with_them words h (nor_later s next (Step m refused) journal e n))
   with_them (Turn k ∷ words) (ClearsAndSteps s between next end names m refused journal rest c some l e h) n = absurd (clears_none s between names l n.0)

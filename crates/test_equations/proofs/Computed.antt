@@ -14,7 +14,7 @@ use Rattle.class_rules.specs.Mangling.{unmangle}
 use Rattle.jni.specs.JniFunction.{function_named}
 use Rattle.type_rules.specs.SortRules.{SortRule, sort_rule_number, IsSorted, first_broken}
 use Rattle.semantics.specs.declared.schedule.ScheduleWord.{ScheduleWord}
-use Rattle.semantics.specs.declared.schedule.ScheduleWord.TheVariants.{Turn, Collect}
+use Rattle.semantics.specs.declared.schedule.ScheduleWord.TheVariants.{Turn, Collect, Slice}
 use Rattle.semantics.specs.Journal.{Journal, Entry, Step, Clearing, steps_in, clearings_in}
 use Rattle.world_schedules.specs.JournalMeaning.{IsJournalText, is_entry}
 use Rattle.semantics.specs.JournalText.{entry_text, journal_line}
@@ -40,7 +40,7 @@ use Rattle.semantics.specs.Load.{first_load_fault}
 use Rattle.semantics.specs.Reachable.{live_size}
 use Rattle.region_rules.specs.RegionRules.{RegionRule, region_rule_number}
 use Rattle.semantics.specs.ReportOf.{report}
-use Rattle.semantics.specs.Run.{Follows, Over, Collects, Clears, Waits, Steps, ClearsAndSteps, ClearsLost, IsFair, Fits, FitsUnmarked, IsFairMarked, EachFrom, made_between, made, wanted, replay}
+use Rattle.semantics.specs.Run.{Follows, Over, Collects, Clears, Slices, SliceClears, Waits, Steps, ClearsAndSteps, ClearsLost, IsFair, Fits, FitsUnmarked, IsFairMarked, EachFrom, made_between, made, wanted, replay}
 use Rattle.report.specs.RunText.{Writes}
 use Rattle.semantics.specs.Start.{start}
 use Rattle.semantics.specs.State.{State, thread_at, views}
@@ -150,7 +150,7 @@ world-text text cells methods lines heap_line spelled size rules formed same =
       meant = ap (λ m. world_of heap_line cells (first_lines heap_line m ++ lines)) (sym same);
     }
 
--- the words of a schedule are turns and collections, and not too many
+-- the words of a schedule are turns, collections and slices, and not too many
 abbrev pub is_schedule : ℕ → List (ScheduleWord × Option ℕ) → Bool
 is_schedule threads words =
     list_all (λ w. is_turn threads w.0 && is_count w.1) words && nat_le (length (flat_map words_meant words)) 1000000
@@ -178,9 +178,10 @@ begins unit world w accepted of_world loads = record { accepted = accepted; w = 
 
 -- ---- runs
 
--- how a step is entered: refused or not, alone or after the clearing of all that is lost
+-- how a step is entered: refused or not, alone or after the clearing of all that is lost; or what a slice clears
 pub data Mark : Type 0 where
   Alone AfterClearing : (refused : Bool) → Mark
+  Sliced : (names : List ℕ) → Mark
 
 -- the first mark, and where there are no more that of a step as most are
 abbrev pub first_mark : List Mark → Mark
@@ -310,16 +311,26 @@ module _ (unit : SourceUnit) (w : World) where
   turn k go s marks latest (Alone refused) = after_turn k refused go s marks latest (turn_step unit w.classes s k refused)
   turn k go s marks latest (AfterClearing refused) =
       where_made (made unit w s k) (after_clearing (cleared_turn k refused go marks) (lost w s) latest (clearing_step w s (lost w s)))
+  turn k go s marks latest (Sliced names) = None
 
   -- a collection clears all that is lost, and gives no entry where nothing is
   abbrev pub collection : (State → Journal → Option (State × Journal)) → State → Journal → List ℕ → Option (State × Journal)
   collection go s latest [] = go s latest
   collection go s latest (n ∷ names) = after_clearing go (n ∷ names) latest (clearing_step w s (n ∷ names))
 
+  -- a slice clears what its mark says, and nothing where the next mark is one of a step
+  abbrev pub slice : Further → State → List Mark → Journal → Mark → Option (State × Journal)
+  slice go s marks latest (Alone refused) = go s marks latest
+  slice go s marks latest (AfterClearing refused) = go s marks latest
+  slice go s marks latest (Sliced []) = go s (later_marks marks) latest
+  slice go s marks latest (Sliced (n ∷ names)) =
+      after_clearing (λ next j. go next (later_marks marks) j) (n ∷ names) latest (clearing_step w s (n ∷ names))
+
   -- The state and the journal of a run by a schedule, the latest entry first. Each step has a mark, up to the last that isn't as most are.
   abbrev pub run : Schedule → State → List Mark → Journal → Option (State × Journal)
   run [] s marks latest = Some (s, latest)
   run (Collect ∷ words) s marks latest = collection (λ next j. run words next marks j) s latest (lost w s)
+  run (Slice ∷ words) s marks latest = slice (λ next rest j. run words next rest j) s marks latest (first_mark marks)
   run (Turn k ∷ words) s marks latest = turn k (λ next rest j. run words next rest j) s marks latest (first_mark marks)
 
   -- where there is an end
@@ -357,6 +368,41 @@ module _ (unit : SourceUnit) (w : World) where
       → ((next : State) (j : Journal) → IsLawful next words j (go next j)) → IsLawful s (Collect ∷ words) latest (collection go s latest names)
   collects s words go latest [] e further = keeps_all s words latest (go s latest) e (further s latest)
   collects s words go latest (n ∷ names) e further = clears_where s words go (n ∷ names) latest (clearing_step w s (n ∷ names)) e refl further
+
+  -- a slice that clears nothing
+  slices_alone : (s : State) (words : Schedule) (latest : Journal) (r : Option (State × Journal)) → IsLawful s words latest r → IsLawful s (Slice ∷ words) latest r
+  slices_alone s words latest None h = tt
+  slices_alone s words latest (Some (end, whole)) h =
+      record { journal = h.journal; adds = h.adds; follows = Slices s end h.journal words h.follows; fits = h.fits; fair = h.fair }
+
+  -- one that clears what may be cleared
+  slice_clears : (s next : State) (names : List ℕ) (words : Schedule) (latest : Journal) (r : Option (State × Journal)) → clearing_step w s names ≡ Some next
+      → IsLawful next words (Clearing names ∷ latest) r
+      → IsLawful s (Slice ∷ words) latest r
+  slice_clears s next names words latest None c h = tt
+  slice_clears s next names words latest (Some (end, whole)) c h = record {
+    journal = Clearing names ∷ h.journal;
+    adds = h.adds;
+    follows = SliceClears s next end names h.journal words c h.follows;
+    fits = (tt, subst (λ o. EachFrom unit w (FitsUnmarked unit w) o h.journal) (sym c) h.fits);
+    fair = (tt, subst (λ o. EachFrom unit w (IsFairMarked unit w) o h.journal) (sym c) h.fair);
+  }
+
+  slice_where : (s : State) (words : Schedule) (go : State → Journal → Option (State × Journal)) (names : List ℕ) (latest : Journal) (o : Option State)
+      → clearing_step w s names ≡ o
+      → ((next : State) (j : Journal) → IsLawful next words j (go next j)) → IsLawful s (Slice ∷ words) latest (after_clearing go names latest o)
+  slice_where s words go names latest None c further = tt
+  slice_where s words go names latest (Some next) c further = slice_clears s next names words latest (go next (Clearing names ∷ latest)) c (further next (Clearing names ∷ latest))
+
+  slices : (s : State) (words : Schedule) (go : Further) (marks : List Mark) (latest : Journal) (mark : Mark)
+      → ((next : State) (rest : List Mark) (j : Journal) → IsLawful next words j (go next rest j))
+      → IsLawful s (Slice ∷ words) latest (slice go s marks latest mark)
+  slices s words go marks latest (Alone refused) further = slices_alone s words latest (go s marks latest) (further s marks latest)
+  slices s words go marks latest (AfterClearing refused) further = slices_alone s words latest (go s marks latest) (further s marks latest)
+  slices s words go marks latest (Sliced []) further = slices_alone s words latest (go s (later_marks marks) latest) (further s (later_marks marks) latest)
+  slices s words go marks latest (Sliced (n ∷ names)) further =
+      slice_where s words (λ next j. go next (later_marks marks) j) (n ∷ names) latest (clearing_step w s (n ∷ names)) refl
+      (λ next j. further next (later_marks marks) j)
 
   waits : (s : State) (k : ℕ) (words : Schedule) (latest : Journal) (r : Option (State × Journal)) (can : Bool) → can_step w.classes s k ≡ can
       → IsLawful s words latest r → IsLawful s (Turn k ∷ words) latest (after_waiting r can)
@@ -467,11 +513,14 @@ module _ (unit : SourceUnit) (w : World) where
       makes s k words latest
       (after_clearing (cleared_turn k refused go marks) (lost w s) latest (clearing_step w s (lost w s)))
       (made unit w s k) refl (λ some. turns_cleared s (lost w s) k refused words go marks latest (clearing_step w s (lost w s)) some refl refl further)
+  any_turn s k words go marks latest (Sliced names) further = tt
 
   run-lawful : (words : Schedule) (s : State) (marks : List Mark) (latest : Journal) → IsLawful s words latest (run words s marks latest)
   run-lawful [] s marks latest = record { journal = []; adds = refl; follows = Over s; fits = tt; fair = tt }
   run-lawful (Collect ∷ words) s marks latest =
       collects s words (λ next j. run words next marks j) latest (lost w s) refl (λ next j. run-lawful words next marks j)
+  run-lawful (Slice ∷ words) s marks latest =
+      slices s words (λ next rest j. run words next rest j) marks latest (first_mark marks) (λ next rest j. run-lawful words next rest j)
   run-lawful (Turn k ∷ words) s marks latest =
       any_turn s k words (λ next rest j. run words next rest j) marks latest (first_mark marks) (λ next rest j. run-lawful words next rest j)
 

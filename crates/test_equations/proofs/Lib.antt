@@ -1,8 +1,9 @@
 -- helpers
 pub mod Programs
 pub mod Computed
--- a law of the definitions
+-- laws of the definitions
 mod Collections
+mod Slices
 -- texts
 mod NativeNames
 mod WorldTexts

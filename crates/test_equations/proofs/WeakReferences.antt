@@ -2,7 +2,7 @@
 use Rattle.std.specs.Prelude.{◌≡◌, ◌∷◌, ◌++◌, false, [], Some, None, Err, codes, refl, replicate}
 use Rattle.syntax.specs.Tree.{Assign, Binary, Declare, Equal, FromCall, IfElse, JIntArray, JObject, Named, Null, Number, Perform, PutJint, ReferenceVariable, Return, SourceUnit, TestExpr, Value, Variable, Void}
 use Rattle.world_schedules.specs.declared.fault.Rule.TheVariants.{Form}
-use Rattle.semantics.specs.declared.schedule.ScheduleWord.TheVariants.{Turn, Collect}
+use Rattle.semantics.specs.declared.schedule.ScheduleWord.TheVariants.{Turn, Collect, Slice}
 use Rattle.world_schedules.specs.ReadingJournals.{journal_of}
 use Rattle.semantics.specs.World.{World}
 use Rattle.world_values.specs.WorldLines.{ClassLine, ThreadLine, Lines}
@@ -10,7 +10,7 @@ use Rattle.world_values.specs.WorldMeaning.{world_of}
 use Rattle.world_values.specs.WorldRules.{IsWorldText}
 use Rattle.test_equations.specs.Claims.{IsAccepted, IsWorkedRun, IsWorkedReplay, IsStoppedReplay}
 use Rattle.test_equations.proofs.Programs.{unit_of, native, block, static_weak, call, given, entries, clearing}
-use Rattle.test_equations.proofs.Computed.{opened, read, accepted, world-text, Alone, AfterClearing, worked-run, worked-replay, stopped-replay}
+use Rattle.test_equations.proofs.Computed.{opened, read, accepted, world-text, Alone, AfterClearing, Sliced, worked-run, worked-replay, stopped-replay}
 
 -- an object that a weak reference alone is left of
 -- static jweak w = NULL;
@@ -145,3 +145,21 @@ a_clearing_before_the_step_that_needs_its_room-run : IsWorkedRun a_clearing_befo
     (codes "T1 0\nT1 ended\njournal 1 1 1 1 1 1 ~46 1 1 1 1 1 1 1 1\n")
 unfolding opened
 a_clearing_before_the_step_that_needs_its_room-run = worked-run a_clearing_before_the_step_that_needs_its_room an_object_that_a_weak_reference_alone_is_left_of-world ((Turn 1, Some 20) ∷ []) (replicate 6 (Alone false) ++ AfterClearing false ∷ []) a_clearing_before_the_step_that_needs_its_room-accepted an_object_that_a_weak_reference_alone_is_left_of-means refl refl refl refl
+
+-- a slice of a marking that ends with it
+a_slice_of_a_marking_that_ends_with_it-run : IsWorkedRun an_object_that_a_weak_reference_alone_is_left_of (codes "heap 512\nclass A\nthread Java_A_f\n") (codes "1*4 s 1*9\n")
+    (codes "T1 0\nT1 ended\njournal 1 1 1 1 ~46 1 1 1 1 1 1 1\n")
+unfolding opened
+a_slice_of_a_marking_that_ends_with_it-run = worked-run an_object_that_a_weak_reference_alone_is_left_of an_object_that_a_weak_reference_alone_is_left_of-world ((Turn 1, Some 4) ∷ (Slice, None) ∷ (Turn 1, Some 9) ∷ []) (replicate 4 (Alone false) ++ Sliced (46 ∷ []) ∷ []) an_object_that_a_weak_reference_alone_is_left_of-accepted an_object_that_a_weak_reference_alone_is_left_of-means refl refl refl refl
+
+-- slices while a local reference holds the object
+slices_while_a_local_reference_holds_the_object-run : IsWorkedRun an_object_that_a_weak_reference_alone_is_left_of (codes "heap 512\nclass A\nthread Java_A_f\n") (codes "s 1*3 s*2 1*9\n")
+    (codes "T1 1\nT1 ended\njournal 1 1 1 1 1 1 1 1 1 1 1\n")
+unfolding opened
+slices_while_a_local_reference_holds_the_object-run = worked-run an_object_that_a_weak_reference_alone_is_left_of an_object_that_a_weak_reference_alone_is_left_of-world ((Slice, None) ∷ (Turn 1, Some 3) ∷ (Slice, Some 2) ∷ (Turn 1, Some 9) ∷ []) [] an_object_that_a_weak_reference_alone_is_left_of-accepted an_object_that_a_weak_reference_alone_is_left_of-means refl refl refl refl
+
+-- a slice after each of the first steps
+a_slice_after_each_of_the_first_steps-run : IsWorkedRun an_object_that_a_weak_reference_alone_is_left_of (codes "heap 512\nclass A\nthread Java_A_f\n") (codes "1 s 1 s 1 s 1 s 1 s 1*9\n")
+    (codes "T1 0\nT1 ended\njournal 1 1 1 1 ~46 1 1 1 1 1 1 1\n")
+unfolding opened
+a_slice_after_each_of_the_first_steps-run = worked-run an_object_that_a_weak_reference_alone_is_left_of an_object_that_a_weak_reference_alone_is_left_of-world ((Turn 1, None) ∷ (Slice, None) ∷ (Turn 1, None) ∷ (Slice, None) ∷ (Turn 1, None) ∷ (Slice, None) ∷ (Turn 1, None) ∷ (Slice, None) ∷ (Turn 1, None) ∷ (Slice, None) ∷ (Turn 1, Some 9) ∷ []) (replicate 1 (Alone false) ++ Sliced [] ∷ [] ++ replicate 1 (Alone false) ++ Sliced [] ∷ [] ++ replicate 1 (Alone false) ++ Sliced [] ∷ [] ++ replicate 1 (Alone false) ++ Sliced (46 ∷ []) ∷ []) an_object_that_a_weak_reference_alone_is_left_of-accepted an_object_that_a_weak_reference_alone_is_left_of-means refl refl refl refl

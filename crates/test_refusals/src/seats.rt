@@ -67,6 +67,7 @@ fn take<J: Naming, R: Wait>(
 ) -> Result<bool, Failure> {
     match word {
         ScheduleWord::Collect => collect(rt, shared),
+        ScheduleWord::Slice => slice(rt, shared),
         ScheduleWord::Turn(k) => {
             for seat in seats {
                 if seat.thread() == k {
@@ -82,6 +83,16 @@ fn take<J: Naming, R: Wait>(
 fn collect<J: Naming, R: Wait>(rt: &R, shared: &Shared<'_, J>) -> Result<bool, Failure> {
     for _ in 0..TRIES {
         if shared.collect(rt).is_ok() {
+            return Ok(true);
+        }
+    }
+    Err(Failure::Memory)
+}
+
+/// Asks for a slice until memory isn't refused.
+fn slice<J: Naming, R: Wait>(rt: &R, shared: &Shared<'_, J>) -> Result<bool, Failure> {
+    for _ in 0..TRIES {
+        if shared.slice(rt).is_ok() {
             return Ok(true);
         }
     }

@@ -9,14 +9,15 @@ use std::alloc::Global;
 /// How often a call is asked that is refused memory.
 pub(crate) const TRIES: u32 = 8;
 
-/// What is seen of a machine: its report with the line of its journal, how many entries that has, what was printed, and how many
-/// cells are left.
+/// What is seen of a machine: its report with the line of its journal, how many entries that has, what was printed, how many
+/// cells are left, and how far a marking is.
 #[derive(Drop)]
 pub(crate) struct Seen {
     report: Vec<u8>,
     entries: usize,
     printed: Vec<Printed>,
     left: usize,
+    marking: Option<(usize, usize)>,
 }
 
 /// The report of a run. A report that was refused memory has written nothing, and is asked for again.
@@ -64,6 +65,7 @@ impl Seen {
             entries: machine.journal().len(),
             printed: copied(alloc, machine.lines())?,
             left: machine.left(),
+            marking: machine.marking(),
         })
     }
 
@@ -73,5 +75,6 @@ impl Seen {
             && self.entries == other.entries
             && are_same_numbers(&self.printed, &other.printed)
             && self.left == other.left
+            && self.marking == other.marking
     }
 }

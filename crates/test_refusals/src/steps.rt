@@ -37,11 +37,15 @@ fn take(alloc: Global, machine: &mut Machine<'_>, word: ScheduleWord) -> Result<
     Err(Failure::Memory)
 }
 
-/// Asks for a step of the word's thread, or for a collection. Whether it can do more where it comes again.
+/// Asks for a step of the word's thread, for a collection or for a slice. Whether it can do more where it comes again.
 fn ask(machine: &mut Machine<'_>, word: ScheduleWord) -> Result<bool, AllocError> {
     match word {
         ScheduleWord::Collect => {
             machine.collect()?;
+            Ok(true)
+        }
+        ScheduleWord::Slice => {
+            machine.slice()?;
             Ok(true)
         }
         ScheduleWord::Turn(k) => {

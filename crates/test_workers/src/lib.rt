@@ -1,5 +1,5 @@
 //! The public calls of `machine`, `shared` and `lower_parallel`, called from another crate: a machine that is driven by hand, by
-//! turns of its seats and by workers, its collections, and lowering by several workers.
+//! turns of its seats and by workers, its collections and slices, and lowering by several workers.
 #![tactic(auto)]
 
 #[cfg(test)]
@@ -8,5 +8,7 @@ mod collections;
 mod contention;
 #[cfg(test)]
 mod lowering;
+#[cfg(test)]
+mod slices;
 #[cfg(test)]
 mod workers;

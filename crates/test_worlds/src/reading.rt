@@ -21,6 +21,46 @@ fn a_schedule(rt: HostRuntime) -> Result<(), Fail> {
 }
 
 #[test]
+fn a_schedule_with_collections_and_slices(rt: HostRuntime) -> Result<(), Fail> {
+    let schedule = read_schedule(rt.alloc(), b"s 1 c*2\ns*3 c s*999992\n", 1)?;
+    let words = [
+        (ScheduleWord::Slice, 1),
+        (ScheduleWord::Turn(1), 1),
+        (ScheduleWord::Collect, 2),
+        (ScheduleWord::Slice, 3),
+        (ScheduleWord::Collect, 1),
+        (ScheduleWord::Slice, 999992),
+    ]
+    .map(|(word, times)| Repetition { word, times });
+    assert!(rt; schedule.repetitions() == words.as_slice());
+    Ok(())
+}
+
+/// Whether a schedule for one thread is refused.
+fn is_no_schedule(rt: HostRuntime, text: &[u8]) -> bool {
+    read_schedule(rt.alloc(), text, 1).is_err()
+}
+
+#[test]
+fn no_collections_and_slices(rt: HostRuntime) -> Result<(), Fail> {
+    let got = [
+        is_no_schedule(rt, b"c*0\n"),
+        is_no_schedule(rt, b"s*0\n"),
+        is_no_schedule(rt, b"s*\n"),
+        is_no_schedule(rt, b"s*03\n"),
+        is_no_schedule(rt, b"s*1000001\n"),
+        is_no_schedule(rt, b"s*1000000 s\n"),
+        is_no_schedule(rt, b"s3\n"),
+        is_no_schedule(rt, b"ss\n"),
+        is_no_schedule(rt, b"S\n"),
+        is_no_schedule(rt, b"s!\n"),
+        is_refused(rt, b"s\n"),
+    ];
+    assert!(rt; got == [true; 11]);
+    Ok(())
+}
+
+#[test]
 fn a_journal(rt: HostRuntime) -> Result<(), Fail> {
     let entries = read_journal(rt.alloc(), b"1 1! 2\n", 2)?;
     let got = [

@@ -1,0 +1,8 @@
+use Rattle.test_equations.proofs.Slices.{with_slices, without}
+use Rattle.test_equations.proofs.slices_allow_clearings.Goals as goal
+
+pub returns-clause-nothing : goal.returns-clause-nothing
+returns-clause-nothing c = λ unit w s end journal words h. with_slices unit w words h
+
+pub returns-clause-clearings : goal.returns-clause-clearings
+returns-clause-clearings c = λ unit w s end journal words n h. without unit w h n
