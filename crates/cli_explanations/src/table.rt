@@ -263,7 +263,7 @@ static FAULTS_80: [Explanation; 4] = [
     Explanation {
         number: 83,
         title: b"out of range",
-        text: b"fault 83: out of range\n\nA heap has 512 to 1,048,576 cells, a jint, an element or a field the range of its type, a world at most 65,536 objects\nand 1 to 8 threads, each of which makes at most 256 calls, a schedule at most 1,000,000 turns and collections in all (one\n*N of more is 81), a journal at most 1,000,000 steps and as many clearings. Take a smaller or a larger number, or fewer\nof them.\n\n    JNIEXPORT jint JNICALL Java_A_f(JNIEnv *env, jclass cls)\n    {\n        return 0;\n    }\n\n    heap 511\n    class A\n    thread Java_A_f\n\nfault 83 line 1\n",
+        text: b"fault 83: out of range\n\nA heap has 512 to 1,048,576 cells, a jint, an element or a field the range of its type, a world at most 65,536 objects\nand 1 to 8 threads, each of which makes at most 256 calls, a schedule at most 1,000,000 turns, collections and slices in\nall (one *N of more is 81), a journal at most 1,000,000 steps and as many clearings. Take a smaller or a larger number,\nor fewer of them.\n\n    JNIEXPORT jint JNICALL Java_A_f(JNIEnv *env, jclass cls)\n    {\n        return 0;\n    }\n\n    heap 511\n    class A\n    thread Java_A_f\n\nfault 83 line 1\n",
     },
     Explanation {
         number: 84,
