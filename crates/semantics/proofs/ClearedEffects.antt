@@ -5,7 +5,7 @@ use Rattle.std.specs.Option.{option_map}
 use Rattle.std.specs.Str.{bytes_eq}
 use Rattle.std.proofs.Common.{ap, ◌∙◌}
 use Rattle.base.specs.Bytes.{Identifier, lookup}
-use Rattle.semantics.specs.Effect.{Effect, Sets, SetsElement, effect_of, reduce_first, with_value, element_effect, goes_on, at_line, is_given, is_no_number, is_ready, print_effect, branch_effect, loop_effect, return_effect, reduce_name}
+use Rattle.semantics.specs.Effect.{Effect, Sets, SetsElement, effect_of, reduce_first, with_value, element_effect, goes_on, at_line, is_given, is_no_number, is_ready, print_effect, branch_effect, loop_effect, return_effect}
 use Rattle.semantics.specs.Heap.{Heap}
 use Rattle.semantics.specs.Sight.{Sight, seen, holds_null, held_reference, static_is_null}
 use Rattle.semantics.specs.Task.{Task, SetScalar, SetElement, SetNull, MakeArray, Invoke, Print, Branch, EndIf, Loop, EndTurn, Return, ReturnValue, Impossible, Operand, NumberOperand, Given, PassedName}

@@ -12,8 +12,8 @@ use Rattle.jni.specs.JniFunction as jni
 use Rattle.jni.specs.JniFunction.{JniFunction, parameters_for}
 use Rattle.syntax.specs.Tree.{SourceUnit}
 use Rattle.semantics.specs.Activation.{enter, entry_advance}
-use Rattle.semantics.specs.Arguments.{Actual, actuals, ReleaseMode, CopyBackAndFree, CopyBack, FreeUncopied, number_given, reference_given, object_given, text_given, variable_given, mode_given, method_given}
-use Rattle.semantics.specs.CallEffects.{CallEffect, CallResult, Throws, Halts, Leaves, at_index, at_region, ensure_effect, push_effect, frames_effect, delete_local_effect, delete_global_effect, delete_weak_effect, found_class_effect, found_field_effect, found_method_effect, new_array_effect, get_region_effect, set_region_effect, store_effect, release_effect, enter_effect, exit_effect, local_array, with_capacity, Enters, method_effect}
+use Rattle.semantics.specs.Arguments.{Actual, actuals, ReleaseMode, CopyBackAndFree, CopyBack, FreeUncopied, number_given, reference_given, object_given, text_given, variable_given, mode_given}
+use Rattle.semantics.specs.CallEffects.{CallEffect, CallResult, Throws, Halts, Leaves, at_index, at_region, ensure_effect, push_effect, frames_effect, delete_local_effect, delete_global_effect, delete_weak_effect, found_class_effect, found_field_effect, found_method_effect, new_array_effect, get_region_effect, set_region_effect, store_effect, release_effect, enter_effect, exit_effect, local_array, with_capacity, Enters}
 use Rattle.semantics.specs.CallStep.{put, put_assigned, checked, after_call, trap_of_call, waits_with}
 use Rattle.semantics.specs.CallTable.{call_effect}
 use Rattle.semantics.specs.Effect.{Effect, Becomes, Sets, SetsNull, SetsElement, MakesArray, Prints, Calls, Returns, TrapsAt, NoEffect, effect_of, goes_on, is_ready, reduce_first, returned_name}

@@ -1,4 +1,6 @@
 pub mod AccountLaws
+pub mod Answers
+pub mod CallTraps
 pub mod HeapGrows
 pub mod NoObjects
 pub mod NullTerms

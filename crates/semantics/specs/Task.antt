@@ -4,7 +4,7 @@ use Rattle.syntax.specs.Tree as tree
 use Rattle.base.specs.Bytes.{Identifier}
 use Rattle.base.specs.Element.{ElementType, JChar}
 use Rattle.syntax.specs.Tree.{Null, Expr, Argument, RightSide, FromExpr, FromCall, Call, Test, TestExpr, TestCall, VariableType, JFieldId, JMethodId, Stmt, Block, End, Next}
-use Rattle.jni.specs.JniFunction.{JniFunction, prototype, function_named, parameters_for}
+use Rattle.jni.specs.JniFunction.{JniFunction, function_named, parameters_for}
 use Rattle.jni.specs.Prototype.{ParameterKind, IntNumber, Passed}
 use Rattle.semantics.specs.Term.{Term, term_of}
 
