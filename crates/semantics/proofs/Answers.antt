@@ -138,6 +138,7 @@ module _ (unit : SourceUnit) (classes : Classes) (in_use : BuffersInUse) (k : �
       fitting : (b : Bool) → (if b then of (a (record { object = n; start = start; count = m })) else effects.Halts OutOfRange) ≡ of (if b then a (record { object = n; start = start; count = m }) else Halts OutOfRange)
       fitting true = refl
       fitting false = refl
+
       by_test : (b : Bool) → (if b then go start m else Throws exception) ≡ of (region_with a exception elements (if b then Some (record { object = n; start = start; count = m }) else None))
       by_test true = there start m ∙ fitting (nat_le m elements)
       by_test false = refl
@@ -186,6 +187,7 @@ module _ (unit : SourceUnit) (classes : Classes) (in_use : BuffersInUse) (k : �
           ≡ of (if b then Disowns n else Owns n (m.count - 1))
       by_last true = refl
       by_last false = refl
+
       by_owner : (b : Bool)
           → (if b then monitors_effect s t (if m.count == 1 then without_monitor s.monitors n else monitor n k (m.count - 1) ∷ without_monitor s.monitors n) else Throws illegal_monitor_state)
           ≡ of (if b then (if m.count == 1 then Disowns n else Owns n (m.count - 1)) else Raises illegal_monitor_state)

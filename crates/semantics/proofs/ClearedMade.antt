@@ -1,25 +1,27 @@
 -- Where a thread's next step makes objects, it makes the same after a clearing of weak references, and the thread waits and can step as before.
-use Rattle.std.specs.Prelude.{◌≡◌, ◌≢◌, ℕ, zero, suc, ◌+◌, nat_lt, nat_le, ◌==◌, ℤ, pos, negsuc, Bool, true, false, not, ◌&&◌, is_none, cond, List, [], ◌∷◌, ◌++◌, length, drop, Option, Some, None, refl}
+use Rattle.std.specs.Prelude.{◌≡◌, ◌≢◌, ℕ, zero, suc, nat_le, ℤ, Bool, true, false, not, ◌&&◌, is_none, cond, List, [], ◌∷◌, ◌++◌, length, drop, Option, Some, None, refl}
 use Rattle.std.proofs.Common.{ap, ◌∙◌, sym, inl, inr}
 use Rattle.std.proofs.lemmas.Bool.{false≢true}
 use Rattle.std.proofs.lemmas.List.{append-nil}
 use Rattle.base.specs.Bytes.{Identifier, lookup}
-use Rattle.base.specs.Limits.{most_references, most_monitor_entries}
-use Rattle.class_rules.specs.Class.{Classes, class_named}
-use Rattle.class_rules.specs.Fields.{FieldId, find_field, find_static}
-use Rattle.jni.specs.Access.{ElementsCopy}
+use Rattle.base.specs.Element.{JInt}
+use Rattle.base.specs.Limits.{most_references}
+use Rattle.class_rules.specs.Class.{Classes}
 use Rattle.jni.specs.JniFunction as jni
 use Rattle.jni.specs.JniFunction.{JniFunction, parameters_for}
 use Rattle.syntax.specs.Tree.{SourceUnit}
 use Rattle.semantics.specs.Activation.{enter, entry_advance}
-use Rattle.semantics.specs.Arguments.{Actual, actuals, ReleaseMode, CopyBackAndFree, CopyBack, FreeUncopied, number_given, reference_given, object_given, text_given, variable_given, mode_given}
-use Rattle.semantics.specs.CallEffects.{CallEffect, CallResult, Throws, Halts, Leaves, at_index, at_region, ensure_effect, push_effect, frames_effect, delete_local_effect, delete_global_effect, delete_weak_effect, found_class_effect, found_field_effect, found_method_effect, new_array_effect, get_region_effect, set_region_effect, store_effect, release_effect, enter_effect, exit_effect, local_array, with_capacity, Enters}
+use Rattle.semantics.specs.Answer.{Answer, DeletesGlobal, DeletesWeak, Ensures, MakesGlobal, Pushes}
+use Rattle.semantics.specs.Answer as answer
+use Rattle.semantics.specs.AnswerTable.{call_answer}
+use Rattle.semantics.specs.Arguments.{Actual, actuals}
+use Rattle.semantics.specs.CallEffects.{CallEffect, CallResult, Throws, Halts, Leaves, frames_effect, with_capacity, Enters}
+use Rattle.semantics.specs.CallSight.{sight_of_call}
 use Rattle.semantics.specs.CallStep.{put, put_assigned, checked, after_call, trap_of_call, waits_with}
 use Rattle.semantics.specs.CallTable.{call_effect}
 use Rattle.semantics.specs.Effect.{Effect, Becomes, Sets, SetsNull, SetsElement, MakesArray, Prints, Calls, Returns, TrapsAt, NoEffect, effect_of, goes_on, is_ready, reduce_first, returned_name}
 use Rattle.semantics.specs.Heap.{Heap}
-use Rattle.semantics.specs.Method.{MethodId, find_method}
-use Rattle.semantics.specs.Object.{Object, ObjectValue, Reference}
+use Rattle.semantics.specs.Object.{Object}
 use Rattle.semantics.specs.Return.{return_by}
 use Rattle.semantics.specs.Run.{made, made_between}
 use Rattle.semantics.specs.Sight.{Sight}
@@ -27,13 +29,15 @@ use Rattle.semantics.specs.State.{State, thread_at, in_use, advanced}
 use Rattle.semantics.specs.Step.{turn_step, step_of, can_step, is_blocked, is_live, is_waiting}
 use Rattle.semantics.specs.Task.{Task, Invoke, ReturnValue, Target, Declared, Assigned, Tested, Dropped, Operand}
 use Rattle.semantics.specs.Term.{Term, Read}
-use Rattle.semantics.specs.Thread.{Thread, Caller, Shared, BuffersInUse, Frame, Monitor, Quiet, Trapped, PrintedNumber, Advance, Advances, NoAdvance, capacities, monitor_of, sight_of}
+use Rattle.semantics.specs.Thread.{Thread, Caller, Shared, BuffersInUse, Frame, Quiet, Trapped, PrintedNumber, Advance, Advances, NoAdvance, capacities, sight_of}
 use Rattle.semantics.specs.ThreadStep.{next_effect, after_effect, set_element, step_within}
 use Rattle.semantics.specs.Value.{Value, Trap, Outcome, Gives, Traps, Stuck}
-use Rattle.semantics.specs.Variable.{Variable, Scalar, LocalRef, FieldHandle, MethodHandle, Elements, LocalArray, NoBuffer, Copy, View, StaticReference, Empty, Live, Weakly, Cleared, Deleted, Statics}
+use Rattle.semantics.specs.Variable.{Variable, Scalar, LocalRef, FieldHandle, MethodHandle, Elements, LocalArray, NoBuffer, Copy, View, StaticReference, Statics}
 use Rattle.semantics.specs.WeakReferences.{cleared_statics, with_cleared}
 use Rattle.semantics.specs.World.{World, fresh_object}
 use Rattle.semantics.specs.WeakArguments.{takes_weak, WeakAreTaken}
+use Rattle.semantics.proofs.Answers.{effect_is}
+use Rattle.semantics.proofs.AnswerKinds.{LeavesHeap, by_statics}
 use Rattle.semantics.proofs.ClearedEffects.{HasSameArguments, effect_stays}
 use Rattle.semantics.proofs.ClearedSteps.{all_looked, makes_same}
 
@@ -76,119 +80,40 @@ module _ (classes : Classes) (s : Shared) (statics : Statics) where
   either_left true e e' f f' h g = h
   either_left false e e' f f' h g = g
 
-  index_left : (c n : ℕ) (z : ℤ) (go go' : ℕ → CallEffect) → ((i : ℕ) → left (go' i) ≡ left (go i))
-      → left (at_index c n z go') ≡ left (at_index c n z go)
-  index_left c n (pos i) go go' h = either_left (nat_lt i n) (go i) (go' i) (Throws c) (Throws c) (h i) refl
-  index_left c n (negsuc i) go go' h = refl
-
-  region_left : (c n : ℕ) (y z : ℤ) (go go' : ℕ → ℕ → CallEffect) → ((i j : ℕ) → left (go' i j) ≡ left (go i j))
-      → left (at_region c n y z go') ≡ left (at_region c n y z go)
-  region_left c n (pos i) (pos j) go go' h = either_left (nat_le (i + j) n) (go i j) (go' i j) (Throws c) (Throws c) (h i j) refl
-  region_left c n (pos i) (negsuc j) go go' h = refl
-  region_left c n (negsuc i) z go go' h = refl
-
-  module _ (t : Thread) where
+  module _ (unit : SourceUnit) (in_use : BuffersInUse) (k : ℕ) (t : Thread) where
     frames_left : (frames : List Frame) → left (frames_effect classes other t frames) ≡ left (frames_effect classes s t frames)
     frames_left frames = either_left (nat_le (capacities frames) most_references) _ _ _ _ refl refl
 
-    ensure_left : (z : ℤ) → left (ensure_effect classes other t z) ≡ left (ensure_effect classes s t z)
-    ensure_left (pos n) = frames_left (with_capacity n t.frames)
-    ensure_left (negsuc n) = refl
+    -- an answer has the same effect on the heap with other statics
+    answer_left : (args : List Actual) (a : Answer) → left (answer.effect_of classes in_use k other t args a) ≡ left (answer.effect_of classes in_use k s t args a)
+    unfolding answer.effect_of
+    answer_left args (Ensures n) = frames_left (with_capacity n t.frames)
+    answer_left args (Pushes n) = frames_left (record { capacity = n; references = [] } ∷ t.frames)
+    answer_left args a = refl
 
-    push_left : (z : ℤ) → left (push_effect classes other t z) ≡ left (push_effect classes s t z)
-    push_left (pos n) = frames_left (record { capacity = n; references = [] } ∷ t.frames)
-    push_left (negsuc n) = refl
+    -- and none, where it leaves the heap as it was
+    none_left : (args : List Actual) (a : Answer) → LeavesHeap a → left (answer.effect_of classes in_use k s t args a) ≡ s.heap
+    unfolding answer.effect_of
+    none_left args (answer.Gives given) h = append-nil s.heap
+    none_left args (MakesGlobal r) h = append-nil s.heap
+    none_left args (DeletesGlobal i n) h = append-nil s.heap
+    none_left args (DeletesWeak i) h = append-nil s.heap
+    none_left args (answer.Halts trap) h = refl
+    none_left args a h = absurd h
 
-    delete_local_left : (v : Option Variable) (r : Reference) → left (delete_local_effect other t v r) ≡ left (delete_local_effect s t v r)
-    delete_local_left v None = refl
-    delete_local_left v (Some n) = refl
-
-    -- what a static holds that is deleted makes no difference to the heap
-    delete_global_heap : (given : Shared) (x : Identifier) (r : Option StaticReference) → left (delete_global_effect given t x r) ≡ given.heap
-    delete_global_heap given x None = append-nil given.heap
-    delete_global_heap given x (Some Empty) = append-nil given.heap
-    delete_global_heap given x (Some (Live n)) = append-nil given.heap
-    delete_global_heap given x (Some (Weakly n)) = append-nil given.heap
-    delete_global_heap given x (Some Cleared) = append-nil given.heap
-    delete_global_heap given x (Some Deleted) = append-nil given.heap
-
-    delete_weak_heap : (given : Shared) (x : Identifier) (r : Option StaticReference) → left (delete_weak_effect given t x r) ≡ given.heap
-    delete_weak_heap given x None = append-nil given.heap
-    delete_weak_heap given x (Some Empty) = append-nil given.heap
-    delete_weak_heap given x (Some (Live n)) = append-nil given.heap
-    delete_weak_heap given x (Some (Weakly n)) = append-nil given.heap
-    delete_weak_heap given x (Some Cleared) = append-nil given.heap
-    delete_weak_heap given x (Some Deleted) = append-nil given.heap
-
-    found_class_left : (c : ℕ) (o : Option ℕ) → left (found_class_effect other t c o) ≡ left (found_class_effect s t c o)
-    found_class_left c None = refl
-    found_class_left c (Some n) = refl
-
-    found_field_left : (c : ℕ) (o : Option FieldId) → left (found_field_effect other t c o) ≡ left (found_field_effect s t c o)
-    found_field_left c None = refl
-    found_field_left c (Some n) = refl
-
-    found_method_left : (c : ℕ) (o : Option MethodId) → left (found_method_effect other t c o) ≡ left (found_method_effect s t c o)
-    found_method_left c None = refl
-    found_method_left c (Some m) = refl
-
-    new_array_left : (c : ℕ) (z : ℤ) (v : ObjectValue) → left (new_array_effect other t c z v) ≡ left (new_array_effect s t c z v)
-    new_array_left c (pos n) v = refl
-    new_array_left c (negsuc n) v = refl
-
-    get_region_left : (o : ℕ) (x : Identifier) (i n : ℕ) → left (get_region_effect other t o x i n) ≡ left (get_region_effect s t o x i n)
-    get_region_left o x i n = either_left (nat_le n (length (local_array (lookup x t.variables)))) _ _ _ _ refl refl
-
-    set_region_left : (o : ℕ) (x : Identifier) (i n : ℕ) → left (set_region_effect other t o x i n) ≡ left (set_region_effect s t o x i n)
-    set_region_left o x i n = either_left (nat_le n (length (local_array (lookup x t.variables)))) _ _ _ _ refl refl
-
-    store_left : (b : Bool) (o : ℕ) (r : Reference) (i : ℕ) → left (store_effect other t b o r i) ≡ left (store_effect s t b o r i)
-    store_left true o r i = refl
-    store_left false o r i = refl
-
-    release_left : (o : ℕ) (p : Identifier) (m : ReleaseMode) → left (release_effect other t o p m) ≡ left (release_effect s t o p m)
-    release_left o p CopyBackAndFree = refl
-    release_left o p CopyBack = refl
-    release_left o p FreeUncopied = refl
-
-    enter_left : (k o : ℕ) (m : Option Monitor) → left (enter_effect k other t o m) ≡ left (enter_effect k s t o m)
-    enter_left k o None = refl
-    enter_left k o (Some m) = either_left (nat_lt m.count most_monitor_entries) _ _ _ _ refl refl
-
-    exit_left : (k o : ℕ) (m : Option Monitor) → left (exit_effect k other t o m) ≡ left (exit_effect k s t o m)
-    exit_left k o None = refl
-    exit_left k o (Some m) = either_left (m.owner == k) _ _ _ _ refl refl
-
-  module _ (unit : SourceUnit) (in_use : BuffersInUse) (k : ℕ) (t : Thread) where
     -- a function makes the same with other statics, and leaves the same heap
     effect_left : (args : List Actual) (f : JniFunction)
         → left (call_effect unit classes in_use k other t args f) ≡ left (call_effect unit classes in_use k s t args f)
-    unfolding call_effect
-    effect_left args jni.FindClass = found_class_left t _ (class_named classes (text_given args 0))
-    effect_left args jni.DeleteLocalRef = delete_local_left t (lookup (variable_given args 0) t.variables) (reference_given args 0)
-    effect_left args jni.DeleteGlobalRef =
-        delete_global_heap t other (variable_given args 0) (lookup (variable_given args 0) statics)
-        ∙ sym (delete_global_heap t s (variable_given args 0) (lookup (variable_given args 0) s.statics))
-    effect_left args jni.DeleteWeakGlobalRef =
-        delete_weak_heap t other (variable_given args 0) (lookup (variable_given args 0) statics)
-        ∙ sym (delete_weak_heap t s (variable_given args 0) (lookup (variable_given args 0) s.statics))
-    effect_left args jni.EnsureLocalCapacity = ensure_left t (number_given args 0)
-    effect_left args jni.PushLocalFrame = push_left t (number_given args 0)
-    effect_left args jni.GetFieldID = found_field_left t _ (find_field classes (object_given args 0) (text_given args 1) (text_given args 2))
-    effect_left args jni.GetStaticFieldID = found_field_left t _ (find_static classes (object_given args 0) (text_given args 1) (text_given args 2))
-    effect_left args jni.GetStaticMethodID = found_method_left t _ (find_method unit classes (object_given args 0) (text_given args 1) (text_given args 2))
-    effect_left args jni.NewObjectArray = new_array_left t _ (number_given args 0) _
-    effect_left args jni.GetObjectArrayElement = index_left _ _ (number_given args 1) _ _ (λ i. refl)
-    effect_left args jni.SetObjectArrayElement = index_left _ _ (number_given args 1) _ _ (λ i. store_left t _ _ _ i)
-    effect_left args jni.GetStringRegion = region_left _ _ (number_given args 1) (number_given args 2) _ _ (λ i n. get_region_left t _ _ i n)
-    effect_left args jni.MonitorEnter = enter_left t k _ (monitor_of s.monitors (object_given args 0))
-    effect_left args jni.MonitorExit = exit_left t k _ (monitor_of s.monitors (object_given args 0))
-    effect_left args (jni.NewArray T) = new_array_left t _ (number_given args 0) _
-    effect_left args (jni.GetArrayRegion T) = region_left _ _ (number_given args 1) (number_given args 2) _ _ (λ i n. get_region_left t _ _ i n)
-    effect_left args (jni.SetArrayRegion T) = region_left _ _ (number_given args 1) (number_given args 2) _ _ (λ i n. set_region_left t _ _ i n)
-    effect_left args (jni.ReleaseBuffer (ElementsCopy T)) = release_left t _ _ (mode_given args 2)
-    effect_left args (jni.GetBuffer (ElementsCopy T)) = refl
-    effect_left args f = refl
+    effect_left args f =
+        let now : Answer = call_answer unit classes k (sight_of_call s t JInt f args) f in
+        let then' : Answer = call_answer unit classes k (sight_of_call other t JInt f args) f in
+        let same : left (answer.effect_of classes in_use k s t args then') ≡ left (answer.effect_of classes in_use k s t args now) =
+        elim (by_statics unit classes k s statics t JInt args f) [
+          | inl is ↦ ap (λ (a : Answer). left (answer.effect_of classes in_use k s t args a)) is
+          | inr none ↦ none_left args then' none.0 ∙ sym (none_left args now none.1)
+        ] in
+        ap left (effect_is unit classes in_use k other t args JInt f) ∙ answer_left args then' ∙ same
+        ∙ sym (ap left (effect_is unit classes in_use k s t args JInt f))
 
     checked_left : (o : Option Trap) (e e' : CallEffect) → left e' ≡ left e → left (checked o e') ≡ left (checked o e)
     checked_left None e e' h = h

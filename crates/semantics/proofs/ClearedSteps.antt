@@ -2,18 +2,21 @@
 -- a clearing.
 use Rattle.std.specs.Prelude.{◌≡◌, ◌≢◌, ℕ, Bool, true, false, cond, List, [], ◌∷◌, ◌++◌, map, zip, length, drop, Option, Some, None, refl}
 use Rattle.std.specs.List.{AllByRecursion}
-use Rattle.std.proofs.Common.{ap, ◌∙◌, inl, inr}
-use Rattle.std.proofs.lemmas.Bool.{false≢true}
+use Rattle.std.proofs.Common.{ap, ◌∙◌, inl, inr, subst, sym}
 use Rattle.std.proofs.lemmas.List.{append-nil}
 use Rattle.base.specs.Bytes.{Identifier, lookup}
+use Rattle.base.specs.Element.{JInt}
 use Rattle.class_rules.specs.Class.{Classes}
-use Rattle.jni.specs.JniFunction as jni
 use Rattle.jni.specs.JniFunction.{JniFunction, parameters_for}
 use Rattle.jni.specs.Prototype.{ParameterKind, FieldID, MethodID, ArrayVariable, BufferVariable, Mode, IsCopy}
 use Rattle.syntax.specs.Tree as tree
 use Rattle.syntax.specs.Tree.{SourceUnit, AddressOf}
-use Rattle.semantics.specs.Arguments.{Actual, ReferenceActual, look_up, actuals, variable_given}
-use Rattle.semantics.specs.CallEffects.{CallEffect, CallResult, ReferenceResult, Throws, Halts, Leaves, delete_weak_effect, Enters}
+use Rattle.semantics.specs.Answer.{Answer, DeletesGlobal, DeletesWeak, MakesGlobal}
+use Rattle.semantics.specs.Answer as answer
+use Rattle.semantics.specs.AnswerTable.{call_answer}
+use Rattle.semantics.specs.Arguments.{Actual, ReferenceActual, look_up, actuals}
+use Rattle.semantics.specs.CallEffects.{CallEffect, CallResult, ReferenceResult, Throws, Halts, Leaves, Enters}
+use Rattle.semantics.specs.CallSight.{sight_of_call}
 use Rattle.semantics.specs.CallStep.{put, put_assigned, received, checked, after_call, trap_of_call}
 use Rattle.semantics.specs.CallTable.{call_effect}
 use Rattle.semantics.specs.Effect.{Effect, Calls, effect_of, goes_on, is_ready, reduce_first, returned_name}
@@ -29,10 +32,12 @@ use Rattle.semantics.specs.Term.{Term, Done, Read}
 use Rattle.semantics.specs.Thread.{Caller, Thread, Shared, BuffersInUse, Quiet, Trapped, PrintedNumber, Advance, Advances, NoAdvance, sight_of}
 use Rattle.semantics.specs.ThreadStep.{next_effect, after_effect, step_within}
 use Rattle.semantics.specs.Value.{Value, Int, Trap, Outcome, Gives, Traps, Stuck}
-use Rattle.semantics.specs.Variable.{Variable, Variables, StaticReference, Empty, Live, Weakly, Cleared, Deleted, Statics, as_reference}
+use Rattle.semantics.specs.Variable.{Variable, Variables, StaticReference, Statics, as_reference}
 use Rattle.semantics.specs.WeakArguments.{takes_weak, NamesNoWeak, WeakAreTaken}
 use Rattle.semantics.specs.WeakReferences.{cleared_statics, with_cleared}
 use Rattle.semantics.specs.World.{World}
+use Rattle.semantics.proofs.Answers.{effect_is}
+use Rattle.semantics.proofs.AnswerKinds.{LeavesHeap, weak_leaves}
 use Rattle.semantics.proofs.ClearedEffects.{HasSameArguments, ReturnsSame, reference_stays, effect_stays}
 
 -- ---- arguments
@@ -74,14 +79,6 @@ MakesNone heap (Halts trap) = Unit {0}
 MakesNone heap (Enters function arguments) = Unit {0}
 MakesNone heap (Throws c) = ⊥
 
-weak_none : (s : Shared) (t : Thread) (x : Identifier) (r : Option StaticReference) → MakesNone s.heap (delete_weak_effect s t x r)
-weak_none s t x None = (refl, refl)
-weak_none s t x (Some Empty) = (refl, refl)
-weak_none s t x (Some (Live n)) = (refl, refl)
-weak_none s t x (Some (Weakly n)) = (refl, refl)
-weak_none s t x (Some Cleared) = (refl, refl)
-weak_none s t x (Some Deleted) = (refl, refl)
-
 assigned_none : (x : Identifier) (given : CallResult) (s : Shared) (t : Thread) (heap : Heap) (v : Option Variable) → s.heap ≡ heap → KeepsHeap heap (put_assigned x given s t v)
 assigned_none x given s t heap None h = h
 assigned_none x given s t heap (Some v) h = h
@@ -93,13 +90,19 @@ put_none (Tested p q) given s t heap h = h
 put_none Dropped given s t heap h = h
 
 module _ (unit : SourceUnit) (classes : Classes) (in_use : BuffersInUse) (k : ℕ) (s : Shared) (t : Thread) where
+  answer_none : (args : List Actual) (a : Answer) → LeavesHeap a → MakesNone s.heap (answer.effect_of classes in_use k s t args a)
+  unfolding answer.effect_of
+  answer_none args (answer.Gives given) h = (refl, refl)
+  answer_none args (MakesGlobal r) h = (refl, refl)
+  answer_none args (DeletesGlobal i n) h = (refl, refl)
+  answer_none args (DeletesWeak i) h = (refl, refl)
+  answer_none args (answer.Halts trap) h = tt
+  answer_none args a h = absurd h
+
   call_none : (f : JniFunction) (args : List Actual) → takes_weak f ≡ true → MakesNone s.heap (call_effect unit classes in_use k s t args f)
-  unfolding call_effect
-  call_none jni.NewLocalRef args h = (refl, refl)
-  call_none jni.NewGlobalRef args h = (refl, refl)
-  call_none jni.IsSameObject args h = (refl, refl)
-  call_none jni.DeleteWeakGlobalRef args h = weak_none s t (variable_given args 0) (lookup (variable_given args 0) s.statics)
-  call_none f args h = absurd (false≢true h)
+  call_none f args h =
+      subst (MakesNone s.heap) (sym (effect_is unit classes in_use k s t args JInt f))
+      (answer_none args (call_answer unit classes k (sight_of_call s t JInt f args) f) (weak_leaves unit classes k (sight_of_call s t JInt f args) f h))
 
   checked_none : (o : Option Trap) (e : CallEffect) → MakesNone s.heap e → MakesNone s.heap (checked o e)
   checked_none None e h = h

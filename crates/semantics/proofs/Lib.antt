@@ -1,5 +1,6 @@
 pub mod AccountLaws
 pub mod Answers
+pub mod AnswerKinds
 pub mod CallTraps
 pub mod HeapGrows
 pub mod NoObjects
