@@ -1,29 +1,33 @@
 -- A step within a call but a return leaves the calls to come as they were, and the callers.
-use Rattle.std.proofs.Common.{◌≡◌, ℕ, ◌+◌, Bool, true, false, List, [], ◌∷◌, ◌++◌, length, Option, Some, None, refl, ◌∙◌}
-use Rattle.std.specs.Prelude.{ℤ, pos, negsuc, nat_lt, nat_le, ◌==◌}
+use Rattle.std.proofs.Common.{◌≡◌, ℕ, Bool, true, false, List, [], ◌∷◌, ◌++◌, Option, Some, None, refl, sym, subst, ◌∙◌}
+use Rattle.std.specs.Prelude.{ℤ, nat_le}
 use Rattle.std.proofs.lemmas.Bool.{cond_both}
 use Rattle.base.specs.Bytes.{Identifier, lookup}
-use Rattle.class_rules.specs.Class.{Classes, class_named}
-use Rattle.class_rules.specs.Fields.{FieldId, find_field, find_static}
+use Rattle.base.specs.Element.{JInt}
+use Rattle.base.specs.Limits.{most_references}
+use Rattle.class_rules.specs.Class.{Classes}
 use Rattle.syntax.specs.Tree.{SourceUnit}
-use Rattle.jni.specs.Access.{ElementsCopy, ArrayView, CharsCopy, CharsView}
-use Rattle.jni.specs.JniFunction as jni
 use Rattle.jni.specs.JniFunction.{JniFunction, calls_method, prototype}
 use Rattle.jni.specs.Prototype.{ResultKind, NewLocal}
-use Rattle.semantics.specs.Arguments.{Actual, ReleaseMode, CopyBackAndFree, CopyBack, FreeUncopied, number_given, object_given, reference_given, text_given, variable_given, mode_given}
-use Rattle.semantics.specs.CallEffects.{CallResult, NoResult, NullResult, ScalarResult, ReferenceResult, FieldResult, MethodResult, BufferResult, CallEffect, Throws, Halts, Leaves, Enters, out_of_memory, with_capacity, ensure_effect, push_effect, delete_local_effect, delete_global_effect, delete_weak_effect, found_class_effect, found_field_effect, found_method_effect, new_array_effect, at_index, at_region, local_array, get_region_effect, set_region_effect, store_effect, release_effect, enter_effect, exit_effect}
+use Rattle.semantics.specs.Answer.{Answer, Ensures, Pushes, Raises}
+use Rattle.semantics.specs.Answer as answer
+use Rattle.semantics.specs.AnswerTable.{call_answer}
+use Rattle.semantics.specs.Arguments.{Actual}
+use Rattle.semantics.specs.CallEffects.{CallResult, NoResult, NullResult, ScalarResult, ReferenceResult, FieldResult, MethodResult, BufferResult, CallEffect, Throws, Halts, Leaves, Enters, out_of_memory, with_capacity, frames_effect}
+use Rattle.semantics.specs.CallSight.{sight_of_call}
 use Rattle.semantics.specs.CallStep.{put, put_assigned, received, failure, resumed, trap_of_call, checked, completed, after_call, after_refusal, call_step}
 use Rattle.semantics.specs.CallTable.{call_effect}
-use Rattle.semantics.specs.Method.{MethodId, find_method}
 use Rattle.semantics.specs.Effect.{Effect, Becomes, Sets, SetsNull, SetsElement, MakesArray, Prints, Calls, Returns, TrapsAt, NoEffect, effect_of}
 use Rattle.semantics.specs.Heap.{next_name}
-use Rattle.semantics.specs.Object.{Object, ObjectValue, Reference}
+use Rattle.semantics.specs.Object.{Object}
 use Rattle.semantics.specs.Task.{Task, Target, Declared, Assigned, Tested, Dropped}
-use Rattle.semantics.specs.Thread.{Thread, Caller, Shared, BuffersInUse, Monitor, Advance, Advances, NoAdvance, capacities, monitor_of, sight_of}
+use Rattle.semantics.specs.Thread.{Thread, Caller, Shared, BuffersInUse, Frame, Advance, Advances, NoAdvance, capacities, sight_of}
 use Rattle.semantics.specs.ThreadStep.{set_element, with_tasks, after_effect, after_refused_effect, step_within}
 use Rattle.semantics.specs.Value.{Trap}
-use Rattle.semantics.specs.Variable.{Variable, Scalar, LocalRef, FieldHandle, MethodHandle, Elements, LocalArray, NoBuffer, Copy, View, StaticReference, Empty, Live, Weakly, Cleared, Deleted}
+use Rattle.semantics.specs.Variable.{Variable, Scalar, LocalRef, FieldHandle, MethodHandle, Elements, LocalArray, NoBuffer, Copy, View}
 use Rattle.semantics.specs.World.{Invocation, fresh_object}
+use Rattle.semantics.proofs.Answers.{effect_is}
+use Rattle.semantics.proofs.AnswerKinds.{CallsNone, calls_none}
 use Rattle.semantics_safety.proofs.CallLaws.{IsWithin}
 
 -- calls to come, and callers
@@ -76,115 +80,23 @@ checked_keeps calls (Some trap) e h = tt
 -- ---- what calls do
 
 module _ (unit : SourceUnit) (classes : Classes) (in_use : BuffersInUse) (k : ℕ) (s : Shared) (t : Thread) where
-  field_keeps : (c : ℕ) (o : Option FieldId) → EffectKeeps (held t) (found_field_effect s t c o)
-  field_keeps c None = tt
-  field_keeps c (Some f) = refl
+  frames_keep : (frames : List Frame) → EffectKeeps (held t) (frames_effect classes s t frames)
+  frames_keep frames = cond_both (nat_le (capacities frames) most_references) _ _ (EffectKeeps (held t)) (λ e. refl) (λ e. refl)
 
-  method_keeps : (c : ℕ) (o : Option MethodId) → EffectKeeps (held t) (found_method_effect s t c o)
-  method_keeps c None = tt
-  method_keeps c (Some f) = refl
-
-  class_keeps : (c : ℕ) (o : Option ℕ) → EffectKeeps (held t) (found_class_effect s t c o)
-  class_keeps c None = tt
-  class_keeps c (Some n) = refl
-
-  array_keeps : (class : ℕ) (z : ℤ) (v : ObjectValue) → EffectKeeps (held t) (new_array_effect s t class z v)
-  array_keeps class (pos n) v = refl
-  array_keeps class (negsuc n) v = tt
-
-  index_keeps : (c n : ℕ) (z : ℤ) (go : ℕ → CallEffect) → ((i : ℕ) → EffectKeeps (held t) (go i)) → EffectKeeps (held t) (at_index c n z go)
-  index_keeps c n (pos i) go h = cond_both (nat_lt i n) _ _ (EffectKeeps (held t)) (λ e. h i) (λ e. tt)
-  index_keeps c n (negsuc i) go h = tt
-
-  region_keeps : (c n : ℕ) (z l : ℤ) (go : ℕ → ℕ → CallEffect) → ((i j : ℕ) → EffectKeeps (held t) (go i j)) → EffectKeeps (held t) (at_region c n z l go)
-  region_keeps c n (pos i) (pos j) go h = cond_both (nat_le (i + j) n) _ _ (EffectKeeps (held t)) (λ e. h i j) (λ e. tt)
-  region_keeps c n (pos i) (negsuc j) go h = tt
-  region_keeps c n (negsuc i) l go h = tt
-
-  store_keeps : (fits : Bool) (n : ℕ) (r : Reference) (i : ℕ) → EffectKeeps (held t) (store_effect s t fits n r i)
-  store_keeps true n r i = refl
-  store_keeps false n r i = tt
-
-  set_region_keeps : (n : ℕ) (x : Identifier) (i j : ℕ) → EffectKeeps (held t) (set_region_effect s t n x i j)
-  set_region_keeps n x i j = cond_both (nat_le j (length (local_array (lookup x t.variables)))) _ _ (EffectKeeps (held t)) (λ e. refl) (λ e. tt)
-
-  get_region_keeps : (n : ℕ) (x : Identifier) (i j : ℕ) → EffectKeeps (held t) (get_region_effect s t n x i j)
-  get_region_keeps n x i j = cond_both (nat_le j (length (local_array (lookup x t.variables)))) _ _ (EffectKeeps (held t)) (λ e. refl) (λ e. tt)
-
-  ensure_keeps : (z : ℤ) → EffectKeeps (held t) (ensure_effect classes s t z)
-  ensure_keeps (pos n) = cond_both (nat_le (capacities (with_capacity n t.frames)) 1024) _ _ (EffectKeeps (held t)) (λ e. refl) (λ e. refl)
-  ensure_keeps (negsuc n) = refl
-
-  push_keeps : (z : ℤ) → EffectKeeps (held t) (push_effect classes s t z)
-  push_keeps (pos n) = cond_both (nat_le (capacities (record { capacity = n; references = [] } ∷ t.frames)) 1024) _ _ (EffectKeeps (held t)) (λ e. refl) (λ e. refl)
-  push_keeps (negsuc n) = refl
-
-  delete_local_keeps : (o : Option Variable) (r : Reference) → EffectKeeps (held t) (delete_local_effect s t o r)
-  delete_local_keeps o None = refl
-  delete_local_keeps o (Some n) = refl
-
-  delete_global_keeps : (x : Identifier) (r : Option StaticReference) → EffectKeeps (held t) (delete_global_effect s t x r)
-  delete_global_keeps x None = refl
-  delete_global_keeps x (Some Empty) = refl
-  delete_global_keeps x (Some (Live n)) = refl
-  delete_global_keeps x (Some (Weakly n)) = refl
-  delete_global_keeps x (Some Cleared) = refl
-  delete_global_keeps x (Some Deleted) = refl
-
-  delete_weak_keeps : (x : Identifier) (r : Option StaticReference) → EffectKeeps (held t) (delete_weak_effect s t x r)
-  delete_weak_keeps x None = refl
-  delete_weak_keeps x (Some Empty) = refl
-  delete_weak_keeps x (Some (Live n)) = refl
-  delete_weak_keeps x (Some (Weakly n)) = refl
-  delete_weak_keeps x (Some Cleared) = refl
-  delete_weak_keeps x (Some Deleted) = refl
-
-  release_keeps : (n : ℕ) (x : Identifier) (mode : ReleaseMode) → EffectKeeps (held t) (release_effect s t n x mode)
-  release_keeps n x CopyBackAndFree = refl
-  release_keeps n x CopyBack = refl
-  release_keeps n x FreeUncopied = refl
-
-  enter_keeps : (n : ℕ) (m : Option Monitor) → EffectKeeps (held t) (enter_effect k s t n m)
-  enter_keeps n None = refl
-  enter_keeps n (Some m) = cond_both (nat_lt m.count 255) _ _ (EffectKeeps (held t)) (λ e. refl) (λ e. refl)
-
-  exit_keeps : (n : ℕ) (m : Option Monitor) → EffectKeeps (held t) (exit_effect k s t n m)
-  exit_keeps n None = tt
-  exit_keeps n (Some m) = cond_both (m.owner == k) _ _ (EffectKeeps (held t)) (λ e. refl) (λ e. tt)
+  -- whatever is answered but a call of a method
+  answer_keeps : (args : List Actual) (a : Answer) → CallsNone a → EffectKeeps (held t) (answer.effect_of classes in_use k s t args a)
+  unfolding answer.effect_of
+  answer_keeps args (Ensures n) none = frames_keep (with_capacity n t.frames)
+  answer_keeps args (Pushes n) none = frames_keep (record { capacity = n; references = [] } ∷ t.frames)
+  answer_keeps args (Raises class) none = tt
+  answer_keeps args (answer.Halts trap) none = tt
+  answer_keeps args (answer.Calls m) none = absurd none
+  answer_keeps args a none = refl
 
   effect_keeps : (args : List Actual) (f : JniFunction) → calls_method f ≡ false → EffectKeeps (held t) (call_effect unit classes in_use k s t args f)
-  unfolding call_effect
-  effect_keeps args jni.FindClass own = class_keeps _ (class_named classes (text_given args 0))
-  effect_keeps args jni.EnsureLocalCapacity own = ensure_keeps (number_given args 0)
-  effect_keeps args jni.PushLocalFrame own = push_keeps (number_given args 0)
-  effect_keeps args jni.DeleteLocalRef own = delete_local_keeps (lookup (variable_given args 0) t.variables) (reference_given args 0)
-  effect_keeps args jni.DeleteGlobalRef own = delete_global_keeps (variable_given args 0) (lookup (variable_given args 0) s.statics)
-  effect_keeps args jni.DeleteWeakGlobalRef own = delete_weak_keeps (variable_given args 0) (lookup (variable_given args 0) s.statics)
-  effect_keeps args jni.GetFieldID own = field_keeps _ (find_field classes (object_given args 0) (text_given args 1) (text_given args 2))
-  effect_keeps args jni.GetStaticFieldID own = field_keeps _ (find_static classes (object_given args 0) (text_given args 1) (text_given args 2))
-  effect_keeps args jni.GetStaticMethodID own = method_keeps _ (find_method unit classes (object_given args 0) (text_given args 1) (text_given args 2))
-  effect_keeps args (jni.NewArray T) own = array_keeps _ (number_given args 0) _
-  effect_keeps args jni.NewObjectArray own = array_keeps _ (number_given args 0) _
-  effect_keeps args jni.GetObjectArrayElement own = index_keeps _ _ (number_given args 1) _ (λ i. refl)
-  effect_keeps args jni.SetObjectArrayElement own = index_keeps _ _ (number_given args 1) _ (λ i. store_keeps _ _ _ i)
-  effect_keeps args (jni.GetArrayRegion T) own = region_keeps _ _ (number_given args 1) (number_given args 2) _ (λ i j. get_region_keeps _ _ i j)
-  effect_keeps args (jni.SetArrayRegion T) own = region_keeps _ _ (number_given args 1) (number_given args 2) _ (λ i j. set_region_keeps _ _ i j)
-  effect_keeps args jni.GetStringRegion own = region_keeps _ _ (number_given args 1) (number_given args 2) _ (λ i j. get_region_keeps _ _ i j)
-  effect_keeps args (jni.GetBuffer (ElementsCopy T)) own = refl
-  effect_keeps args (jni.GetBuffer ArrayView) own = refl
-  effect_keeps args (jni.GetBuffer CharsCopy) own = refl
-  effect_keeps args (jni.GetBuffer CharsView) own = refl
-  effect_keeps args (jni.ReleaseBuffer (ElementsCopy T)) own = release_keeps (object_given args 0) (variable_given args 1) (mode_given args 2)
-  effect_keeps args (jni.ReleaseBuffer ArrayView) own = refl
-  effect_keeps args (jni.ReleaseBuffer CharsCopy) own = refl
-  effect_keeps args (jni.ReleaseBuffer CharsView) own = refl
-  effect_keeps args jni.FatalError own = tt
-  effect_keeps args jni.MonitorEnter own = enter_keeps (object_given args 0) (monitor_of s.monitors (object_given args 0))
-  effect_keeps args jni.MonitorExit own = exit_keeps (object_given args 0) (monitor_of s.monitors (object_given args 0))
-  effect_keeps args jni.CallStaticVoidMethod own = absurd (cc)
-  effect_keeps args jni.CallStaticIntMethod own = absurd (cc)
-  effect_keeps args jni.CallStaticObjectMethod own = absurd (cc)
-  effect_keeps args f own = refl
+  effect_keeps args f own =
+      subst (EffectKeeps (held t)) (sym (effect_is unit classes in_use k s t args JInt f))
+      (answer_keeps args (call_answer unit classes k (sight_of_call s t JInt f args) f) (calls_none unit classes k (sight_of_call s t JInt f args) f own))
 
   module _ (line : ℕ) (target : Target) (f : JniFunction) (args : List Actual) (rest : List Task) where
     completed_keeps : (made : List Object) (s' : Shared) (t' : Thread) (given : CallResult) → held t' ≡ held t → KeepsCalls (held t) (completed unit classes in_use k s t line target f args rest made s' t' given)
