@@ -1,21 +1,23 @@
 -- Each step leaves the method IDs of a call's variables such that they can be called.
-use Rattle.std.proofs.Common.{◌≡◌, ℕ, ◌+◌, Bool, true, false, List, [], ◌∷◌, ◌++◌, length, map, take, drop, zip, Option, Some, None, refl, sym, subst, if◌then◌else◌}
-use Rattle.std.specs.Prelude.{ℤ, pos, negsuc, nat_lt, nat_le, ◌==◌}
+use Rattle.std.proofs.Common.{◌≡◌, ℕ, Bool, true, false, List, [], ◌∷◌, ◌++◌, length, take, drop, zip, Option, Some, None, refl, sym, subst, if◌then◌else◌}
+use Rattle.std.specs.Prelude.{ℤ, nat_le}
 use Rattle.std.specs.List.{AllByRecursion}
 use Rattle.std.specs.Option.{option_map}
 use Rattle.std.specs.Str.{bytes_eq}
 use Rattle.std.proofs.lemmas.Bool.{cond_both}
 use Rattle.base.specs.Bytes.{Identifier, lookup}
-use Rattle.class_rules.specs.Class.{Classes, class_named}
-use Rattle.class_rules.specs.Fields.{FieldId, find_field, find_static}
+use Rattle.base.specs.Element.{JInt}
+use Rattle.base.specs.Limits.{most_references}
+use Rattle.class_rules.specs.Class.{Classes}
 use Rattle.syntax.specs.Tree.{Function, Parameter, SourceUnit}
-use Rattle.jni.specs.Access.{ElementsCopy, ArrayView, CharsCopy, CharsView}
-use Rattle.jni.specs.JniFunction as jni
 use Rattle.jni.specs.JniFunction.{JniFunction, prototype}
 use Rattle.jni.specs.Prototype.{ResultKind, NewLocal, NewGlobal, NewWeak, GivesFlag, GivesInt, GivesField, GivesMethod, GivesNothing, GivesBuffer}
 use Rattle.semantics.specs.Activation.{class_of_function, enter, entered, entered_function, entry_advance, function_at, parameter_variables}
-use Rattle.semantics.specs.Arguments.{Actual, ReleaseMode, CopyBackAndFree, CopyBack, FreeUncopied, number_given, object_given, reference_given, text_given, variable_given, mode_given, method_given, passed_value, address_given}
-use Rattle.semantics.specs.CallEffects.{CallResult, NullResult, ScalarResult, ReferenceResult, FieldResult, MethodResult, BufferResult, CallEffect, Throws, Halts, Leaves, Enters, out_of_memory, with_capacity, ensure_effect, push_effect, delete_local_effect, delete_global_effect, delete_weak_effect, found_class_effect, found_field_effect, found_method_effect, method_effect, new_array_effect, at_index, at_region, local_array, begun_with, freed, get_region_effect, set_region_effect, store_effect, release_effect, enter_effect, exit_effect}
+use Rattle.semantics.specs.Answer.{Answer}
+use Rattle.semantics.specs.Answer as answer
+use Rattle.semantics.specs.Arguments.{Actual, variable_given, address_given}
+use Rattle.semantics.specs.CallEffects.{CallResult, NullResult, ScalarResult, ReferenceResult, FieldResult, MethodResult, BufferResult, CallEffect, Throws, Halts, Leaves, Enters, out_of_memory, with_capacity, frames_effect, begun_with, freed}
+use Rattle.semantics.specs.CallSight.{sight_of_call}
 use Rattle.semantics.specs.CallStep.{blank, filled, put, put_assigned, received, tell_copy, failure, resumed, trap_of_call, checked, completed, after_call, after_refusal, call_step}
 use Rattle.semantics.specs.CallTable.{call_effect}
 use Rattle.semantics.specs.Effect.{Effect, Becomes, Sets, SetsNull, SetsElement, MakesArray, Prints, Calls, Returns, TrapsAt, NoEffect, effect_of}
@@ -24,11 +26,13 @@ use Rattle.semantics.specs.Method.{MethodId, find_method}
 use Rattle.semantics.specs.Object.{Object, ObjectValue, Number, Refers, Reference}
 use Rattle.semantics.specs.Return.{fitted, given_back, nothing_of, resumed_in, return_by}
 use Rattle.semantics.specs.Task.{Task, Target, Declared, Assigned, Tested, Dropped, VariableKind, ScalarKind, ReferenceKind, FieldKind, MethodKind, BufferKind}
-use Rattle.semantics.specs.Thread.{Thread, Caller, Shared, BuffersInUse, Monitor, Advance, Advances, NoAdvance, capacities, monitor_of, sight_of}
+use Rattle.semantics.specs.Thread.{Thread, Caller, Shared, BuffersInUse, Frame, Advance, Advances, NoAdvance, capacities, sight_of}
 use Rattle.semantics.specs.ThreadStep.{set_element, with_tasks, after_effect, after_refused_effect, step_within}
 use Rattle.semantics.specs.Value.{Trap, Int, Flag}
-use Rattle.semantics.specs.Variable.{Variable, Scalar, LocalRef, FieldHandle, MethodHandle, Elements, LocalArray, NoBuffer, Copy, View, Variables, StaticReference, Empty, Live, Weakly, Cleared, Deleted, assign, change}
+use Rattle.semantics.specs.Variable.{Variable, Scalar, LocalRef, FieldHandle, MethodHandle, Elements, LocalArray, NoBuffer, Copy, View, Variables, assign, change}
 use Rattle.semantics.specs.World.{Invocation, fresh_object}
+use Rattle.semantics.proofs.Answers.{effect_is}
+use Rattle.semantics.proofs.AnswerKinds.{AnswersAs, CallKind, Calling, CopyingBack, Ensuring, Filling, FillingNone, Freeing, Giving, Halting, IsOfKind, OfMethod, Pending, Pushing, Raising, answers_as}
 use Rattle.semantics_safety.specs.Stands.{AreCallable, HoldsCallable}
 use Rattle.semantics_safety.specs.StepSafe.{IsCallable}
 
@@ -182,120 +186,34 @@ module _ (unit : SourceUnit) (classes : Classes) where
   checked_ok (Some trap) e h = tt
 
   module _ (in_use : BuffersInUse) (k : ℕ) (s : Shared) (t : Thread) (finds : (c : ℕ) (name text : List ℕ) (m : MethodId) → find_method unit classes c name text ≡ Some m → IsCallable unit classes m) (all : Ok t.variables) where
-    field_ok : (c : ℕ) (o : Option FieldId) → EffectOk (found_field_effect s t c o)
-    field_ok c None = tt
-    field_ok c (Some f) = (all, tt)
+    frames_ok : (frames : List Frame) → EffectOk (frames_effect classes s t frames)
+    frames_ok frames = cond_both (nat_le (capacities frames) most_references) _ _ EffectOk (λ e. (all, tt)) (λ e. (all, tt))
 
-    method_ok : (c : ℕ) (o : Option MethodId) → ((m : MethodId) → o ≡ Some m → IsCallable unit classes m) → EffectOk (found_method_effect s t c o)
-    method_ok c None h = tt
-    method_ok c (Some m) h = (all, h m refl)
+    -- a method that is given was found
+    given_ok : {kind : ResultKind} {given : CallResult} → IsOfKind unit classes kind given → GivesCallable given
+    given_ok (OfMethod m class name text found) = finds class name text m found
+    given_ok g = tt
 
-    called_ok : (o : Option MethodId) (arguments : List ObjectValue) → EffectOk (method_effect o arguments)
-    called_ok None arguments = tt
-    called_ok (Some m) arguments = tt
-
-    class_ok : (c : ℕ) (o : Option ℕ) → EffectOk (found_class_effect s t c o)
-    class_ok c None = tt
-    class_ok c (Some n) = (all, tt)
-
-    array_ok : (class : ℕ) (z : ℤ) (v : ObjectValue) → EffectOk (new_array_effect s t class z v)
-    array_ok class (pos n) v = (all, tt)
-    array_ok class (negsuc n) v = tt
-
-    index_ok : (c n : ℕ) (z : ℤ) (go : ℕ → CallEffect) → ((i : ℕ) → EffectOk (go i)) → EffectOk (at_index c n z go)
-    index_ok c n (pos i) go h = cond_both (nat_lt i n) _ _ EffectOk (λ e. h i) (λ e. tt)
-    index_ok c n (negsuc i) go h = tt
-
-    region_ok : (c n : ℕ) (z l : ℤ) (go : ℕ → ℕ → CallEffect) → ((i j : ℕ) → EffectOk (go i j)) → EffectOk (at_region c n z l go)
-    region_ok c n (pos i) (pos j) go h = cond_both (nat_le (i + j) n) _ _ EffectOk (λ e. h i j) (λ e. tt)
-    region_ok c n (pos i) (negsuc j) go h = tt
-    region_ok c n (negsuc i) l go h = tt
-
-    store_ok : (fits : Bool) (n : ℕ) (r : Reference) (i : ℕ) → EffectOk (store_effect s t fits n r i)
-    store_ok true n r i = (all, tt)
-    store_ok false n r i = tt
-
-    set_region_ok : (n : ℕ) (x : Identifier) (i j : ℕ) → EffectOk (set_region_effect s t n x i j)
-    set_region_ok n x i j = cond_both (nat_le j (length (local_array (lookup x t.variables)))) _ _ EffectOk (λ e. (all, tt)) (λ e. tt)
-
-    get_region_ok : (n : ℕ) (x : Identifier) (i j : ℕ) → EffectOk (get_region_effect s t n x i j)
-    get_region_ok n x i j =
-        cond_both (nat_le j (length (local_array (lookup x t.variables)))) _ _ EffectOk (λ e. (changed_ok x (begun_with (take j (drop i (numbers_of s.heap n)))) (begun_ok (take j (drop i (numbers_of s.heap n)))) t.variables all, tt)) (λ e. tt)
-
-    ensure_ok : (z : ℤ) → EffectOk (ensure_effect classes s t z)
-    ensure_ok (pos n) = cond_both (nat_le (capacities (with_capacity n t.frames)) 1024) _ _ EffectOk (λ e. (all, tt)) (λ e. (all, tt))
-    ensure_ok (negsuc n) = (all, tt)
-
-    push_ok : (z : ℤ) → EffectOk (push_effect classes s t z)
-    push_ok (pos n) = cond_both (nat_le (capacities (record { capacity = n; references = [] } ∷ t.frames)) 1024) _ _ EffectOk (λ e. (all, tt)) (λ e. (all, tt))
-    push_ok (negsuc n) = (all, tt)
-
-    delete_local_ok : (o : Option Variable) (r : Reference) → EffectOk (delete_local_effect s t o r)
-    delete_local_ok o None = (all, tt)
-    delete_local_ok o (Some n) = (all, tt)
-
-    delete_global_ok : (x : Identifier) (r : Option StaticReference) → EffectOk (delete_global_effect s t x r)
-    delete_global_ok x None = (all, tt)
-    delete_global_ok x (Some Empty) = (all, tt)
-    delete_global_ok x (Some (Live n)) = (all, tt)
-    delete_global_ok x (Some (Weakly n)) = (all, tt)
-    delete_global_ok x (Some Cleared) = (all, tt)
-    delete_global_ok x (Some Deleted) = (all, tt)
-
-    delete_weak_ok : (x : Identifier) (r : Option StaticReference) → EffectOk (delete_weak_effect s t x r)
-    delete_weak_ok x None = (all, tt)
-    delete_weak_ok x (Some Empty) = (all, tt)
-    delete_weak_ok x (Some (Live n)) = (all, tt)
-    delete_weak_ok x (Some (Weakly n)) = (all, tt)
-    delete_weak_ok x (Some Cleared) = (all, tt)
-    delete_weak_ok x (Some Deleted) = (all, tt)
-
-    release_ok : (n : ℕ) (x : Identifier) (mode : ReleaseMode) → EffectOk (release_effect s t n x mode)
-    release_ok n x CopyBackAndFree = (changed_ok x freed freed_ok t.variables all, tt)
-    release_ok n x CopyBack = (all, tt)
-    release_ok n x FreeUncopied = (changed_ok x freed freed_ok t.variables all, tt)
-
-    enter_ok : (n : ℕ) (m : Option Monitor) → EffectOk (enter_effect k s t n m)
-    enter_ok n None = (all, tt)
-    enter_ok n (Some m) = cond_both (nat_lt m.count 255) _ _ EffectOk (λ e. (all, tt)) (λ e. (all, tt))
-
-    exit_ok : (n : ℕ) (m : Option Monitor) → EffectOk (exit_effect k s t n m)
-    exit_ok n None = tt
-    exit_ok n (Some m) = cond_both (m.owner == k) _ _ EffectOk (λ e. (all, tt)) (λ e. tt)
+    answer_ok : {kind : CallKind} {result : ResultKind} {a : Answer} (args : List Actual) → AnswersAs unit classes kind result a → EffectOk (answer.effect_of classes in_use k s t args a)
+    unfolding answer.effect_of
+    answer_ok args (Giving g) = (all, given_ok g)
+    answer_ok args (Pending r g) = (all, given_ok g)
+    answer_ok args (Ensuring n) = frames_ok (with_capacity n t.frames)
+    answer_ok args (Pushing n) = frames_ok (record { capacity = n; references = [] } ∷ t.frames)
+    answer_ok args (Filling r) =
+        let new : List ℤ = take r.count (drop r.start (numbers_of s.heap r.object)) in
+        (changed_ok (variable_given args 3) (begun_with new) (begun_ok new) t.variables all, tt)
+    answer_ok args (CopyingBack n true) = (changed_ok (variable_given args 1) freed freed_ok t.variables all, tt)
+    answer_ok args (CopyingBack n false) = (all, tt)
+    answer_ok args Freeing = (changed_ok (variable_given args 1) freed freed_ok t.variables all, tt)
+    answer_ok args (Raising class) = tt
+    answer_ok args (FillingNone class) = tt
+    answer_ok args (Calling m) = tt
+    answer_ok args (Halting trap) = tt
+    answer_ok args h = (all, tt)
 
     effect_ok : (args : List Actual) (f : JniFunction) → EffectOk (call_effect unit classes in_use k s t args f)
-    unfolding call_effect
-    effect_ok args jni.FindClass = class_ok _ (class_named classes (text_given args 0))
-    effect_ok args jni.EnsureLocalCapacity = ensure_ok (number_given args 0)
-    effect_ok args jni.PushLocalFrame = push_ok (number_given args 0)
-    effect_ok args jni.DeleteLocalRef = delete_local_ok (lookup (variable_given args 0) t.variables) (reference_given args 0)
-    effect_ok args jni.DeleteGlobalRef = delete_global_ok (variable_given args 0) (lookup (variable_given args 0) s.statics)
-    effect_ok args jni.DeleteWeakGlobalRef = delete_weak_ok (variable_given args 0) (lookup (variable_given args 0) s.statics)
-    effect_ok args jni.GetFieldID = field_ok _ (find_field classes (object_given args 0) (text_given args 1) (text_given args 2))
-    effect_ok args jni.GetStaticFieldID = field_ok _ (find_static classes (object_given args 0) (text_given args 1) (text_given args 2))
-    effect_ok args jni.GetStaticMethodID = method_ok _ (find_method unit classes (object_given args 0) (text_given args 1) (text_given args 2)) (finds (object_given args 0) (text_given args 1) (text_given args 2))
-    effect_ok args (jni.NewArray T) = array_ok _ (number_given args 0) _
-    effect_ok args jni.NewObjectArray = array_ok _ (number_given args 0) _
-    effect_ok args jni.GetObjectArrayElement = index_ok _ _ (number_given args 1) _ (λ i. (all, tt))
-    effect_ok args jni.SetObjectArrayElement = index_ok _ _ (number_given args 1) _ (λ i. store_ok _ _ _ i)
-    effect_ok args (jni.GetArrayRegion T) = region_ok _ _ (number_given args 1) (number_given args 2) _ (λ i j. get_region_ok _ _ i j)
-    effect_ok args (jni.SetArrayRegion T) = region_ok _ _ (number_given args 1) (number_given args 2) _ (λ i j. set_region_ok _ _ i j)
-    effect_ok args jni.GetStringRegion = region_ok _ _ (number_given args 1) (number_given args 2) _ (λ i j. get_region_ok _ _ i j)
-    effect_ok args (jni.GetBuffer (ElementsCopy T)) = (all, tt)
-    effect_ok args (jni.GetBuffer ArrayView) = (all, tt)
-    effect_ok args (jni.GetBuffer CharsCopy) = (all, tt)
-    effect_ok args (jni.GetBuffer CharsView) = (all, tt)
-    effect_ok args (jni.ReleaseBuffer (ElementsCopy T)) = release_ok (object_given args 0) (variable_given args 1) (mode_given args 2)
-    effect_ok args (jni.ReleaseBuffer ArrayView) = (changed_ok (variable_given args 1) freed freed_ok t.variables all, tt)
-    effect_ok args (jni.ReleaseBuffer CharsCopy) = (changed_ok (variable_given args 1) freed freed_ok t.variables all, tt)
-    effect_ok args (jni.ReleaseBuffer CharsView) = (changed_ok (variable_given args 1) freed freed_ok t.variables all, tt)
-    effect_ok args jni.FatalError = tt
-    effect_ok args jni.MonitorEnter = enter_ok (object_given args 0) (monitor_of s.monitors (object_given args 0))
-    effect_ok args jni.MonitorExit = exit_ok (object_given args 0) (monitor_of s.monitors (object_given args 0))
-    effect_ok args jni.CallStaticVoidMethod = called_ok (method_given args 1) (map passed_value (drop 2 args))
-    effect_ok args jni.CallStaticIntMethod = called_ok (method_given args 1) (map passed_value (drop 2 args))
-    effect_ok args jni.CallStaticObjectMethod = called_ok (method_given args 1) (map passed_value (drop 2 args))
-    effect_ok args f = (all, tt)
+    effect_ok args f = subst EffectOk (sym (effect_is unit classes in_use k s t args JInt f)) (answer_ok args (answers_as unit classes k (sight_of_call s t JInt f args) f))
 
     module _ (line : ℕ) (target : Target) (f : JniFunction) (args : List Actual) (rest : List Task) where
       completed_ok : (made : List Object) (s' : Shared) (t' : Thread) (given : CallResult) → Ok t'.variables → GivesCallable given → LeavesCallable (completed unit classes in_use k s t line target f args rest made s' t' given)
