@@ -2,7 +2,7 @@
 use Rattle.std.proofs.Common.{◌≡◌, ◌⊎◌, inl, inr, refl, ℕ, Bool, true, false, List, ◌∷◌, Some, sym, subst, length}
 use Rattle.class_rules.specs.Class.{Classes}
 use Rattle.syntax.specs.Tree.{SourceUnit}
-use Rattle.jni.specs.JniFunction.{JniFunction, DeleteLocalRef, DeleteGlobalRef, DeleteWeakGlobalRef, PushLocalFrame, PopLocalFrame, GetArrayRegion, GetStringRegion, GetBuffer, ReleaseBuffer, CallStaticVoidMethod, CallStaticIntMethod, CallStaticObjectMethod, calls_method}
+use Rattle.jni.specs.JniFunction.{JniFunction, DeleteLocalRef, PushLocalFrame, PopLocalFrame, GetBuffer, ReleaseBuffer, CallStaticVoidMethod, CallStaticIntMethod, CallStaticObjectMethod, calls_method}
 use Rattle.semantics.specs.Arguments.{Actual, actuals}
 use Rattle.semantics.specs.CallEffects.{CallResult}
 use Rattle.semantics.specs.CallStep.{call_step}
@@ -10,6 +10,7 @@ use Rattle.semantics.specs.Effect.{Effect, Becomes, Sets, SetsNull, SetsElement,
 use Rattle.semantics.specs.Task.{Task, Target, Operand, Invoke}
 use Rattle.semantics.specs.Thread.{Thread, Shared, BuffersInUse, sight_of}
 use Rattle.semantics.specs.ThreadStep.{after_effect, step_within}
+use Rattle.semantics.proofs.AnswerKinds.{CallKind, EndsStatic, FillsArray, Quiet, call_kind}
 use Rattle.semantics_safety.proofs.OwnerLaws.{LandsBy, plain_by}
 use Rattle.semantics_safety.specs.Owners.{Owners}
 use Rattle.semantics_safety.specs.Points.{Point}
@@ -17,26 +18,30 @@ use Rattle.semantics_safety.specs.Stands.{Goes, Stands}
 use Rattle.semantics_safety.specs.Wanted.{Runs, GoesOn}
 use Rattle.semantics_safety.specs.Follows.{Follows}
 use Rattle.semantics_safety.specs.WeakNames.{WeakNames}
-use Rattle.semantics_safety.proofs.ChangeCalls.{delete_global_lands, delete_weak_lands, array_region_lands, string_region_lands}
+use Rattle.semantics_safety.proofs.ChangeCalls.{static_call_lands, region_call_lands}
 use Rattle.semantics_safety.proofs.EffectLaws.{effect_follows}
 use Rattle.semantics_safety.proofs.FrameCalls.{delete_lands, push_lands, pop_lands}
 use Rattle.semantics_safety.proofs.GetCalls.{get_lands}
 use Rattle.semantics_safety.proofs.NullLaws.{null_lands}
+use Rattle.semantics_safety.proofs.QuietLaws.{IsPlain}
 use Rattle.semantics_safety.proofs.QuietSteps.{call_lands}
 use Rattle.semantics_safety.proofs.ReleaseCalls.{release_lands}
 use Rattle.semantics_safety.proofs.StepLaws.{plain_lands}
 
 module _ (unit : SourceUnit) (classes : Classes) (in_use : BuffersInUse) (k : ℕ) (s : Shared) (t : Thread) (line : ℕ) (rest : List Task) (p : Point) {weak : WeakNames} {own : Owners} (stands : Stands weak own s.statics t.variables t.frames p) (whole : Goes weak own s.statics t t.tasks) where
+  -- the step of a call of a plain function
+  plain_function_lands : (f : JniFunction) (kind : CallKind) → call_kind f ≡ kind → IsPlain kind → (target : Target) (operands : List Operand) (args : List Actual) → args ≡ actuals (sight_of s t) f operands → Runs (Invoke line target f operands) (GoesOn rest) p → LandsBy weak (Calls line target f args) (length t.frames) own s.statics (call_step unit classes in_use k s t line target f args rest false)
+  plain_function_lands f Quiet of plain target operands args is runs = call_lands unit classes in_use k s t line f args rest p stands (subst IsPlain (sym of) tt) whole of target operands runs
+  plain_function_lands f EndsStatic of plain target operands args is runs = static_call_lands unit classes in_use k s t line rest p stands whole f target operands args of runs
+  plain_function_lands f FillsArray of plain target operands args is runs = region_call_lands unit classes in_use k s t line rest p stands whole f target operands args is of runs
+  plain_function_lands f kind of plain target operands args is runs = absurd plain
+
   -- the step of a call, by its function
   pub each_call_lands : (f : JniFunction) (target : Target) (operands : List Operand) (args : List Actual) → args ≡ actuals (sight_of s t) f operands → calls_method f ≡ false → Runs (Invoke line target f operands) (GoesOn rest) p → LandsBy weak (Calls line target f args) (length t.frames) own s.statics (call_step unit classes in_use k s t line target f args rest false)
   each_call_lands DeleteLocalRef target operands args is plain runs =
       subst (λ (l : List Actual). LandsBy weak (Calls line target DeleteLocalRef l) (length t.frames) own s.statics (call_step unit classes in_use k s t line target DeleteLocalRef l rest false)) (sym is) (delete_lands unit classes in_use k s t line rest p stands whole target operands runs)
   each_call_lands PushLocalFrame target operands args is plain runs = push_lands unit classes in_use k s t line rest p stands whole target operands args runs
   each_call_lands PopLocalFrame target operands args is plain runs = pop_lands unit classes in_use k s t line rest p stands whole target operands args runs
-  each_call_lands DeleteGlobalRef target operands args is plain runs = delete_global_lands unit classes in_use k s t line rest p stands whole target operands args runs
-  each_call_lands DeleteWeakGlobalRef target operands args is plain runs = delete_weak_lands unit classes in_use k s t line rest p stands whole target operands args runs
-  each_call_lands (GetArrayRegion u) target operands args is plain runs = array_region_lands unit classes in_use k s t line rest p stands whole u target operands args is runs
-  each_call_lands GetStringRegion target operands args is plain runs = string_region_lands unit classes in_use k s t line rest p stands whole target operands args is runs
   each_call_lands (GetBuffer access) target operands args is plain runs =
       subst (λ (l : List Actual). LandsBy weak (Calls line target (GetBuffer access) l) (length t.frames) own s.statics (call_step unit classes in_use k s t line target (GetBuffer access) l rest false)) (sym is) (get_lands unit classes in_use k s t line rest p stands whole access target operands runs)
   each_call_lands (ReleaseBuffer access) target operands args is plain runs =
@@ -44,7 +49,7 @@ module _ (unit : SourceUnit) (classes : Classes) (in_use : BuffersInUse) (k : �
   each_call_lands CallStaticVoidMethod target operands args is plain runs = absurd (cc)
   each_call_lands CallStaticIntMethod target operands args is plain runs = absurd (cc)
   each_call_lands CallStaticObjectMethod target operands args is plain runs = absurd (cc)
-  each_call_lands f target operands args is plain runs = call_lands unit classes in_use k s t line f args rest p stands tt whole target operands runs
+  each_call_lands f target operands args is plain runs = plain_function_lands f (call_kind f) refl tt target operands args is runs
 
 -- an effect that doesn't return
 abbrev pub IsNoReturn : Effect → Type 0

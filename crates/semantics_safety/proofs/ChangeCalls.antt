@@ -1,37 +1,41 @@
 -- The steps of the calls that delete a global reference, weak or not, or fill a local array.
-use Rattle.std.proofs.Common.{◌≡◌, ℕ, ◌+◌, Bool, true, false, List, [], ◌∷◌, length, take, drop, Option, Some, None, refl, sym, ap, ◌∙◌, subst, if◌then◌else◌}
-use Rattle.std.specs.Prelude.{ℤ, pos, negsuc, nat_le}
+use Rattle.std.proofs.Common.{◌≡◌, ℕ, Bool, true, false, List, [], ◌∷◌, length, map, take, drop, zip, Option, Some, refl, sym, ap, ◌∙◌, subst, if◌then◌else◌}
+use Rattle.std.specs.Prelude.{ℤ}
 use Rattle.std.specs.Str.{bytes_eq}
-use Rattle.std.proofs.lemmas.Bool.{cond_both}
 use Rattle.std.proofs.lemmas.Slice.Eq.{bytes_eq-Decides}
 use Rattle.base.specs.Bytes.{Identifier, ByName, lookup}
-use Rattle.base.specs.Element.{ElementType, JChar}
+use Rattle.base.specs.Element.{ElementType, JInt}
 use Rattle.syntax.specs.Tree.{SourceUnit}
 use Rattle.syntax.specs.Tree as tree
 use Rattle.class_rules.specs.Class.{Classes}
-use Rattle.class_rules.specs.BuiltIns.{array_index_out_of_bounds, string_index_out_of_bounds}
-use Rattle.jni.specs.JniFunction.{JniFunction, DeleteGlobalRef, DeleteWeakGlobalRef, GetArrayRegion, GetStringRegion, PushLocalFrame, prototype}
-use Rattle.jni.specs.Prototype.{ResultKind, NewLocal, GivesNothing, NumberArray, StringObject, IntNumber, ArrayVariable}
+use Rattle.jni.specs.Access.{Access}
+use Rattle.jni.specs.JniFunction.{JniFunction, prototype}
+use Rattle.jni.specs.Prototype.{ParameterKind, ResultKind, NewLocal, GivesNothing, IntNumber, ArrayVariable}
 use Rattle.type_rules.specs.Sorts.{sort_in}
 use Rattle.type_rules.specs.Sorts as sort
-use Rattle.semantics.specs.Arguments.{Actual, actuals, object_given, number_given, variable_given}
-use Rattle.semantics.specs.CallEffects.{CallEffect, Throws, NoResult, delete_global_effect, delete_weak_effect, without_one, at_region, get_region_effect, begun_with, overwritten, local_array}
-use Rattle.semantics.specs.CallStep.{trap_of_call, failure, checked, after_call, call_step}
+use Rattle.semantics.specs.Answer.{Answer, effect_of, with_region_got}
+use Rattle.semantics.specs.AnswerTable.{call_answer}
+use Rattle.semantics.specs.Arguments.{Actual, actuals, look_up, variable_given}
+use Rattle.semantics.specs.CallEffects.{CallEffect, Throws, Leaves, NoResult, without_one, begun_with, overwritten}
+use Rattle.semantics.specs.CallSight.{sight_of_call}
+use Rattle.semantics.specs.CallStep.{failure, after_call, call_step}
 use Rattle.semantics.specs.CallTable.{call_effect}
-use Rattle.semantics.specs.Heap.{values_of, numbers_of}
+use Rattle.semantics.specs.Heap.{numbers_of}
 use Rattle.semantics.specs.Task.{Task, Target, Declared, Assigned, Tested, Dropped, Operand, Given, Invoke}
 use Rattle.semantics.specs.Thread.{Thread, Shared, BuffersInUse, Advance, Advances, NoAdvance, sight_of}
-use Rattle.semantics.specs.Value.{Trap}
-use Rattle.semantics.specs.Variable.{LocalRef, Elements, LocalArray, Buffer, StaticReference, Empty, Live, Weakly, Cleared, Variables, Statics, Deleted, assign, change}
+use Rattle.semantics.specs.Variable.{LocalRef, Elements, LocalArray, Buffer, StaticReference, Weakly, Variables, Statics, Deleted, assign, change}
 use Rattle.semantics.specs.Effect.{Calls, Effect}
+use Rattle.semantics.proofs.Answers.{effect_is}
+use Rattle.semantics.proofs.AnswerKinds.{AnswersAs, CallKind, EndingGlobal, EndingNoStatic, EndingWeak, EndsStatic, Filling, FillingNone, FillsArray, Halting, answers_of, call_kind, filled_last}
 use Rattle.semantics_safety.proofs.OwnerLaws.{LandsBy}
 use Rattle.semantics_safety.specs.Owners.{Owners, left_by}
 use Rattle.semantics_safety.specs.Points.{Point, OperandsFit}
 use Rattle.semantics_safety.specs.Stands.{Goes, Stands}
-use Rattle.semantics_safety.specs.Wanted.{Runs, ResultGoes, GoesOn}
+use Rattle.semantics_safety.specs.Wanted.{CallFits, Runs, ResultGoes, GoesOn}
 use Rattle.semantics_safety.specs.WeakNames.{WeakNames}
 use Rattle.semantics_safety.proofs.NullLaws.{stands_static, statics_stay}
-use Rattle.semantics_safety.proofs.QuietLaws.{Plainly, IsNoTest, given_lands, quiet_lands}
+use Rattle.semantics_safety.proofs.QuietLaws.{Plainly, IsFreeKind, IsNoTest, IsPlain, free_owners, given_lands, quiet_lands}
+use Rattle.semantics_safety.proofs.QuietSteps.{plain_call_lands}
 use Rattle.semantics_safety.proofs.ResultLaws.{Simple, NoResultThere}
 use Rattle.semantics_safety.proofs.SetLaws.{stands_kept}
 
@@ -58,74 +62,24 @@ module _ (unit : SourceUnit) (classes : Classes) (in_use : BuffersInUse) (k : �
 
   -- ---- a global reference is deleted
 
-  global_deleted : (target : Target) (args : List Actual) (get : _) (x : Identifier) (r : Option StaticReference) → IsNoTest target → ResultGoes target GivesNothing get (GoesOn rest) p
-      → LandsBy weak (Calls line target DeleteGlobalRef args) (length t.frames) own s.statics (after_call unit classes in_use k s t line target DeleteGlobalRef args rest (delete_global_effect s t x r))
-  global_deleted target args get x None away goes = given_lands unit classes in_use k s t line target DeleteGlobalRef args rest p own (λ y. refl) GivesNothing [] s t NoResult get refl away (λ c. absurd (cc)) stands (Plainly NoResultThere) goes
-  global_deleted target args get x (Some Empty) away goes = given_lands unit classes in_use k s t line target DeleteGlobalRef args rest p own (λ y. refl) GivesNothing [] s t NoResult get refl away (λ c. absurd (cc)) stands (Plainly NoResultThere) goes
-  global_deleted target args get x (Some (Weakly n)) away goes = given_lands unit classes in_use k s t line target DeleteGlobalRef args rest p own (λ y. refl) GivesNothing [] s t NoResult get refl away (λ c. absurd (cc)) stands (Plainly NoResultThere) goes
-  global_deleted target args get x (Some Cleared) away goes = given_lands unit classes in_use k s t line target DeleteGlobalRef args rest p own (λ y. refl) GivesNothing [] s t NoResult get refl away (λ c. absurd (cc)) stands (Plainly NoResultThere) goes
-  global_deleted target args get x (Some Deleted) away goes = given_lands unit classes in_use k s t line target DeleteGlobalRef args rest p own (λ y. refl) GivesNothing [] s t NoResult get refl away (λ c. absurd (cc)) stands (Plainly NoResultThere) goes
-  global_deleted target args get x (Some (Live n)) away goes =
-      lands_from weak (Calls line target DeleteGlobalRef args) (length t.frames) own s.statics (assign x Deleted s.statics) _ (statics_stay unit classes in_use k s t rest p stands x Deleted)
-      (given_lands unit classes in_use k s t line target DeleteGlobalRef args rest p own (λ y. refl) GivesNothing [] (record s { globals = without_one n s.globals; statics = assign x Deleted s.statics }) t NoResult get refl away (λ c. absurd (cc))
-      (stands_static unit classes in_use k s t rest p stands x Deleted (λ n c. absurd (no_deleted n c))) (Plainly NoResultThere) goes)
+  module _ (f : JniFunction) (target : Target) (away : IsNoTest target) (args : List Actual) (get : Option (Access × Option Identifier)) (left : (y : Identifier) → own y ≡ left_by f args (length t.frames) own y) where
+    -- what an answer does leads to a point
+    abbrev AnswerLands : Answer → Type 0
+    AnswerLands a = LandsBy weak (Calls line target f args) (length t.frames) own s.statics (after_call unit classes in_use k s t line target f args rest (effect_of classes in_use k s t args a))
 
-  global_is : (args : List Actual) → call_effect unit classes in_use k s t args DeleteGlobalRef ≡ delete_global_effect s t (variable_given args 0) (lookup (variable_given args 0) s.statics)
-  unfolding call_effect
-  global_is args = refl
+    marked : (x : Identifier) (globals : List ℕ) → (prototype f).result ≡ GivesNothing → ResultGoes target GivesNothing get (GoesOn rest) p
+        → LandsBy weak (Calls line target f args) (length t.frames) own s.statics (after_call unit classes in_use k s t line target f args rest (Leaves [] (record s { globals = globals; statics = assign x Deleted s.statics }) t NoResult))
+    marked x globals is goes =
+        lands_from weak (Calls line target f args) (length t.frames) own s.statics (assign x Deleted s.statics) _ (statics_stay unit classes in_use k s t rest p stands x Deleted)
+        (given_lands unit classes in_use k s t line target f args rest p own left GivesNothing [] (record s { globals = globals; statics = assign x Deleted s.statics }) t NoResult get is away (λ c. absurd (cc))
+        (stands_static unit classes in_use k s t rest p stands x Deleted (λ n c. absurd (no_deleted n c))) (Plainly NoResultThere) goes)
 
-  global_at : (target : Target) (args : List Actual) (get : _) → IsNoTest target → ResultGoes target GivesNothing get (GoesOn rest) p → (o : Option Trap)
-      → LandsBy weak (Calls line target DeleteGlobalRef args) (length t.frames) own s.statics (after_call unit classes in_use k s t line target DeleteGlobalRef args rest (checked o (call_effect unit classes in_use k s t args DeleteGlobalRef)))
-  global_at target args get away goes None =
-      subst (λ (e : CallEffect). LandsBy weak (Calls line target DeleteGlobalRef args) (length t.frames) own s.statics (after_call unit classes in_use k s t line target DeleteGlobalRef args rest e)) (sym (global_is args)) (global_deleted target args get (variable_given args 0) (lookup (variable_given args 0) s.statics) away goes)
-  global_at target args get away goes (Some trap) = (whole, λ x r g. (r, g))
-
-  global_no_push : DeleteGlobalRef ≡ PushLocalFrame → ⊥
-  global_no_push e = cc
-
-  -- DeleteGlobalRef
-  pub delete_global_lands : (target : Target) (operands : List Operand) (args : List Actual) → Runs (Invoke line target DeleteGlobalRef operands) (GoesOn rest) p → LandsBy weak (Calls line target DeleteGlobalRef args) (length t.frames) own s.statics (call_step unit classes in_use k s t line target DeleteGlobalRef args rest false)
-  delete_global_lands (Tested a b) operands args r = absurd (global_no_push r.1)
-  delete_global_lands (Declared kind x) operands args r = global_at (Declared kind x) args None tt r.2 (trap_of_call classes s t (Declared kind x) DeleteGlobalRef args)
-  delete_global_lands (Assigned x) operands args r = global_at (Assigned x) args None tt r.2 (trap_of_call classes s t (Assigned x) DeleteGlobalRef args)
-  delete_global_lands Dropped operands args r = global_at Dropped args None tt r.2 (trap_of_call classes s t Dropped DeleteGlobalRef args)
-
-  -- ---- a weak one is
-
-  weak_deleted : (target : Target) (args : List Actual) (get : _) (x : Identifier) (r : Option StaticReference) → IsNoTest target → ResultGoes target GivesNothing get (GoesOn rest) p
-      → LandsBy weak (Calls line target DeleteWeakGlobalRef args) (length t.frames) own s.statics (after_call unit classes in_use k s t line target DeleteWeakGlobalRef args rest (delete_weak_effect s t x r))
-  weak_deleted target args get x None away goes = given_lands unit classes in_use k s t line target DeleteWeakGlobalRef args rest p own (λ y. refl) GivesNothing [] s t NoResult get refl away (λ c. absurd (cc)) stands (Plainly NoResultThere) goes
-  weak_deleted target args get x (Some Empty) away goes = given_lands unit classes in_use k s t line target DeleteWeakGlobalRef args rest p own (λ y. refl) GivesNothing [] s t NoResult get refl away (λ c. absurd (cc)) stands (Plainly NoResultThere) goes
-  weak_deleted target args get x (Some (Live n)) away goes = given_lands unit classes in_use k s t line target DeleteWeakGlobalRef args rest p own (λ y. refl) GivesNothing [] s t NoResult get refl away (λ c. absurd (cc)) stands (Plainly NoResultThere) goes
-  weak_deleted target args get x (Some Deleted) away goes = given_lands unit classes in_use k s t line target DeleteWeakGlobalRef args rest p own (λ y. refl) GivesNothing [] s t NoResult get refl away (λ c. absurd (cc)) stands (Plainly NoResultThere) goes
-  weak_deleted target args get x (Some (Weakly n)) away goes =
-      lands_from weak (Calls line target DeleteWeakGlobalRef args) (length t.frames) own s.statics (assign x Deleted s.statics) _ (statics_stay unit classes in_use k s t rest p stands x Deleted)
-      (given_lands unit classes in_use k s t line target DeleteWeakGlobalRef args rest p own (λ y. refl) GivesNothing [] (record s { statics = assign x Deleted s.statics }) t NoResult get refl away (λ c. absurd (cc))
-      (stands_static unit classes in_use k s t rest p stands x Deleted (λ n c. absurd (no_deleted n c))) (Plainly NoResultThere) goes)
-  weak_deleted target args get x (Some Cleared) away goes =
-      lands_from weak (Calls line target DeleteWeakGlobalRef args) (length t.frames) own s.statics (assign x Deleted s.statics) _ (statics_stay unit classes in_use k s t rest p stands x Deleted)
-      (given_lands unit classes in_use k s t line target DeleteWeakGlobalRef args rest p own (λ y. refl) GivesNothing [] (record s { statics = assign x Deleted s.statics }) t NoResult get refl away (λ c. absurd (cc))
-      (stands_static unit classes in_use k s t rest p stands x Deleted (λ n c. absurd (no_deleted n c))) (Plainly NoResultThere) goes)
-
-  weak_is : (args : List Actual) → call_effect unit classes in_use k s t args DeleteWeakGlobalRef ≡ delete_weak_effect s t (variable_given args 0) (lookup (variable_given args 0) s.statics)
-  unfolding call_effect
-  weak_is args = refl
-
-  weak_at : (target : Target) (args : List Actual) (get : _) → IsNoTest target → ResultGoes target GivesNothing get (GoesOn rest) p → (o : Option Trap)
-      → LandsBy weak (Calls line target DeleteWeakGlobalRef args) (length t.frames) own s.statics (after_call unit classes in_use k s t line target DeleteWeakGlobalRef args rest (checked o (call_effect unit classes in_use k s t args DeleteWeakGlobalRef)))
-  weak_at target args get away goes None =
-      subst (λ (e : CallEffect). LandsBy weak (Calls line target DeleteWeakGlobalRef args) (length t.frames) own s.statics (after_call unit classes in_use k s t line target DeleteWeakGlobalRef args rest e)) (sym (weak_is args)) (weak_deleted target args get (variable_given args 0) (lookup (variable_given args 0) s.statics) away goes)
-  weak_at target args get away goes (Some trap) = (whole, λ x r g. (r, g))
-
-  weak_no_push : DeleteWeakGlobalRef ≡ PushLocalFrame → ⊥
-  weak_no_push e = cc
-
-  -- DeleteWeakGlobalRef
-  pub delete_weak_lands : (target : Target) (operands : List Operand) (args : List Actual) → Runs (Invoke line target DeleteWeakGlobalRef operands) (GoesOn rest) p → LandsBy weak (Calls line target DeleteWeakGlobalRef args) (length t.frames) own s.statics (call_step unit classes in_use k s t line target DeleteWeakGlobalRef args rest false)
-  delete_weak_lands (Tested a b) operands args r = absurd (weak_no_push r.1)
-  delete_weak_lands (Declared kind x) operands args r = weak_at (Declared kind x) args None tt r.2 (trap_of_call classes s t (Declared kind x) DeleteWeakGlobalRef args)
-  delete_weak_lands (Assigned x) operands args r = weak_at (Assigned x) args None tt r.2 (trap_of_call classes s t (Assigned x) DeleteWeakGlobalRef args)
-  delete_weak_lands Dropped operands args r = weak_at Dropped args None tt r.2 (trap_of_call classes s t Dropped DeleteWeakGlobalRef args)
+    static_lands : {kind : ResultKind} {a : Answer} → (prototype f).result ≡ kind → ResultGoes target kind get (GoesOn rest) p → AnswersAs unit classes EndsStatic kind a → AnswerLands a
+    unfolding effect_of
+    static_lands is goes EndingNoStatic = given_lands unit classes in_use k s t line target f args rest p own left GivesNothing [] s t NoResult get is away (λ c. absurd (cc)) stands (Plainly NoResultThere) goes
+    static_lands is goes (EndingGlobal n) = marked (variable_given args 0) (without_one n s.globals) is goes
+    static_lands is goes EndingWeak = marked (variable_given args 0) s.globals is goes
+    static_lands is goes (Halting trap) = (whole, λ x r g. (r, g))
 
   -- ---- a local array is filled
 
@@ -142,83 +96,69 @@ module _ (unit : SourceUnit) (classes : Classes) (in_use : BuffersInUse) (k : �
       (stands_kept s.statics t.variables t.frames p stands x (LocalArray u (overwritten there.0 0 new)) (sort.Array u size) (LocalArray u there.0) e there.1 (array_no_ref u there.0) (array_no_buffer u there.0) (overwritten there.0 0 new, refl)
       (λ v b c. absurd (array_no_buffer u (overwritten there.0 0 new) v b c)))
 
-  module _ (f : JniFunction) (nothing : (prototype f).result ≡ GivesNothing) (target : Target) (away : IsNoTest target) (args : List Actual) (get : _) (goes : ResultGoes target GivesNothing get (GoesOn rest) p) (left : (y : Identifier) → own y ≡ left_by f args (length t.frames) own y) where
-    thrown : (c : ℕ) → LandsBy weak (Calls line target f args) (length t.frames) own s.statics (after_call unit classes in_use k s t line target f args rest (Throws c))
-    thrown c =
-        quiet_lands unit classes in_use k s t line target f args rest p stands left get (Throws c) away whole
-        (λ is. absurd (let both : GivesNothing ≡ NewLocal = sym nothing ∙ is in cc))
-        (subst (λ (kind : ResultKind). Simple kind (failure kind)) (sym nothing) NoResultThere)
-        (subst (λ (kind : ResultKind). ResultGoes target kind get (GoesOn rest) p) (sym nothing) goes)
-
-    region_got : (u : ElementType) (size object : ℕ) (x : Identifier) (i n : ℕ) → sort_in p.names x ≡ Some (sort.Array u size) → LandsBy weak (Calls line target f args) (length t.frames) own s.statics (after_call unit classes in_use k s t line target f args rest (get_region_effect s t object x i n))
-    region_got u size object x i n e =
-        cond_both (nat_le n (length (local_array (lookup x t.variables)))) _ _ (λ (e : CallEffect). LandsBy weak (Calls line target f args) (length t.frames) own s.statics (after_call unit classes in_use k s t line target f args rest e))
-        (λ c. given_lands unit classes in_use k s t line target f args rest p own left GivesNothing [] s (record t { variables = change x (begun_with (take n (drop i (numbers_of s.heap object)))) t.variables }) NoResult get nothing away (λ c. absurd (cc))
-        (stands_filled u size x (take n (drop i (numbers_of s.heap object))) e) (Plainly NoResultThere) goes)
-        (λ c. (whole, λ x r g. (r, g)))
-
-    pub region_lands : (u : ElementType) (size object : ℕ) (x : Identifier) (c count : ℕ) (z l : ℤ) → sort_in p.names x ≡ Some (sort.Array u size)
-        → LandsBy weak (Calls line target f args) (length t.frames) own s.statics (after_call unit classes in_use k s t line target f args rest (at_region c count z l (get_region_effect s t object x)))
-    region_lands u size object x c count (pos i) (pos n) e =
-        cond_both (nat_le (i + n) count) _ _ (λ (e : CallEffect). LandsBy weak (Calls line target f args) (length t.frames) own s.statics (after_call unit classes in_use k s t line target f args rest e)) (λ h. region_got u size object x i n e) (λ h. thrown c)
-    region_lands u size object x c count (pos i) (negsuc n) e = thrown c
-    region_lands u size object x c count (negsuc i) l e = thrown c
+  module _ (f : JniFunction) (target : Target) (away : IsNoTest target) (args : List Actual) (get : Option (Access × Option Identifier)) (left : (y : Identifier) → own y ≡ left_by f args (length t.frames) own y) where
+    region_lands : {kind : ResultKind} {a : Answer} → (u : ElementType) (size : ℕ) → sort_in p.names (variable_given args 3) ≡ Some (sort.Array u size)
+        → (prototype f).result ≡ kind → ResultGoes target kind get (GoesOn rest) p → AnswersAs unit classes FillsArray kind a
+        → LandsBy weak (Calls line target f args) (length t.frames) own s.statics (after_call unit classes in_use k s t line target f args rest (effect_of classes in_use k s t args a))
+    unfolding effect_of
+    region_lands u size e is goes (Filling r) =
+        given_lands unit classes in_use k s t line target f args rest p own left GivesNothing [] s (record t { variables = with_region_got s.heap (variable_given args 3) r t.variables }) NoResult get is away (λ c. absurd (cc))
+        (stands_filled u size (variable_given args 3) (take r.count (drop r.start (numbers_of s.heap r.object))) e) (Plainly NoResultThere) goes
+    region_lands u size e is goes (FillingNone class) =
+        quiet_lands unit classes in_use k s t line target f args rest p stands left get (Throws class) away whole
+        (λ local. absurd (let both : GivesNothing ≡ NewLocal = sym is ∙ local in cc))
+        (subst (λ (kind : ResultKind). Simple kind (failure kind)) (sym is) NoResultThere)
+        (subst (λ (kind : ResultKind). ResultGoes target kind get (GoesOn rest) p) (sym is) goes)
+    region_lands u size e is goes (Halting trap) = (whole, λ x r g. (r, g))
 
   -- the array is the last argument
-  array_region_is : (u : ElementType) (a b c : Operand) (x : Identifier) (args : List Actual) → args ≡ actuals (sight_of s t) (GetArrayRegion u) (a ∷ b ∷ c ∷ Given (tree.Value (tree.Variable x)) ∷ [])
-      → call_effect unit classes in_use k s t args (GetArrayRegion u) ≡ at_region array_index_out_of_bounds (length (values_of s.heap (object_given args 0))) (number_given args 1) (number_given args 2) (get_region_effect s t (object_given args 0) x)
-  unfolding call_effect
-  array_region_is u a b c x args is = ap (λ (l : List Actual). at_region array_index_out_of_bounds (length (values_of s.heap (object_given args 0))) (number_given args 1) (number_given args 2) (get_region_effect s t (object_given args 0) (variable_given l 3))) is
+  array_last : (owner : ParameterKind) (u : ElementType) (operands : List Operand) → OperandsFit p (owner ∷ IntNumber ∷ IntNumber ∷ ArrayVariable u ∷ []) operands
+      → (size : ℕ) × (sort_in p.names (variable_given (map (look_up (sight_of s t)) (zip (owner ∷ IntNumber ∷ IntNumber ∷ ArrayVariable u ∷ []) operands)) 3) ≡ Some (sort.Array u size))
+  array_last owner u (a ∷ b ∷ c ∷ Given (tree.Value (tree.Variable x)) ∷ []) fit = fit.1.1.1.0
+  array_last owner u (a ∷ b ∷ c ∷ Given (tree.Value (tree.Variable x)) ∷ o ∷ more) fit = absurd fit.1.1.1.1
+  array_last owner u (a ∷ b ∷ c ∷ o ∷ more) fit = absurd fit.1.1.1.0
+  array_last owner u (a ∷ b ∷ c ∷ []) fit = absurd fit.1.1.1
+  array_last owner u (a ∷ b ∷ []) fit = absurd fit.1.1
+  array_last owner u (a ∷ []) fit = absurd fit.1
+  array_last owner u [] fit = absurd fit
 
-  string_region_is : (a b c : Operand) (x : Identifier) (args : List Actual) → args ≡ actuals (sight_of s t) GetStringRegion (a ∷ b ∷ c ∷ Given (tree.Value (tree.Variable x)) ∷ [])
-      → call_effect unit classes in_use k s t args GetStringRegion ≡ at_region string_index_out_of_bounds (length (values_of s.heap (object_given args 0))) (number_given args 1) (number_given args 2) (get_region_effect s t (object_given args 0) x)
-  unfolding call_effect
-  string_region_is a b c x args is = ap (λ (l : List Actual). at_region string_index_out_of_bounds (length (values_of s.heap (object_given args 0))) (number_given args 1) (number_given args 2) (get_region_effect s t (object_given args 0) (variable_given l 3))) is
+  module _ (f : JniFunction) (target : Target) (operands : List Operand) (args : List Actual) where
+    -- what the call answers
+    abbrev answer : Answer
+    answer = call_answer unit classes k (sight_of_call s t JInt f args) f
 
-  array_region_at : (u : ElementType) (target : Target) (get : _) (operands : List Operand) (args : List Actual) → args ≡ actuals (sight_of s t) (GetArrayRegion u) operands → IsNoTest target → OperandsFit p (NumberArray u ∷ IntNumber ∷ IntNumber ∷ ArrayVariable u ∷ []) operands
-      → ResultGoes target GivesNothing get (GoesOn rest) p → (o : Option Trap) → LandsBy weak (Calls line target (GetArrayRegion u) args) (length t.frames) own s.statics (after_call unit classes in_use k s t line target (GetArrayRegion u) args rest (checked o (call_effect unit classes in_use k s t args (GetArrayRegion u))))
-  array_region_at u target get operands args is away fit goes (Some trap) = (whole, λ x r g. (r, g))
-  array_region_at u target get (a ∷ b ∷ c ∷ Given (tree.Value (tree.Variable x)) ∷ []) args is away fit goes None =
-      subst (λ (e : CallEffect). LandsBy weak (Calls line target (GetArrayRegion u) args) (length t.frames) own s.statics (after_call unit classes in_use k s t line target (GetArrayRegion u) args rest e)) (sym (array_region_is u a b c x args is))
-      (region_lands (GetArrayRegion u) refl target away args get goes (λ y. refl) u fit.1.1.1.0.0 (object_given args 0) x array_index_out_of_bounds (length (values_of s.heap (object_given args 0))) (number_given args 1) (number_given args 2) fit.1.1.1.0.1)
-  array_region_at u target get (a ∷ b ∷ c ∷ Given (tree.Value (tree.Variable x)) ∷ o ∷ more) args is away fit goes None = absurd fit.1.1.1.1
-  array_region_at u target get (a ∷ b ∷ c ∷ o ∷ more) args is away fit goes None = absurd fit.1.1.1.0
-  array_region_at u target get (a ∷ b ∷ c ∷ []) args is away fit goes None = absurd fit.1.1.1
-  array_region_at u target get (a ∷ b ∷ []) args is away fit goes None = absurd fit.1.1
-  array_region_at u target get (a ∷ []) args is away fit goes None = absurd fit.1
-  array_region_at u target get [] args is away h goes None = absurd h
+    -- its effect leads to a point, where the answer's does
+    answered : LandsBy weak (Calls line target f args) (length t.frames) own s.statics (after_call unit classes in_use k s t line target f args rest (effect_of classes in_use k s t args answer))
+        → LandsBy weak (Calls line target f args) (length t.frames) own s.statics (after_call unit classes in_use k s t line target f args rest (call_effect unit classes in_use k s t args f))
+    answered h =
+        subst (λ (e : CallEffect). LandsBy weak (Calls line target f args) (length t.frames) own s.statics (after_call unit classes in_use k s t line target f args rest e)) (sym (effect_is unit classes in_use k s t args JInt f)) h
 
-  string_region_at : (target : Target) (get : _) (operands : List Operand) (args : List Actual) → args ≡ actuals (sight_of s t) GetStringRegion operands → IsNoTest target → OperandsFit p (StringObject ∷ IntNumber ∷ IntNumber ∷ ArrayVariable JChar ∷ []) operands
-      → ResultGoes target GivesNothing get (GoesOn rest) p → (o : Option Trap) → LandsBy weak (Calls line target GetStringRegion args) (length t.frames) own s.statics (after_call unit classes in_use k s t line target GetStringRegion args rest (checked o (call_effect unit classes in_use k s t args GetStringRegion)))
-  string_region_at target get operands args is away fit goes (Some trap) = (whole, λ x r g. (r, g))
-  string_region_at target get (a ∷ b ∷ c ∷ Given (tree.Value (tree.Variable x)) ∷ []) args is away fit goes None =
-      subst (λ (e : CallEffect). LandsBy weak (Calls line target GetStringRegion args) (length t.frames) own s.statics (after_call unit classes in_use k s t line target GetStringRegion args rest e)) (sym (string_region_is a b c x args is))
-      (region_lands GetStringRegion refl target away args get goes (λ y. refl) JChar fit.1.1.1.0.0 (object_given args 0) x string_index_out_of_bounds (length (values_of s.heap (object_given args 0))) (number_given args 1) (number_given args 2) fit.1.1.1.0.1)
-  string_region_at target get (a ∷ b ∷ c ∷ Given (tree.Value (tree.Variable x)) ∷ o ∷ more) args is away fit goes None = absurd fit.1.1.1.1
-  string_region_at target get (a ∷ b ∷ c ∷ o ∷ more) args is away fit goes None = absurd fit.1.1.1.0
-  string_region_at target get (a ∷ b ∷ c ∷ []) args is away fit goes None = absurd fit.1.1.1
-  string_region_at target get (a ∷ b ∷ []) args is away fit goes None = absurd fit.1.1
-  string_region_at target get (a ∷ []) args is away fit goes None = absurd fit.1
-  string_region_at target get [] args is away h goes None = absurd h
+    plain_left : (kind : CallKind) → call_kind f ≡ kind → IsFreeKind kind → (y : Identifier) → own y ≡ left_by f args (length t.frames) own y
+    plain_left kind is free y = free_owners f args (length t.frames) own (subst IsFreeKind (sym is) free) y
 
-  array_no_push : (u : ElementType) → GetArrayRegion u ≡ PushLocalFrame → ⊥
-  array_no_push u e = cc
+    call_fits : (target : Target) → Runs (Invoke line target f operands) (GoesOn rest) p → CallFits p f operands
+    call_fits (Tested a b) runs = runs.0
+    call_fits (Declared kind x) runs = runs.0
+    call_fits (Assigned x) runs = runs.0
+    call_fits Dropped runs = runs.0
 
-  string_no_push : GetStringRegion ≡ PushLocalFrame → ⊥
-  string_no_push e = cc
+    -- the calls that delete what a static holds
+    pub static_call_lands : call_kind f ≡ EndsStatic → Runs (Invoke line target f operands) (GoesOn rest) p
+        → LandsBy weak (Calls line target f args) (length t.frames) own s.statics (call_step unit classes in_use k s t line target f args rest false)
+    static_call_lands is runs =
+        plain_call_lands unit classes in_use k s t line f args rest p stands (subst IsPlain (sym is) tt) whole target operands (λ get away room goes.
+        answered (static_lands f target away args get (plain_left EndsStatic is tt) refl goes (answers_of unit classes k (sight_of_call s t JInt f args) f EndsStatic is))) runs
 
-  -- GetIntArrayRegion and the like
-  pub array_region_lands : (u : ElementType) (target : Target) (operands : List Operand) (args : List Actual) → args ≡ actuals (sight_of s t) (GetArrayRegion u) operands → Runs (Invoke line target (GetArrayRegion u) operands) (GoesOn rest) p
-      → LandsBy weak (Calls line target (GetArrayRegion u) args) (length t.frames) own s.statics (call_step unit classes in_use k s t line target (GetArrayRegion u) args rest false)
-  array_region_lands u (Tested a b) operands args is r = absurd (array_no_push u r.1)
-  array_region_lands u (Declared kind x) operands args is r = array_region_at u (Declared kind x) None operands args is tt r.0.sorts r.2 (trap_of_call classes s t (Declared kind x) (GetArrayRegion u) args)
-  array_region_lands u (Assigned x) operands args is r = array_region_at u (Assigned x) None operands args is tt r.0.sorts r.2 (trap_of_call classes s t (Assigned x) (GetArrayRegion u) args)
-  array_region_lands u Dropped operands args is r = array_region_at u Dropped None operands args is tt r.0.sorts r.2 (trap_of_call classes s t Dropped (GetArrayRegion u) args)
-
-  -- GetStringRegion
-  pub string_region_lands : (target : Target) (operands : List Operand) (args : List Actual) → args ≡ actuals (sight_of s t) GetStringRegion operands → Runs (Invoke line target GetStringRegion operands) (GoesOn rest) p
-      → LandsBy weak (Calls line target GetStringRegion args) (length t.frames) own s.statics (call_step unit classes in_use k s t line target GetStringRegion args rest false)
-  string_region_lands (Tested a b) operands args is r = absurd (string_no_push r.1)
-  string_region_lands (Declared kind x) operands args is r = string_region_at (Declared kind x) None operands args is tt r.0.sorts r.2 (trap_of_call classes s t (Declared kind x) GetStringRegion args)
-  string_region_lands (Assigned x) operands args is r = string_region_at (Assigned x) None operands args is tt r.0.sorts r.2 (trap_of_call classes s t (Assigned x) GetStringRegion args)
-  string_region_lands Dropped operands args is r = string_region_at Dropped None operands args is tt r.0.sorts r.2 (trap_of_call classes s t Dropped GetStringRegion args)
+    -- those that fill a local array
+    pub region_call_lands : args ≡ actuals (sight_of s t) f operands → call_kind f ≡ FillsArray → Runs (Invoke line target f operands) (GoesOn rest) p
+        → LandsBy weak (Calls line target f args) (length t.frames) own s.statics (call_step unit classes in_use k s t line target f args rest false)
+    region_call_lands looked is runs =
+        let last = filled_last f is in
+        let parameters = last.1.1 (length operands) in
+        let array = array_last last.0 last.1.0 operands (subst (λ (l : List ParameterKind). OperandsFit p l operands) parameters (call_fits target runs).sorts) in
+        let given : args ≡ map (look_up (sight_of s t)) (zip (last.0 ∷ IntNumber ∷ IntNumber ∷ ArrayVariable last.1.0 ∷ []) operands) =
+        looked ∙ ap (λ (l : List ParameterKind). map (look_up (sight_of s t)) (zip l operands)) parameters in
+        plain_call_lands unit classes in_use k s t line f args rest p stands (subst IsPlain (sym is) tt) whole target operands (λ get away room goes.
+        answered (region_lands f target away args get (plain_left FillsArray is tt) last.1.0 array.0
+        (subst (λ (l : List Actual). sort_in p.names (variable_given l 3) ≡ Some (sort.Array last.1.0 array.0)) (sym given) array.1)
+        refl goes (answers_of unit classes k (sight_of_call s t JInt f args) f FillsArray is))) runs

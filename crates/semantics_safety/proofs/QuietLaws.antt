@@ -18,6 +18,7 @@ use Rattle.semantics.specs.Task.{Task, Target, Declared, Assigned, Tested, Dropp
 use Rattle.semantics.specs.Thread.{Thread, Shared, BuffersInUse, Frame}
 use Rattle.semantics.specs.ThreadStep.{with_tasks}
 use Rattle.semantics.specs.Variable.{Variables, Statics}
+use Rattle.semantics.proofs.AnswerKinds.{CallKind, EndsLocal, EndsStatic, FillsArray, PopsFrame, Quiet, ReleasesBuffer, call_kind}
 use Rattle.semantics_safety.specs.Owners.{Owners, left_by}
 use Rattle.semantics_safety.specs.Points.{Point, owners}
 use Rattle.semantics_safety.specs.Stands.{copies, Goes, Stands}
@@ -29,12 +30,29 @@ use Rattle.semantics_safety.proofs.ReferenceLaws.{with_target, local_lands}
 use Rattle.semantics_safety.proofs.OwnerLaws.{LandsBy, LandsByIfPossible, by_if_possible, put_by}
 use Rattle.semantics_safety.proofs.StepLaws.{Lands}
 
--- a function that the region rules don't know apart, but for what it fills
+-- the region rules don't know functions of such a kind apart, but for what they fill
+abbrev pub IsFreeKind : CallKind → Type 0
+IsFreeKind (ReleasesBuffer access) = ⊥
+IsFreeKind EndsLocal = ⊥
+IsFreeKind PopsFrame = ⊥
+IsFreeKind kind = Unit {0}
+
+-- nor a function of one
 abbrev pub IsFree : JniFunction → Type 0
-IsFree (ReleaseBuffer access) = ⊥
-IsFree DeleteLocalRef = ⊥
-IsFree PopLocalFrame = ⊥
-IsFree f = Unit {0}
+IsFree f = IsFreeKind (call_kind f)
+
+-- kinds of functions that give no buffer, call no method, and of which the region rules know none apart
+abbrev pub IsPlain : CallKind → Type 0
+IsPlain Quiet = Unit {0}
+IsPlain EndsStatic = Unit {0}
+IsPlain FillsArray = Unit {0}
+IsPlain kind = ⊥
+
+pub plain_free : (kind : CallKind) → IsPlain kind → IsFreeKind kind
+plain_free (ReleasesBuffer access) h = h
+plain_free EndsLocal h = h
+plain_free PopsFrame h = h
+plain_free kind h = tt
 
 pub free_call : (f : JniFunction) (regions : RegionState) (args : List Argument) → IsFree f → states.after_call regions (Some (f, args)) ≡ regions
 free_call (ReleaseBuffer access) regions args h = absurd h

@@ -1,9 +1,10 @@
--- The step of a quiet call keeps what holds of its thread, and is possible.
+-- The step of a plain call keeps what holds of its thread, and is possible.
 use Rattle.std.proofs.Common.{◌≡◌, ℕ, Bool, true, false, List, [], ◌∷◌, map, Option, Some, None, refl, subst, length}
 use Rattle.std.specs.Prelude.{◌&&◌, ◌||◌, not, is_some, zip, slice_get}
 use Rattle.std.specs.List.{list_any}
 use Rattle.base.specs.Element.{ElementType}
 use Rattle.class_rules.specs.Class.{Classes}
+use Rattle.jni.specs.Access.{Access}
 use Rattle.jni.specs.JniFunction as jni
 use Rattle.jni.specs.JniFunction.{JniFunction, PushLocalFrame, is_allowed_pending, parameters_for, prototype}
 use Rattle.jni.specs.Prototype.{ResultKind, NewLocal}
@@ -20,24 +21,19 @@ use Rattle.semantics.specs.Thread.{Frame, Thread, Shared, BuffersInUse}
 use Rattle.semantics.specs.Effect.{Calls}
 use Rattle.base.specs.Bytes.{Identifier}
 use Rattle.syntax.specs.Tree.{SourceUnit}
+use Rattle.semantics.proofs.AnswerKinds.{Quiet, call_kind}
 use Rattle.semantics_safety.proofs.OwnerLaws.{LandsBy, LandsByIfPossible}
 use Rattle.semantics_safety.specs.Owners.{Owners, left_by}
 use Rattle.semantics_safety.specs.Points.{Point}
 use Rattle.semantics_safety.specs.Stands.{Goes, Stands}
 use Rattle.semantics_safety.specs.Wanted.{Runs, ResultGoes, GoesOn, call_seen, operand_argument, at}
 use Rattle.semantics_safety.specs.WeakNames.{WeakNames}
-use Rattle.semantics_safety.proofs.QuietCalls.{IsQuietFunction, effect_quiet, fails_simply}
+use Rattle.semantics_safety.proofs.QuietCalls.{effect_quiet, fails_simply}
 use Rattle.semantics_safety.proofs.FrameLaws.{HasFrame}
-use Rattle.semantics_safety.proofs.QuietLaws.{IsFree, IsNoTest, free_call, quiet_lands, refused_lands, free_owners}
+use Rattle.semantics_safety.proofs.QuietLaws.{IsFree, IsNoTest, IsPlain, free_call, plain_free, quiet_lands, refused_lands, free_owners}
 
-quiet_free : (f : JniFunction) → IsQuietFunction f → IsFree f
-quiet_free (jni.ReleaseBuffer access) h = absurd h
-quiet_free jni.DeleteLocalRef h = absurd h
-quiet_free jni.PopLocalFrame h = absurd h
-quiet_free f h = tt
-
-quiet_no_push : (f : JniFunction) → IsQuietFunction f → f ≡ PushLocalFrame → ⊥
-quiet_no_push f h e = subst IsQuietFunction e h
+plain_no_push : (f : JniFunction) → IsPlain (call_kind f) → f ≡ PushLocalFrame → ⊥
+plain_no_push f h e = subst (λ (g : JniFunction). IsPlain (call_kind g)) e h
 
 -- ---- room for a local reference
 
@@ -71,41 +67,49 @@ has_room classes heap t buffer f args none is =
     (lacks_room (prototype f).result (slice_get (frames_after f t.frames) 0))
     ExceptionPending DeletedReference NullReference WrongObject NoCapacity _ none)
 
-module _ (unit : SourceUnit) (classes : Classes) (in_use : BuffersInUse) (k : ℕ) (s : Shared) (t : Thread) (line : ℕ) (f : JniFunction) (args : List Actual) (rest : List Task) (p : Point) {weak : WeakNames} {own : Owners} (stands : Stands weak own s.statics t.variables t.frames p) (quiet : IsQuietFunction f) (whole : Goes weak own s.statics t t.tasks) where
+module _ (unit : SourceUnit) (classes : Classes) (in_use : BuffersInUse) (k : ℕ) (s : Shared) (t : Thread) (line : ℕ) (f : JniFunction) (args : List Actual) (rest : List Task) (p : Point) {weak : WeakNames} {own : Owners} (stands : Stands weak own s.statics t.variables t.frames p) (plain : IsPlain (call_kind f)) (whole : Goes weak own s.statics t t.tasks) where
   goes_at : (target : Target) (operands : List Operand) → ResultGoes target (prototype f).result (get_of (call_seen f operands)) (GoesOn rest) (at p (states.after_call p.regions (call_seen f operands)))
       → ResultGoes target (prototype f).result (get_of (call_seen f operands)) (GoesOn rest) p
-  goes_at target operands h = subst (λ (regions : RegionState). ResultGoes target (prototype f).result (get_of (call_seen f operands)) (GoesOn rest) (at p regions)) (free_call f p.regions (map operand_argument operands) (quiet_free f quiet)) h
+  goes_at target operands h = subst (λ (regions : RegionState). ResultGoes target (prototype f).result (get_of (call_seen f operands)) (GoesOn rest) (at p regions)) (free_call f p.regions (map operand_argument operands) (plain_free (call_kind f) plain)) h
 
   left : (y : Identifier) → own y ≡ left_by f args (length t.frames) own y
-  left y = free_owners f args (length t.frames) own (quiet_free f quiet) y
+  left y = free_owners f args (length t.frames) own (plain_free (call_kind f) plain) y
 
   room : (target : Target) → trap_of_call classes s t target f args ≡ None → (prototype f).result ≡ NewLocal → HasFrame t.frames
-  room target none is = has_frame t.frames (subst (λ (frames : List Frame). is_full (slice_get frames 0) ≡ false) (frames_stay f t.frames (quiet_free f quiet)) (has_room classes s.heap t (target_element t.variables target) f args none is))
+  room target none is = has_frame t.frames (subst (λ (frames : List Frame). is_full (slice_get frames 0) ≡ false) (frames_stay f t.frames (plain_free (call_kind f) plain)) (has_room classes s.heap t (target_element t.variables target) f args none is))
 
-  lands_at : (target : Target) (operands : List Operand) → IsNoTest target → ResultGoes target (prototype f).result (get_of (call_seen f operands)) (GoesOn rest) p
-      → LandsBy weak (Calls line target f args) (length t.frames) own s.statics (call_step unit classes in_use k s t line target f args rest false)
-  lands_at target operands away h = by_trap (trap_of_call classes s t target f args) refl
-    where
-      by_trap : (o : Option Trap) → trap_of_call classes s t target f args ≡ o → LandsBy weak (Calls line target f args) (length t.frames) own s.statics (after_call unit classes in_use k s t line target f args rest (checked o (call_effect unit classes in_use k s t args f)))
-      by_trap None e =
-          quiet_lands unit classes in_use k s t line target f args rest p stands left (get_of (call_seen f operands)) (call_effect unit classes in_use k s t args f) away whole (room target e)
-          (effect_quiet unit classes in_use k s t args f quiet) h
-      by_trap (Some trap) e = (whole, λ x r g. (r, g))
+  -- the call's effect leads to a point
+  abbrev EffectLands : Target → Type 0
+  EffectLands target = LandsBy weak (Calls line target f args) (length t.frames) own s.statics (after_call unit classes in_use k s t line target f args rest (call_effect unit classes in_use k s t args f))
+
+  by_trap : (target : Target) → (((prototype f).result ≡ NewLocal → HasFrame t.frames) → EffectLands target) → (o : Option Trap) → trap_of_call classes s t target f args ≡ o
+      → LandsBy weak (Calls line target f args) (length t.frames) own s.statics (after_call unit classes in_use k s t line target f args rest (checked o (call_effect unit classes in_use k s t args f)))
+  by_trap target lands None e = lands (room target e)
+  by_trap target lands (Some trap) e = (whole, λ x r g. (r, g))
+
+  -- where it does, so does the call's step, unmarked
+  pub plain_call_lands : (target : Target) (operands : List Operand)
+      → ((get : Option (Access × Option Identifier)) → IsNoTest target → ((prototype f).result ≡ NewLocal → HasFrame t.frames) → ResultGoes target (prototype f).result get (GoesOn rest) p → EffectLands target)
+      → Runs (Invoke line target f operands) (GoesOn rest) p → LandsBy weak (Calls line target f args) (length t.frames) own s.statics (call_step unit classes in_use k s t line target f args rest false)
+  plain_call_lands (Tested a b) operands lands r = absurd (plain_no_push f plain r.1)
+  plain_call_lands (Declared kind x) operands lands r = by_trap (Declared kind x) (λ room. lands (get_of (call_seen f operands)) tt room (goes_at (Declared kind x) operands r.2)) (trap_of_call classes s t (Declared kind x) f args) refl
+  plain_call_lands (Assigned x) operands lands r = by_trap (Assigned x) (λ room. lands (get_of (call_seen f operands)) tt room (goes_at (Assigned x) operands r.2)) (trap_of_call classes s t (Assigned x) f args) refl
+  plain_call_lands Dropped operands lands r = by_trap Dropped (λ room. lands (get_of (call_seen f operands)) tt room (goes_at Dropped operands r.2)) (trap_of_call classes s t Dropped f args) refl
+
+  -- the step of a quiet call, unmarked
+  pub call_lands : call_kind f ≡ Quiet → (target : Target) (operands : List Operand) → Runs (Invoke line target f operands) (GoesOn rest) p → LandsBy weak (Calls line target f args) (length t.frames) own s.statics (call_step unit classes in_use k s t line target f args rest false)
+  call_lands quiet target operands runs =
+      plain_call_lands target operands (λ get away room goes.
+      quiet_lands unit classes in_use k s t line target f args rest p stands left get (call_effect unit classes in_use k s t args f) away whole room
+      (effect_quiet unit classes in_use k s t args f quiet) goes) runs
 
   refused_at : (target : Target) (operands : List Operand) → IsNoTest target → ResultGoes target (prototype f).result (get_of (call_seen f operands)) (GoesOn rest) p
       → LandsByIfPossible weak (Calls line target f args) (length t.frames) own s.statics (call_step unit classes in_use k s t line target f args rest true)
-  refused_at target operands away h = refused_lands unit classes in_use k s t line target f args rest p stands left (get_of (call_seen f operands)) _ away (fails_simply f quiet) h
+  refused_at target operands away h = refused_lands unit classes in_use k s t line target f args rest p stands left (get_of (call_seen f operands)) _ away (fails_simply f plain) h
 
-  -- the call's step, unmarked
-  pub call_lands : (target : Target) (operands : List Operand) → Runs (Invoke line target f operands) (GoesOn rest) p → LandsBy weak (Calls line target f args) (length t.frames) own s.statics (call_step unit classes in_use k s t line target f args rest false)
-  call_lands (Tested a b) operands r = absurd (quiet_no_push f quiet r.1)
-  call_lands (Declared kind x) operands r = lands_at (Declared kind x) operands tt (goes_at (Declared kind x) operands r.2)
-  call_lands (Assigned x) operands r = lands_at (Assigned x) operands tt (goes_at (Assigned x) operands r.2)
-  call_lands Dropped operands r = lands_at Dropped operands tt (goes_at Dropped operands r.2)
-
-  -- and marked as refused
+  -- and any, marked as refused
   pub refused_call_lands : (target : Target) (operands : List Operand) → Runs (Invoke line target f operands) (GoesOn rest) p → LandsByIfPossible weak (Calls line target f args) (length t.frames) own s.statics (call_step unit classes in_use k s t line target f args rest true)
-  refused_call_lands (Tested a b) operands r = absurd (quiet_no_push f quiet r.1)
+  refused_call_lands (Tested a b) operands r = absurd (plain_no_push f plain r.1)
   refused_call_lands (Declared kind x) operands r = refused_at (Declared kind x) operands tt (goes_at (Declared kind x) operands r.2)
   refused_call_lands (Assigned x) operands r = refused_at (Assigned x) operands tt (goes_at (Assigned x) operands r.2)
   refused_call_lands Dropped operands r = refused_at Dropped operands tt (goes_at Dropped operands r.2)
