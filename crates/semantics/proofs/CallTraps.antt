@@ -105,7 +105,8 @@ module _ (classes : Classes) (s : Shared) (t : Thread) (element : ElementType) (
   abbrev sight : JniFunction → CallSight
   sight f = sight_of_call s t element f args
 
-  fits_field_alike : (i : ℕ) (type : FieldType)
+  -- a reference fits a field alike
+  pub fits_field_alike : (i : ℕ) (type : FieldType)
       → fits_type classes s.heap (reference_given args i) type ≡ seen.fits_field classes (argument_seen s.heap t.variables (slice_get args i)) type
   fits_field_alike i (NumberField T) = refl
   fits_field_alike i (ReferenceField c) = fits_alike classes s t args i c (reference_given args i) refl
@@ -118,7 +119,8 @@ module _ (classes : Classes) (s : Shared) (t : Thread) (element : ElementType) (
       (all_passed classes s.heap t.variables element args m.function.parameters (drop 2 args)
       ∙ ap (λ (passed : List ArgumentSight). seen.all_pass m.function.parameters passed) (without_two classes s.heap t.variables args))
 
-  together : (f : JniFunction) → table.go_together classes s.heap element args f ≡ seen.go_together classes (sight f) f
+  -- what goes together by what is seen goes together
+  pub together : (f : JniFunction) → table.go_together classes s.heap element args f ≡ seen.go_together classes (sight f) f
   unfolding table.go_together seen.go_together
   together SetObjectField =
       ap (λ b. table.has_field classes s.heap element args && b) (fits_field_alike 2 (field_given args 1).field.type)

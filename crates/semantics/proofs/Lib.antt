@@ -1,5 +1,6 @@
 pub mod AccountLaws
 pub mod Answers
+pub mod AnswerFacts
 pub mod AnswerKinds
 pub mod CallTraps
 pub mod HeapGrows

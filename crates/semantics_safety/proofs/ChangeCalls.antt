@@ -17,7 +17,7 @@ use Rattle.semantics.specs.Answer.{Answer, effect_of, with_region_got}
 use Rattle.semantics.specs.AnswerTable.{call_answer}
 use Rattle.semantics.specs.Arguments.{Actual, actuals, look_up, variable_given}
 use Rattle.semantics.specs.CallEffects.{CallEffect, Throws, Leaves, NoResult, without_one, begun_with, overwritten}
-use Rattle.semantics.specs.CallSight.{sight_of_call}
+use Rattle.semantics.specs.CallSight.{CallSight, sight_of_call}
 use Rattle.semantics.specs.CallStep.{failure, after_call, call_step}
 use Rattle.semantics.specs.CallTable.{call_effect}
 use Rattle.semantics.specs.Heap.{numbers_of}
@@ -74,7 +74,7 @@ module _ (unit : SourceUnit) (classes : Classes) (in_use : BuffersInUse) (k : �
         (given_lands unit classes in_use k s t line target f args rest p own left GivesNothing [] (record s { globals = globals; statics = assign x Deleted s.statics }) t NoResult get is away (λ c. absurd (cc))
         (stands_static unit classes in_use k s t rest p stands x Deleted (λ n c. absurd (no_deleted n c))) (Plainly NoResultThere) goes)
 
-    static_lands : {kind : ResultKind} {a : Answer} → (prototype f).result ≡ kind → ResultGoes target kind get (GoesOn rest) p → AnswersAs unit classes EndsStatic kind a → AnswerLands a
+    static_lands : {sight : CallSight} {g : JniFunction} {kind : ResultKind} {a : Answer} → (prototype f).result ≡ kind → ResultGoes target kind get (GoesOn rest) p → AnswersAs unit classes sight g EndsStatic kind a → AnswerLands a
     unfolding effect_of
     static_lands is goes EndingNoStatic = given_lands unit classes in_use k s t line target f args rest p own left GivesNothing [] s t NoResult get is away (λ c. absurd (cc)) stands (Plainly NoResultThere) goes
     static_lands is goes (EndingGlobal n) = marked (variable_given args 0) (without_one n s.globals) is goes
@@ -97,14 +97,14 @@ module _ (unit : SourceUnit) (classes : Classes) (in_use : BuffersInUse) (k : �
       (λ v b c. absurd (array_no_buffer u (overwritten there.0 0 new) v b c)))
 
   module _ (f : JniFunction) (target : Target) (away : IsNoTest target) (args : List Actual) (get : Option (Access × Option Identifier)) (left : (y : Identifier) → own y ≡ left_by f args (length t.frames) own y) where
-    region_lands : {kind : ResultKind} {a : Answer} → (u : ElementType) (size : ℕ) → sort_in p.names (variable_given args 3) ≡ Some (sort.Array u size)
-        → (prototype f).result ≡ kind → ResultGoes target kind get (GoesOn rest) p → AnswersAs unit classes FillsArray kind a
+    region_lands : {sight : CallSight} {g : JniFunction} {kind : ResultKind} {a : Answer} → (u : ElementType) (size : ℕ) → sort_in p.names (variable_given args 3) ≡ Some (sort.Array u size)
+        → (prototype f).result ≡ kind → ResultGoes target kind get (GoesOn rest) p → AnswersAs unit classes sight g FillsArray kind a
         → LandsBy weak (Calls line target f args) (length t.frames) own s.statics (after_call unit classes in_use k s t line target f args rest (effect_of classes in_use k s t args a))
     unfolding effect_of
-    region_lands u size e is goes (Filling r) =
+    region_lands u size e is goes (Filling r of) =
         given_lands unit classes in_use k s t line target f args rest p own left GivesNothing [] s (record t { variables = with_region_got s.heap (variable_given args 3) r t.variables }) NoResult get is away (λ c. absurd (cc))
         (stands_filled u size (variable_given args 3) (take r.count (drop r.start (numbers_of s.heap r.object))) e) (Plainly NoResultThere) goes
-    region_lands u size e is goes (FillingNone class) =
+    region_lands u size e is goes (FillingNone class of) =
         quiet_lands unit classes in_use k s t line target f args rest p stands left get (Throws class) away whole
         (λ local. absurd (let both : GivesNothing ≡ NewLocal = sym is ∙ local in cc))
         (subst (λ (kind : ResultKind). Simple kind (failure kind)) (sym is) NoResultThere)

@@ -17,7 +17,7 @@ use Rattle.semantics.specs.Answer.{Answer}
 use Rattle.semantics.specs.Answer as answer
 use Rattle.semantics.specs.Arguments.{Actual, variable_given, address_given}
 use Rattle.semantics.specs.CallEffects.{CallResult, NullResult, ScalarResult, ReferenceResult, FieldResult, MethodResult, BufferResult, CallEffect, Throws, Halts, Leaves, Enters, out_of_memory, with_capacity, frames_effect, begun_with, freed}
-use Rattle.semantics.specs.CallSight.{sight_of_call}
+use Rattle.semantics.specs.CallSight.{CallSight, sight_of_call}
 use Rattle.semantics.specs.CallStep.{blank, filled, put, put_assigned, received, tell_copy, failure, resumed, trap_of_call, checked, completed, after_call, after_refusal, call_step}
 use Rattle.semantics.specs.CallTable.{call_effect}
 use Rattle.semantics.specs.Effect.{Effect, Becomes, Sets, SetsNull, SetsElement, MakesArray, Prints, Calls, Returns, TrapsAt, NoEffect, effect_of}
@@ -32,7 +32,8 @@ use Rattle.semantics.specs.Value.{Trap, Int, Flag}
 use Rattle.semantics.specs.Variable.{Variable, Scalar, LocalRef, FieldHandle, MethodHandle, Elements, LocalArray, NoBuffer, Copy, View, Variables, assign, change}
 use Rattle.semantics.specs.World.{Invocation, fresh_object}
 use Rattle.semantics.proofs.Answers.{effect_is}
-use Rattle.semantics.proofs.AnswerKinds.{AnswersAs, CallKind, Calling, CopyingBack, Ensuring, Filling, FillingNone, Freeing, Giving, Halting, IsOfKind, OfMethod, Pending, Pushing, Raising, answers_as}
+use Rattle.semantics.proofs.AnswerFacts.{IsOfKind, OfMethod}
+use Rattle.semantics.proofs.AnswerKinds.{AnswersAs, CallKind, Calling, CopyingBack, Ensuring, Filling, FillingNone, Freeing, Giving, Halting, Pending, Pushing, Raising, answers_as}
 use Rattle.semantics_safety.specs.Stands.{AreCallable, HoldsCallable}
 use Rattle.semantics_safety.specs.StepSafe.{IsCallable}
 
@@ -194,20 +195,20 @@ module _ (unit : SourceUnit) (classes : Classes) where
     given_ok (OfMethod m class name text found) = finds class name text m found
     given_ok g = tt
 
-    answer_ok : {kind : CallKind} {result : ResultKind} {a : Answer} (args : List Actual) → AnswersAs unit classes kind result a → EffectOk (answer.effect_of classes in_use k s t args a)
+    answer_ok : {sight : CallSight} {f : JniFunction} {kind : CallKind} {result : ResultKind} {a : Answer} (args : List Actual) → AnswersAs unit classes sight f kind result a → EffectOk (answer.effect_of classes in_use k s t args a)
     unfolding answer.effect_of
     answer_ok args (Giving g) = (all, given_ok g)
     answer_ok args (Pending r g) = (all, given_ok g)
     answer_ok args (Ensuring n) = frames_ok (with_capacity n t.frames)
     answer_ok args (Pushing n) = frames_ok (record { capacity = n; references = [] } ∷ t.frames)
-    answer_ok args (Filling r) =
+    answer_ok args (Filling r is) =
         let new : List ℤ = take r.count (drop r.start (numbers_of s.heap r.object)) in
         (changed_ok (variable_given args 3) (begun_with new) (begun_ok new) t.variables all, tt)
-    answer_ok args (CopyingBack n true) = (changed_ok (variable_given args 1) freed freed_ok t.variables all, tt)
-    answer_ok args (CopyingBack n false) = (all, tt)
+    answer_ok args (CopyingBack T true of) = (changed_ok (variable_given args 1) freed freed_ok t.variables all, tt)
+    answer_ok args (CopyingBack T false of) = (all, tt)
     answer_ok args Freeing = (changed_ok (variable_given args 1) freed freed_ok t.variables all, tt)
-    answer_ok args (Raising class) = tt
-    answer_ok args (FillingNone class) = tt
+    answer_ok args (Raising class is) = tt
+    answer_ok args (FillingNone class is) = tt
     answer_ok args (Calling m) = tt
     answer_ok args (Halting trap) = tt
     answer_ok args h = (all, tt)

@@ -13,12 +13,13 @@ use Rattle.jni.specs.Prototype.{NewLocal, NewGlobal, NewWeak, GivesFlag, GivesFi
 use Rattle.semantics.specs.Answer.{Answer, effect_of}
 use Rattle.semantics.specs.Arguments.{Actual}
 use Rattle.semantics.specs.CallEffects.{CallResult, with_capacity}
-use Rattle.semantics.specs.CallSight.{sight_of_call}
+use Rattle.semantics.specs.CallSight.{CallSight, sight_of_call}
 use Rattle.semantics.specs.CallStep.{failure}
 use Rattle.semantics.specs.CallTable.{call_effect}
 use Rattle.semantics.specs.Thread.{Frame, Thread, Shared, BuffersInUse, capacities}
 use Rattle.semantics.proofs.Answers.{effect_is}
-use Rattle.semantics.proofs.AnswerKinds.{AnswersAs, Disowning, Ensuring, EnsuringNone, Giving, Halting, IsOfKind, Making, MakingGlobal, OfField, OfFlag, OfInt, OfMethod, OfNothing, OfReference, OfWeak, Owning, Pending, Quiet, Raising, RaisingWith, SettingRegion, Writing, answers_of, call_kind}
+use Rattle.semantics.proofs.AnswerFacts.{IsOfKind, OfField, OfFlag, OfInt, OfMethod, OfNothing, OfReference, OfWeak}
+use Rattle.semantics.proofs.AnswerKinds.{AnswersAs, Disowning, Ensuring, EnsuringNone, Giving, Halting, Making, MakingGlobal, Owning, Pending, Quiet, Raising, RaisingWith, SettingRegion, Writing, answers_of, call_kind}
 use Rattle.semantics_safety.proofs.ResultLaws.{Simple, AnInt, AFlag, AField, NoField, AMethod, NoMethod, AGlobal, NoGlobal, AWeak, NoWeak, NoLocal, NullLocal, NoResultThere}
 use Rattle.semantics_safety.proofs.QuietLaws.{Gives, Plainly, ALocal, IsPlain, IsQuiet}
 use Rattle.semantics_safety.proofs.FrameLaws.{references_of}
@@ -57,15 +58,15 @@ module _ (unit : SourceUnit) (classes : Classes) (in_use : BuffersInUse) (k : �
   capacity_stays n [] = refl
   capacity_stays n (frame ∷ below) = refl
 
-  answer_quiet : {kind : ResultKind} {a : Answer} → Simple kind (failure kind) → AnswersAs unit classes Quiet kind a → IsQuiet s t kind (effect_of classes in_use k s t args a)
+  answer_quiet : {sight : CallSight} {f : JniFunction} {kind : ResultKind} {a : Answer} → Simple kind (failure kind) → AnswersAs unit classes sight f Quiet kind a → IsQuiet s t kind (effect_of classes in_use k s t args a)
   unfolding effect_of
   answer_quiet fails (Giving given) = (refl, refl, refl, of_kind given)
   answer_quiet fails (Pending r given) = (refl, refl, refl, of_kind given)
-  answer_quiet fails (Raising class) = fails
-  answer_quiet fails (RaisingWith class text) = (refl, refl, refl, Plainly (AnInt _))
-  answer_quiet fails (Writing n i v) = (refl, refl, refl, Plainly NoResultThere)
-  answer_quiet fails (SettingRegion r) = (refl, refl, refl, Plainly NoResultThere)
-  answer_quiet fails (Making o) = (refl, refl, refl, ALocal _)
+  answer_quiet fails (Raising class is) = fails
+  answer_quiet fails (RaisingWith class text is) = (refl, refl, refl, Plainly (AnInt _))
+  answer_quiet fails (Writing n i v is) = (refl, refl, refl, Plainly NoResultThere)
+  answer_quiet fails (SettingRegion r is) = (refl, refl, refl, Plainly NoResultThere)
+  answer_quiet fails (Making o is) = (refl, refl, refl, ALocal _)
   answer_quiet fails (MakingGlobal r) = (refl, refl, refl, Plainly (AGlobal r))
   answer_quiet fails (Ensuring n) =
       cond_both (nat_le (capacities (with_capacity n t.frames)) most_references) _ _ (IsQuiet s t GivesInt)

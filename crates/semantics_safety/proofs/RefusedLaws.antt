@@ -13,7 +13,7 @@ use Rattle.semantics.specs.Answer as answer
 use Rattle.semantics.specs.AnswerTable.{call_answer}
 use Rattle.semantics.specs.Arguments.{Actual}
 use Rattle.semantics.specs.CallEffects.{CallEffect, frames_effect, with_capacity}
-use Rattle.semantics.specs.CallSight.{sight_of_call}
+use Rattle.semantics.specs.CallSight.{CallSight, sight_of_call}
 use Rattle.semantics.specs.CallStep.{trap_of_call, checked, makes_objects, after_refusal, call_step}
 use Rattle.semantics.specs.CallTable.{call_effect}
 use Rattle.semantics.specs.Effect.{Effect, Calls, effect_of}
@@ -52,11 +52,11 @@ MakesNone FillsArray = ⊥
 MakesNone kind = Unit {0}
 
 module _ (unit : SourceUnit) (classes : Classes) (in_use : BuffersInUse) (k : ℕ) (s : Shared) (t : Thread) (args : List Actual) where
-  kind_made : {kind : CallKind} {result : ResultKind} {a : Answer} → MakesNone kind → AnswersAs unit classes kind result a → NoneMade a
-  kind_made none (Making o) = absurd none
-  kind_made none (Raising class) = absurd none
-  kind_made none (RaisingWith class text) = absurd none
-  kind_made none (FillingNone class) = absurd none
+  kind_made : {sight : CallSight} {f : JniFunction} {kind : CallKind} {result : ResultKind} {a : Answer} → MakesNone kind → AnswersAs unit classes sight f kind result a → NoneMade a
+  kind_made none (Making o is) = absurd none
+  kind_made none (Raising class is) = absurd none
+  kind_made none (RaisingWith class text is) = absurd none
+  kind_made none (FillingNone class is) = absurd none
   kind_made none h = tt
 
   frames_made : (frames : List Frame) → makes_objects (frames_effect classes s t frames) ≡ false
@@ -71,7 +71,7 @@ module _ (unit : SourceUnit) (classes : Classes) (in_use : BuffersInUse) (k : �
   answer_made (Pushes n) none = frames_made (record { capacity = n; references = [] } ∷ t.frames)
   answer_made a none = refl
 
-  none_made : (f : JniFunction) (kind : CallKind) → MakesNone kind → AnswersAs unit classes kind (prototype f).result (call_answer unit classes k (sight_of_call s t JInt f args) f)
+  none_made : (f : JniFunction) (kind : CallKind) → MakesNone kind → AnswersAs unit classes (sight_of_call s t JInt f args) f kind (prototype f).result (call_answer unit classes k (sight_of_call s t JInt f args) f)
       → makes_objects (call_effect unit classes in_use k s t args f) ≡ false
   none_made f kind none h =
       subst (λ (e : CallEffect). makes_objects e ≡ false) (sym (effect_is unit classes in_use k s t args JInt f))
