@@ -1,36 +1,43 @@
--- What each function of the JNI does leaves typed objects and variables, all checks being passed.
-use Rattle.std.proofs.Common.{◌≡◌, ◌≢◌, inl, inr, ℕ, ℤ, zero, suc, pos, negsuc, ◌+◌, ◌<◌, ◌≤◌, Bool, true, false, List, [], ◌∷◌, ◌++◌, length, map, replicate, take, drop, Option, Some, None, refl, sym, ap, ◌∙◌, subst, arith, if◌then◌else◌, length-append, append_assoc}
-use Rattle.std.specs.Prelude.{slice_get, IsTrue, ◌&&◌, ◌==◌, not, nat_lt, nat_le}
+-- What each answer of a call does leaves typed objects and variables, all checks being passed.
+use Rattle.std.proofs.Common.{◌≡◌, ◌≢◌, inl, inr, ℕ, ℤ, zero, suc, pos, ◌+◌, ◌<◌, ◌≤◌, Bool, true, false, List, [], ◌∷◌, ◌++◌, length, map, replicate, take, drop, Option, Some, None, refl, sym, ap, ◌∙◌, subst, arith, if◌then◌else◌, length-append, append_assoc}
+use Rattle.std.specs.Prelude.{slice_get, IsTrue, ◌==◌, not, nat_lt, nat_le}
 use Rattle.std.specs.Option.{option_map_or}
 use Rattle.std.specs.Str.{bytes_eq}
-use Rattle.std.proofs.lemmas.Bool.{cond_both, leb-true}
+use Rattle.std.proofs.lemmas.Bool.{and_parts, cond_both, not-true}
 use Rattle.std.proofs.lemmas.Bool.Decides.{nat_tests}
 use Rattle.std.proofs.lemmas.Option.{slice_get_within}
 use lib.ListN.{length-set}
 use Rattle.std.proofs.lemmas.List.{append-nil, length-take-le, length-drop}
 use Rattle.base.specs.Bytes.{Identifier, lookup}
 use Rattle.base.specs.Element.{ElementType, JChar}
+use Rattle.base.specs.Limits.{most_copied, most_references, most_views}
 use Rattle.syntax.specs.Tree.{SourceUnit}
-use Rattle.class_rules.specs.BuiltIns.{built_ins, class_class, string_class, throwable_class, number_array, has_own_making, no_class_def_found_error, no_such_field_error, no_such_method_error, array_index_out_of_bounds, string_index_out_of_bounds, array_store_exception, negative_array_size, illegal_monitor_state}
-use Rattle.class_rules.specs.Class.{FieldType, NumberField, ReferenceField, Plain, ArrayOfObjects, Class, Classes, class_at, class_named, class_kind, is_plain, element_class, assignable, array_class_of}
-use Rattle.class_rules.specs.Fields.{FieldId, find_field, find_static}
+use Rattle.class_rules.specs.BuiltIns.{built_ins, class_class, string_class, throwable_class, number_array, no_class_def_found_error, no_such_field_error, no_such_method_error, array_index_out_of_bounds, string_index_out_of_bounds, array_store_exception, negative_array_size, illegal_monitor_state}
+use Rattle.class_rules.specs.Class.{FieldType, NumberField, ReferenceField, Plain, ArrayOfObjects, Class, Classes, class_at, class_kind, is_plain, element_class, assignable, array_class_of}
+use Rattle.class_rules.specs.Fields.{FieldId}
 use Rattle.class_rules.specs.Grown.{IsGrown}
 use Rattle.jni.specs.Access.{Access, ElementsCopy, ArrayView, CharsCopy, CharsView}
 use Rattle.jni.specs.JniFunction as jni
 use Rattle.jni.specs.JniFunction.{JniFunction, parameters_for}
-use Rattle.jni.specs.Prototype.{ParameterKind, ClassObject, ObjectArray, StringObject, NumberArray, FieldID, TextBytes, ArrayVariable}
+use Rattle.jni.specs.Prototype.{ParameterKind, ClassObject, ObjectArray, StringObject, NumberArray, FieldID, TextBytes, ArrayVariable, ResultKind}
 use Rattle.type_rules.specs.Sorts.{Buffer, is_buffer_for}
-use Rattle.semantics.specs.Arguments.{Actual, ReleaseMode, CopyBackAndFree, CopyBack, FreeUncopied, number_given, reference_given, object_given, text_given, field_given, variable_given, mode_given, method_given, passed_value}
-use Rattle.semantics.specs.CallEffects.{CallResult, NoResult, ScalarResult, ReferenceResult, FieldResult, BufferResult, CallEffect, Throws, Halts, Leaves, Enters, method_effect, with_capacity, frames_effect, ensure_effect, push_effect, delete_local_effect, delete_global_effect, delete_weak_effect, heap_effect, new_effect, found_class_effect, found_field_effect, found_method_effect, new_array_effect, string_object, at_index, at_region, overwritten, local_array, begun_with, get_region_effect, set_region_effect, store_effect, copy_effect, view_effect, copied_elements, freed, with_freed, release_effect, with_message, throw_new_effect, enter_effect, exit_effect}
+use Rattle.semantics.specs.Answer.{Answer, Region, with_region_got, with_region_set}
+use Rattle.semantics.specs.Answer as answer
+use Rattle.semantics.specs.Arguments.{Actual, reference_given, object_given, text_given, field_given, variable_given}
+use Rattle.semantics.specs.CallEffects.{CallResult, NoResult, ScalarResult, ReferenceResult, FieldResult, BufferResult, CallEffect, Throws, Halts, Leaves, Enters, with_capacity, frames_effect, heap_effect, new_effect, string_object, overwritten, local_array, begun_with, copy_effect, view_effect, copied_elements, freed, with_freed, with_message, throw_new_effect}
+use Rattle.semantics.specs.CallSight.{CallSight, sight_of_call}
 use Rattle.semantics.specs.CallTable.{go_together, call_effect}
-use Rattle.semantics.specs.Heap.{Heap, object_at, class_of, values_of, next_name, with_value_at, with_numbers, numbers_of, field_place, static_place, is_instance, fits_class, holds_number, fits_type}
-use Rattle.semantics.specs.Method.{MethodId, find_method}
+use Rattle.semantics.specs.Heap.{Heap, object_at, class_of, values_of, next_name, with_value_at, with_numbers, numbers_of, field_place, static_place, is_instance, fits_class}
 use Rattle.semantics.specs.Object.{ObjectValue, Number, Refers, Reference, Object}
-use Rattle.semantics.specs.Thread.{Thread, Shared, Frame, Monitor, BuffersInUse, capacities, monitor_of}
-use Rattle.semantics.specs.Value.{Int, convert, OutOfRange}
-use Rattle.semantics.specs.Variable.{Variable, Scalar, LocalRef, FieldHandle, MethodHandle, Elements, LocalArray, NoBuffer, Copy, View, Variables, change, StaticReference, Empty, Live, Weakly, Cleared, Deleted}
+use Rattle.semantics.specs.Thread.{Thread, Shared, Frame, BuffersInUse, capacities}
+use Rattle.semantics.specs.Value.{Int, convert}
+use Rattle.semantics.specs.Variable.{Variable, Scalar, LocalRef, FieldHandle, MethodHandle, Elements, LocalArray, NoBuffer, Copy, View, Variables, change}
 use Rattle.semantics.specs.Variable as variable
 use Rattle.semantics.specs.World.{fresh_object}
+use Rattle.semantics.proofs.Answers.{effect_is, fits_alike}
+use Rattle.semantics.proofs.AnswerFacts.{AsField, AsNumber, AsReference, AsStatic, FitsField, IsMade, IsOfKind, IsRaised, IsRegion, IsWrite, NoClass, NoElement, NoField, NoMethod, NoOwner, NoSize, NoStore, NoUnit, OfArray, OfClass, OfField, OfNumbers, OfReferences, OfString, OfText, Takes, TakesNumbers, ToElement, ToField, ToStatic}
+use Rattle.semantics.proofs.AnswerKinds.{AnswersAs, CallKind, Calling, Copying, CopyingBack, Ensuring, Filling, FillingNone, Freeing, Giving, Halting, IsChecked, Making, Pending, Pushing, Raising, RaisingWith, SettingRegion, Viewing, Writing, answers_as}
+use Rattle.semantics.proofs.CallTraps.{fits_field_alike, together}
 use Rattle.world_values.specs.WorldRules.{is_in_range}
 use Rattle.semantics_typing.specs.Objects.{ReferenceFits, ValueFits, PlaceFits, element_type_of, type_at, IsTypedObject, AreTypedObjects, AreInRange, HasNumbers, IsTypedVariable, AreTypedVariables}
 use Rattle.world_values.specs.DeclaredFields.{DeclaresWell, IsDeclared}
@@ -78,14 +85,6 @@ text_in_range [] h = tt
 text_in_range (b ∷ bytes) h = (byte_in_range b (omega (arith, h.0)), text_in_range bytes h.1)
 
 -- ---- tests
-
-both_parts : (a b : Bool) → (a && b) ≡ true → (a ≡ true) × (b ≡ true)
-both_parts true b h = (refl, h)
-both_parts false b h = absurd (cc)
-
-was_false : (b : Bool) → not b ≡ true → b ≡ false
-was_false false h = refl
-was_false true h = absurd (cc)
 
 equal : (n m : ℕ) → (n == m) ≡ true → n ≡ m
 equal n m h = grind (arith, nat_tests, h)
@@ -170,67 +169,10 @@ module _ (unit : SourceUnit) (classes : Classes) (well : DeclaresWell classes) (
       let keeps = keeps_more classes s.heap typed o new in
       left (o ∷ []) s t (ReferenceResult (Some (next_name s.heap))) (s.heap ++ o ∷ []) refl keeps (variables_later classes s.heap (s.heap ++ o ∷ []) keeps.stay t.variables vars) tt
 
-  -- ---- what is only looked up, and frames, references and monitors
-
-  index_fits : (c n : ℕ) (z : ℤ) (go : ℕ → CallEffect) → IsMakeable classes c → ((i : ℕ) → Fits (go i)) → Fits (at_index c n z go)
-  index_fits c n (pos i) go m h = cond_both (nat_lt i n) _ _ Fits (λ e. h i) (λ e. m)
-  index_fits c n (negsuc i) go m h = m
-
-  region_fits : (c n : ℕ) (z l : ℤ) (go : ℕ → ℕ → CallEffect) → IsMakeable classes c → ((i j : ℕ) → i + j ≤ n → Fits (go i j)) → Fits (at_region c n z l go)
-  region_fits c n (pos i) (pos j) go m h = cond_both (nat_le (i + j) n) _ _ Fits (λ e. h i j (leb-true (i + j) n e)) (λ e. m)
-  region_fits c n (pos i) (negsuc j) go m h = m
-  region_fits c n (negsuc i) l go m h = m
-
-  class_fits : (o : Option ℕ) → Fits (found_class_effect s t no_class_def_found_error o)
-  class_fits None = no_class_found
-  class_fits (Some c) = still _ _ vars tt
-
-  field_fits : (o : Option FieldId) → ((f : FieldId) → o ≡ Some f → IsDeclared classes f) → Fits (found_field_effect s t no_such_field_error o)
-  field_fits None h = no_field_found
-  field_fits (Some f) h = still _ _ vars (h f refl)
-
-  method_fits : IsMakeable classes no_such_method_error → (o : Option MethodId) → Fits (found_method_effect s t no_such_method_error o)
-  method_fits makes None = makes
-  method_fits makes (Some m) = still _ _ vars tt
+  -- ---- frames
 
   frames_fit : (frames : List Frame) → Fits (frames_effect classes s t frames)
-  frames_fit frames = cond_both (nat_le (capacities frames) 1024) _ _ Fits (λ e. still _ _ vars tt) (λ e. still _ _ vars tt)
-
-  ensure_fits : (z : ℤ) → Fits (ensure_effect classes s t z)
-  ensure_fits (pos n) = frames_fit (with_capacity n t.frames)
-  ensure_fits (negsuc n) = still _ _ vars tt
-
-  push_fits : (z : ℤ) → Fits (push_effect classes s t z)
-  push_fits (pos n) = frames_fit (record { capacity = n; references = [] } ∷ t.frames)
-  push_fits (negsuc n) = still _ _ vars tt
-
-  delete_local_fits : (o : Option Variable) (r : Reference) → Fits (delete_local_effect s t o r)
-  delete_local_fits o None = still _ _ vars tt
-  delete_local_fits o (Some n) = still _ _ vars tt
-
-  delete_global_fits : (x : Identifier) (r : Option StaticReference) → Fits (delete_global_effect s t x r)
-  delete_global_fits x None = still _ _ vars tt
-  delete_global_fits x (Some Empty) = still _ _ vars tt
-  delete_global_fits x (Some (Live n)) = still _ _ vars tt
-  delete_global_fits x (Some (Weakly n)) = still _ _ vars tt
-  delete_global_fits x (Some Cleared) = still _ _ vars tt
-  delete_global_fits x (Some Deleted) = still _ _ vars tt
-
-  delete_weak_fits : (x : Identifier) (r : Option StaticReference) → Fits (delete_weak_effect s t x r)
-  delete_weak_fits x None = still _ _ vars tt
-  delete_weak_fits x (Some Empty) = still _ _ vars tt
-  delete_weak_fits x (Some (Live n)) = still _ _ vars tt
-  delete_weak_fits x (Some (Weakly n)) = still _ _ vars tt
-  delete_weak_fits x (Some Cleared) = still _ _ vars tt
-  delete_weak_fits x (Some Deleted) = still _ _ vars tt
-
-  enter_fits : (n : ℕ) (m : Option Monitor) → Fits (enter_effect k s t n m)
-  enter_fits n None = still _ _ vars tt
-  enter_fits n (Some m) = cond_both (nat_lt m.count 255) _ _ Fits (λ e. still _ _ vars tt) (λ e. still _ _ vars tt)
-
-  exit_fits : (n : ℕ) (m : Option Monitor) → Fits (exit_effect k s t n m)
-  exit_fits n None = no_owner
-  exit_fits n (Some m) = cond_both (m.owner == k) _ _ Fits (λ e. still _ _ vars tt) (λ e. no_owner)
+  frames_fit frames = cond_both (nat_le (capacities frames) most_references) _ _ Fits (λ e. still _ _ vars tt) (λ e. still _ _ vars tt)
 
   -- ---- fields and elements
 
@@ -238,11 +180,6 @@ module _ (unit : SourceUnit) (classes : Classes) (well : DeclaresWell classes) (
   put_fits n i type v place fits =
       other_heap t (with_value_at s.heap n i v)
       (keeps_place classes s.heap typed n i place.object v place.is (subst (λ (o : Option FieldType). PlaceFits classes s.heap o v) (sym place.place) fits)) vars
-
-  store_fits : (n i : ℕ) (r : Reference) (b : Bool) → HasPlace classes well g s.heap typed n i (ReferenceField (element_class (class_kind classes (class_of s.heap n)))) × (0 < element_class (class_kind classes (class_of s.heap n)))
-      → fits_class classes s.heap r (element_class (class_kind classes (class_of s.heap n))) ≡ b → Fits (store_effect s t b n r i)
-  store_fits n i r true (place, low) e = put_fits n i _ (Refers r) place (reference_fits classes s.heap r _ e low)
-  store_fits n i r false (place, low) e = no_store
 
   -- ---- arrays and strings of numbers
 
@@ -276,49 +213,55 @@ module _ (unit : SourceUnit) (classes : Classes) (well : DeclaresWell classes) (
         length-drop (i + length new) zs,
       )
 
-  abbrev part : ℕ → ℕ → ℕ → List ℤ
-  part n i j = take j (drop i (numbers_of s.heap n))
+  -- the numbers of a region are of the type of the local array of a name
+  record FitsArray (x : Identifier) (r : Region) : Type 0 where
+    element : ElementType
+    elements : List ℤ
+    numbers : HasNumbers classes s.heap element r.object
+    array : lookup x t.variables ≡ Some (LocalArray element elements)
 
-  get_region_fits : (n : ℕ) (x : Identifier) (e : ElementType) (zs : List ℤ) (i j : ℕ) → HasNumbers classes s.heap e n → lookup x t.variables ≡ Some (LocalArray e zs) → Fits (get_region_effect s t n x i j)
-  get_region_fits n x e zs i j is at = cond_both (nat_le j (length (local_array (lookup x t.variables)))) _ _ Fits (λ q. still _ _ (changed_typed classes s.heap x (begun_with (part n i j)) t.variables vars begun) tt) (λ q. tt)
+  get_region_fits : (x : Identifier) (r : Region) → FitsArray x r → Fits (Leaves [] s (record t { variables = with_region_got s.heap x r t.variables }) NoResult)
+  get_region_fits x r fits = still _ _ (changed_typed classes s.heap x (begun_with new) t.variables vars begun) tt
     where
-      new_range : AreInRange e (part n i j)
+      e : ElementType
+      e = fits.element
+
+      new : List ℤ
+      new = take r.count (drop r.start (numbers_of s.heap r.object))
+
+      new_range : AreInRange e new
       new_range =
           let In = λ (z : ℤ). IsTrue (is_in_range e z) in
-          all_take In j (drop i (numbers_of s.heap n)) (all_drop In i (numbers_of s.heap n) (numbers_of_typed classes s.heap typed n e is))
+          all_take In r.count (drop r.start (numbers_of s.heap r.object)) (all_drop In r.start (numbers_of s.heap r.object) (numbers_of_typed classes s.heap typed r.object e fits.numbers))
 
-      begun : (v : Variable) → lookup x t.variables ≡ Some v → IsTypedVariable classes s.heap v → IsTypedVariable classes s.heap (begun_with (part n i j) v)
+      begun : (v : Variable) → lookup x t.variables ≡ Some v → IsTypedVariable classes s.heap v → IsTypedVariable classes s.heap (begun_with new v)
       begun v f h =
-          let both : Some (LocalArray e zs) ≡ Some v = sym at ∙ f in
-          let same : LocalArray e zs ≡ v = cc in
-          subst (λ (w : Variable). IsTypedVariable classes s.heap (begun_with (part n i j) w)) same (overwritten_range e zs 0 (part n i j) (array_in_range x e zs at) new_range)
+          let both : Some (LocalArray e fits.elements) ≡ Some v = sym fits.array ∙ f in
+          let same : LocalArray e fits.elements ≡ v = cc in
+          subst (λ (w : Variable). IsTypedVariable classes s.heap (begun_with new w)) same (overwritten_range e fits.elements 0 new (array_in_range x e fits.elements fits.array) new_range)
 
-  set_region_fits : (n : ℕ) (x : Identifier) (e : ElementType) (zs : List ℤ) (i j : ℕ) → i + j ≤ length (values_of s.heap n) → HasNumbers classes s.heap e n → lookup x t.variables ≡ Some (LocalArray e zs) → Fits (set_region_effect s t n x i j)
-  set_region_fits n x e zs i j within is at = by_array (lookup x t.variables) at
-    where
-      by_array : (o : Option Variable) → o ≡ Some (LocalArray e zs) → Fits (if nat_le j (length (local_array o)) then heap_effect s t (with_numbers s.heap n (overwritten (numbers_of s.heap n) i (take j (local_array o)))) else Halts OutOfRange)
-      by_array o f = subst (λ (o : Option Variable). Fits (if nat_le j (length (local_array o)) then heap_effect s t (with_numbers s.heap n (overwritten (numbers_of s.heap n) i (take j (local_array o)))) else Halts OutOfRange)) (sym f)
-          (cond_both (nat_le j (length zs)) _ _ Fits
-          (λ q.
-          let few = leb-true j (length zs) q in
-          let long = length-take-le j zs few in
-          let count = numbers_count s.heap n in
-          other_heap t _ (keeps_numbers classes s.heap typed n e (overwritten (numbers_of s.heap n) i (take j zs)) is
-          (overwritten_range e (numbers_of s.heap n) i (take j zs) (numbers_of_typed classes s.heap typed n e is) (all_take (λ (z : ℤ). IsTrue (is_in_range e z)) j zs (array_in_range x e zs at)))
-          (overwritten_length (numbers_of s.heap n) (take j zs) i (omega (arith, within, long, count)) ∙ count)) vars)
-          (λ q. tt))
-
-  new_array_fits : (c : ℕ) (type : FieldType) (z : ℤ) (v : ObjectValue) → 0 < c → c ≤ length classes → c ≢ class_class → element_type_of classes c ≡ Some type → ValueFits classes s.heap type v → Fits (new_array_effect s t c z v)
-  new_array_fits c type (pos n) v low high no_class is fits = one_more (record { class = c; values = replicate n v }) (array_typed classes s.heap (length s.heap + 1) c n type v low high no_class is fits)
-  new_array_fits c type (negsuc n) v low high no_class is fits = negative_size
+  set_region_fits : (x : Identifier) (r : Region) → FitsArray x r → r.start + r.count ≤ length (values_of s.heap r.object) → r.count ≤ length (local_array (lookup x t.variables))
+      → Fits (heap_effect s t (with_region_set t.variables x r s.heap))
+  set_region_fits x r fits within =
+      let e = fits.element in
+      let zs = fits.elements in
+      let old = numbers_of s.heap r.object in
+      subst (λ (o : Option Variable). r.count ≤ length (local_array o) → Fits (heap_effect s t (with_numbers s.heap r.object (overwritten old r.start (take r.count (local_array o)))))) (sym fits.array)
+      (λ few.
+      let long = length-take-le r.count zs few in
+      let count = numbers_count s.heap r.object in
+      other_heap t _ (keeps_numbers classes s.heap typed r.object e (overwritten old r.start (take r.count zs)) fits.numbers
+      (overwritten_range e old r.start (take r.count zs) (numbers_of_typed classes s.heap typed r.object e fits.numbers)
+      (all_take (λ (z : ℤ). IsTrue (is_in_range e z)) r.count zs (array_in_range x e zs fits.array)))
+      (overwritten_length old (take r.count zs) r.start (omega (arith, within, long, count)) ∙ count)) vars)
 
   -- ---- buffers
 
   copy_fits : (n : ℕ) → HasNumbers classes s.heap u n → Fits (copy_effect in_use s t n (numbers_of s.heap n))
-  copy_fits n is = still _ _ vars (cond_both (nat_le (in_use.copied + length (numbers_of s.heap n)) 65536) (Copy n (numbers_of s.heap n)) NoBuffer (λ (b : variable.Buffer). IsTypedVariable classes s.heap (Elements u b)) (λ e. (is, numbers_of_typed classes s.heap typed n u is, numbers_count s.heap n)) (λ e. tt), refl)
+  copy_fits n is = still _ _ vars (cond_both (nat_le (in_use.copied + length (numbers_of s.heap n)) most_copied) (Copy n (numbers_of s.heap n)) NoBuffer (λ (b : variable.Buffer). IsTypedVariable classes s.heap (Elements u b)) (λ e. (is, numbers_of_typed classes s.heap typed n u is, numbers_count s.heap n)) (λ e. tt), refl)
 
   view_fits : (n : ℕ) → HasNumbers classes s.heap u n → Fits (view_effect in_use s t n)
-  view_fits n is = still _ _ vars (cond_both (nat_lt in_use.views 64) (View n) NoBuffer (λ (b : variable.Buffer). IsTypedVariable classes s.heap (Elements u b)) (λ e. is) (λ e. tt), refl)
+  view_fits n is = still _ _ vars (cond_both (nat_lt in_use.views most_views) (View n) NoBuffer (λ (b : variable.Buffer). IsTypedVariable classes s.heap (Elements u b)) (λ e. is) (λ e. tt), refl)
 
   freed_vars : (x : Identifier) → AreTypedVariables classes s.heap (with_freed t x).variables
   freed_vars x = changed_typed classes s.heap x freed t.variables vars (λ v e h. freed_typed classes s.heap v h)
@@ -328,12 +271,7 @@ module _ (unit : SourceUnit) (classes : Classes) (well : DeclaresWell classes) (
       let h : IsTypedVariable classes s.heap (Elements kind (Copy n zs)) = variable_typed classes s.heap x t.variables (Elements kind (Copy n zs)) vars at in
       subst (λ (o : Option Variable). Keeps classes s.heap (with_numbers s.heap n (copied_elements o))) (sym at) (keeps_numbers classes s.heap typed n kind zs h.0 h.1 h.2)
 
-  release_fits : (n : ℕ) (x : Identifier) (mode : ReleaseMode) (kind : ElementType) (zs : List ℤ) → lookup x t.variables ≡ Some (Elements kind (Copy n zs)) → Fits (release_effect s t n x mode)
-  release_fits n x CopyBackAndFree kind zs at = other_heap (with_freed t x) _ (copied_back n x kind zs at) (freed_vars x)
-  release_fits n x CopyBack kind zs at = other_heap t _ (copied_back n x kind zs at) vars
-  release_fits n x FreeUncopied kind zs at = still _ _ (freed_vars x) tt
-
-  -- ---- by functions
+  -- ---- by answers
 
   module _ (args : List Actual) where
     abbrev Known : JniFunction → Type 0
@@ -346,192 +284,8 @@ module _ (unit : SourceUnit) (classes : Classes) (well : DeclaresWell classes) (
     f_given = field_given args 1
 
     -- argument i is of a kind
-    known : (f : JniFunction) (i : ℕ) (kind : ParameterKind) → Known f → slice_get (parameters_for f (length args)) i ≡ Some kind → IsKnownAs classes s.heap t.variables kind (slice_get args i)
-    known f i kind h e = known_at classes s.heap t.variables (parameters_for f (length args)) args i kind h e
-
-    -- ---- what goes together
-
-    of_field : (e : ElementType) → Together (jni.SetField e) → (f_given.is_static ≡ false) × (is_instance classes s.heap (object_given args 0) f_given.class ≡ true) × (holds_number e f_given.field.type ≡ true)
-    unfolding go_together
-    of_field e h =
-        let both = both_parts (not f_given.is_static && is_instance classes s.heap (object_given args 0) f_given.class) (holds_number e f_given.field.type) h in
-        let has = both_parts (not f_given.is_static) (is_instance classes s.heap (object_given args 0) f_given.class) both.0 in
-        (was_false f_given.is_static has.0, has.1, both.1)
-
-    of_object_field : Together jni.SetObjectField → (f_given.is_static ≡ false) × (is_instance classes s.heap (object_given args 0) f_given.class ≡ true) × (fits_type classes s.heap (reference_given args 2) f_given.field.type ≡ true)
-    unfolding go_together
-    of_object_field h =
-        let both = both_parts (not f_given.is_static && is_instance classes s.heap (object_given args 0) f_given.class) (fits_type classes s.heap (reference_given args 2) f_given.field.type) h in
-        let has = both_parts (not f_given.is_static) (is_instance classes s.heap (object_given args 0) f_given.class) both.0 in
-        (was_false f_given.is_static has.0, has.1, both.1)
-
-    of_static : (e : ElementType) → Together (jni.SetStaticField e) → (f_given.is_static ≡ true) × (holds_number e f_given.field.type ≡ true)
-    unfolding go_together
-    of_static e h =
-        let both = both_parts (f_given.is_static && assignable classes (object_given args 0) f_given.class) (holds_number e f_given.field.type) h in
-        ((both_parts f_given.is_static (assignable classes (object_given args 0) f_given.class) both.0).0, both.1)
-
-    of_object_static : Together jni.SetStaticObjectField → (f_given.is_static ≡ true) × (fits_type classes s.heap (reference_given args 2) f_given.field.type ≡ true)
-    unfolding go_together
-    of_object_static h =
-        let both = both_parts (f_given.is_static && assignable classes (object_given args 0) f_given.class) (fits_type classes s.heap (reference_given args 2) f_given.field.type) h in
-        ((both_parts f_given.is_static (assignable classes (object_given args 0) f_given.class) both.0).0, both.1)
-
-    of_alloc : Together jni.AllocObject → has_own_making classes (object_given args 0) ≡ false
-    unfolding go_together
-    of_alloc h = was_false (has_own_making classes (object_given args 0)) h
-
-    of_array : Together jni.NewObjectArray → (is_plain (class_kind classes (object_given args 1)) ≡ true) × (fits_class classes s.heap (reference_given args 2) (object_given args 1) ≡ true)
-    unfolding go_together
-    of_array h = both_parts (is_plain (class_kind classes (object_given args 1))) (fits_class classes s.heap (reference_given args 2) (object_given args 1)) h
-
-    of_view : Together (jni.GetBuffer ArrayView) → class_of s.heap (object_given args 0) ≡ number_array u
-    unfolding go_together
-    of_view h = equal (class_of s.heap (object_given args 0)) (number_array u) h
-
-    of_throw : Together jni.ThrowNew → assignable classes (object_given args 0) throwable_class ≡ true
-    unfolding go_together
-    of_throw h = h
-
-    -- ---- fields
-
-    field_set : (e : ElementType) → Known (jni.SetField e) → Together (jni.SetField e) → Fits (heap_effect s t (with_value_at s.heap (object_given args 0) (field_place classes s.heap (object_given args 0) f_given) (Number (convert e (number_given args 2)))))
-    field_set e h together =
-        let of = of_field e together in
-        let type = number_type e f_given.field.type of.2 in
-        put_fits (object_given args 0) (field_place classes s.heap (object_given args 0) f_given) f_given.field.type (Number (convert e (number_given args 2)))
-        (holds_field classes well g s.heap typed f_given (known (jni.SetField e) 1 FieldID h refl) of.0 (object_given args 0) of.1)
-        (subst (λ (x : FieldType). ValueFits classes s.heap x (Number (convert e (number_given args 2)))) (sym type) (convert_in_range e (number_given args 2)))
-
-    object_field_set : Known jni.SetObjectField → Together jni.SetObjectField → Fits (heap_effect s t (with_value_at s.heap (object_given args 0) (field_place classes s.heap (object_given args 0) f_given) (Refers (reference_given args 2))))
-    object_field_set h together =
-        let of = of_object_field together in
-        let declared = known jni.SetObjectField 1 FieldID h refl in
-        put_fits (object_given args 0) (field_place classes s.heap (object_given args 0) f_given) f_given.field.type (Refers (reference_given args 2))
-        (holds_field classes well g s.heap typed f_given declared of.0 (object_given args 0) of.1)
-        (fits_field classes well g s.heap typed f_given declared (reference_given args 2) f_given.field.type refl of.2)
-
-    static_set : (e : ElementType) → Known (jni.SetStaticField e) → Together (jni.SetStaticField e) → Fits (heap_effect s t (with_value_at s.heap f_given.class (static_place classes f_given) (Number (convert e (number_given args 2)))))
-    static_set e h together =
-        let of = of_static e together in
-        let type = number_type e f_given.field.type of.1 in
-        put_fits f_given.class (static_place classes f_given) f_given.field.type (Number (convert e (number_given args 2)))
-        (holds_static classes well g s.heap typed f_given (known (jni.SetStaticField e) 1 FieldID h refl) of.0)
-        (subst (λ (x : FieldType). ValueFits classes s.heap x (Number (convert e (number_given args 2)))) (sym type) (convert_in_range e (number_given args 2)))
-
-    object_static_set : Known jni.SetStaticObjectField → Together jni.SetStaticObjectField → Fits (heap_effect s t (with_value_at s.heap f_given.class (static_place classes f_given) (Refers (reference_given args 2))))
-    object_static_set h together =
-        let of = of_object_static together in
-        let declared = known jni.SetStaticObjectField 1 FieldID h refl in
-        put_fits f_given.class (static_place classes f_given) f_given.field.type (Refers (reference_given args 2))
-        (holds_static classes well g s.heap typed f_given declared of.0)
-        (fits_field classes well g s.heap typed f_given declared (reference_given args 2) f_given.field.type refl of.1)
-
-    -- ---- makers
-
-    alloc : Known jni.AllocObject → Together jni.AllocObject → Fits (new_effect s t (fresh_object classes (object_given args 0)))
-    alloc h together =
-        let for_class = stands_for classes well g s.heap typed (object_given args 0) (known jni.AllocObject 0 ClassObject h refl) in
-        one_more (fresh_object classes (object_given args 0)) (fresh_typed classes s.heap (length s.heap + 1) (object_given args 0) (record { low = for_class.0; high = for_class.1; making = of_alloc together }))
-
-    objects : Known jni.NewObjectArray → Together jni.NewObjectArray → Fits (new_array_effect s t (option_map_or (λ c. c) (array_class_of classes (object_given args 1)) 0) (number_given args 0) (Refers (reference_given args 2)))
-    objects h together =
-        let c = object_given args 1 in
-        let for_class = stands_for classes well g s.heap typed c (known jni.NewObjectArray 1 ClassObject h refl) in
-        let of = of_array together in
-        let found = well.arrays c for_class.0 for_class.1 of.0 in
-        let is : option_map_or (λ c. c) (array_class_of classes c) 0 ≡ found.0 = ap (λ (o : Option ℕ). option_map_or (λ c. c) o 0) found.1 in
-        subst (λ (a : ℕ). Fits (new_array_effect s t a (number_given args 0) (Refers (reference_given args 2)))) (sym is)
-        (new_array_fits found.0 (ReferenceField c) (number_given args 0) (Refers (reference_given args 2)) (array_low found.0 found.2) (array_high found.0 found.2) (no_class found.0 found.2)
-        (element found.0 found.2) (reference_fits classes s.heap (reference_given args 2) c of.1 for_class.0))
-      where
-        array_at : (a : ℕ) (c : ℕ) → class_kind classes a ≡ ArrayOfObjects c → (d : Class) × (class_at classes a ≡ Some d)
-        array_at a c kind = by_class (class_at classes a) refl kind
-          where
-            by_class : (o : Option Class) → class_at classes a ≡ o → option_map_or (λ (d : Class). d.kind) o Plain ≡ ArrayOfObjects c → (d : Class) × (class_at classes a ≡ Some d)
-            by_class None e h = absurd (cc)
-            by_class (Some d) e h = (d, e)
-
-        in_table : (a : ℕ) (d : Class) → class_at classes a ≡ Some d → (0 < a) × (a ≤ length classes)
-        in_table zero d e = absurd (cc)
-        in_table (suc i) d e = (omega arith, omega (arith, slice_get_within classes i d e))
-
-        array_low : (a : ℕ) → class_kind classes a ≡ ArrayOfObjects (object_given args 1) → 0 < a
-        array_low a kind = let at = array_at a (object_given args 1) kind in (in_table a at.0 at.1).0
-
-        array_high : (a : ℕ) → class_kind classes a ≡ ArrayOfObjects (object_given args 1) → a ≤ length classes
-        array_high a kind = let at = array_at a (object_given args 1) kind in (in_table a at.0 at.1).1
-
-        no_class : (a : ℕ) → class_kind classes a ≡ ArrayOfObjects (object_given args 1) → a ≢ class_class
-        no_class a kind same =
-            let plain : Plain ≡ ArrayOfObjects (object_given args 1) = sym (kind_class classes g) ∙ ap (class_kind classes) (sym same) ∙ kind in
-            absurd (cc)
-
-        element : (a : ℕ) → class_kind classes a ≡ ArrayOfObjects (object_given args 1) → element_type_of classes a ≡ Some (ReferenceField (object_given args 1))
-        element a kind = rw kind refl
-
-    numbers : (e : ElementType) → Fits (new_array_effect s t (number_array e) (number_given args 0) (Number (pos 0)))
-    numbers e = let is = number_array_is classes g e in new_array_fits (number_array e) (NumberField e) (number_given args 0) (Number (pos 0)) is.0 is.1 is.2 is.3 (zero_in_range e)
-
-    string : Known jni.NewStringUTF → Fits (new_effect s t (string_object (text_given args 0)))
-    string h = one_more (string_object (text_given args 0)) (string_typed classes g s.heap (length s.heap + 1) (text_given args 0) (text_in_range (text_given args 0) (known jni.NewStringUTF 0 TextBytes h refl)))
-
-    -- the message string and then the exception
-    abbrev c_given : ℕ
-    c_given = object_given args 0
-
-    abbrev with_text : Heap
-    with_text = s.heap ++ string_object (text_given args 1) ∷ []
-
-    abbrev thrown_object : Object
-    thrown_object = with_message (fresh_object classes c_given) (Some (next_name s.heap))
-
-    module _ (h : Known jni.ThrowNew) (together : Together jni.ThrowNew) where
-      text_kept : Keeps classes s.heap with_text
-      text_kept = keeps_more classes s.heap typed (string_object (text_given args 1)) (string_typed classes g s.heap (length s.heap + 1) (text_given args 1) (text_in_range (text_given args 1) (known jni.ThrowNew 1 TextBytes h refl)))
-
-      for_class : (0 < c_given) × (c_given ≤ length classes)
-      for_class = stands_for classes well g s.heap typed c_given (known jni.ThrowNew 0 ClassObject h refl)
-
-      thrown_is : IsThrowable classes well g c_given
-      thrown_is = throwable_is classes well g c_given (of_throw together)
-
-      fresh_there : IsTypedObject classes with_text (length with_text + 1) (fresh_object classes c_given)
-      fresh_there = fresh_typed classes with_text (length with_text + 1) c_given (record { low = for_class.0; high = for_class.1; making = thrown_is.making })
-
-      last_there : (xs : Heap) (o : Object) → slice_get (xs ++ o ∷ []) (length xs) ≡ Some o
-      last_there [] o = refl
-      last_there (x ∷ xs) o = last_there xs o
-
-      message_fits : ReferenceFits classes with_text string_class (Some (next_name s.heap))
-      message_fits =
-          let q : next_name s.heap ≡ suc (length s.heap) = omega arith in
-          (string_object (text_given args 1), ap (object_at with_text) q ∙ last_there s.heap (string_object (text_given args 1)), assignable_itself classes string_class (omega (arith, long)))
-
-      thrown_typed : IsTypedObject classes with_text (length with_text + 1) thrown_object
-      thrown_typed = record {
-        low = fresh_there.low;
-        high = fresh_there.high;
-        of_class = fresh_there.of_class;
-        count = λ e. length-set (fresh_object classes c_given).values 0 (Refers (Some (next_name s.heap))) ∙ fresh_there.count e;
-        values = λ i v e. elim (get_set (fresh_object classes c_given).values 0 i (Refers (Some (next_name s.heap))) v e) [
-          | inl old ↦ fresh_there.values i v old
-          | inr (here, is) ↦
-              subst (λ (j : ℕ). PlaceFits classes with_text (type_at classes (length with_text + 1) c_given j) v) here
-              (subst (PlaceFits classes with_text (type_at classes (length with_text + 1) c_given 0)) is
-              (subst (λ (o : Option FieldType). PlaceFits classes with_text o (Refers (Some (next_name s.heap)))) (sym (thrown_is.first (length with_text + 1))) message_fits))
-        ];
-      }
-
-      both_kept : Keeps classes s.heap (with_text ++ thrown_object ∷ [])
-      both_kept = keeps_after classes s.heap with_text (with_text ++ thrown_object ∷ []) text_kept (keeps_more classes with_text text_kept.typed thrown_object thrown_typed)
-
-      throw_new : Fits (throw_new_effect classes s t c_given (text_given args 1))
-      throw_new =
-          left (string_object (text_given args 1) ∷ thrown_object ∷ []) s (record t { pending = Some (next_name s.heap + 1) }) (ScalarResult (Int (pos 0)))
-          (with_text ++ thrown_object ∷ [])
-          (sym (append_assoc s.heap (string_object (text_given args 1) ∷ []) (thrown_object ∷ [])))
-          both_kept (variables_later classes s.heap (with_text ++ thrown_object ∷ []) both_kept.stay t.variables vars) tt
+    known : (f : JniFunction) (i : ℕ) (kind : ParameterKind) → Known f → Takes f i kind → IsKnownAs classes s.heap t.variables kind (slice_get args i)
+    known f i kind h takes = known_at classes s.heap t.variables (parameters_for f (length args)) args i kind h (takes (length args))
 
     -- ---- buffers
 
@@ -553,65 +307,221 @@ module _ (unit : SourceUnit) (classes : Classes) (well : DeclaresWell classes) (
     numbers_as : (e : ElementType) (n : ℕ) → u ≡ e → HasNumbers classes s.heap e n → HasNumbers classes s.heap u n
     numbers_as e n is h = subst (λ (x : ElementType). HasNumbers classes s.heap x n) (sym is) h
 
-    -- ---- methods
+    of_view : Together (jni.GetBuffer ArrayView) → class_of s.heap (object_given args 0) ≡ number_array u
+    unfolding go_together
+    of_view h = equal (class_of s.heap (object_given args 0)) (number_array u) h
 
-    called_fits : (o : Option MethodId) (arguments : List ObjectValue) → Fits (method_effect o arguments)
-    called_fits None arguments = tt
-    called_fits (Some m) arguments = tt
+    -- what a buffer is got of has numbers of its type
+    got_numbers : (access : Access) → Known (jni.GetBuffer access) → Together (jni.GetBuffer access) → IsReady classes u t.variables (jni.GetBuffer access) args → HasNumbers classes s.heap u (object_given args 0)
+    got_numbers (ElementsCopy e) h together (writable, is) =
+        numbers_as e (object_given args 0) (same_kind (ElementsCopy e) e writable refl is) (has_numbers (object_given args 0) e (known (jni.GetBuffer (ElementsCopy e)) 0 (NumberArray e) h (λ n. refl)))
+    got_numbers ArrayView h together ready = has_numbers (object_given args 0) u (of_view together)
+    got_numbers CharsCopy h together (writable, is) =
+        numbers_as JChar (object_given args 0) (chars_copy writable is) (has_units (object_given args 0) (known (jni.GetBuffer CharsCopy) 0 StringObject h (λ n. refl)))
+    got_numbers CharsView h together (writable, is) =
+        numbers_as JChar (object_given args 0) (chars_view writable is) (has_units (object_given args 0) (known (jni.GetBuffer CharsView) 0 StringObject h (λ n. refl)))
+
+    module _ (f : JniFunction) (h : Known f) (go : Together f) (ready : IsReady classes u t.variables f args) where
+      -- what the call sees
+      abbrev seen : CallSight
+      seen = sight_of_call s t u f args
+
+      checked : IsChecked classes seen f
+      checked = sym (together classes s t u args f) ∙ go
+
+      buffer_numbers : (access : Access) → f ≡ jni.GetBuffer access → HasNumbers classes s.heap u (object_given args 0)
+      buffer_numbers access is = got_numbers access (subst Known is h) (subst Together is go) (subst (λ (g : JniFunction). IsReady classes u t.variables g args) is ready)
+
+      -- ---- what is given and raised
+
+      given_fits : {kind : ResultKind} {given : CallResult} → IsOfKind unit classes kind given → ResultFits classes u t.variables s.heap t.variables given
+      given_fits (OfField x (AsField class name text is)) = found_field classes class name text x is
+      given_fits (OfField x (AsStatic class name text is)) = found_static classes class name text x is
+      given_fits other = tt
+
+      raised : {c : ℕ} → IsRaised f c → IsMakeable classes c
+      raised NoClass = no_class_found
+      raised NoField = no_field_found
+      raised (NoMethod is) = subst (λ (g : JniFunction). IsReady classes u t.variables g args) is ready
+      raised NoElement = array_bounds
+      raised NoUnit = string_bounds
+      raised NoStore = no_store
+      raised NoSize = negative_size
+      raised NoOwner = no_owner
+
+      -- ---- what is written
+
+      field_value : {v : ObjectValue} → IsDeclared classes f_given → FitsField classes seen v → ValueFits classes s.heap f_given.field.type v
+      field_value declared (AsNumber T z is) = subst (λ (x : FieldType). ValueFits classes s.heap x (Number (convert T z))) (sym (number_type T f_given.field.type is)) (convert_in_range T z)
+      field_value declared (AsReference is) =
+          fits_field classes well g s.heap typed f_given declared (reference_given args 2) f_given.field.type refl (fits_field_alike classes s t u args 2 f_given.field.type ∙ is)
+
+      written : {n i : ℕ} {v : ObjectValue} → IsWrite classes seen f n i v → Fits (heap_effect s t (with_value_at s.heap n i v))
+      written (ToField v takes has fits) =
+          let declared = known f 1 FieldID h takes in
+          let both = and_parts (not f_given.is_static) (is_instance classes s.heap (object_given args 0) f_given.class) has in
+          put_fits (object_given args 0) (field_place classes s.heap (object_given args 0) f_given) f_given.field.type v
+          (holds_field classes well g s.heap typed f_given declared (not-true f_given.is_static both.0) (object_given args 0) both.1) (field_value declared fits)
+      written (ToStatic v takes has fits) =
+          let declared = known f 1 FieldID h takes in
+          let both = and_parts f_given.is_static (assignable classes (object_given args 0) f_given.class) has in
+          put_fits f_given.class (static_place classes f_given) f_given.field.type v (holds_static classes well g s.heap typed f_given declared both.0) (field_value declared fits)
+      written (ToElement i takes fits) =
+          let c = element_class (class_kind classes (class_of s.heap (object_given args 0))) in
+          let place = holds_element classes well g s.heap typed (object_given args 0) i (known f 0 ObjectArray h takes) in
+          put_fits (object_given args 0) i _ (Refers (reference_given args 2)) place.0
+          (reference_fits classes s.heap (reference_given args 2) c (fits_alike classes s t args 2 c (reference_given args 2) refl ∙ fits) place.1)
+
+      region_numbers : {e : ElementType} → TakesNumbers f e → HasNumbers classes s.heap e (object_given args 0)
+      region_numbers (OfArray e takes) = has_numbers (object_given args 0) e (known f 0 (NumberArray e) h takes)
+      region_numbers (OfString takes) = has_units (object_given args 0) (known f 0 StringObject h takes)
+
+      fits_array : (r : Region) → IsRegion classes seen f r → FitsArray (variable_given args 3) r
+      fits_array r is =
+          let array = known f 3 (ArrayVariable is.element) h is.array in
+          record {
+            element = is.element;
+            elements = array.0;
+            numbers = subst (λ (n : ℕ). HasNumbers classes s.heap is.element n) (sym is.object) (region_numbers is.numbers);
+            array = array.1;
+          }
+
+      -- ---- what is made
+
+      reference_array : (c n : ℕ) (r : Reference) → (0 < c) × (c ≤ length classes) → is_plain (class_kind classes c) ≡ true → fits_class classes s.heap r c ≡ true
+          → IsTypedObject classes s.heap (length s.heap + 1) (record { class = option_map_or (λ c. c) (array_class_of classes c) 0; values = replicate n (Refers r) })
+      reference_array c n r for_class plain fits =
+          let found = well.arrays c for_class.0 for_class.1 plain in
+          let is : option_map_or (λ c. c) (array_class_of classes c) 0 ≡ found.0 = ap (λ (o : Option ℕ). option_map_or (λ c. c) o 0) found.1 in
+          subst (λ (a : ℕ). IsTypedObject classes s.heap (length s.heap + 1) (record { class = a; values = replicate n (Refers r) })) (sym is)
+          (array_typed classes s.heap (length s.heap + 1) found.0 n (ReferenceField c) (Refers r) (array_low found.0 found.2) (array_high found.0 found.2) (no_class found.0 found.2)
+          (element found.0 found.2) (reference_fits classes s.heap r c fits for_class.0))
+        where
+          array_at : (a : ℕ) (c : ℕ) → class_kind classes a ≡ ArrayOfObjects c → (d : Class) × (class_at classes a ≡ Some d)
+          array_at a c kind = by_class (class_at classes a) refl kind
+            where
+              by_class : (o : Option Class) → class_at classes a ≡ o → option_map_or (λ (d : Class). d.kind) o Plain ≡ ArrayOfObjects c → (d : Class) × (class_at classes a ≡ Some d)
+              by_class None e h = absurd (cc)
+              by_class (Some d) e h = (d, e)
+
+          in_table : (a : ℕ) (d : Class) → class_at classes a ≡ Some d → (0 < a) × (a ≤ length classes)
+          in_table zero d e = absurd (cc)
+          in_table (suc i) d e = (omega arith, omega (arith, slice_get_within classes i d e))
+
+          array_low : (a : ℕ) → class_kind classes a ≡ ArrayOfObjects c → 0 < a
+          array_low a kind = let at = array_at a c kind in (in_table a at.0 at.1).0
+
+          array_high : (a : ℕ) → class_kind classes a ≡ ArrayOfObjects c → a ≤ length classes
+          array_high a kind = let at = array_at a c kind in (in_table a at.0 at.1).1
+
+          no_class : (a : ℕ) → class_kind classes a ≡ ArrayOfObjects c → a ≢ class_class
+          no_class a kind same =
+              let plain : Plain ≡ ArrayOfObjects c = sym (kind_class classes g) ∙ ap (class_kind classes) (sym same) ∙ kind in
+              absurd (cc)
+
+          element : (a : ℕ) → class_kind classes a ≡ ArrayOfObjects c → element_type_of classes a ≡ Some (ReferenceField c)
+          element a kind = rw kind refl
+
+      made : {o : Object} → IsMade classes seen f o → IsTypedObject classes s.heap (length s.heap + 1) o
+      made (OfClass takes making) =
+          let for_class = stands_for classes well g s.heap typed (object_given args 0) (known f 0 ClassObject h takes) in
+          fresh_typed classes s.heap (length s.heap + 1) (object_given args 0) (record { low = for_class.0; high = for_class.1; making = making })
+      made (OfNumbers T n) =
+          let is = number_array_is classes g T in
+          array_typed classes s.heap (length s.heap + 1) (number_array T) n (NumberField T) (Number (pos 0)) is.0 is.1 is.2 is.3 (zero_in_range T)
+      made (OfReferences n takes plain fits) =
+          let c = object_given args 1 in
+          reference_array c n (reference_given args 2) (stands_for classes well g s.heap typed c (known f 1 ClassObject h takes)) plain
+          (fits_alike classes s t args 2 c (reference_given args 2) refl ∙ fits)
+      made (OfText takes) = string_typed classes g s.heap (length s.heap + 1) (text_given args 0) (text_in_range (text_given args 0) (known f 0 TextBytes h takes))
+
+      -- the message string and then the exception
+      abbrev c_given : ℕ
+      c_given = object_given args 0
+
+      abbrev with_text : Heap
+      with_text = s.heap ++ string_object (text_given args 1) ∷ []
+
+      abbrev thrown_object : Object
+      thrown_object = with_message (fresh_object classes c_given) (Some (next_name s.heap))
+
+      module _ (takes_class : Takes f 0 ClassObject) (takes_text : Takes f 1 TextBytes) (throws : assignable classes c_given throwable_class ≡ true) where
+        text_kept : Keeps classes s.heap with_text
+        text_kept = keeps_more classes s.heap typed (string_object (text_given args 1)) (string_typed classes g s.heap (length s.heap + 1) (text_given args 1) (text_in_range (text_given args 1) (known f 1 TextBytes h takes_text)))
+
+        for_class : (0 < c_given) × (c_given ≤ length classes)
+        for_class = stands_for classes well g s.heap typed c_given (known f 0 ClassObject h takes_class)
+
+        thrown_is : IsThrowable classes well g c_given
+        thrown_is = throwable_is classes well g c_given throws
+
+        fresh_there : IsTypedObject classes with_text (length with_text + 1) (fresh_object classes c_given)
+        fresh_there = fresh_typed classes with_text (length with_text + 1) c_given (record { low = for_class.0; high = for_class.1; making = thrown_is.making })
+
+        last_there : (xs : Heap) (o : Object) → slice_get (xs ++ o ∷ []) (length xs) ≡ Some o
+        last_there [] o = refl
+        last_there (x ∷ xs) o = last_there xs o
+
+        message_fits : ReferenceFits classes with_text string_class (Some (next_name s.heap))
+        message_fits =
+            let q : next_name s.heap ≡ suc (length s.heap) = omega arith in
+            (string_object (text_given args 1), ap (object_at with_text) q ∙ last_there s.heap (string_object (text_given args 1)), assignable_itself classes string_class (omega (arith, long)))
+
+        thrown_typed : IsTypedObject classes with_text (length with_text + 1) thrown_object
+        thrown_typed = record {
+          low = fresh_there.low;
+          high = fresh_there.high;
+          of_class = fresh_there.of_class;
+          count = λ e. length-set (fresh_object classes c_given).values 0 (Refers (Some (next_name s.heap))) ∙ fresh_there.count e;
+          values = λ i v e. elim (get_set (fresh_object classes c_given).values 0 i (Refers (Some (next_name s.heap))) v e) [
+            | inl old ↦ fresh_there.values i v old
+            | inr (here, is) ↦
+                subst (λ (j : ℕ). PlaceFits classes with_text (type_at classes (length with_text + 1) c_given j) v) here
+                (subst (PlaceFits classes with_text (type_at classes (length with_text + 1) c_given 0)) is
+                (subst (λ (o : Option FieldType). PlaceFits classes with_text o (Refers (Some (next_name s.heap)))) (sym (thrown_is.first (length with_text + 1))) message_fits))
+          ];
+        }
+
+        both_kept : Keeps classes s.heap (with_text ++ thrown_object ∷ [])
+        both_kept = keeps_after classes s.heap with_text (with_text ++ thrown_object ∷ []) text_kept (keeps_more classes with_text text_kept.typed thrown_object thrown_typed)
+
+        throw_new : Fits (throw_new_effect classes s t c_given (text_given args 1))
+        throw_new =
+            left (string_object (text_given args 1) ∷ thrown_object ∷ []) s (record t { pending = Some (next_name s.heap + 1) }) (ScalarResult (Int (pos 0)))
+            (with_text ++ thrown_object ∷ [])
+            (sym (append_assoc s.heap (string_object (text_given args 1) ∷ []) (thrown_object ∷ [])))
+            both_kept (variables_later classes s.heap (with_text ++ thrown_object ∷ []) both_kept.stay t.variables vars) tt
+
+      -- ---- all answers
+
+      answer_fits : {kind : CallKind} {result : ResultKind} {a : Answer} → AnswersAs unit classes seen f kind result a → Fits (answer.effect_of classes in_use k s t args a)
+      unfolding answer.effect_of
+      answer_fits (Giving given) = still _ _ vars (given_fits given)
+      answer_fits (Pending r given) = still _ _ vars (given_fits given)
+      answer_fits (Raising class is) = raised is
+      answer_fits (RaisingWith takes_class takes_text is) = throw_new takes_class takes_text (is checked)
+      answer_fits (Writing n i v is) = written (is checked)
+      answer_fits (SettingRegion r is) =
+          set_region_fits (variable_given args 3) r (fits_array r is) (subst (λ (n : ℕ). r.start + r.count ≤ length (values_of s.heap n)) (sym is.object) is.within) is.few
+      answer_fits (Making o is) = one_more o (made (is checked))
+      answer_fits (Ensuring n) = frames_fit (with_capacity n t.frames)
+      answer_fits (Pushing n) = frames_fit (record { capacity = n; references = [] } ∷ t.frames)
+      answer_fits (Filling r is) = get_region_fits (variable_given args 3) r (fits_array r is)
+      answer_fits (FillingNone class is) = raised is
+      answer_fits (Copying {access = access} of) = copy_fits (object_given args 0) (buffer_numbers access of)
+      answer_fits (Viewing {access = access} of) = view_fits (object_given args 0) (buffer_numbers access of)
+      answer_fits (CopyingBack T true of) =
+          let copied = subst (λ (g : JniFunction). IsReady classes u t.variables g args) of ready in
+          other_heap (with_freed t (variable_given args 1)) _ (copied_back (object_given args 0) (variable_given args 1) copied.0 copied.1 copied.2) (freed_vars (variable_given args 1))
+      answer_fits (CopyingBack T false of) =
+          let copied = subst (λ (g : JniFunction). IsReady classes u t.variables g args) of ready in
+          other_heap t _ (copied_back (object_given args 0) (variable_given args 1) copied.0 copied.1 copied.2) vars
+      answer_fits Freeing = still _ _ (freed_vars (variable_given args 1)) tt
+      answer_fits (Calling m) = tt
+      answer_fits (Halting trap) = tt
+      answer_fits other = still _ _ vars tt
 
     -- ---- all functions
 
     pub effect_fits : (f : JniFunction) → Known f → Together f → IsReady classes u t.variables f args → Fits (call_effect unit classes in_use k s t args f)
-    unfolding call_effect
-    effect_fits jni.FindClass h together ready = class_fits (class_named classes (text_given args 0))
-    effect_fits jni.AllocObject h together ready = alloc h together
-    effect_fits jni.DeleteLocalRef h together ready = delete_local_fits (lookup (variable_given args 0) t.variables) (reference_given args 0)
-    effect_fits jni.DeleteGlobalRef h together ready = delete_global_fits (variable_given args 0) (lookup (variable_given args 0) s.statics)
-    effect_fits jni.DeleteWeakGlobalRef h together ready = delete_weak_fits (variable_given args 0) (lookup (variable_given args 0) s.statics)
-    effect_fits jni.EnsureLocalCapacity h together ready = ensure_fits (number_given args 0)
-    effect_fits jni.PushLocalFrame h together ready = push_fits (number_given args 0)
-    effect_fits jni.GetFieldID h together ready = field_fits (find_field classes (object_given args 0) (text_given args 1) (text_given args 2)) (λ f e. found_field classes (object_given args 0) (text_given args 1) (text_given args 2) f e)
-    effect_fits jni.GetStaticFieldID h together ready = field_fits (find_static classes (object_given args 0) (text_given args 1) (text_given args 2)) (λ f e. found_static classes (object_given args 0) (text_given args 1) (text_given args 2) f e)
-    effect_fits jni.GetStaticMethodID h together ready = method_fits ready (find_method unit classes (object_given args 0) (text_given args 1) (text_given args 2))
-    effect_fits (jni.SetField e) h together ready = field_set e h together
-    effect_fits jni.SetObjectField h together ready = object_field_set h together
-    effect_fits (jni.SetStaticField e) h together ready = static_set e h together
-    effect_fits jni.SetStaticObjectField h together ready = object_static_set h together
-    effect_fits (jni.NewArray e) h together ready = numbers e
-    effect_fits jni.NewObjectArray h together ready = objects h together
-    effect_fits jni.GetObjectArrayElement h together ready = index_fits array_index_out_of_bounds _ (number_given args 1) _ array_bounds (λ i. still _ _ vars tt)
-    effect_fits jni.SetObjectArrayElement h together ready =
-        index_fits array_index_out_of_bounds _ (number_given args 1) _ array_bounds
-        (λ i. store_fits (object_given args 0) i (reference_given args 2) _ (holds_element classes well g s.heap typed (object_given args 0) i (known jni.SetObjectArrayElement 0 ObjectArray h refl)) refl)
-    effect_fits (jni.GetArrayRegion e) h together ready =
-        let at = known (jni.GetArrayRegion e) 3 (ArrayVariable e) h refl in
-        region_fits array_index_out_of_bounds _ (number_given args 1) (number_given args 2) _ array_bounds
-        (λ i j within. get_region_fits (object_given args 0) (variable_given args 3) e at.0 i j (has_numbers (object_given args 0) e (known (jni.GetArrayRegion e) 0 (NumberArray e) h refl)) at.1)
-    effect_fits (jni.SetArrayRegion e) h together ready =
-        let at = known (jni.SetArrayRegion e) 3 (ArrayVariable e) h refl in
-        region_fits array_index_out_of_bounds _ (number_given args 1) (number_given args 2) _ array_bounds
-        (λ i j within. set_region_fits (object_given args 0) (variable_given args 3) e at.0 i j within (has_numbers (object_given args 0) e (known (jni.SetArrayRegion e) 0 (NumberArray e) h refl)) at.1)
-    effect_fits jni.GetStringRegion h together ready =
-        let at = known jni.GetStringRegion 3 (ArrayVariable JChar) h refl in
-        region_fits string_index_out_of_bounds _ (number_given args 1) (number_given args 2) _ string_bounds
-        (λ i j within. get_region_fits (object_given args 0) (variable_given args 3) JChar at.0 i j (has_units (object_given args 0) (known jni.GetStringRegion 0 StringObject h refl)) at.1)
-    effect_fits (jni.GetBuffer (ElementsCopy e)) h together (writable, is) =
-        copy_fits (object_given args 0) (numbers_as e (object_given args 0) (same_kind (ElementsCopy e) e writable refl is) (has_numbers (object_given args 0) e (known (jni.GetBuffer (ElementsCopy e)) 0 (NumberArray e) h refl)))
-    effect_fits (jni.GetBuffer ArrayView) h together ready = view_fits (object_given args 0) (has_numbers (object_given args 0) u (of_view together))
-    effect_fits (jni.GetBuffer CharsCopy) h together (writable, is) =
-        copy_fits (object_given args 0) (numbers_as JChar (object_given args 0) (chars_copy writable is) (has_units (object_given args 0) (known (jni.GetBuffer CharsCopy) 0 StringObject h refl)))
-    effect_fits (jni.GetBuffer CharsView) h together (writable, is) =
-        view_fits (object_given args 0) (numbers_as JChar (object_given args 0) (chars_view writable is) (has_units (object_given args 0) (known (jni.GetBuffer CharsView) 0 StringObject h refl)))
-    effect_fits (jni.ReleaseBuffer (ElementsCopy e)) h together (kind, zs, at) = release_fits (object_given args 0) (variable_given args 1) (mode_given args 2) kind zs at
-    effect_fits (jni.ReleaseBuffer ArrayView) h together ready = still _ _ (freed_vars (variable_given args 1)) tt
-    effect_fits (jni.ReleaseBuffer CharsCopy) h together ready = still _ _ (freed_vars (variable_given args 1)) tt
-    effect_fits (jni.ReleaseBuffer CharsView) h together ready = still _ _ (freed_vars (variable_given args 1)) tt
-    effect_fits jni.NewStringUTF h together ready = string h
-    effect_fits jni.ThrowNew h together ready = throw_new h together
-    effect_fits jni.FatalError h together ready = tt
-    effect_fits jni.MonitorEnter h together ready = enter_fits (object_given args 0) (monitor_of s.monitors (object_given args 0))
-    effect_fits jni.MonitorExit h together ready = exit_fits (object_given args 0) (monitor_of s.monitors (object_given args 0))
-    effect_fits jni.CallStaticVoidMethod h together ready = called_fits (method_given args 1) (map passed_value (drop 2 args))
-    effect_fits jni.CallStaticIntMethod h together ready = called_fits (method_given args 1) (map passed_value (drop 2 args))
-    effect_fits jni.CallStaticObjectMethod h together ready = called_fits (method_given args 1) (map passed_value (drop 2 args))
-    effect_fits f h together ready = still _ _ vars tt
+    effect_fits f h go ready = subst Fits (sym (effect_is unit classes in_use k s t args u f)) (answer_fits f h go ready (answers_as unit classes k (sight_of_call s t u f args) f))
