@@ -94,6 +94,7 @@ module _ (classes : Classes) (sight : CallSight) where
   pub data IsMade (f : JniFunction) : Object → Type 0 where
     OfClass : Takes f 0 ClassObject → has_own_making classes (name_of_first sight) ≡ false → IsMade f (fresh_object classes (name_of_first sight))
     OfNumbers : (T : ElementType) (n : ℕ) → IsMade f (record { class = number_array T; values = replicate n (Number (pos 0)) })
-    OfReferences : (n : ℕ) → Takes f 1 ClassObject → is_plain (class_kind classes (name_of_second sight)) ≡ true → fits classes sight.third (name_of_second sight) ≡ true
+    OfReferences : (n : ℕ) → Takes f 1 ClassObject → is_plain (class_kind classes (name_of_second sight)) ≡ true
+        → fits classes sight.third (name_of_second sight) ≡ true
         → IsMade f (record { class = option_map_or (λ c. c) (array_class_of classes (name_of_second sight)) 0; values = replicate n (Refers sight.third.reference) })
     OfText : Takes f 0 TextBytes → IsMade f (string_object sight.first.text)

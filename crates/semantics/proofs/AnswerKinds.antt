@@ -1,6 +1,6 @@
 -- Which answers a function can give, by what its calls may change and by its kind of result: with these lemmas a law goes by the answers, and
 -- names no function.
-use Rattle.std.specs.Prelude.{◌≡◌, ◌⊎◌, ℕ, ◌+◌, ◌≤◌, ◌==◌, ℤ, pos, negsuc, Bool, true, false, nat_le, nat_lt, if◌then◌else◌, List, [], ◌∷◌, length, replicate, Option, Some, None, refl}
+use Rattle.std.specs.Prelude.{◌≡◌, ◌⊎◌, ◌&&◌, ℕ, ◌+◌, ◌≤◌, ◌==◌, ℤ, pos, negsuc, Bool, true, false, nat_le, nat_lt, if◌then◌else◌, List, [], ◌∷◌, length, replicate, Option, Some, None, refl}
 use Rattle.std.proofs.Common.{inl, inr, ◌∙◌, subst}
 use Rattle.std.proofs.lemmas.Bool.{and_parts, cond_both, leb-true, not-true}
 use Rattle.base.specs.Element.{ElementType, JChar}
@@ -8,25 +8,25 @@ use Rattle.base.specs.Limits.{most_monitor_entries}
 use Rattle.syntax.specs.Tree.{SourceUnit}
 use Rattle.class_rules.specs.BuiltIns.{array_index_out_of_bounds, string_index_out_of_bounds, throwable_class}
 use Rattle.class_rules.specs.Class.{Classes, assignable, class_kind, is_plain}
-use Rattle.class_rules.specs.Fields.{FieldId}
-use Rattle.jni.specs.Access.{Access, ElementsCopy, ArrayView, CharsCopy, CharsView}
+use Rattle.class_rules.specs.Fields.{FieldId, layout}
+use Rattle.jni.specs.Access.{Access, ElementsCopy, ArrayView, CharsCopy, CharsView, is_critical}
 use Rattle.jni.specs.JniFunction as jni
 use Rattle.jni.specs.JniFunction.{JniFunction, calls_method, parameters_for, prototype}
-use Rattle.jni.specs.Prototype.{ResultKind, NewLocal, NewGlobal, GivesInt, GivesField, GivesMethod, GivesNothing, GivesBuffer, ParameterKind, ClassObject, IntNumber, TextBytes, ArrayVariable, NumberArray, StringObject}
+use Rattle.jni.specs.Prototype.{ResultKind, NewLocal, NewGlobal, GivesInt, GivesField, GivesMethod, GivesNothing, GivesBuffer, ParameterKind, ClassObject, FieldID, IntNumber, TextBytes, ArrayVariable, NumberArray, StringObject}
 use Rattle.semantics.specs.Answer.{Answer, Calls, Copies, CopiesBack, DeletesGlobal, DeletesLocal, DeletesWeak, Disowns, Ensures, Frees, GetsRegion, Gives, Halts, Makes, MakesGlobal, Owns, Pends, Pops, Pushes, Raises, RaisesWith, RefusesFrames, Region, SetsRegion, Views, Writes}
 use Rattle.semantics.specs.AnswerTable.{call_answer, element_given, element_set, ensured, found_class, found_field, found_method, fits, global_deleted, local_deleted, method_called, monitor_entered, monitor_left, new_array, pushed, region, region_with, region_within, released, weak_deleted}
 use Rattle.semantics.specs.Arguments.{Actual, ReleaseMode, CopyBackAndFree, CopyBack, FreeUncopied}
 use Rattle.semantics.specs.CallEffects.{CallResult, NoResult}
 use Rattle.semantics.specs.CallSight.{CallSight, name_of_first, name_of_second, sight_of_call}
-use Rattle.semantics.specs.CallTraps.{fits_field, go_together, has_field, has_static}
-use Rattle.semantics.specs.Heap.{holds_number}
+use Rattle.semantics.specs.CallTraps.{go_together, has_field, has_static}
+use Rattle.semantics.specs.Heap.{place_in, static_place}
 use Rattle.semantics.specs.Method.{MethodId, find_method}
 use Rattle.semantics.specs.Object.{Object, ObjectValue, Reference, Refers}
 use Rattle.semantics.specs.Thread.{Monitor, Shared, Thread}
 use Rattle.semantics.specs.Value.{Trap}
 use Rattle.semantics.specs.Variable.{StaticReference, Empty, Live, Weakly, Cleared, Deleted, Statics}
 use Rattle.semantics.specs.WeakArguments.{takes_weak}
-use Rattle.semantics.proofs.AnswerFacts.{AsField, AsNumber, AsReference, AsStatic, IsFound, IsMade, IsOfKind, IsRaised, IsRegion, IsWrite, NoClass, NoElement, NoField, NoMethod, NoOwner, NoSize, NoStore, NoUnit, OfArray, OfClass, OfField, OfFlag, OfInt, OfMethod, OfNothing, OfNumbers, OfReference, OfReferences, OfString, OfText, OfWeak, Takes, TakesNumbers, ToElement, ToField, ToStatic}
+use Rattle.semantics.proofs.AnswerFacts.{AsField, AsNumber, AsReference, AsStatic, FitsField, IsFound, IsMade, IsOfKind, IsRaised, IsRegion, IsWrite, NoClass, NoElement, NoField, NoMethod, NoOwner, NoSize, NoStore, NoUnit, OfArray, OfClass, OfField, OfFlag, OfInt, OfMethod, OfNothing, OfNumbers, OfReference, OfReferences, OfString, OfText, OfWeak, Takes, TakesNumbers, ToElement, ToField, ToStatic}
 
 -- what the calls of a function may change of variables, statics and frames; quiet ones change none of them, end no reference and give no buffer
 pub data CallKind : Type 0 where
@@ -56,11 +56,13 @@ IsChecked classes sight f = go_together classes sight f ≡ true
 -- the answers of functions of a kind, by what they give; any call may stop the run
 pub data AnswersAs (unit : SourceUnit) (classes : Classes) (sight : CallSight) (f : JniFunction) : CallKind → ResultKind → Answer → Type 0 where
   Giving : {result : ResultKind} {given : CallResult} → IsOfKind unit classes result given → AnswersAs unit classes sight f Quiet result (Gives given)
-  Pending : {result : ResultKind} {given : CallResult} (r : Reference) → IsOfKind unit classes result given → AnswersAs unit classes sight f Quiet result (Pends r given)
+  Pending : {result : ResultKind} {given : CallResult} (r : Reference) → IsOfKind unit classes result given
+      → AnswersAs unit classes sight f Quiet result (Pends r given)
   Raising : {result : ResultKind} (class : ℕ) → IsRaised f class → AnswersAs unit classes sight f Quiet result (Raises class)
   RaisingWith : Takes f 0 ClassObject → Takes f 1 TextBytes → (IsChecked classes sight f → assignable classes (name_of_first sight) throwable_class ≡ true)
       → AnswersAs unit classes sight f Quiet GivesInt (RaisesWith (name_of_first sight) sight.second.text)
-  Writing : (n i : ℕ) (v : ObjectValue) → (IsChecked classes sight f → IsWrite classes sight f n i v) → AnswersAs unit classes sight f Quiet GivesNothing (Writes n i v)
+  Writing : (n i : ℕ) (v : ObjectValue) → (IsChecked classes sight f → IsWrite classes sight f n i v)
+      → AnswersAs unit classes sight f Quiet GivesNothing (Writes n i v)
   SettingRegion : (r : Region) → IsRegion classes sight f r → AnswersAs unit classes sight f Quiet GivesNothing (SetsRegion r)
   Making : (o : Object) → (IsChecked classes sight f → IsMade classes sight f o) → AnswersAs unit classes sight f Quiet NewLocal (Makes o)
   MakingGlobal : (r : Reference) → AnswersAs unit classes sight f Quiet NewGlobal (MakesGlobal r)
@@ -68,8 +70,8 @@ pub data AnswersAs (unit : SourceUnit) (classes : Classes) (sight : CallSight) (
   EnsuringNone : AnswersAs unit classes sight f Quiet GivesInt RefusesFrames
   Owning : (n count : ℕ) → AnswersAs unit classes sight f Quiet GivesInt (Owns n count)
   Disowning : (n : ℕ) → AnswersAs unit classes sight f Quiet GivesInt (Disowns n)
-  EndingNoLocal : AnswersAs unit classes sight f EndsLocal GivesNothing (Gives NoResult)
-  EndingLocal : (n : ℕ) → AnswersAs unit classes sight f EndsLocal GivesNothing (DeletesLocal 0 n)
+  EndingNoLocal : sight.first.reference ≡ None → AnswersAs unit classes sight f EndsLocal GivesNothing (Gives NoResult)
+  EndingLocal : (n : ℕ) → sight.first.reference ≡ Some n → AnswersAs unit classes sight f EndsLocal GivesNothing (DeletesLocal 0 n)
   EndingNoStatic : AnswersAs unit classes sight f EndsStatic GivesNothing (Gives NoResult)
   EndingGlobal : (n : ℕ) → AnswersAs unit classes sight f EndsStatic GivesNothing (DeletesGlobal 0 n)
   EndingWeak : AnswersAs unit classes sight f EndsStatic GivesNothing (DeletesWeak 0)
@@ -78,8 +80,10 @@ pub data AnswersAs (unit : SourceUnit) (classes : Classes) (sight : CallSight) (
   Popping : (r : Reference) → AnswersAs unit classes sight f PopsFrame NewLocal (Pops r)
   Filling : (r : Region) → IsRegion classes sight f r → AnswersAs unit classes sight f FillsArray GivesNothing (GetsRegion r)
   FillingNone : (class : ℕ) → IsRaised f class → AnswersAs unit classes sight f FillsArray GivesNothing (Raises class)
-  Copying : {access : Access} → f ≡ jni.GetBuffer access → AnswersAs unit classes sight f (GetsBuffer access) (GivesBuffer access) (Copies (name_of_first sight))
-  Viewing : {access : Access} → f ≡ jni.GetBuffer access → AnswersAs unit classes sight f (GetsBuffer access) (GivesBuffer access) (Views (name_of_first sight))
+  Copying : {access : Access} → f ≡ jni.GetBuffer access → is_critical access ≡ false
+      → AnswersAs unit classes sight f (GetsBuffer access) (GivesBuffer access) (Copies (name_of_first sight))
+  Viewing : {access : Access} → f ≡ jni.GetBuffer access → is_critical access ≡ true
+      → AnswersAs unit classes sight f (GetsBuffer access) (GivesBuffer access) (Views (name_of_first sight))
   CopyingBack : (T : ElementType) (frees : Bool) → f ≡ jni.ReleaseBuffer (ElementsCopy T)
       → AnswersAs unit classes sight f (ReleasesBuffer (ElementsCopy T)) GivesNothing (CopiesBack (name_of_first sight) 1 frees)
   Freeing : {access : Access} → AnswersAs unit classes sight f (ReleasesBuffer access) GivesNothing (Frees 1)
@@ -90,7 +94,8 @@ pub data AnswersAs (unit : SourceUnit) (classes : Classes) (sight : CallSight) (
 region_is : (n count : ℕ) (start length : ℤ) (r : Region) → region_within n count start length ≡ Some r → (r.object ≡ n) × (r.start + r.count ≤ count)
 region_is n count (pos i) (pos j) r is = by_test (nat_le (i + j) count) refl is
   where
-    by_test : (b : Bool) → nat_le (i + j) count ≡ b → (if b then Some (record { object = n; start = i; count = j }) else None) ≡ Some r → (r.object ≡ n) × (r.start + r.count ≤ count)
+    by_test : (b : Bool) → nat_le (i + j) count ≡ b → (if b then Some (record { object = n; start = i; count = j }) else None) ≡ Some r
+        → (r.object ≡ n) × (r.start + r.count ≤ count)
     by_test true fits found =
         let same : record { object = n; start = i; count = j } ≡ r = cc in
         subst (λ (r : Region). (r.object ≡ n) × (r.start + r.count ≤ count)) same (refl, leb-true (i + j) count fits)
@@ -122,16 +127,17 @@ module _ (unit : SourceUnit) (classes : Classes) (sight : CallSight) (f : JniFun
   called_as result None = Halting _
   called_as result (Some m) = Calling m
 
-  array_as : (class : ℕ) (z : ℤ) (v : ObjectValue) → ((n : ℕ) → IsChecked classes sight f → IsMade classes sight f (record { class = class; values = replicate n v }))
+  array_as : (class : ℕ) (z : ℤ) (v : ObjectValue)
+      → ((n : ℕ) → IsChecked classes sight f → IsMade classes sight f (record { class = class; values = replicate n v }))
       → As Quiet NewLocal (new_array class z v)
   array_as class (pos n) v made = Making _ (made n)
   array_as class (negsuc n) v made = Raising _ NoSize
 
   -- ---- references and frames
 
-  local_as : (r : Reference) → As EndsLocal GivesNothing (local_deleted r)
-  local_as None = EndingNoLocal
-  local_as (Some n) = EndingLocal n
+  local_as : (r : Reference) → sight.first.reference ≡ r → As EndsLocal GivesNothing (local_deleted r)
+  local_as None is = EndingNoLocal is
+  local_as (Some n) is = EndingLocal n is
 
   global_as : (r : Option StaticReference) → As EndsStatic GivesNothing (global_deleted r)
   global_as None = EndingNoStatic
@@ -181,7 +187,8 @@ module _ (unit : SourceUnit) (classes : Classes) (sight : CallSight) (f : JniFun
           cond_both (nat_le r.count sight.fourth.elements) _ _ (As kind GivesNothing)
           (λ e. there r within.0 within.1 (leb-true r.count sight.fourth.elements e)) (λ e. Halting _)
 
-  released_as : (T : ElementType) → f ≡ jni.ReleaseBuffer (ElementsCopy T) → (mode : ReleaseMode) → As (ReleasesBuffer (ElementsCopy T)) GivesNothing (released (name_of_first sight) mode)
+  released_as : (T : ElementType) → f ≡ jni.ReleaseBuffer (ElementsCopy T) → (mode : ReleaseMode)
+      → As (ReleasesBuffer (ElementsCopy T)) GivesNothing (released (name_of_first sight) mode)
   released_as T of CopyBackAndFree = CopyingBack T true of
   released_as T of CopyBack = CopyingBack T false of
   released_as T of FreeUncopied = Freeing
@@ -200,9 +207,20 @@ module _ (unit : SourceUnit) (classes : Classes) (sight : CallSight) (f : JniFun
 -- ---- all functions
 
 module _ (unit : SourceUnit) (classes : Classes) (k : ℕ) (sight : CallSight) where
+  -- a value goes to a field that the first argument has, or to a static
+  to_field : (f : JniFunction) → Takes f 1 FieldID → (v : ObjectValue) (fits : Bool) → (fits ≡ true → FitsField classes sight v)
+      → (has_field classes sight && fits) ≡ true
+      → IsWrite classes sight f (name_of_first sight) (place_in sight.second.field (layout classes sight.first.object.class)) v
+  to_field f takes v fits shown is = let both = and_parts (has_field classes sight) fits is in ToField v takes both.0 (shown both.1)
+
+  to_static : (f : JniFunction) → Takes f 1 FieldID → (v : ObjectValue) (fits : Bool) → (fits ≡ true → FitsField classes sight v)
+      → (has_static classes sight && fits) ≡ true → IsWrite classes sight f sight.second.field.class (static_place classes sight.second.field) v
+  to_static f takes v fits shown is = let both = and_parts (has_static classes sight) fits is in ToStatic v takes both.0 (shown both.1)
+
   -- the region that the arguments tell
   regions : (f : JniFunction) (kind : CallKind) (go : Region → Answer) (exception : ℕ) (T : ElementType) → TakesNumbers f T → Takes f 3 (ArrayVariable T)
-      → ((r : Region) → IsRegion classes sight f r → AnswersAs unit classes sight f kind GivesNothing (go r)) → AnswersAs unit classes sight f kind GivesNothing (Raises exception)
+      → ((r : Region) → IsRegion classes sight f r → AnswersAs unit classes sight f kind GivesNothing (go r))
+      → AnswersAs unit classes sight f kind GivesNothing (Raises exception)
       → AnswersAs unit classes sight f kind GivesNothing (region_with go exception sight.fourth.elements (region unit classes k sight))
   regions f kind go exception T numbers array there past =
       region_as unit classes sight f kind go exception (name_of_first sight) (length sight.first.object.values) sight.second.number sight.third.number
@@ -219,21 +237,25 @@ module _ (unit : SourceUnit) (classes : Classes) (k : ℕ) (sight : CallSight) w
   answers_as jni.NewLocalRef = Giving (OfReference _)
   answers_as jni.NewGlobalRef = MakingGlobal _
   answers_as jni.NewWeakGlobalRef = Giving (OfWeak _)
-  answers_as jni.DeleteLocalRef = local_as unit classes sight jni.DeleteLocalRef sight.first.reference
+  answers_as jni.DeleteLocalRef = local_as unit classes sight jni.DeleteLocalRef sight.first.reference refl
   answers_as jni.DeleteGlobalRef = global_as unit classes sight jni.DeleteGlobalRef sight.held
   answers_as jni.DeleteWeakGlobalRef = weak_as unit classes sight jni.DeleteWeakGlobalRef sight.held
   answers_as jni.IsSameObject = Giving (OfFlag _)
   answers_as jni.EnsureLocalCapacity = ensured_as unit classes sight jni.EnsureLocalCapacity sight.first.number
   answers_as jni.PushLocalFrame = pushed_as unit classes sight jni.PushLocalFrame sight.first.number
   answers_as jni.PopLocalFrame = Popping _
-  answers_as jni.GetFieldID = field_as unit classes sight jni.GetFieldID _ (λ f is. AsField (name_of_first sight) sight.second.text sight.third.text is)
-  answers_as jni.GetStaticFieldID = field_as unit classes sight jni.GetStaticFieldID _ (λ f is. AsStatic (name_of_first sight) sight.second.text sight.third.text is)
-  answers_as (jni.SetField T) = Writing _ _ _ (λ checked. let both = and_parts (has_field classes sight) (holds_number T sight.second.field.field.type) checked in ToField _ (λ n. refl) both.0 (AsNumber T _ both.1))
+  answers_as jni.GetFieldID =
+      field_as unit classes sight jni.GetFieldID _
+      (λ f is. AsField (name_of_first sight) sight.second.text sight.third.text is)
+  answers_as jni.GetStaticFieldID =
+      field_as unit classes sight jni.GetStaticFieldID _
+      (λ f is. AsStatic (name_of_first sight) sight.second.text sight.third.text is)
+  answers_as (jni.SetField T) = Writing _ _ _ (λ checked. to_field (jni.SetField T) (λ n. refl) _ _ (λ fits. AsNumber T _ fits) checked)
   answers_as jni.GetObjectField = Giving (OfReference _)
-  answers_as jni.SetObjectField = Writing _ _ _ (λ checked. let both = and_parts (has_field classes sight) (fits_field classes sight.third sight.second.field.field.type) checked in ToField _ (λ n. refl) both.0 (AsReference both.1))
-  answers_as (jni.SetStaticField T) = Writing _ _ _ (λ checked. let both = and_parts (has_static classes sight) (holds_number T sight.second.field.field.type) checked in ToStatic _ (λ n. refl) both.0 (AsNumber T _ both.1))
+  answers_as jni.SetObjectField = Writing _ _ _ (λ checked. to_field jni.SetObjectField (λ n. refl) _ _ (λ fits. AsReference fits) checked)
+  answers_as (jni.SetStaticField T) = Writing _ _ _ (λ checked. to_static (jni.SetStaticField T) (λ n. refl) _ _ (λ fits. AsNumber T _ fits) checked)
   answers_as jni.GetStaticObjectField = Giving (OfReference _)
-  answers_as jni.SetStaticObjectField = Writing _ _ _ (λ checked. let both = and_parts (has_static classes sight) (fits_field classes sight.third sight.second.field.field.type) checked in ToStatic _ (λ n. refl) both.0 (AsReference both.1))
+  answers_as jni.SetStaticObjectField = Writing _ _ _ (λ checked. to_static jni.SetStaticObjectField (λ n. refl) _ _ (λ fits. AsReference fits) checked)
   answers_as (jni.NewArray T) = array_as unit classes sight (jni.NewArray T) _ sight.first.number _ (λ n checked. OfNumbers T n)
   answers_as jni.NewObjectArray =
       array_as unit classes sight jni.NewObjectArray _ sight.first.number _ (λ n checked.
@@ -247,10 +269,10 @@ module _ (unit : SourceUnit) (classes : Classes) (k : ℕ) (sight : CallSight) w
       regions (jni.SetArrayRegion T) Quiet SetsRegion array_index_out_of_bounds T (OfArray T (λ n. refl)) (λ n. refl) SettingRegion (Raising _ NoElement)
   answers_as jni.GetStringRegion =
       regions jni.GetStringRegion FillsArray GetsRegion string_index_out_of_bounds JChar (OfString (λ n. refl)) (λ n. refl) Filling (FillingNone _ NoUnit)
-  answers_as (jni.GetBuffer (ElementsCopy T)) = Copying refl
-  answers_as (jni.GetBuffer ArrayView) = Viewing refl
-  answers_as (jni.GetBuffer CharsCopy) = Copying refl
-  answers_as (jni.GetBuffer CharsView) = Viewing refl
+  answers_as (jni.GetBuffer (ElementsCopy T)) = Copying refl refl
+  answers_as (jni.GetBuffer ArrayView) = Viewing refl refl
+  answers_as (jni.GetBuffer CharsCopy) = Copying refl refl
+  answers_as (jni.GetBuffer CharsView) = Viewing refl refl
   answers_as (jni.ReleaseBuffer (ElementsCopy T)) = released_as unit classes sight (jni.ReleaseBuffer (ElementsCopy T)) T refl sight.third.mode
   answers_as (jni.ReleaseBuffer ArrayView) = Freeing
   answers_as (jni.ReleaseBuffer CharsCopy) = Freeing
@@ -300,7 +322,8 @@ abbrev pub CallsNone : Answer → Type 0
 CallsNone (Calls m) = ⊥
 CallsNone a = Unit {0}
 
-none_called : {unit : SourceUnit} {classes : Classes} {sight : CallSight} {f : JniFunction} {result : ResultKind} {a : Answer} (kind : CallKind) → is_of_method kind ≡ false → AnswersAs unit classes sight f kind result a → CallsNone a
+none_called : {unit : SourceUnit} {classes : Classes} {sight : CallSight} {f : JniFunction} {result : ResultKind} {a : Answer} (kind : CallKind)
+    → is_of_method kind ≡ false → AnswersAs unit classes sight f kind result a → CallsNone a
 none_called kind own (Calling m) = absurd (cc)
 none_called kind own h = tt
 
@@ -315,7 +338,8 @@ LeavesHeap (DeletesWeak i) = Unit {0}
 LeavesHeap (Halts trap) = Unit {0}
 LeavesHeap a = ⊥
 
-static_leaves : {unit : SourceUnit} {classes : Classes} {sight : CallSight} {f : JniFunction} {result : ResultKind} {a : Answer} → AnswersAs unit classes sight f EndsStatic result a → LeavesHeap a
+static_leaves : {unit : SourceUnit} {classes : Classes} {sight : CallSight} {f : JniFunction} {result : ResultKind} {a : Answer}
+    → AnswersAs unit classes sight f EndsStatic result a → LeavesHeap a
 static_leaves EndingNoStatic = tt
 static_leaves (EndingGlobal n) = tt
 static_leaves EndingWeak = tt
@@ -326,7 +350,8 @@ module _ (unit : SourceUnit) (classes : Classes) (k : ℕ) where
   pub answers_of : (sight : CallSight) (f : JniFunction) (kind : CallKind) → call_kind f ≡ kind
       → AnswersAs unit classes sight f kind (prototype f).result (call_answer unit classes k sight f)
   answers_of sight f kind is =
-      subst (λ (kind : CallKind). AnswersAs unit classes sight f kind (prototype f).result (call_answer unit classes k sight f)) is (answers_as unit classes k sight f)
+      subst (λ (kind : CallKind). AnswersAs unit classes sight f kind (prototype f).result (call_answer unit classes k sight f)) is
+      (answers_as unit classes k sight f)
 
   -- functions that call no method answer with no call of one
   pub calls_none : (sight : CallSight) (f : JniFunction) → calls_method f ≡ false → CallsNone (call_answer unit classes k sight f)
@@ -348,8 +373,9 @@ module _ (unit : SourceUnit) (classes : Classes) (k : ℕ) where
 
   -- where only statics differ, the answers are the same, or both leave the heap as it was
   pub by_statics : (s : Shared) (statics : Statics) (t : Thread) (element : ElementType) (args : List Actual) (f : JniFunction)
-      → (call_answer unit classes k (sight_of_call (record s { statics = statics }) t element f args) f ≡ call_answer unit classes k (sight_of_call s t element f args) f)
-      ⊎ (LeavesHeap (call_answer unit classes k (sight_of_call (record s { statics = statics }) t element f args) f) × LeavesHeap (call_answer unit classes k (sight_of_call s t element f args) f))
+      → let now = call_answer unit classes k (sight_of_call s t element f args) f in
+      let other = call_answer unit classes k (sight_of_call (record s { statics = statics }) t element f args) f in
+      (other ≡ now) ⊎ (LeavesHeap other × LeavesHeap now)
   by_statics s statics t element args jni.DeleteGlobalRef =
       inr (static_leaves (answers_as unit classes k _ jni.DeleteGlobalRef), static_leaves (answers_as unit classes k _ jni.DeleteGlobalRef))
   by_statics s statics t element args jni.DeleteWeakGlobalRef =

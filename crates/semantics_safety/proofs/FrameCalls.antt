@@ -6,31 +6,38 @@ use Rattle.base.specs.Bytes.{Identifier, lookup}
 use Rattle.syntax.specs.Tree as tree
 use Rattle.syntax.specs.Tree.{Block, SourceUnit}
 use Rattle.class_rules.specs.Class.{Classes}
+use Rattle.base.specs.Element.{JInt}
+use Rattle.base.specs.Limits.{most_references}
+use Rattle.jni.specs.Access.{Access}
 use Rattle.jni.specs.JniFunction.{DeleteLocalRef, PushLocalFrame, PopLocalFrame}
-use Rattle.jni.specs.Prototype.{NewLocal, GivesInt, GivesNothing, LocalVariable}
+use Rattle.jni.specs.Prototype.{ResultKind, NewLocal, GivesInt, GivesNothing, LocalVariable}
 use Rattle.region_rules.specs.RegionStates as states
 use Rattle.region_rules.specs.RegionStates.{ReferenceAt, state_of, with_changed, killed, after_pop, get_of}
-use Rattle.semantics.specs.Arguments.{Actual, ReferenceActual, actuals, reference_in_actual, reference_given, number_given, variable_given, address_given}
-use Rattle.semantics.specs.CallEffects.{ScalarResult, ReferenceResult, NoResult, CallEffect, Leaves, delete_local_effect, push_effect, without_local}
+use Rattle.semantics.specs.Answer.{Answer, effect_of}
+use Rattle.semantics.specs.Arguments.{Actual, ReferenceActual, actuals, reference_in_actual, reference_given, variable_given, address_given}
+use Rattle.semantics.specs.CallEffects.{ScalarResult, ReferenceResult, NoResult, CallEffect, Leaves, level_of, without_local}
+use Rattle.semantics.specs.CallSight.{sight_of_call}
 use Rattle.semantics.specs.CallStep.{trap_of_call, target_element, checked, after_call, call_step, is_zero, completed, received, tell_copy}
 use Rattle.semantics.specs.CallTable.{call_effect}
 use Rattle.semantics.specs.Object.{Reference}
 use Rattle.semantics.specs.Sight.{held_reference}
 use Rattle.semantics.specs.Task.{Task, Target, Declared, Assigned, Tested, Dropped, Operand, Given, Invoke, Branch}
 use Rattle.semantics.specs.Term.{Done}
-use Rattle.semantics.specs.Thread.{Thread, Shared, BuffersInUse, capacities, sight_of}
+use Rattle.semantics.specs.Thread.{Frame, Thread, Shared, BuffersInUse, capacities, sight_of}
 use Rattle.semantics.specs.Value.{Int, Truth, Trap}
 use Rattle.semantics.specs.Variable.{Variable, LocalRef, Variables}
 use Rattle.semantics.specs.Effect.{Calls, tasks_after}
 use Rattle.std.specs.Str.{bytes_eq}
+use Rattle.semantics.proofs.Answers.{effect_is}
+use Rattle.semantics.proofs.AnswerKinds.{AnswersAs, EndingLocal, EndingNoLocal, EndsLocal, Halting, PopsFrame, Popping, Pushing, PushingNone, PushesFrame, answers_as}
 use Rattle.semantics_safety.proofs.OwnerLaws.{LandsBy, quiet_by, stands_with}
 use Rattle.semantics_safety.specs.Owners.{Owners, left_by, other_than}
-use Rattle.semantics_safety.specs.Points.{Point, OperandsFit}
+use Rattle.semantics_safety.specs.Points.{Point, OperandsFit, owners}
 use Rattle.semantics_safety.specs.StepSafe.{references_at}
 use Rattle.semantics_safety.specs.Stands.{copies, Goes, Stands}
 use Rattle.semantics_safety.specs.Wanted.{Outside, Runs, RunsBlock, ResultGoes, GoesOn, IsTrueNow, IsFalseNow, call_seen, at}
 use Rattle.semantics_safety.specs.WeakNames.{WeakNames}
-use Rattle.semantics_safety.proofs.FrameLaws.{one_if, same_number, level_there, no_references, copies_deleted, deleted_length}
+use Rattle.semantics_safety.proofs.FrameLaws.{HasFrame, one_if, same_number, level_there, no_references, copies_deleted, deleted_length}
 use Rattle.semantics_safety.proofs.KilledLaws.{fewer, killed_owners, stands_killed, killed_owned}
 use Rattle.semantics_safety.proofs.PoppedLaws.{stands_popped, stands_pushed, popped_owned}
 use Rattle.semantics_safety.proofs.QuietLaws.{Gives, Plainly, ALocal, IsNoTest, told, given_lands}
@@ -59,39 +66,39 @@ module _ (unit : SourceUnit) (classes : Classes) (in_use : BuffersInUse) (k : �
   left_deleted : (x : Identifier) (args : List Actual) → x ≡ variable_given args 0 → (y : Identifier) → without_own x y ≡ left_by DeleteLocalRef args (length t.frames) own y
   left_deleted x args is y = ap (λ (z : Identifier). if bytes_eq y z then None else own y) is
 
-  deleted : (x : Identifier) (level : ℕ) (r : Reference) (target : Target) (args : List Actual) (get : _) → IsNoTest target → state_of p.regions x ≡ Some (ReferenceAt level true) → lookup x t.variables ≡ Some (LocalRef level r)
-      → ResultGoes target GivesNothing get (GoesOn rest) (at p (with_changed p.regions x killed)) → x ≡ variable_given args 0
-      → LandsBy weak (Calls line target DeleteLocalRef args) (length t.frames) own s.statics (after_call unit classes in_use k s t line target DeleteLocalRef args rest (delete_local_effect s t (Some (LocalRef level r)) r))
-  deleted x level None target args get away e h goes is =
-      given_lands unit classes in_use k s t line target DeleteLocalRef args rest (at p (with_changed p.regions x killed)) own (left_deleted x args is) GivesNothing [] s t NoResult get refl away (λ c. absurd (cc))
-      (stands_with (without_own x) s.statics t.variables t.frames (at p (with_changed p.regions x killed))
-      (stands_killed s.statics t.variables t.frames p stands x t.frames refl (λ l m. let less = fewer t.variables x l m p.regions.variables in let enough = stands.backed l m in omega (arith, less, enough)))
-      (killed_owned s.statics t.variables t.frames p stands x))
-      (Plainly NoResultThere) goes
-  deleted x level (Some n) target args get away e h goes is =
-      given_lands unit classes in_use k s t line target DeleteLocalRef args rest (at p (with_changed p.regions x killed)) own (left_deleted x args is) GivesNothing [] s (record t { frames = without_local level n t.frames }) NoResult get refl away (λ c. absurd (cc))
-      (stands_with (without_own x) s.statics t.variables (without_local level n t.frames) (at p (with_changed p.regions x killed))
-      (stands_killed s.statics t.variables t.frames p stands x (without_local level n t.frames) (deleted_length level n t.frames) (λ l m.
-      let less = killed_owners t.variables x l m level n p.regions.variables e h in
-      let one = copies_deleted level n l m t.frames (level_within x level n e h) in
-      let enough = stands.backed l m in
-      omega (arith, less, one, enough)))
-      (killed_owned s.statics t.variables t.frames p stands x))
-      (Plainly NoResultThere) goes
+  module _ (x : Identifier) (level : ℕ) (r : Reference) (target : Target) (args : List Actual) (get : Option (Access × Option Identifier)) (away : IsNoTest target) (e : state_of p.regions x ≡ Some (ReferenceAt level true)) (h : lookup x t.variables ≡ Some (LocalRef level r))
+      (goes : ResultGoes target GivesNothing get (GoesOn rest) (at p (with_changed p.regions x killed))) (is : x ≡ variable_given args 0) (given : reference_given args 0 ≡ r) where
+    -- where these frames are left
+    left_with : (frames : List Frame) → length frames ≡ length t.frames → ((l m : ℕ) → owners (with_changed p.regions x killed) t.variables l m ≤ copies (references_at l frames) m)
+        → LandsBy weak (Calls line target DeleteLocalRef args) (length t.frames) own s.statics (after_call unit classes in_use k s t line target DeleteLocalRef args rest (Leaves [] s (record t { frames = frames }) NoResult))
+    left_with frames same enough =
+        given_lands unit classes in_use k s t line target DeleteLocalRef args rest (at p (with_changed p.regions x killed)) own (left_deleted x args is) GivesNothing [] s (record t { frames = frames }) NoResult get refl away (λ c. absurd (cc))
+        (stands_with (without_own x) s.statics t.variables frames (at p (with_changed p.regions x killed))
+        (stands_killed s.statics t.variables t.frames p stands x frames same enough) (killed_owned s.statics t.variables t.frames p stands x))
+        (Plainly NoResultThere) goes
 
-  -- what the call deletes, looked up
-  abbrev deletes : Identifier → Option Variable → CallEffect
-  deletes x o = delete_local_effect s t o (reference_in_actual (Some (ReferenceActual x (held_reference o (lookup x s.statics)))))
+    level_is : level_of (lookup (variable_given args 0) t.variables) ≡ level
+    level_is = ap (λ (z : Identifier). level_of (lookup z t.variables)) (sym is) ∙ ap level_of h
 
-  delete_is : (x : Identifier) → call_effect unit classes in_use k s t (actuals (sight_of s t) DeleteLocalRef (Given (tree.Value (tree.Variable x)) ∷ [])) DeleteLocalRef ≡ deletes x (lookup x t.variables)
-  unfolding call_effect
-  delete_is x = refl
+    deleted : {kind : ResultKind} {a : Answer} → AnswersAs unit classes (sight_of_call s t JInt DeleteLocalRef args) DeleteLocalRef EndsLocal kind a → LandsBy weak (Calls line target DeleteLocalRef args) (length t.frames) own s.statics (after_call unit classes in_use k s t line target DeleteLocalRef args rest (effect_of classes in_use k s t args a))
+    unfolding effect_of
+    deleted (EndingNoLocal none) =
+        left_with t.frames refl (λ l m. let less = fewer t.variables x l m p.regions.variables in let enough = stands.backed l m in omega (arith, less, enough))
+    deleted (EndingLocal n found) =
+        let held : lookup x t.variables ≡ Some (LocalRef level (Some n)) = h ∙ ap (λ (q : Reference). Some (LocalRef level q)) (sym given ∙ found) in
+        subst (λ (l : ℕ). LandsBy weak (Calls line target DeleteLocalRef args) (length t.frames) own s.statics (after_call unit classes in_use k s t line target DeleteLocalRef args rest (Leaves [] s (record t { frames = without_local l n t.frames }) NoResult))) (sym level_is)
+        (left_with (without_local level n t.frames) (deleted_length level n t.frames) (λ l m.
+        let less = killed_owners t.variables x l m level n p.regions.variables e held in
+        let one = copies_deleted level n l m t.frames (level_within x level n e held) in
+        let enough = stands.backed l m in
+        omega (arith, less, one, enough)))
+    deleted (Halting trap) = (whole, λ x r g. (r, g))
 
-  delete_at : (x : Identifier) (level : ℕ) (r : Reference) (target : Target) (get : _) → IsNoTest target → state_of p.regions x ≡ Some (ReferenceAt level true) → lookup x t.variables ≡ Some (LocalRef level r)
-      → ResultGoes target GivesNothing get (GoesOn rest) (at p (with_changed p.regions x killed)) → (args : List Actual) → x ≡ variable_given args 0
-      → LandsBy weak (Calls line target DeleteLocalRef args) (length t.frames) own s.statics (after_call unit classes in_use k s t line target DeleteLocalRef args rest (deletes x (Some (LocalRef level r))))
-  delete_at x level None target get away e h goes args is = deleted x level None target args get away e h goes is
-  delete_at x level (Some n) target get away e h goes args is = deleted x level (Some n) target args get away e h goes is
+  -- the reference of a variable that is looked up
+  reference_is : (x : Identifier) (level : ℕ) (r : Reference) → lookup x t.variables ≡ Some (LocalRef level r)
+      → reference_in_actual (Some (ReferenceActual x (held_reference (lookup x t.variables) (lookup x s.statics)))) ≡ r
+  reference_is x level None h = ap (λ (o : Option Variable). reference_in_actual (Some (ReferenceActual x (held_reference o (lookup x s.statics))))) h
+  reference_is x level (Some n) h = ap (λ (o : Option Variable). reference_in_actual (Some (ReferenceActual x (held_reference o (lookup x s.statics))))) h
 
   delete_known : (x : Identifier) (level : ℕ) (target : Target) (get : _) → IsNoTest target → state_of p.regions x ≡ Some (ReferenceAt level true)
       → ResultGoes target GivesNothing get (GoesOn rest) (at p (with_changed p.regions x killed))
@@ -106,8 +113,8 @@ module _ (unit : SourceUnit) (classes : Classes) (in_use : BuffersInUse) (k : �
 
       by_trap : (o : Option Trap) → LandsBy weak (Calls line target DeleteLocalRef args) (length t.frames) own s.statics (after_call unit classes in_use k s t line target DeleteLocalRef args rest (checked o (call_effect unit classes in_use k s t args DeleteLocalRef)))
       by_trap None =
-          subst (λ (e : CallEffect). LandsBy weak (Calls line target DeleteLocalRef args) (length t.frames) own s.statics (after_call unit classes in_use k s t line target DeleteLocalRef args rest e)) (sym (delete_is x))
-          (subst (λ (o : Option Variable). LandsBy weak (Calls line target DeleteLocalRef args) (length t.frames) own s.statics (after_call unit classes in_use k s t line target DeleteLocalRef args rest (deletes x o))) (sym shown.1) (delete_at x level shown.0 target get away e shown.1 goes args refl))
+          subst (λ (e : CallEffect). LandsBy weak (Calls line target DeleteLocalRef args) (length t.frames) own s.statics (after_call unit classes in_use k s t line target DeleteLocalRef args rest e)) (sym (effect_is unit classes in_use k s t args JInt DeleteLocalRef))
+          (deleted x level shown.0 target args get away e shown.1 goes refl (reference_is x level shown.0 shown.1) (answers_as unit classes k (sight_of_call s t JInt DeleteLocalRef args) DeleteLocalRef))
       by_trap (Some trap) = (whole, λ x r g. (r, g))
 
   delete_operands : (target : Target) (operands : List Operand) → IsNoTest target → OperandsFit p (LocalVariable ∷ []) operands
@@ -145,19 +152,19 @@ module _ (unit : SourceUnit) (classes : Classes) (in_use : BuffersInUse) (k : �
     refused : LandsBy weak (Calls line (Tested a b) PushLocalFrame args) (length t.frames) own s.statics (completed unit classes in_use k s t line (Tested a b) PushLocalFrame args rest [] s (record t { pending = Some (length classes + 1) }) (ScalarResult (Int (negsuc 3))))
     refused = tested_lands (record t { pending = Some (length classes + 1) }) (negsuc 3) p stands (refl, (pushed, p, IsFalseNow pushed, on_true, on_false))
 
-    pushes : (z : ℤ) → LandsBy weak (Calls line (Tested a b) PushLocalFrame args) (length t.frames) own s.statics (after_call unit classes in_use k s t line (Tested a b) PushLocalFrame args rest (push_effect classes s t z))
-    pushes (pos n) =
-        cond_both (nat_le (capacities (record { capacity = n; references = [] } ∷ t.frames)) 1024) _ _ (λ (e : CallEffect). LandsBy weak (Calls line (Tested a b) PushLocalFrame args) (length t.frames) own s.statics (after_call unit classes in_use k s t line (Tested a b) PushLocalFrame args rest e))
+    pushes : {kind : ResultKind} {answer : Answer} → AnswersAs unit classes (sight_of_call s t JInt PushLocalFrame args) PushLocalFrame PushesFrame kind answer → LandsBy weak (Calls line (Tested a b) PushLocalFrame args) (length t.frames) own s.statics (after_call unit classes in_use k s t line (Tested a b) PushLocalFrame args rest (effect_of classes in_use k s t args answer))
+    unfolding effect_of
+    pushes (Pushing n) =
+        cond_both (nat_le (capacities (record { capacity = n; references = [] } ∷ t.frames)) most_references) _ _ (λ (e : CallEffect). LandsBy weak (Calls line (Tested a b) PushLocalFrame args) (length t.frames) own s.statics (after_call unit classes in_use k s t line (Tested a b) PushLocalFrame args rest e))
         (λ e. tested_lands (record t { frames = record { capacity = n; references = [] } ∷ t.frames }) (pos 0) pushed (stands_pushed s.statics t.variables t.frames p stands (record { capacity = n; references = [] })) (refl, (pushed, p, IsTrueNow p, on_true, on_false)))
         (λ e. refused)
-    pushes (negsuc n) = refused
-
-    push_is : call_effect unit classes in_use k s t args PushLocalFrame ≡ push_effect classes s t (number_given args 0)
-    unfolding call_effect
-    push_is = refl
+    pushes PushingNone = refused
+    pushes (Halting trap) = (whole, λ x r g. (r, g))
 
     push_at : (o : Option Trap) → LandsBy weak (Calls line (Tested a b) PushLocalFrame args) (length t.frames) own s.statics (after_call unit classes in_use k s t line (Tested a b) PushLocalFrame args rest (checked o (call_effect unit classes in_use k s t args PushLocalFrame)))
-    push_at None = subst (λ (e : CallEffect). LandsBy weak (Calls line (Tested a b) PushLocalFrame args) (length t.frames) own s.statics (after_call unit classes in_use k s t line (Tested a b) PushLocalFrame args rest e)) (sym push_is) (pushes (number_given args 0))
+    push_at None =
+        subst (λ (e : CallEffect). LandsBy weak (Calls line (Tested a b) PushLocalFrame args) (length t.frames) own s.statics (after_call unit classes in_use k s t line (Tested a b) PushLocalFrame args rest e)) (sym (effect_is unit classes in_use k s t args JInt PushLocalFrame))
+        (pushes (answers_as unit classes k (sight_of_call s t JInt PushLocalFrame args) PushLocalFrame))
     push_at (Some trap) = (whole, λ x r g. (r, g))
 
   no_other : PushLocalFrame ≡ PushLocalFrame → true ≡ false → ⊥
@@ -176,17 +183,19 @@ module _ (unit : SourceUnit) (classes : Classes) (in_use : BuffersInUse) (k : �
   gives_any None = Plainly NullLocal
   gives_any (Some n) = ALocal n
 
-  pop_is : (args : List Actual) → call_effect unit classes in_use k s t args PopLocalFrame ≡ Leaves [] s (record t { frames = drop 1 t.frames }) (ReferenceResult (reference_given args 0))
-  unfolding call_effect
-  pop_is args = refl
+  popped : {kind : ResultKind} {a : Answer} (target : Target) (args : List Actual) (get : Option (Access × Option Identifier)) → IsNoTest target → HasFrame (drop 1 t.frames) → ResultGoes target NewLocal get (GoesOn rest) (at p (after_pop p.regions))
+      → AnswersAs unit classes (sight_of_call s t JInt PopLocalFrame args) PopLocalFrame PopsFrame kind a → LandsBy weak (Calls line target PopLocalFrame args) (length t.frames) own s.statics (after_call unit classes in_use k s t line target PopLocalFrame args rest (effect_of classes in_use k s t args a))
+  unfolding effect_of
+  popped target args get away room goes (Popping r) =
+      given_lands unit classes in_use k s t line target PopLocalFrame args rest (at p (after_pop p.regions)) own (λ y. refl) NewLocal [] s (record t { frames = drop 1 t.frames }) (ReferenceResult r) get refl away (λ is. room)
+      (stands_with (λ y. other_than (length t.frames) (own y)) s.statics t.variables (drop 1 t.frames) (at p (after_pop p.regions)) (stands_popped s.statics t.variables t.frames p stands) (popped_owned s.statics t.variables t.frames p stands)) (gives_any r) goes
+  popped target args get away room goes (Halting trap) = (whole, λ x r g. (r, g))
 
-  pop_at : (target : Target) (args : List Actual) (get : _) → IsNoTest target → ResultGoes target NewLocal get (GoesOn rest) (at p (after_pop p.regions)) → (o : Option Trap) → trap_of_call classes s t target PopLocalFrame args ≡ o
+  pop_at : (target : Target) (args : List Actual) (get : Option (Access × Option Identifier)) → IsNoTest target → ResultGoes target NewLocal get (GoesOn rest) (at p (after_pop p.regions)) → (o : Option Trap) → trap_of_call classes s t target PopLocalFrame args ≡ o
       → LandsBy weak (Calls line target PopLocalFrame args) (length t.frames) own s.statics (after_call unit classes in_use k s t line target PopLocalFrame args rest (checked o (call_effect unit classes in_use k s t args PopLocalFrame)))
   pop_at target args get away goes None e =
-      subst (λ (e : CallEffect). LandsBy weak (Calls line target PopLocalFrame args) (length t.frames) own s.statics (after_call unit classes in_use k s t line target PopLocalFrame args rest e)) (sym (pop_is args))
-      (given_lands unit classes in_use k s t line target PopLocalFrame args rest (at p (after_pop p.regions)) own (λ y. refl) NewLocal [] s (record t { frames = drop 1 t.frames }) (ReferenceResult (reference_given args 0)) get refl away
-      (λ is. has_frame (drop 1 t.frames) (has_room classes s.heap t (target_element t.variables target) PopLocalFrame args e refl))
-      (stands_with (λ y. other_than (length t.frames) (own y)) s.statics t.variables (drop 1 t.frames) (at p (after_pop p.regions)) (stands_popped s.statics t.variables t.frames p stands) (popped_owned s.statics t.variables t.frames p stands)) (gives_any (reference_given args 0)) goes)
+      subst (λ (e : CallEffect). LandsBy weak (Calls line target PopLocalFrame args) (length t.frames) own s.statics (after_call unit classes in_use k s t line target PopLocalFrame args rest e)) (sym (effect_is unit classes in_use k s t args JInt PopLocalFrame))
+      (popped target args get away (has_frame (drop 1 t.frames) (has_room classes s.heap t (target_element t.variables target) PopLocalFrame args e refl)) goes (answers_as unit classes k (sight_of_call s t JInt PopLocalFrame args) PopLocalFrame))
   pop_at target args get away goes (Some trap) e = (whole, λ x r g. (r, g))
 
   -- PopLocalFrame

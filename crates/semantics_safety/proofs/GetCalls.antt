@@ -1,34 +1,38 @@
 -- The steps of the calls that get a buffer.
-use Rattle.std.proofs.Common.{◌≡◌, ◌≢◌, ℕ, ◌+◌, ◌≤◌, arith, Bool, true, false, ◌⊎◌, inl, inr, List, [], ◌∷◌, ◌++◌, map, filter, length, Option, Some, None, refl, sym, ap, ◌∙◌, subst, if◌then◌else◌}
-use Rattle.std.specs.Prelude.{ℤ, nat_le, nat_lt, zip, ◌||◌, ◌&&◌, not, is_some}
+use Rattle.std.proofs.Common.{◌≡◌, ◌≢◌, ℕ, ◌≤◌, arith, Bool, true, false, ◌⊎◌, inl, inr, List, [], ◌∷◌, ◌++◌, map, filter, length, Option, Some, None, refl, sym, ap, ◌∙◌, subst, if◌then◌else◌}
+use Rattle.std.specs.Prelude.{ℤ, zip, ◌||◌, ◌&&◌, not, is_some}
 use Rattle.std.specs.List.{list_any}
 use Rattle.std.specs.Option.{option_map}
 use Rattle.std.specs.Str.{bytes_eq}
 use Rattle.base.specs.Bytes.{Identifier, ByName, lookup}
-use Rattle.base.specs.Element.{ElementType}
+use Rattle.base.specs.Element.{ElementType, JInt}
 use Rattle.syntax.specs.Tree.{SourceUnit}
 use Rattle.syntax.specs.Tree as tree
 use Rattle.class_rules.specs.Class.{Classes}
 use Rattle.jni.specs.Access.{Access, ElementsCopy, ArrayView, CharsCopy, CharsView, is_critical}
 use Rattle.jni.specs.JniFunction.{JniFunction, GetBuffer, PushLocalFrame, is_allowed_pending, parameters_for}
-use Rattle.jni.specs.Prototype.{GivesBuffer, owner, IsCopy}
+use Rattle.jni.specs.Prototype.{ResultKind, GivesBuffer, owner, IsCopy}
 use Rattle.type_rules.specs.Sorts.{Sort, sort_in}
 use Rattle.type_rules.specs.Sorts as sort
 use Rattle.region_rules.specs.RegionStates.{get_of, VariableState, BufferState, Free, Untested, ReferenceAt, BufferIn, state_of, with_new, with_changed}
 use Rattle.semantics.specs.Object.{Reference}
-use Rattle.semantics.specs.Arguments.{Actual, ReferenceActual, look_up, actuals, reference_in_actual, name_or_zero, address_given, address_in_actual}
+use Rattle.semantics.specs.Answer.{Answer, effect_of}
+use Rattle.semantics.specs.Arguments.{Actual, ReferenceActual, look_up, actuals, reference_in_actual, name_or_zero, object_given, address_given, address_in_actual}
 use Rattle.semantics.specs.CallEffects.{CallEffect, Leaves, BufferResult}
+use Rattle.semantics.specs.CallSight.{sight_of_call}
 use Rattle.semantics.specs.CallStep.{put, put_assigned, tell_copy, trap_of_call, target_element, checked, after_call, call_step}
 use Rattle.semantics.specs.CallTable.{call_effect}
 use Rattle.semantics.specs.Checks.{call_trap, first_trap, is_deleted, is_missing}
 use Rattle.semantics.specs.Effect.{tasks_after, Calls}
-use Rattle.semantics.specs.Heap.{Heap, numbers_of}
+use Rattle.semantics.specs.Heap.{Heap}
 use Rattle.semantics.specs.Sight.{held_reference}
 use Rattle.semantics.specs.Task.{Task, Target, Declared, Assigned, Tested, Dropped, VariableKind, ScalarKind, ReferenceKind, FieldKind, MethodKind, BufferKind, Operand, Given, Invoke}
 use Rattle.semantics.specs.Thread.{Thread, Shared, BuffersInUse, Frame, sight_of}
 use Rattle.semantics.specs.ThreadStep.{with_tasks}
 use Rattle.semantics.specs.Value.{Flag, Value, Trap, ExceptionPending, DeletedReference, NullReference}
 use Rattle.semantics.specs.Variable.{Variable, Scalar, LocalRef, Elements, Buffer, NoBuffer, Copy, View, Variables, Statics, assign}
+use Rattle.semantics.proofs.Answers.{effect_is}
+use Rattle.semantics.proofs.AnswerKinds.{AnswersAs, Copying, GetsBuffer, Halting, Viewing, answers_as}
 use Rattle.semantics_safety.proofs.OwnerLaws.{LandsBy, put_by}
 use Rattle.semantics_safety.specs.Owners.{Owners}
 use Rattle.semantics_safety.specs.Points.{Point, OperandFits, OperandsFit, is_copy, owns}
@@ -204,16 +208,15 @@ module _ (unit : SourceUnit) (classes : Classes) (in_use : BuffersInUse) (k : �
   abbrev object_of : Identifier → Option Variable → ℕ
   object_of a o = name_or_zero (reference_in_actual (Some (ReferenceActual a (held_reference o (lookup a s.statics)))))
 
-  object_is : (a : Identifier) (level n : ℕ) → lookup a t.variables ≡ Some (LocalRef level (Some n)) → object_of a (lookup a t.variables) ≡ n
-  object_is a level n e = ap (object_of a) e
+  -- the buffer of an answer, which may be none
+  module _ (access : Access) (a : Identifier) (level n m : ℕ) (e : lookup a t.variables ≡ Some (LocalRef level (Some n))) (same : m ≡ n) where
+    copy_lent : (fits : Bool) (zs : List ℤ) → is_critical access ≡ false → IsLentBy t.variables access a (if fits then Copy m zs else NoBuffer)
+    copy_lent true zs critical = inr (n, level, e, subst (λ (c : Bool). IsOf c n (Copy m zs)) (sym critical) (zs, ap (λ (i : ℕ). Copy i zs) same))
+    copy_lent false zs critical = inl refl
 
-  copy_lent : (access : Access) (a : Identifier) (level n : ℕ) (fits : Bool) (zs : List ℤ) → is_critical access ≡ false → lookup a t.variables ≡ Some (LocalRef level (Some n)) → IsLentBy t.variables access a (if fits then Copy (object_of a (lookup a t.variables)) zs else NoBuffer)
-  copy_lent access a level n true zs critical e = inr (n, level, e, subst (λ (c : Bool). IsOf c n (Copy (object_of a (lookup a t.variables)) zs)) (sym critical) (zs, ap (λ (i : ℕ). Copy i zs) (object_is a level n e)))
-  copy_lent access a level n false zs critical e = inl refl
-
-  view_lent : (access : Access) (a : Identifier) (level n : ℕ) (fits : Bool) → is_critical access ≡ true → lookup a t.variables ≡ Some (LocalRef level (Some n)) → IsLentBy t.variables access a (if fits then View (object_of a (lookup a t.variables)) else NoBuffer)
-  view_lent access a level n true critical e = inr (n, level, e, subst (λ (c : Bool). IsOf c n (View (object_of a (lookup a t.variables)))) (sym critical) (ap (λ (i : ℕ). View i) (object_is a level n e)))
-  view_lent access a level n false critical e = inl refl
+    view_lent : (fits : Bool) → is_critical access ≡ true → IsLentBy t.variables access a (if fits then View m else NoBuffer)
+    view_lent true critical = inr (n, level, e, subst (λ (c : Bool). IsOf c n (View m)) (sym critical) (ap (λ (i : ℕ). View i) same))
+    view_lent false critical = inl refl
 
   module _ (access : Access) (a : Identifier) (level : ℕ) (here_a : state_of p.regions a ≡ Some (ReferenceAt level true)) (r : Reference) (at_a : lookup a t.variables ≡ Some (LocalRef level r)) (target : Target) (away : IsNoTest target) (goes : ResultGoes target (GivesBuffer access) (Some (access, Some a)) (GoesOn rest) p) where
     -- the address of a flag, or NULL
@@ -250,25 +253,12 @@ module _ (unit : SourceUnit) (classes : Classes) (in_use : BuffersInUse) (k : �
   abbrev got_with : Access → Identifier → Operand → List Actual
   got_with access a c = actuals (sight_of s t) (GetBuffer access) (Given (tree.Value (tree.Variable a)) ∷ c ∷ [])
 
-  -- the buffer that it gives
-  abbrev buffer_got : Access → Identifier → Buffer
-  buffer_got (ElementsCopy u) a = if nat_le (in_use.copied + length (numbers_of s.heap (object_of a (lookup a t.variables)))) 65536 then Copy (object_of a (lookup a t.variables)) (numbers_of s.heap (object_of a (lookup a t.variables))) else NoBuffer
-  buffer_got CharsCopy a = if nat_le (in_use.copied + length (numbers_of s.heap (object_of a (lookup a t.variables)))) 65536 then Copy (object_of a (lookup a t.variables)) (numbers_of s.heap (object_of a (lookup a t.variables))) else NoBuffer
-  buffer_got ArrayView a = if nat_lt in_use.views 64 then View (object_of a (lookup a t.variables)) else NoBuffer
-  buffer_got CharsView a = if nat_lt in_use.views 64 then View (object_of a (lookup a t.variables)) else NoBuffer
-
-  got_lent : (access : Access) (a : Identifier) (level n : ℕ) → lookup a t.variables ≡ Some (LocalRef level (Some n)) → IsLentBy t.variables access a (buffer_got access a)
-  got_lent (ElementsCopy u) a level n e = copy_lent (ElementsCopy u) a level n _ _ refl e
-  got_lent CharsCopy a level n e = copy_lent CharsCopy a level n _ _ refl e
-  got_lent ArrayView a level n e = view_lent ArrayView a level n _ refl e
-  got_lent CharsView a level n e = view_lent CharsView a level n _ refl e
-
-  got_is : (access : Access) (a : Identifier) (c : Operand) → call_effect unit classes in_use k s t (got_with access a c) (GetBuffer access) ≡ Leaves [] s t (BufferResult (buffer_got access a))
-  unfolding call_effect
-  got_is (ElementsCopy u) a c = refl
-  got_is CharsCopy a c = refl
-  got_is ArrayView a c = refl
-  got_is CharsView a c = refl
+  -- the object that it gets a buffer of
+  got_of : (access : Access) (a : Identifier) (c : Operand) → object_given (got_with access a c) 0 ≡ object_of a (lookup a t.variables)
+  got_of (ElementsCopy u) a c = refl
+  got_of CharsCopy a c = refl
+  got_of ArrayView a c = refl
+  got_of CharsView a c = refl
 
   told_is : (access : Access) (a : Identifier) (c : Operand) → address_given (got_with access a c) 1 ≡ told_in c
   told_is (ElementsCopy u) a c = refl
@@ -283,6 +273,23 @@ module _ (unit : SourceUnit) (classes : Classes) (in_use : BuffersInUse) (k : �
   null_missing ArrayView a c level e = ap (λ (o : Option Variable). is_missing (owner ArrayView, ReferenceActual a (held_reference o (lookup a s.statics))) || list_any is_missing ((IsCopy, look_up (sight_of s t) (IsCopy, c)) ∷ [])) e
   null_missing CharsView a c level e = ap (λ (o : Option Variable). is_missing (owner CharsView, ReferenceActual a (held_reference o (lookup a s.statics))) || list_any is_missing ((IsCopy, look_up (sight_of s t) (IsCopy, c)) ∷ [])) e
 
+  module _ (access : Access) (a : Identifier) (c : Operand) (level n : ℕ) (target : Target) (away : IsNoTest target) (here_a : state_of p.regions a ≡ Some (ReferenceAt level true)) (at_a : lookup a t.variables ≡ Some (LocalRef level (Some n)))
+      (fit : OperandFits p IsCopy c) (goes : ResultGoes target (GivesBuffer access) (Some (access, Some a)) (GoesOn rest) p) where
+    buffer_given : (b : Buffer) → IsLentBy t.variables access a b → LandsBy weak (Calls line target (GetBuffer access) (got_with access a c)) (length t.frames) own s.statics (after_call unit classes in_use k s t line target (GetBuffer access) (got_with access a c) rest (Leaves [] s t (BufferResult b)))
+    buffer_given b lent =
+        put_by weak line (GetBuffer access) (got_with access a c) (length t.frames) own own target (λ y other. refl) (BufferResult b) s.statics _ _
+        (subst (λ (y : Option Identifier). Lands weak own s.statics (put target (BufferResult b) (record s { heap = s.heap ++ [] }) (record t { tasks = Some (tasks_after line target false ++ rest); variables = tell_copy y (BufferResult b) t.variables }))) (sym (told_is access a c))
+        (got access a level here_a (Some n) at_a target away goes (record s { heap = s.heap ++ [] }) refl b lent (told_in c) (told_fits c fit)))
+
+    same_object : object_given (got_with access a c) 0 ≡ n
+    same_object = got_of access a c ∙ ap (object_of a) at_a
+
+    buffer_answered : {kind : ResultKind} {answer : Answer} → AnswersAs unit classes (sight_of_call s t JInt (GetBuffer access) (got_with access a c)) (GetBuffer access) (GetsBuffer access) kind answer → LandsBy weak (Calls line target (GetBuffer access) (got_with access a c)) (length t.frames) own s.statics (after_call unit classes in_use k s t line target (GetBuffer access) (got_with access a c) rest (effect_of classes in_use k s t (got_with access a c) answer))
+    unfolding effect_of
+    buffer_answered (Copying of plain) = buffer_given _ (copy_lent access a level n (object_given (got_with access a c) 0) at_a same_object _ _ plain)
+    buffer_answered (Viewing of critical) = buffer_given _ (view_lent access a level n (object_given (got_with access a c) 0) at_a same_object _ critical)
+    buffer_answered (Halting trap) = (whole, λ x q g. (q, g))
+
   got_at : (access : Access) (a : Identifier) (c : Operand) (level : ℕ) (r : Reference) (target : Target) → IsNoTest target → state_of p.regions a ≡ Some (ReferenceAt level true) → lookup a t.variables ≡ Some (LocalRef level r) → OperandFits p IsCopy c
       → ResultGoes target (GivesBuffer access) (Some (access, Some a)) (GoesOn rest) p → (o : Option Trap) → trap_of_call classes s t target (GetBuffer access) (got_with access a c) ≡ o
       → LandsBy weak (Calls line target (GetBuffer access) (got_with access a c)) (length t.frames) own s.statics (after_call unit classes in_use k s t line target (GetBuffer access) (got_with access a c) rest (checked o (call_effect unit classes in_use k s t (got_with access a c) (GetBuffer access))))
@@ -290,10 +297,8 @@ module _ (unit : SourceUnit) (classes : Classes) (in_use : BuffersInUse) (k : �
   got_at access a c level None target away here_a at_a fit goes None e =
       absurd (let missing = null_missing access a c level at_a in let none = none_missing classes s.heap t (target_element t.variables target) (GetBuffer access) (got_with access a c) e in let both : true ≡ false = sym missing ∙ none in cc)
   got_at access a c level (Some n) target away here_a at_a fit goes None e =
-      subst (λ (e : CallEffect). LandsBy weak (Calls line target (GetBuffer access) (got_with access a c)) (length t.frames) own s.statics (after_call unit classes in_use k s t line target (GetBuffer access) (got_with access a c) rest e)) (sym (got_is access a c))
-      (put_by weak line (GetBuffer access) (got_with access a c) (length t.frames) own own target (λ y other. refl) (BufferResult (buffer_got access a)) s.statics _ _
-      (subst (λ (y : Option Identifier). Lands weak own s.statics (put target (BufferResult (buffer_got access a)) (record s { heap = s.heap ++ [] }) (record t { tasks = Some (tasks_after line target false ++ rest); variables = tell_copy y (BufferResult (buffer_got access a)) t.variables }))) (sym (told_is access a c))
-      (got access a level here_a (Some n) at_a target away goes (record s { heap = s.heap ++ [] }) refl (buffer_got access a) (got_lent access a level n at_a) (told_in c) (told_fits c fit))))
+      subst (λ (e : CallEffect). LandsBy weak (Calls line target (GetBuffer access) (got_with access a c)) (length t.frames) own s.statics (after_call unit classes in_use k s t line target (GetBuffer access) (got_with access a c) rest e)) (sym (effect_is unit classes in_use k s t (got_with access a c) JInt (GetBuffer access)))
+      (buffer_answered access a c level n target away here_a at_a fit goes (answers_as unit classes k (sight_of_call s t JInt (GetBuffer access) (got_with access a c)) (GetBuffer access)))
 
   get_operands : (access : Access) (target : Target) (operands : List Operand) → IsNoTest target → CallKeeps p (GetBuffer access) (map operand_argument operands) → OperandsFit p (owner access ∷ IsCopy ∷ []) operands
       → ResultGoes target (GivesBuffer access) (get_of (call_seen (GetBuffer access) operands)) (GoesOn rest) p

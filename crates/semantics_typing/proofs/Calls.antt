@@ -508,8 +508,8 @@ module _ (unit : SourceUnit) (classes : Classes) (well : DeclaresWell classes) (
       answer_fits (Pushing n) = frames_fit (record { capacity = n; references = [] } ∷ t.frames)
       answer_fits (Filling r is) = get_region_fits (variable_given args 3) r (fits_array r is)
       answer_fits (FillingNone class is) = raised is
-      answer_fits (Copying {access = access} of) = copy_fits (object_given args 0) (buffer_numbers access of)
-      answer_fits (Viewing {access = access} of) = view_fits (object_given args 0) (buffer_numbers access of)
+      answer_fits (Copying {access = access} of plain) = copy_fits (object_given args 0) (buffer_numbers access of)
+      answer_fits (Viewing {access = access} of critical) = view_fits (object_given args 0) (buffer_numbers access of)
       answer_fits (CopyingBack T true of) =
           let copied = subst (λ (g : JniFunction). IsReady classes u t.variables g args) of ready in
           other_heap (with_freed t (variable_given args 1)) _ (copied_back (object_given args 0) (variable_given args 1) copied.0 copied.1 copied.2) (freed_vars (variable_given args 1))
