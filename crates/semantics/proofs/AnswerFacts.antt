@@ -10,6 +10,7 @@ use Rattle.jni.specs.JniFunction.{JniFunction, GetStaticMethodID, parameters_for
 use Rattle.jni.specs.Prototype.{ParameterKind, ArrayVariable, ClassObject, FieldID, NumberArray, ObjectArray, StringObject, TextBytes, ResultKind, NewLocal, NewWeak, GivesFlag, GivesInt, GivesField, GivesMethod, GivesNothing}
 use Rattle.semantics.specs.Answer.{Region}
 use Rattle.semantics.specs.AnswerTable.{fits}
+use Rattle.semantics.specs.Arguments.{ReleaseMode, CopyBackAndFree, CopyBack, FreeUncopied}
 use Rattle.semantics.specs.CallEffects.{CallResult, NoResult, ScalarResult, ReferenceResult, WeakResult, FieldResult, MethodResult, string_object}
 use Rattle.semantics.specs.CallSight.{CallSight, name_of_first, name_of_second}
 use Rattle.semantics.specs.CallTraps.{fits_field, has_field, has_static}
@@ -47,6 +48,12 @@ Takes f i kind = (n : ℕ) → slice_get (parameters_for f n) i ≡ Some kind
 pub data TakesNumbers (f : JniFunction) : ElementType → Type 0 where
   OfArray : (T : ElementType) → Takes f 0 (NumberArray T) → TakesNumbers f T
   OfString : Takes f 0 StringObject → TakesNumbers f JChar
+
+-- a release in this mode gives the buffer up
+abbrev pub frees_in : ReleaseMode → Bool
+frees_in CopyBackAndFree = true
+frees_in CopyBack = false
+frees_in FreeUncopied = true
 
 -- ---- what is raised
 

@@ -1,7 +1,7 @@
 -- Which answers a function can give, by what its calls may change and by its kind of result: with these lemmas a law goes by the answers, and
 -- names no function.
 use Rattle.std.specs.Prelude.{◌≡◌, ◌⊎◌, ◌&&◌, ℕ, ◌+◌, ◌≤◌, ◌==◌, ℤ, pos, negsuc, Bool, true, false, nat_le, nat_lt, if◌then◌else◌, List, [], ◌∷◌, length, replicate, Option, Some, None, refl}
-use Rattle.std.proofs.Common.{inl, inr, ◌∙◌, subst}
+use Rattle.std.proofs.Common.{ap, inl, inr, ◌∙◌, subst}
 use Rattle.std.proofs.lemmas.Bool.{and_parts, cond_both, leb-true, not-true}
 use Rattle.base.specs.Element.{ElementType, JChar}
 use Rattle.base.specs.Limits.{most_monitor_entries}
@@ -26,7 +26,7 @@ use Rattle.semantics.specs.Thread.{Monitor, Shared, Thread}
 use Rattle.semantics.specs.Value.{Trap}
 use Rattle.semantics.specs.Variable.{StaticReference, Empty, Live, Weakly, Cleared, Deleted, Statics}
 use Rattle.semantics.specs.WeakArguments.{takes_weak}
-use Rattle.semantics.proofs.AnswerFacts.{AsField, AsNumber, AsReference, AsStatic, FitsField, IsFound, IsMade, IsOfKind, IsRaised, IsRegion, IsWrite, NoClass, NoElement, NoField, NoMethod, NoOwner, NoSize, NoStore, NoUnit, OfArray, OfClass, OfField, OfFlag, OfInt, OfMethod, OfNothing, OfNumbers, OfReference, OfReferences, OfString, OfText, OfWeak, Takes, TakesNumbers, ToElement, ToField, ToStatic}
+use Rattle.semantics.proofs.AnswerFacts.{AsField, AsNumber, AsReference, AsStatic, FitsField, IsFound, IsMade, IsOfKind, IsRaised, IsRegion, IsWrite, NoClass, NoElement, NoField, NoMethod, NoOwner, NoSize, NoStore, NoUnit, OfArray, OfClass, OfField, OfFlag, OfInt, OfMethod, OfNothing, OfNumbers, OfReference, OfReferences, OfString, OfText, OfWeak, Takes, TakesNumbers, frees_in, ToElement, ToField, ToStatic}
 
 -- what the calls of a function may change of variables, statics and frames; quiet ones change none of them, end no reference and give no buffer
 pub data CallKind : Type 0 where
@@ -84,10 +84,11 @@ pub data AnswersAs (unit : SourceUnit) (classes : Classes) (sight : CallSight) (
       → AnswersAs unit classes sight f (GetsBuffer access) (GivesBuffer access) (Copies (name_of_first sight))
   Viewing : {access : Access} → f ≡ jni.GetBuffer access → is_critical access ≡ true
       → AnswersAs unit classes sight f (GetsBuffer access) (GivesBuffer access) (Views (name_of_first sight))
-  CopyingBack : (T : ElementType) (frees : Bool) → f ≡ jni.ReleaseBuffer (ElementsCopy T)
+  CopyingBack : (T : ElementType) (frees : Bool) → f ≡ jni.ReleaseBuffer (ElementsCopy T) → frees_in sight.third.mode ≡ frees
       → AnswersAs unit classes sight f (ReleasesBuffer (ElementsCopy T)) GivesNothing (CopiesBack (name_of_first sight) 1 frees)
-  Freeing : {access : Access} → AnswersAs unit classes sight f (ReleasesBuffer access) GivesNothing (Frees 1)
-  Calling : {result : ResultKind} (m : MethodId) → AnswersAs unit classes sight f CallsMethod result (Calls m)
+  Freeing : {access : Access} → ((T : ElementType) → access ≡ ElementsCopy T → frees_in sight.third.mode ≡ true)
+      → AnswersAs unit classes sight f (ReleasesBuffer access) GivesNothing (Frees 1)
+  Calling : {result : ResultKind} (m : MethodId) → sight.second.method ≡ Some m → AnswersAs unit classes sight f CallsMethod result (Calls m)
   Halting : {kind : CallKind} {result : ResultKind} (trap : Trap) → AnswersAs unit classes sight f kind result (Halts trap)
 
 -- what lies within
@@ -123,9 +124,9 @@ module _ (unit : SourceUnit) (classes : Classes) (sight : CallSight) (f : JniFun
   method_as of class name text None is = Raising _ (NoMethod of)
   method_as of class name text (Some m) is = Giving (OfMethod m class name text is)
 
-  called_as : (result : ResultKind) (o : Option MethodId) → As CallsMethod result (method_called o)
-  called_as result None = Halting _
-  called_as result (Some m) = Calling m
+  called_as : (result : ResultKind) (o : Option MethodId) → sight.second.method ≡ o → As CallsMethod result (method_called o)
+  called_as result None is = Halting _
+  called_as result (Some m) is = Calling m is
 
   array_as : (class : ℕ) (z : ℤ) (v : ObjectValue)
       → ((n : ℕ) → IsChecked classes sight f → IsMade classes sight f (record { class = class; values = replicate n v }))
@@ -187,11 +188,15 @@ module _ (unit : SourceUnit) (classes : Classes) (sight : CallSight) (f : JniFun
           cond_both (nat_le r.count sight.fourth.elements) _ _ (As kind GivesNothing)
           (λ e. there r within.0 within.1 (leb-true r.count sight.fourth.elements e)) (λ e. Halting _)
 
-  released_as : (T : ElementType) → f ≡ jni.ReleaseBuffer (ElementsCopy T) → (mode : ReleaseMode)
+  released_as : (T : ElementType) → f ≡ jni.ReleaseBuffer (ElementsCopy T) → (mode : ReleaseMode) → sight.third.mode ≡ mode
       → As (ReleasesBuffer (ElementsCopy T)) GivesNothing (released (name_of_first sight) mode)
-  released_as T of CopyBackAndFree = CopyingBack T true of
-  released_as T of CopyBack = CopyingBack T false of
-  released_as T of FreeUncopied = Freeing
+  released_as T of CopyBackAndFree is = CopyingBack T true of (ap frees_in is)
+  released_as T of CopyBack is = CopyingBack T false of (ap frees_in is)
+  released_as T of FreeUncopied is = Freeing (λ U same. ap frees_in is)
+
+  -- a release without a mode
+  freed_as : (access : Access) → ((T : ElementType) → access ≡ ElementsCopy T → ⊥) → As (ReleasesBuffer access) GivesNothing (Frees 1)
+  freed_as access differs = Freeing (λ T is. absurd (differs T is))
 
   entered_as : (n : ℕ) (o : Option Monitor) → As Quiet GivesInt (monitor_entered n o)
   entered_as n None = Owning n 1
@@ -273,10 +278,10 @@ module _ (unit : SourceUnit) (classes : Classes) (k : ℕ) (sight : CallSight) w
   answers_as (jni.GetBuffer ArrayView) = Viewing refl refl
   answers_as (jni.GetBuffer CharsCopy) = Copying refl refl
   answers_as (jni.GetBuffer CharsView) = Viewing refl refl
-  answers_as (jni.ReleaseBuffer (ElementsCopy T)) = released_as unit classes sight (jni.ReleaseBuffer (ElementsCopy T)) T refl sight.third.mode
-  answers_as (jni.ReleaseBuffer ArrayView) = Freeing
-  answers_as (jni.ReleaseBuffer CharsCopy) = Freeing
-  answers_as (jni.ReleaseBuffer CharsView) = Freeing
+  answers_as (jni.ReleaseBuffer (ElementsCopy T)) = released_as unit classes sight (jni.ReleaseBuffer (ElementsCopy T)) T refl sight.third.mode refl
+  answers_as (jni.ReleaseBuffer ArrayView) = freed_as unit classes sight (jni.ReleaseBuffer ArrayView) ArrayView (λ T is. cc)
+  answers_as (jni.ReleaseBuffer CharsCopy) = freed_as unit classes sight (jni.ReleaseBuffer CharsCopy) CharsCopy (λ T is. cc)
+  answers_as (jni.ReleaseBuffer CharsView) = freed_as unit classes sight (jni.ReleaseBuffer CharsView) CharsView (λ T is. cc)
   answers_as jni.NewStringUTF = Making _ (λ checked. OfText (λ n. refl))
   answers_as jni.Throw = Pending _ (OfInt _)
   answers_as jni.ThrowNew = RaisingWith (λ n. refl) (λ n. refl) (λ checked. checked)
@@ -287,9 +292,9 @@ module _ (unit : SourceUnit) (classes : Classes) (k : ℕ) (sight : CallSight) w
   answers_as jni.MonitorEnter = entered_as unit classes sight jni.MonitorEnter _ sight.monitor
   answers_as jni.MonitorExit = left_as unit classes sight jni.MonitorExit k _ sight.monitor
   answers_as jni.GetStaticMethodID = method_as unit classes sight jni.GetStaticMethodID refl (name_of_first sight) sight.second.text sight.third.text _ refl
-  answers_as jni.CallStaticVoidMethod = called_as unit classes sight jni.CallStaticVoidMethod GivesNothing sight.second.method
-  answers_as jni.CallStaticIntMethod = called_as unit classes sight jni.CallStaticIntMethod GivesInt sight.second.method
-  answers_as jni.CallStaticObjectMethod = called_as unit classes sight jni.CallStaticObjectMethod NewLocal sight.second.method
+  answers_as jni.CallStaticVoidMethod = called_as unit classes sight jni.CallStaticVoidMethod GivesNothing sight.second.method refl
+  answers_as jni.CallStaticIntMethod = called_as unit classes sight jni.CallStaticIntMethod GivesInt sight.second.method refl
+  answers_as jni.CallStaticObjectMethod = called_as unit classes sight jni.CallStaticObjectMethod NewLocal sight.second.method refl
   -- a number of a field or an array
   answers_as f = Giving (OfInt _)
 
@@ -324,7 +329,7 @@ CallsNone a = Unit {0}
 
 none_called : {unit : SourceUnit} {classes : Classes} {sight : CallSight} {f : JniFunction} {result : ResultKind} {a : Answer} (kind : CallKind)
     → is_of_method kind ≡ false → AnswersAs unit classes sight f kind result a → CallsNone a
-none_called kind own (Calling m) = absurd (cc)
+none_called kind own (Calling m is) = absurd (cc)
 none_called kind own h = tt
 
 -- ---- what leaves the heap as it was

@@ -204,12 +204,12 @@ module _ (unit : SourceUnit) (classes : Classes) where
     answer_ok args (Filling r is) =
         let new : List ℤ = take r.count (drop r.start (numbers_of s.heap r.object)) in
         (changed_ok (variable_given args 3) (begun_with new) (begun_ok new) t.variables all, tt)
-    answer_ok args (CopyingBack T true of) = (changed_ok (variable_given args 1) freed freed_ok t.variables all, tt)
-    answer_ok args (CopyingBack T false of) = (all, tt)
-    answer_ok args Freeing = (changed_ok (variable_given args 1) freed freed_ok t.variables all, tt)
+    answer_ok args (CopyingBack T true of mode) = (changed_ok (variable_given args 1) freed freed_ok t.variables all, tt)
+    answer_ok args (CopyingBack T false of mode) = (all, tt)
+    answer_ok args (Freeing mode) = (changed_ok (variable_given args 1) freed freed_ok t.variables all, tt)
     answer_ok args (Raising class is) = tt
     answer_ok args (FillingNone class is) = tt
-    answer_ok args (Calling m) = tt
+    answer_ok args (Calling m is) = tt
     answer_ok args (Halting trap) = tt
     answer_ok args h = (all, tt)
 

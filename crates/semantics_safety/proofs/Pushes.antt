@@ -4,19 +4,21 @@ use Rattle.std.specs.Prelude.{◌==◌}
 use Rattle.std.specs.List.{list_any}
 use Rattle.std.proofs.lemmas.List.{length-map}
 use Rattle.base.specs.Bytes.{Identifier, lookup}
-use Rattle.base.specs.Element.{ElementType}
+use Rattle.base.specs.Element.{ElementType, JInt}
 use Rattle.base.specs.Limits.{most_further}
 use Rattle.base.specs.Options.{some_passes}
 use Rattle.class_rules.specs.Class.{Classes}
 use Rattle.syntax.specs.Tree as tree
 use Rattle.syntax.specs.Tree.{Block, Expr, Function, ParameterType, IntParameter, ReferenceParameter, Parameter, ResultType, SourceUnit}
 use Rattle.jni.specs.JniFunction.{JniFunction, CallStaticVoidMethod, CallStaticIntMethod, CallStaticObjectMethod, PushLocalFrame, calls_method, is_allowed_pending, parameters_for, prototype}
-use Rattle.jni.specs.Prototype.{ParameterKind, ClassObject, MethodID}
+use Rattle.jni.specs.Prototype.{ParameterKind, ResultKind, ClassObject, MethodID}
 use Rattle.region_rules.specs.RegionStates as states
 use Rattle.region_rules.specs.RegionStates.{get_of}
 use Rattle.semantics.specs.Activation.{class_of_function}
+use Rattle.semantics.specs.Answer.{Answer, effect_of}
 use Rattle.semantics.specs.Arguments.{Actual, ReferenceActual, NumberActual, actuals, look_up, method_argument, method_given, method_in_actual, object_given, passed_value}
-use Rattle.semantics.specs.CallEffects.{CallEffect, method_effect}
+use Rattle.semantics.specs.CallEffects.{CallEffect}
+use Rattle.semantics.specs.CallSight.{sight_of_call}
 use Rattle.semantics.specs.CallStep.{after_call, after_refusal, call_step, calling, checked, target_element, trap_of_call}
 use Rattle.semantics.specs.CallTable.{all_pass, call_effect, calls_well, go_together, is_int, is_reference_result, is_void, passes}
 use Rattle.semantics.specs.Checks.{call_trap, first_trap, frames_after, is_deleted, is_full, is_misfit, is_missing}
@@ -31,6 +33,8 @@ use Rattle.semantics.specs.Thread.{Thread, Caller, Shared, BuffersInUse, Frame, 
 use Rattle.semantics.specs.Value.{Int, Trap, DeletedReference, ExceptionPending, NullReference, WrongObject}
 use Rattle.semantics.specs.Variable.{Variable, MethodHandle, Variables}
 use Rattle.semantics.specs.World.{Invocation}
+use Rattle.semantics.proofs.Answers.{effect_is}
+use Rattle.semantics.proofs.AnswerKinds.{AnswersAs, Calling, CallsMethod, Halting, calls_as}
 use Rattle.semantics_safety.specs.Owners.{Owners}
 use Rattle.semantics_safety.specs.Points.{Point}
 use Rattle.semantics_safety.specs.Stands.{AreCallable, CallerStands, Stands}
@@ -111,25 +115,25 @@ module _ (unit : SourceUnit) (classes : Classes) (in_use : BuffersInUse) (k : �
   abbrev pub call_to : MethodId → Invocation
   call_to m = record { line = line; function = m.function.name; arguments = passed }
 
-  effect_is : (f : JniFunction) → calls_method f ≡ true → call_effect unit classes in_use k s t args f ≡ method_effect (method_given args 1) passed
-  unfolding call_effect
-  effect_is CallStaticVoidMethod h = refl
-  effect_is CallStaticIntMethod h = refl
-  effect_is CallStaticObjectMethod h = refl
-  effect_is f h = absurd (cc)
+  -- what is answered stops the run, or pushes a caller
+  answered : {kind : ResultKind} {a : Answer} (Q : Advance → Type 0) → ((trap : Trap) → Q (Advances s t (Trapped trap line)))
+      → ((m : MethodId) → method_given args 1 ≡ Some m → Q (Advances s (calling unit classes in_use k s t line target f args rest (call_to m)) Quiet))
+      → AnswersAs unit classes (sight_of_call s t JInt f args) f CallsMethod kind a → Q (after_call unit classes in_use k s t line target f args rest (effect_of classes in_use k s t args a))
+  unfolding effect_of
+  answered Q trapped pushed (Calling m found) = pushed m found
+  answered Q trapped pushed (Halting trap) = trapped trap
 
   -- a trap, or the push of a caller
   pub each_call : (Q : Advance → Type 0) → ((trap : Trap) → Q (Advances s t (Trapped trap line)))
       → ((m : MethodId) → trap_of_call classes s t target f args ≡ None → method_given args 1 ≡ Some m → Q (Advances s (calling unit classes in_use k s t line target f args rest (call_to m)) Quiet))
       → Q (call_step unit classes in_use k s t line target f args rest false)
-  each_call Q trapped pushed =
-      subst (λ (e : CallEffect). Q (after_call unit classes in_use k s t line target f args rest (checked (trap_of_call classes s t target f args) e))) (sym (effect_is f is))
-      (by_trap (trap_of_call classes s t target f args) refl (method_given args 1) refl)
+  each_call Q trapped pushed = by_trap (trap_of_call classes s t target f args) refl
     where
-      by_trap : (o : Option Trap) → trap_of_call classes s t target f args ≡ o → (m : Option MethodId) → method_given args 1 ≡ m → Q (after_call unit classes in_use k s t line target f args rest (checked o (method_effect m passed)))
-      by_trap (Some trap) e m g = trapped trap
-      by_trap None e None g = trapped NullReference
-      by_trap None e (Some m) g = pushed m e g
+      by_trap : (o : Option Trap) → trap_of_call classes s t target f args ≡ o → Q (after_call unit classes in_use k s t line target f args rest (checked o (call_effect unit classes in_use k s t args f)))
+      by_trap (Some trap) e = trapped trap
+      by_trap None e =
+          subst (λ (e : CallEffect). Q (after_call unit classes in_use k s t line target f args rest e)) (sym (effect_is unit classes in_use k s t args JInt f))
+          (answered Q trapped (λ m found. pushed m e found) (calls_as unit classes k (sight_of_call s t JInt f args) f is))
 
   -- there is no allocation to refuse
   none_refused : (Q : Advance → Type 0) (b : Bool) → b ≡ false → Q NoAdvance → Q (after_refusal unit classes in_use k s t line target f args rest b)

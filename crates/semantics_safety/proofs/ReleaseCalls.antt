@@ -1,28 +1,33 @@
 -- The steps of the calls that release a buffer.
-use Rattle.std.proofs.Common.{◌≡◌, ℕ, arith, Bool, true, false, inl, inr, List, [], ◌∷◌, map, Option, Some, None, refl, sym, ap, ◌∙◌, subst, if◌then◌else◌, length}
+use Rattle.std.proofs.Common.{◌≡◌, ℕ, arith, Bool, true, false, not, inl, inr, List, [], ◌∷◌, map, Option, Some, None, refl, sym, ap, ◌∙◌, subst, if◌then◌else◌, length}
 use Rattle.std.proofs.lemmas.List.{append-nil}
 use Rattle.std.specs.Option.{option_map}
 use Rattle.std.specs.Str.{bytes_eq}
 use Rattle.base.specs.Bytes.{Identifier, lookup}
+use Rattle.base.specs.Element.{ElementType, JInt}
 use Rattle.syntax.specs.Tree.{SourceUnit}
 use Rattle.syntax.specs.Tree as tree
 use Rattle.class_rules.specs.Class.{Classes}
 use Rattle.jni.specs.Access.{Access, ElementsCopy, ArrayView, CharsCopy, CharsView, is_critical}
 use Rattle.jni.specs.JniFunction.{ReleaseBuffer, PushLocalFrame, parameters_for, prototype}
-use Rattle.jni.specs.Prototype.{ParameterKind, GivesNothing, release_mode, Mode}
+use Rattle.jni.specs.Prototype.{ParameterKind, ResultKind, GivesNothing, release_mode, Mode}
 use Rattle.type_rules.specs.Sorts.{sort_in}
 use Rattle.region_rules.specs.RegionStates as states
 use Rattle.region_rules.specs.RegionStates.{VariableState, Free, Usable, BufferIn, state_of, with_changed, made_free, has_commit}
-use Rattle.semantics.specs.Arguments.{Actual, look_up, actuals, object_given, mode_in_actual}
-use Rattle.semantics.specs.CallEffects.{CallEffect, Leaves, NoResult, with_freed, freed, release_effect, copied_elements}
+use Rattle.semantics.specs.Answer.{Answer, effect_of, with_copied_back}
+use Rattle.semantics.specs.Arguments.{Actual, look_up, actuals, object_given, mode_given, mode_in_actual}
+use Rattle.semantics.specs.CallEffects.{CallEffect, Leaves, NoResult, with_freed, freed}
+use Rattle.semantics.specs.CallSight.{sight_of_call}
 use Rattle.semantics.specs.CallStep.{trap_of_call, checked, after_call, call_step}
 use Rattle.semantics.specs.CallTable.{call_effect}
-use Rattle.semantics.specs.Heap.{with_numbers}
 use Rattle.semantics.specs.Task.{Task, Target, Declared, Assigned, Tested, Dropped, Operand, Given, Invoke}
 use Rattle.semantics.specs.Thread.{Thread, Shared, BuffersInUse, sight_of}
 use Rattle.semantics.specs.Value.{Trap}
 use Rattle.semantics.specs.Variable.{Variable, Elements, Buffer, NoBuffer, Variables, Statics, assign, change, LocalRef}
 use Rattle.semantics.specs.Effect.{Calls}
+use Rattle.semantics.proofs.Answers.{effect_is}
+use Rattle.semantics.proofs.AnswerFacts.{frees_in}
+use Rattle.semantics.proofs.AnswerKinds.{AnswersAs, CopyingBack, Freeing, Halting, ReleasesBuffer, answers_as}
 use Rattle.semantics_safety.proofs.OwnerLaws.{LandsBy}
 use Rattle.semantics_safety.specs.Owners.{Owners}
 use Rattle.semantics_safety.specs.Points.{Point, OperandsFit, is_copy}
@@ -101,67 +106,67 @@ module _ (unit : SourceUnit) (classes : Classes) (in_use : BuffersInUse) (k : �
   abbrev released_point : Bool → Identifier → Point
   released_point commits x = at p (if commits then p.regions else with_changed p.regions x made_free)
 
-  uncommitted : (commits : Bool) (x : Identifier) (target : Target) (get : _) → (commits ≡ true → true ≡ false) → ResultGoes target GivesNothing get (GoesOn rest) (released_point commits x) → ResultGoes target GivesNothing get (GoesOn rest) (freed_point x)
-  uncommitted true x target get never goes = absurd (let c = never refl in cc)
-  uncommitted false x target get never goes = goes
-
   -- the arguments of a release
   abbrev given_to : Access → Identifier → Identifier → List Operand → List Actual
   given_to access a x modes = actuals (sight_of s t) (ReleaseBuffer access) (Given (tree.Value (tree.Variable a)) ∷ Given (tree.Value (tree.Variable x)) ∷ modes)
 
-  elements_is : (u : _) (a x : Identifier) (m : Operand) → call_effect unit classes in_use k s t (given_to (ElementsCopy u) a x (m ∷ [])) (ReleaseBuffer (ElementsCopy u)) ≡ release_effect s t (object_given (given_to (ElementsCopy u) a x (m ∷ [])) 0) x (mode_in_actual (Some (look_up (sight_of s t) (Mode, m))))
-  unfolding call_effect
-  elements_is u a x m = refl
+  -- a mode commits where it gives no buffer up
+  commit_is : (m : Operand) → OperandsFit p (Mode ∷ []) (m ∷ []) → has_commit (operand_argument m ∷ []) ≡ not (frees_in (mode_in_actual (Some (look_up (sight_of s t) (Mode, m)))))
+  commit_is (Given (tree.Value (tree.Number n unsigned))) fit = refl
+  commit_is (Given (tree.Value (tree.Named tree.Commit))) fit = refl
+  commit_is (Given (tree.Value (tree.Named tree.Abort))) fit = refl
+  commit_is (Given (tree.Value (tree.Named c))) fit = refl
+  commit_is m fit = absurd fit.0
 
-  view_is : (a x : Identifier) (modes : List Operand) → call_effect unit classes in_use k s t (given_to ArrayView a x modes) (ReleaseBuffer ArrayView) ≡ Leaves [] s (with_freed t x) NoResult
-  unfolding call_effect
-  view_is a x modes = refl
+  none_commits : (b : Bool) → (b ≡ true → true ≡ false) → b ≡ false
+  none_commits true h = h refl
+  none_commits false h = refl
 
-  chars_is : (a x : Identifier) (modes : List Operand) → call_effect unit classes in_use k s t (given_to CharsCopy a x modes) (ReleaseBuffer CharsCopy) ≡ Leaves [] s (with_freed t x) NoResult
-  unfolding call_effect
-  chars_is a x modes = refl
+  uncommitted : (access : Access) (a x : Identifier) (modes : List Operand) → OperandsFit p (release_mode access) modes → (has_commit (map operand_argument modes) ≡ true → is_critical access ≡ false)
+      → ((T : ElementType) → access ≡ ElementsCopy T → frees_in (mode_given (given_to access a x modes) 2) ≡ true) → has_commit (map operand_argument modes) ≡ false
+  uncommitted (ElementsCopy u) a x (m ∷ []) fit commits frees = commit_is m fit ∙ ap not (frees u refl)
+  uncommitted (ElementsCopy u) a x (m ∷ o ∷ modes) fit commits frees = absurd fit.1
+  uncommitted (ElementsCopy u) a x [] fit commits frees = absurd fit
+  uncommitted ArrayView a x modes fit commits frees = none_commits (has_commit (map operand_argument modes)) commits
+  uncommitted CharsCopy a x [] fit commits frees = refl
+  uncommitted CharsCopy a x (m ∷ modes) fit commits frees = absurd fit
+  uncommitted CharsView a x [] fit commits frees = refl
+  uncommitted CharsView a x (m ∷ modes) fit commits frees = absurd fit
 
-  chars_view_is : (a x : Identifier) (modes : List Operand) → call_effect unit classes in_use k s t (given_to CharsView a x modes) (ReleaseBuffer CharsView) ≡ Leaves [] s (with_freed t x) NoResult
-  unfolding call_effect
-  chars_view_is a x modes = refl
+  committed : (u : ElementType) (a x : Identifier) (modes : List Operand) → OperandsFit p (Mode ∷ []) modes → (frees : Bool) → frees_in (mode_given (given_to (ElementsCopy u) a x modes) 2) ≡ frees
+      → has_commit (map operand_argument modes) ≡ not frees
+  committed u a x (m ∷ []) fit frees is = commit_is m fit ∙ ap not is
+  committed u a x (m ∷ o ∷ modes) fit frees is = absurd fit.1
+  committed u a x [] fit frees is = absurd fit
 
-  module _ (a x : Identifier) (target : Target) (away : IsNoTest target) (get : _) where
-    elements_released : (u : _) (m : Operand) → state_of p.regions x ≡ Some (BufferIn (Usable (ElementsCopy u) a)) → OperandsFit p (Mode ∷ []) (m ∷ []) → ResultGoes target GivesNothing get (GoesOn rest) (released_point (has_commit (operand_argument m ∷ [])) x)
-        → LandsBy weak (Calls line target (ReleaseBuffer (ElementsCopy u)) (given_to (ElementsCopy u) a x (m ∷ []))) (length t.frames) own s.statics (after_call unit classes in_use k s t line target (ReleaseBuffer (ElementsCopy u)) (given_to (ElementsCopy u) a x (m ∷ [])) rest (release_effect s t (object_given (given_to (ElementsCopy u) a x (m ∷ [])) 0) x (mode_in_actual (Some (look_up (sight_of s t) (Mode, m))))))
-    elements_released u (Given (tree.Value (tree.Number n unsigned))) usable fit goes = freed_lands (ElementsCopy u) a x usable target away (given_to (ElementsCopy u) a x (Given (tree.Value (tree.Number n unsigned)) ∷ [])) get (record s { heap = with_numbers s.heap (object_given (given_to (ElementsCopy u) a x (Given (tree.Value (tree.Number n unsigned)) ∷ [])) 0) (copied_elements (lookup x t.variables)) }) refl goes
-    elements_released u (Given (tree.Value (tree.Named tree.Commit))) usable fit goes = kept_lands (ElementsCopy u) a x usable target away (given_to (ElementsCopy u) a x (Given (tree.Value (tree.Named tree.Commit)) ∷ [])) get (record s { heap = with_numbers s.heap (object_given (given_to (ElementsCopy u) a x (Given (tree.Value (tree.Named tree.Commit)) ∷ [])) 0) (copied_elements (lookup x t.variables)) }) refl goes
-    elements_released u (Given (tree.Value (tree.Named tree.Abort))) usable fit goes = freed_lands (ElementsCopy u) a x usable target away (given_to (ElementsCopy u) a x (Given (tree.Value (tree.Named tree.Abort)) ∷ [])) get s refl goes
-    elements_released u (Given (tree.Value (tree.Named c))) usable fit goes = freed_lands (ElementsCopy u) a x usable target away (given_to (ElementsCopy u) a x (Given (tree.Value (tree.Named c)) ∷ [])) get (record s { heap = with_numbers s.heap (object_given (given_to (ElementsCopy u) a x (Given (tree.Value (tree.Named c)) ∷ [])) 0) (copied_elements (lookup x t.variables)) }) refl goes
-    elements_released u m usable fit goes = absurd fit.0
+  module _ (a x : Identifier) (modes : List Operand) (target : Target) (away : IsNoTest target) (get : Option (Access × Option Identifier)) (goes : ResultGoes target GivesNothing get (GoesOn rest) (released_point (has_commit (map operand_argument modes)) x)) where
+    -- what follows goes by whether the release commits
+    goes_by : (commits : Bool) → has_commit (map operand_argument modes) ≡ commits → ResultGoes target GivesNothing get (GoesOn rest) (released_point commits x)
+    goes_by commits is = subst (λ (b : Bool). ResultGoes target GivesNothing get (GoesOn rest) (released_point b x)) is goes
 
-    released : (access : Access) (modes : List Operand) → state_of p.regions x ≡ Some (BufferIn (Usable access a)) → (has_commit (map operand_argument modes) ≡ true → is_critical access ≡ false) → OperandsFit p (release_mode access) modes
-        → ResultGoes target GivesNothing get (GoesOn rest) (released_point (has_commit (map operand_argument modes)) x)
-        → LandsBy weak (Calls line target (ReleaseBuffer access) (given_to access a x modes)) (length t.frames) own s.statics (after_call unit classes in_use k s t line target (ReleaseBuffer access) (given_to access a x modes) rest (call_effect unit classes in_use k s t (given_to access a x modes) (ReleaseBuffer access)))
-    released (ElementsCopy u) (m ∷ []) usable commits fit goes =
-        subst (λ (e : CallEffect). LandsBy weak (Calls line target (ReleaseBuffer (ElementsCopy u)) (given_to (ElementsCopy u) a x (m ∷ []))) (length t.frames) own s.statics (after_call unit classes in_use k s t line target (ReleaseBuffer (ElementsCopy u)) (given_to (ElementsCopy u) a x (m ∷ [])) rest e)) (sym (elements_is u a x m)) (elements_released u m usable fit goes)
-    released (ElementsCopy u) (m ∷ o ∷ modes) usable commits fit goes = absurd fit.1
-    released (ElementsCopy u) [] usable commits fit goes = absurd fit
-    released ArrayView modes usable commits fit goes =
-        subst (λ (e : CallEffect). LandsBy weak (Calls line target (ReleaseBuffer ArrayView) (given_to ArrayView a x modes)) (length t.frames) own s.statics (after_call unit classes in_use k s t line target (ReleaseBuffer ArrayView) (given_to ArrayView a x modes) rest e)) (sym (view_is a x modes))
-        (freed_lands ArrayView a x usable target away (given_to ArrayView a x modes) get s refl (uncommitted (has_commit (map operand_argument modes)) x target get commits goes))
-    released CharsCopy [] usable commits fit goes =
-        subst (λ (e : CallEffect). LandsBy weak (Calls line target (ReleaseBuffer CharsCopy) (given_to CharsCopy a x [])) (length t.frames) own s.statics (after_call unit classes in_use k s t line target (ReleaseBuffer CharsCopy) (given_to CharsCopy a x []) rest e)) (sym (chars_is a x [])) (freed_lands CharsCopy a x usable target away (given_to CharsCopy a x []) get s refl goes)
-    released CharsCopy (m ∷ modes) usable commits fit goes = absurd fit
-    released CharsView [] usable commits fit goes =
-        subst (λ (e : CallEffect). LandsBy weak (Calls line target (ReleaseBuffer CharsView) (given_to CharsView a x [])) (length t.frames) own s.statics (after_call unit classes in_use k s t line target (ReleaseBuffer CharsView) (given_to CharsView a x []) rest e)) (sym (chars_view_is a x [])) (freed_lands CharsView a x usable target away (given_to CharsView a x []) get s refl goes)
-    released CharsView (m ∷ modes) usable commits fit goes = absurd fit
+    released : {kind : ResultKind} {answer : Answer} (access : Access) → state_of p.regions x ≡ Some (BufferIn (Usable access a)) → (has_commit (map operand_argument modes) ≡ true → is_critical access ≡ false) → OperandsFit p (release_mode access) modes
+        → AnswersAs unit classes (sight_of_call s t JInt (ReleaseBuffer access) (given_to access a x modes)) (ReleaseBuffer access) (ReleasesBuffer access) kind answer
+        → LandsBy weak (Calls line target (ReleaseBuffer access) (given_to access a x modes)) (length t.frames) own s.statics (after_call unit classes in_use k s t line target (ReleaseBuffer access) (given_to access a x modes) rest (effect_of classes in_use k s t (given_to access a x modes) answer))
+    unfolding effect_of
+    released access usable commits fit (CopyingBack T true of mode) =
+        freed_lands access a x usable target away (given_to access a x modes) get (record s { heap = with_copied_back t.variables x (object_given (given_to access a x modes) 0) s.heap }) refl (goes_by false (committed T a x modes fit true mode))
+    released access usable commits fit (CopyingBack T false of mode) =
+        kept_lands access a x usable target away (given_to access a x modes) get (record s { heap = with_copied_back t.variables x (object_given (given_to access a x modes) 0) s.heap }) refl (goes_by true (committed T a x modes fit false mode))
+    released access usable commits fit (Freeing mode) = freed_lands access a x usable target away (given_to access a x modes) get s refl (goes_by false (uncommitted access a x modes fit commits mode))
+    released access usable commits fit (Halting trap) = (whole, λ y r g. (r, g))
 
-    released_at : (access : Access) (modes : List Operand) (o : Option Trap) → state_of p.regions x ≡ Some (BufferIn (Usable access a)) → (has_commit (map operand_argument modes) ≡ true → is_critical access ≡ false) → OperandsFit p (release_mode access) modes
-        → ResultGoes target GivesNothing get (GoesOn rest) (released_point (has_commit (map operand_argument modes)) x)
+    released_at : (access : Access) (o : Option Trap) → state_of p.regions x ≡ Some (BufferIn (Usable access a)) → (has_commit (map operand_argument modes) ≡ true → is_critical access ≡ false) → OperandsFit p (release_mode access) modes
         → LandsBy weak (Calls line target (ReleaseBuffer access) (given_to access a x modes)) (length t.frames) own s.statics (after_call unit classes in_use k s t line target (ReleaseBuffer access) (given_to access a x modes) rest (checked o (call_effect unit classes in_use k s t (given_to access a x modes) (ReleaseBuffer access))))
-    released_at access modes None usable commits fit goes = released access modes usable commits fit goes
-    released_at access modes (Some trap) usable commits fit goes = (whole, λ y r g. (r, g))
+    released_at access None usable commits fit =
+        subst (λ (e : CallEffect). LandsBy weak (Calls line target (ReleaseBuffer access) (given_to access a x modes)) (length t.frames) own s.statics (after_call unit classes in_use k s t line target (ReleaseBuffer access) (given_to access a x modes) rest e)) (sym (effect_is unit classes in_use k s t (given_to access a x modes) JInt (ReleaseBuffer access)))
+        (released access usable commits fit (answers_as unit classes k (sight_of_call s t JInt (ReleaseBuffer access) (given_to access a x modes)) (ReleaseBuffer access)))
+    released_at access (Some trap) usable commits fit = (whole, λ y r g. (r, g))
 
   release_operands : (access : Access) (target : Target) (operands : List Operand) → IsNoTest target → CallKeeps p (ReleaseBuffer access) (map operand_argument operands) → OperandsFit p (prototype (ReleaseBuffer access)).parameters operands
       → ResultGoes target GivesNothing None (GoesOn rest) (at p (states.after_call p.regions (call_seen (ReleaseBuffer access) operands)))
       → LandsBy weak (Calls line target (ReleaseBuffer access) (actuals (sight_of s t) (ReleaseBuffer access) operands)) (length t.frames) own s.statics (call_step unit classes in_use k s t line target (ReleaseBuffer access) (actuals (sight_of s t) (ReleaseBuffer access) operands) rest false)
   release_operands access target (Given (tree.Value (tree.Variable a)) ∷ Given (tree.Value (tree.Variable x)) ∷ modes) away (usable, commits) fit goes =
-      released_at a x target away None access modes (trap_of_call classes s t target (ReleaseBuffer access) (given_to access a x modes)) usable commits fit.1.1 goes
+      released_at a x modes target away None goes access (trap_of_call classes s t target (ReleaseBuffer access) (given_to access a x modes)) usable commits fit.1.1
   release_operands access target operands away rules fit goes = absurd rules
 
   -- no more arguments than its own

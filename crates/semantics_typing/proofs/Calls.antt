@@ -510,14 +510,14 @@ module _ (unit : SourceUnit) (classes : Classes) (well : DeclaresWell classes) (
       answer_fits (FillingNone class is) = raised is
       answer_fits (Copying {access = access} of plain) = copy_fits (object_given args 0) (buffer_numbers access of)
       answer_fits (Viewing {access = access} of critical) = view_fits (object_given args 0) (buffer_numbers access of)
-      answer_fits (CopyingBack T true of) =
+      answer_fits (CopyingBack T true of mode) =
           let copied = subst (λ (g : JniFunction). IsReady classes u t.variables g args) of ready in
           other_heap (with_freed t (variable_given args 1)) _ (copied_back (object_given args 0) (variable_given args 1) copied.0 copied.1 copied.2) (freed_vars (variable_given args 1))
-      answer_fits (CopyingBack T false of) =
+      answer_fits (CopyingBack T false of mode) =
           let copied = subst (λ (g : JniFunction). IsReady classes u t.variables g args) of ready in
           other_heap t _ (copied_back (object_given args 0) (variable_given args 1) copied.0 copied.1 copied.2) vars
-      answer_fits Freeing = still _ _ (freed_vars (variable_given args 1)) tt
-      answer_fits (Calling m) = tt
+      answer_fits (Freeing mode) = still _ _ (freed_vars (variable_given args 1)) tt
+      answer_fits (Calling m is) = tt
       answer_fits (Halting trap) = tt
       answer_fits other = still _ _ vars tt
 
