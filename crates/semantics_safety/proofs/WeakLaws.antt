@@ -3,7 +3,7 @@ use Rattle.std.proofs.Common.{◌≡◌, ◌≢◌, inl, inr, ℕ, Bool, true, f
 use Rattle.std.specs.List.{list_any, AllByRecursion}
 use Rattle.base.specs.Bytes.{Identifier, lookup}
 use Rattle.jni.specs.Access.{ElementsCopy, ArrayView, CharsCopy, CharsView}
-use Rattle.jni.specs.JniFunction.{JniFunction, NewLocalRef, NewGlobalRef, IsSameObject, DeleteWeakGlobalRef, GetBuffer, ReleaseBuffer, prototype, parameters_for}
+use Rattle.jni.specs.JniFunction.{JniFunction, GetBuffer, ReleaseBuffer, prototype, parameters_for}
 use Rattle.jni.specs.Prototype.{ParameterKind, FieldID, IntNumber, TextBytes, AnyReference, LocalVariable, StaticVariable, WeakVariable, ArrayVariable, BufferVariable, Mode, IsCopy, MethodID, Passed}
 use Rattle.type_rules.specs.Sorts.{Sort, sort_in}
 use Rattle.type_rules.specs.Sorts as sort
@@ -28,21 +28,17 @@ may_be_weak AnyReference = true
 may_be_weak WeakVariable = true
 may_be_weak parameter = false
 
--- the other functions have none
-others_strong : (f : JniFunction) → takes_weak f ≡ false → list_any may_be_weak (prototype f).parameters ≡ false
-others_strong NewLocalRef h = absurd (cc)
-others_strong NewGlobalRef h = absurd (cc)
-others_strong IsSameObject h = absurd (cc)
-others_strong DeleteWeakGlobalRef h = absurd (cc)
-others_strong (GetBuffer (ElementsCopy t)) h = refl
-others_strong (GetBuffer ArrayView) h = refl
-others_strong (GetBuffer CharsCopy) h = refl
-others_strong (GetBuffer CharsView) h = refl
-others_strong (ReleaseBuffer (ElementsCopy t)) h = refl
-others_strong (ReleaseBuffer ArrayView) h = refl
-others_strong (ReleaseBuffer CharsCopy) h = refl
-others_strong (ReleaseBuffer CharsView) h = refl
-others_strong f h = refl
+-- the functions that take a weak reference have such a parameter, and no others
+weak_parameters : (f : JniFunction) → list_any may_be_weak (prototype f).parameters ≡ takes_weak f
+weak_parameters (GetBuffer (ElementsCopy t)) = refl
+weak_parameters (GetBuffer ArrayView) = refl
+weak_parameters (GetBuffer CharsCopy) = refl
+weak_parameters (GetBuffer CharsView) = refl
+weak_parameters (ReleaseBuffer (ElementsCopy t)) = refl
+weak_parameters (ReleaseBuffer ArrayView) = refl
+weak_parameters (ReleaseBuffer CharsCopy) = refl
+weak_parameters (ReleaseBuffer CharsView) = refl
+weak_parameters f = refl
 
 no_kind : true ≡ false → ⊥
 no_kind e = cc
@@ -166,7 +162,7 @@ module _ (ss : Statics) (vs : Variables) (frames : List Frame) (p : Point) {weak
     where
       by_test : (b : Bool) → takes_weak f ≡ b → WeakAreTaken vs ss (Invoke line target f operands)
       by_test true is = inl is
-      by_test false is = inr (operands_strong (parameters_for f (length operands)) operands (none_among may_be_weak refl f (length operands) (others_strong f is)) fits.sorts)
+      by_test false is = inr (operands_strong (parameters_for f (length operands)) operands (none_among may_be_weak refl f (length operands) (weak_parameters f ∙ is)) fits.sorts)
 
   invoke_taken : (line : ℕ) (target : Target) (f : JniFunction) (operands : List Operand) (k : Point → Type 0) → Runs (Invoke line target f operands) k p
       → WeakAreTaken vs ss (Invoke line target f operands)
