@@ -1,5 +1,5 @@
--- Which answers a function can give, by what its calls may change and by its kind of result: with these lemmas a law goes by the answers, and
--- names no function.
+-- Which answers a function can give, by what its calls may change and by its kind of result, and what is known of them once the checks of the
+-- call have passed: with this table a law goes by the answers, and names no function.
 use Rattle.std.specs.Prelude.{◌≡◌, ◌⊎◌, ◌&&◌, ℕ, ◌+◌, ◌≤◌, ◌==◌, ℤ, pos, negsuc, Bool, true, false, nat_le, nat_lt, if◌then◌else◌, List, [], ◌∷◌, length, replicate, Option, Some, None, refl}
 use Rattle.std.proofs.Common.{ap, inl, inr, ◌∙◌, subst}
 use Rattle.std.proofs.lemmas.Bool.{and_parts, cond_both, leb-true, not-true}
@@ -334,7 +334,7 @@ none_called kind own h = tt
 
 -- ---- what leaves the heap as it was
 
--- the heap stays, and nothing is made but the reference
+-- the heap stays, and no object is made
 abbrev pub LeavesHeap : Answer → Type 0
 LeavesHeap (Gives given) = Unit {0}
 LeavesHeap (MakesGlobal r) = Unit {0}
