@@ -90,7 +90,7 @@ module _ (classes : Classes) (sight : CallSight) where
   pub record IsRegion (f : JniFunction) (r : Region) : Type 0 where
     pub object : r.object ≡ name_of_first sight
     pub within : r.start + r.count ≤ length sight.first.object.values
-    pub few : r.count ≤ sight.fourth.elements
+    pub few : r.count ≤ sight.elements
     pub element : ElementType
     pub numbers : TakesNumbers f element
     pub array : Takes f 3 (ArrayVariable element)

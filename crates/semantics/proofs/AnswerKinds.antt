@@ -177,16 +177,16 @@ module _ (unit : SourceUnit) (classes : Classes) (sight : CallSight) (f : JniFun
   set_as false n r (Some i) write = Raising _ NoStore
 
   region_as : (kind : CallKind) (go : Region → Answer) (exception n count : ℕ) (start length : ℤ)
-      → ((r : Region) → r.object ≡ n → r.start + r.count ≤ count → r.count ≤ sight.fourth.elements → As kind GivesNothing (go r))
-      → As kind GivesNothing (Raises exception) → As kind GivesNothing (region_with go exception sight.fourth.elements (region_within n count start length))
+      → ((r : Region) → r.object ≡ n → r.start + r.count ≤ count → r.count ≤ sight.elements → As kind GivesNothing (go r))
+      → As kind GivesNothing (Raises exception) → As kind GivesNothing (region_with go exception sight.elements (region_within n count start length))
   region_as kind go exception n count start length there past = by_region (region_within n count start length) refl
     where
-      by_region : (o : Option Region) → region_within n count start length ≡ o → As kind GivesNothing (region_with go exception sight.fourth.elements o)
+      by_region : (o : Option Region) → region_within n count start length ≡ o → As kind GivesNothing (region_with go exception sight.elements o)
       by_region None is = past
       by_region (Some r) is =
           let within = region_is n count start length r is in
-          cond_both (nat_le r.count sight.fourth.elements) _ _ (As kind GivesNothing)
-          (λ e. there r within.0 within.1 (leb-true r.count sight.fourth.elements e)) (λ e. Halting _)
+          cond_both (nat_le r.count sight.elements) _ _ (As kind GivesNothing)
+          (λ e. there r within.0 within.1 (leb-true r.count sight.elements e)) (λ e. Halting _)
 
   released_as : (T : ElementType) → f ≡ jni.ReleaseBuffer (ElementsCopy T) → (mode : ReleaseMode) → sight.third.mode ≡ mode
       → As (ReleasesBuffer (ElementsCopy T)) GivesNothing (released (name_of_first sight) mode)
@@ -226,7 +226,7 @@ module _ (unit : SourceUnit) (classes : Classes) (k : ℕ) (sight : CallSight) w
   regions : (f : JniFunction) (kind : CallKind) (go : Region → Answer) (exception : ℕ) (T : ElementType) → TakesNumbers f T → Takes f 3 (ArrayVariable T)
       → ((r : Region) → IsRegion classes sight f r → AnswersAs unit classes sight f kind GivesNothing (go r))
       → AnswersAs unit classes sight f kind GivesNothing (Raises exception)
-      → AnswersAs unit classes sight f kind GivesNothing (region_with go exception sight.fourth.elements (region unit classes k sight))
+      → AnswersAs unit classes sight f kind GivesNothing (region_with go exception sight.elements (region unit classes k sight))
   regions f kind go exception T numbers array there past =
       region_as unit classes sight f kind go exception (name_of_first sight) (length sight.first.object.values) sight.second.number sight.third.number
       (λ r object within few. there r (record { object = object; within = within; few = few; element = T; numbers = numbers; array = array })) past

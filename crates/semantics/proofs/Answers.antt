@@ -34,7 +34,7 @@ none_without (m ∷ ms) n none = by_test (m.object == n) none (λ rest. none_wit
 
 -- NULL and an object fit a class alike
 pub fits_alike : (classes : Classes) (s : Shared) (t : Thread) (args : List Actual) (i c : ℕ) (r : Reference) → reference_given args i ≡ r
-    → fits_class classes s.heap (reference_given args i) c ≡ fits classes (argument_seen s.heap t.variables (slice_get args i)) c
+    → fits_class classes s.heap (reference_given args i) c ≡ fits classes (argument_seen s.heap (slice_get args i)) c
 fits_alike classes s t args i c None is = cc
 fits_alike classes s t args i c (Some n) is = cc
 

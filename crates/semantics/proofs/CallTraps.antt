@@ -21,15 +21,15 @@ use Rattle.semantics.specs.Checks.{call_trap, first_trap, frames_after, is_delet
 use Rattle.semantics.specs.Heap.{Heap, fits_type}
 use Rattle.semantics.specs.Method.{MethodId}
 use Rattle.semantics.specs.Thread.{BuffersInUse, Shared, Thread}
-use Rattle.semantics.specs.Variable.{Empty, Live, Variables}
+use Rattle.semantics.specs.Variable.{Empty, Live}
 use Rattle.semantics.specs.Value.{Trap, NullReference, ExceptionPending, WrongObject, DeletedReference, NoCapacity, CallsTooDeep}
 use Rattle.semantics.proofs.Answers.{effect_is, fits_alike}
 
 -- ---- single arguments
 
-module _ (classes : Classes) (heap : Heap) (vs : Variables) where
+module _ (classes : Classes) (heap : Heap) where
   abbrev of : Actual → ArgumentSight
-  of a = argument_seen heap vs (Some a)
+  of a = argument_seen heap (Some a)
 
   deleted : (args : List Actual) → list_any is_deleted args ≡ list_any (λ (a : ArgumentSight). a.is_deleted) (map of args)
   deleted [] = refl
@@ -107,7 +107,7 @@ module _ (classes : Classes) (s : Shared) (t : Thread) (element : ElementType) (
 
   -- a reference fits a field alike
   pub fits_field_alike : (i : ℕ) (type : FieldType)
-      → fits_type classes s.heap (reference_given args i) type ≡ seen.fits_field classes (argument_seen s.heap t.variables (slice_get args i)) type
+      → fits_type classes s.heap (reference_given args i) type ≡ seen.fits_field classes (argument_seen s.heap (slice_get args i)) type
   fits_field_alike i (NumberField T) = refl
   fits_field_alike i (ReferenceField c) = fits_alike classes s t args i c (reference_given args i) refl
 
@@ -116,8 +116,8 @@ module _ (classes : Classes) (s : Shared) (t : Thread) (element : ElementType) (
   called_alike f returns None = refl
   called_alike f returns (Some m) =
       ap (λ b. m.class == object_given args 0 && returns m.function.result && b)
-      (all_passed classes s.heap t.variables element args m.function.parameters (drop 2 args)
-      ∙ ap (λ (passed : List ArgumentSight). seen.all_pass m.function.parameters passed) (without_two classes s.heap t.variables args))
+      (all_passed classes s.heap element args m.function.parameters (drop 2 args)
+      ∙ ap (λ (passed : List ArgumentSight). seen.all_pass m.function.parameters passed) (without_two classes s.heap args))
 
   -- what goes together by what is seen goes together
   pub together : (f : JniFunction) → table.go_together classes s.heap element args f ≡ seen.go_together classes (sight f) f
@@ -151,16 +151,16 @@ module _ (classes : Classes) (s : Shared) (t : Thread) (element : ElementType) (
 
   -- the parameters' kinds, by how many arguments there are
   kinds_alike : (f : JniFunction) → parameters_for f (length args) ≡ parameters_for f (length (sight f).arguments)
-  kinds_alike f = ap (λ n. parameters_for f n) (as_many classes s.heap t.variables args)
+  kinds_alike f = ap (λ n. parameters_for f n) (as_many classes s.heap args)
 
   pub trap_is : (f : JniFunction) → call_trap classes s.heap t element f args ≡ seen.trap_of classes (sight f) f
   unfolding call_trap seen.trap_of
   trap_is f = all_same (is_some t.pending && not (is_allowed_pending f)) (calls_method f && nat_le 64 (length t.callers + 1))
-      (deleted classes s.heap t.variables args)
-      (missing classes s.heap t.variables (parameters_for f (length args)) args
+      (deleted classes s.heap args)
+      (missing classes s.heap (parameters_for f (length args)) args
       ∙ ap (λ (ps : List ParameterKind). list_any seen.misses (zip ps (sight f).arguments)) (kinds_alike f))
       (ap (λ b. b || not (table.go_together classes s.heap element args f))
-      (misfit classes s.heap t.variables (parameters_for f (length args)) args
+      (misfit classes s.heap (parameters_for f (length args)) args
       ∙ ap (λ (ps : List ParameterKind). list_any (seen.misfits classes) (zip ps (sight f).arguments)) (kinds_alike f))
       ∙ ap (λ b. list_any (seen.misfits classes) (seen.with_kinds classes (sight f) f) || not b) (together f))
       (room_for f (prototype f).result)

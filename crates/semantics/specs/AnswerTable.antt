@@ -214,9 +214,9 @@ module _ (unit : SourceUnit) (classes : Classes) (k : ℕ) (sight : CallSight) w
   call_answer SetObjectArrayElement =
       element_set (fits classes sight.third (element_class (class_kind classes sight.first.object.class)))
       object sight.third.reference (index_within count sight.second.number)
-  call_answer (GetArrayRegion T) = region_with GetsRegion array_index_out_of_bounds sight.fourth.elements region
-  call_answer (SetArrayRegion T) = region_with SetsRegion array_index_out_of_bounds sight.fourth.elements region
-  call_answer GetStringRegion = region_with GetsRegion string_index_out_of_bounds sight.fourth.elements region
+  call_answer (GetArrayRegion T) = region_with GetsRegion array_index_out_of_bounds sight.elements region
+  call_answer (SetArrayRegion T) = region_with SetsRegion array_index_out_of_bounds sight.elements region
+  call_answer GetStringRegion = region_with GetsRegion string_index_out_of_bounds sight.elements region
   call_answer (GetBuffer (ElementsCopy T)) = Copies object
   call_answer (GetBuffer ArrayView) = Views object
   call_answer (GetBuffer CharsCopy) = Copies object

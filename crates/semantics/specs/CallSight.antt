@@ -4,8 +4,9 @@ use Rattle.std.specs.Option.{option_map_or}
 use Rattle.base.specs.Bytes.{Identifier, lookup}
 use Rattle.base.specs.Element.{ElementType}
 use Rattle.class_rules.specs.Fields.{FieldId}
-use Rattle.jni.specs.JniFunction.{JniFunction, DeleteGlobalRef, DeleteWeakGlobalRef}
-use Rattle.semantics.specs.Arguments.{Actual, ReferenceActual, FieldActual, MethodActual, NumberActual, ReleaseMode, field_in_actual, method_in_actual, mode_in_actual, name_or_zero, number_in_actual, reference_in_actual, text_in_actual, variable_given, variable_in_actual}
+use Rattle.jni.specs.JniFunction.{JniFunction, DeleteGlobalRef, DeleteWeakGlobalRef, prototype}
+use Rattle.jni.specs.Prototype.{ParameterKind, ArrayVariable}
+use Rattle.semantics.specs.Arguments.{Actual, ReferenceActual, FieldActual, MethodActual, NumberActual, ReleaseMode, field_in_actual, method_in_actual, mode_in_actual, name_or_zero, number_in_actual, reference_in_actual, text_in_actual, variable_given}
 use Rattle.semantics.specs.CallEffects.{local_array}
 use Rattle.semantics.specs.Checks.{is_deleted, is_full}
 use Rattle.semantics.specs.Heap.{Heap, class_of, values_of}
@@ -25,8 +26,6 @@ pub record ArgumentSight : Type 0 where
   pub field : FieldId
   pub method : Option MethodId
   pub mode : ReleaseMode
-  -- how many elements the local array has that it names
-  pub elements : ℕ
   -- a static that is marked as deleted
   pub is_deleted : Bool
   -- NULL, where a reference, a field ID or a method ID is given
@@ -37,16 +36,17 @@ pub record ArgumentSight : Type 0 where
 
 -- what is asked of a call
 pub record CallSight : Type 0 where
-  -- its arguments after `env`, and the first four of them
+  -- its arguments after `env`, and the first three of them
   pub arguments : List ArgumentSight
   pub first : ArgumentSight
   pub second : ArgumentSight
   pub third : ArgumentSight
-  pub fourth : ArgumentSight
   -- the class object that declares the field or static of the second
   pub declaring : Object
   -- the monitor of the object of the first
   pub monitor : Option Monitor
+  -- how many elements the local array has that the fourth names, where the function takes one
+  pub elements : ℕ
   -- what the static holds that the first names, where the function deletes it
   pub held : Option StaticReference
   -- the pending exception
@@ -91,8 +91,8 @@ is_reference_actual (Some (ReferenceActual x r)) = true
 is_reference_actual a = false
 
 -- what is seen of an argument
-abbrev pub argument_seen : Heap → Variables → Option Actual → ArgumentSight
-argument_seen heap vs a = record {
+abbrev pub argument_seen : Heap → Option Actual → ArgumentSight
+argument_seen heap a = record {
   reference = reference_in_actual a;
   object = object_seen heap (name_or_zero (reference_in_actual a));
   number = number_in_actual a;
@@ -100,12 +100,16 @@ argument_seen heap vs a = record {
   field = field_in_actual a;
   method = method_in_actual a;
   mode = mode_in_actual a;
-  elements = length (local_array (lookup (variable_in_actual a) vs));
   is_deleted = option_map_or is_deleted a false;
   is_null = is_null_actual a;
   is_number = is_number_actual a;
   is_reference = is_reference_actual a;
 }
+
+-- how many elements a local array has, where the parameter is one
+abbrev pub elements_seen : Variables → Option ParameterKind → Identifier → ℕ
+elements_seen vs (Some (ArrayVariable T)) x = length (local_array (lookup x vs))
+elements_seen vs p x = 0
 
 -- what the static holds that a call deletes
 abbrev pub held_seen : Statics → JniFunction → Identifier → Option StaticReference
@@ -118,15 +122,15 @@ module _ (s : Shared) (vs : Variables) (frames : List Frame) (callers : ℕ) (pe
   -- what is seen of it with these arguments, where it is to fill a buffer of this element type, if it fills one
   abbrev pub call_seen : ElementType → JniFunction → List Actual → CallSight
   call_seen element f args =
-      let at = λ (i : ℕ). argument_seen s.heap vs (slice_get args i) in
+      let at = λ (i : ℕ). argument_seen s.heap (slice_get args i) in
       record {
-        arguments = map (λ (a : Actual). argument_seen s.heap vs (Some a)) args;
+        arguments = map (λ (a : Actual). argument_seen s.heap (Some a)) args;
         first = at 0;
         second = at 1;
         third = at 2;
-        fourth = at 3;
         declaring = object_seen s.heap (field_in_actual (slice_get args 1)).class;
         monitor = monitor_of s.monitors (name_or_zero (reference_in_actual (slice_get args 0)));
+        elements = elements_seen vs (slice_get (prototype f).parameters 3) (variable_given args 3);
         held = held_seen s.statics f (variable_given args 0);
         pending = pending;
         is_full = is_full (slice_get frames 0);
