@@ -21,6 +21,10 @@ pub mod ReferenceAnswers
 pub mod RegionAnswers
 pub mod RegionOperands
 pub mod SetPlaces
+pub mod SightArguments
+pub mod SightParts
+pub mod SightPlaces
+pub mod SightsAgree
 pub mod TwoCalls
 pub mod Unasked
 pub mod Writes

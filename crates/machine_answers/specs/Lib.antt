@@ -5,3 +5,4 @@ pub mod Copies
 pub mod BufferChanges
 pub mod Answers
 pub mod Passed
+pub mod Sights
