@@ -229,3 +229,7 @@ noted_of s u roots kept more e pins rooted stays = record {
   pinned = λ a p. stays a (pins a (subst (λ (x : Space). 0 < pins_at x a) (sym e) p));
   rooted = λ a r. stays a (rooted a r);
 }
+
+-- the marking that is under way is the one that was handed out
+pub marks_are : (o x : Option Marks) (m n : Marks) → x ≡ o → x ≡ Some m → o ≡ Some n → n ≡ m
+marks_are o x m n e is held = let both : ◌≡◌ {A = Option Marks} (Some n) (Some m) = sym held ∙ sym e ∙ is in cc

@@ -41,6 +41,14 @@ pub record MarksOn (s t : Space) : Type 0 where
   pub keeps : (a : ℕ) → IsKeptBy s.marking a → is_kept marks.kept a ≡ true
   pub under_way : IsSome s.marking
 
+-- So many blocks more are marked, and nothing has moved. What was kept is, and where the marking began, what roots name and what is pinned.
+pub record HasMarked (s t : Space) (roots : List (Option ℕ)) (n : ℕ) : Type 0 where
+  pub marks : Marks
+  pub heap : t ≡ record s { marking = Some marks }
+  pub marked : marks.marked ≡ count_of s.marking + n
+  pub keeps : (a : ℕ) → IsKeptBy s.marking a → is_kept marks.kept a ≡ true
+  pub begun : s.marking ≡ None → AreNoted s roots marks.kept
+
 -- The slice marked as many as a slice does, and nothing has moved. What was kept is, and where the marking began, what roots name and what
 -- is pinned.
 pub record GoesOn (s t : Space) (roots after weak later : List (Option ℕ)) (m : Marks) : Type 0 where

@@ -1,13 +1,13 @@
 //! Marking in slices: a marking that goes on while the blocks change between its slices.
 
-ghost use Rattle.std.specs.Prelude.{◌≡◌, ℕ, ◌<◌, ◌≤◌, ◌+◌, true, false, [], Some, length, IfOk, IfSome, OnOk, OnErr};
+ghost use Rattle.std.specs.Prelude.{◌≡◌, ℕ, ◌<◌, ◌≤◌, ◌+◌, true, false, [], List, Option, Some, IsSome, length, IfNone, IfOk, IfSome, OnOk, OnErr};
 ghost use Rattle.std.specs.List.{Contains};
-ghost use Rattle.heap.specs.Heap.{IsAddress, IsLaidOut, pins_at};
+ghost use Rattle.heap.specs.Heap.{Space, IsAddress, IsLaidOut, pins_at};
 ghost use Rattle.heap.specs.Marking.{IsUnderWay};
 ghost use Rattle.heap.specs.Marks.{is_kept};
 ghost use Rattle.compact.specs.Marks.{Adds, IsFollowed};
 ghost use Rattle.compact.specs.Reach.{AreAddresses, IsClosed, Refers};
-ghost use Rattle.compact.specs.Slices.{IsSliced, IsWhole, MarksOn, slice_size};
+ghost use Rattle.compact.specs.Slices.{HasMarked, IsSliced, IsWhole, MarksOn, slice_size};
 
 use crate::collecting::lend_notes;
 use crate::compacting::compact;
@@ -69,17 +69,45 @@ fn slice_or_end<R: Roots, W: Weak>(
     ensures roots { OnErr result (R.roots roots.new ≡ R.roots roots.old) }
     ensures weak { OnErr result (W.weak weak.new ≡ W.weak weak.old) }
 {
-    let mut current = match heap.take_marking() {
+    let current = match heap.take_marking() {
         Some(current) => current,
         None => begin(alloc, heap, roots)?,
     };
-    if mark_slice(heap, roots, &mut current) {
+    heap.put_marking(Some(current));
+    slice_on(heap, roots, weak, to, 0);
+    Ok(())
+}
+
+/// Takes the rest of a slice that has marked so many blocks by `mark_waiting`. It takes no memory.
+pub fn slice_on<R: Roots, W: Weak>(
+    heap: &mut Heap,
+    roots: &mut R,
+    weak: &mut W,
+    to: &mut [u32],
+    marked: u32,
+)
+    requires count { length to.old ≡ heap.old.cells }
+    requires limit { heap.old.cells ≤ MOST_CELLS }
+    requires under_way { IsSome heap.old.marking }
+    requires marked { marked ≤ slice_size }
+    requires closed { IsClosed heap.old }
+    requires roots { AreAddresses heap.old (R.roots roots.old) }
+    requires weak { AreAddresses heap.old (W.weak weak.old) }
+    ensures sliced { (s : Space) → HasMarked s heap.old (R.roots roots.old) marked
+        → IsSliced s heap.new (R.roots roots.old) (R.roots roots.new) (W.weak weak.old) (W.weak weak.new) }
+    ensures closed { IsClosed heap.new }
+    ensures addresses { AreAddresses heap.new (R.roots roots.new) }
+    ensures weak_addresses { AreAddresses heap.new (W.weak weak.new) }
+{
+    let Some(mut current) = heap.take_marking() else {
+        return;
+    };
+    if mark_slice(heap, roots, &mut current, marked) {
         let mut kept = current.into_kept();
         compact(heap, roots, weak, &mut kept, to);
     } else {
         heap.put_marking(Some(current));
     }
-    Ok(())
 }
 
 /// Marks as many blocks as a slice does, where a marking is under way on whose list more wait. Neither roots nor pins are
@@ -103,6 +131,49 @@ pub fn mark_on(heap: &mut Heap) -> bool
     true
 }
 
+/// Marks the blocks that wait on the list of the marking under way, but no more than a slice does. Neither roots nor pins are
+/// looked at, so it costs by what it marks. None where the slice is whole by that, as more wait; else how many it marked,
+/// and `slice_on` is to take the rest.
+pub fn mark_waiting(heap: &mut Heap) -> Option<u32>
+    requires under_way { IsSome heap.old.marking }
+    requires closed { IsClosed heap.old }
+    ensures whole { IfNone result (MarksOn heap.old heap.new) }
+    ensures limit { IfSome result (λ n. n ≤ slice_size) }
+    ensures part { IfSome result (λ n. (roots : List (Option ℕ)) → HasMarked heap.old heap.new roots n) }
+{
+    // The proof reads off this call how the heap lies.
+    let _ = heap.count();
+    let Some(mut current) = heap.take_marking() else {
+        return Some(0);
+    };
+    let marked = mark_some(heap, &mut current);
+    let more = current.waits();
+    heap.put_marking(Some(current));
+    if more && marked == SLICE {
+        None
+    } else {
+        Some(marked)
+    }
+}
+
+/// Marks the blocks of a list, but no more than a slice does. How many these are.
+fn mark_some(heap: &Heap, marking: &mut Marking) -> u32
+    requires closed { IsClosed heap.now }
+    requires laid_out { IsLaidOut heap.now }
+    requires under_way { IsUnderWay heap.now marking.old }
+    ensures under_way { IsUnderWay heap.now marking.new }
+    ensures marked { marking.new.marked ≡ marking.old.marked + result }
+    ensures limit { result ≤ slice_size }
+    ensures stays { (a : ℕ) → is_kept marking.old.kept a ≡ true → is_kept marking.new.kept a ≡ true }
+{
+    let mut more = 0;
+    'turns: while more < SLICE && marking.waits() {
+        mark_next(heap, marking);
+        more += 1;
+    }
+    more
+}
+
 /// Marks as many blocks as a slice does, of a list on which more wait.
 fn mark_listed(heap: &Heap, marking: &mut Marking)
     requires closed { IsClosed heap.now }
@@ -121,7 +192,7 @@ fn mark_listed(heap: &Heap, marking: &mut Marking)
 }
 
 /// A marking whose list has the blocks that roots name and those that are pinned. No block is marked.
-pub fn begin<R: Roots>(alloc: Global, heap: &Heap, roots: &R) -> Result<Marking, AllocError>
+fn begin<R: Roots>(alloc: Global, heap: &Heap, roots: &R) -> Result<Marking, AllocError>
     requires roots { AreAddresses heap.now (R.roots roots.now) }
     ensures under_way { IfOk result (IsUnderWay heap.now) }
     ensures none { IfOk result (λ m. m.marked ≡ 0) }
@@ -134,21 +205,22 @@ pub fn begin<R: Roots>(alloc: Global, heap: &Heap, roots: &R) -> Result<Marking,
     Ok(marking)
 }
 
-/// Marks as many blocks as a slice does, or all that are on the list, where these are fewer: true, where the list is
-/// empty then.
-pub fn mark_slice<R: Roots>(heap: &Heap, roots: &R, marking: &mut Marking) -> bool
+/// Marks as many blocks as a slice does, with those that it has marked, or all that are on the list, where these are fewer:
+/// true, where the list is empty then.
+fn mark_slice<R: Roots>(heap: &Heap, roots: &R, marking: &mut Marking, marked: u32) -> bool
+    requires marked { marked ≤ slice_size }
     requires closed { IsClosed heap.now }
     requires roots { AreAddresses heap.now (R.roots roots.now) }
     requires under_way { IsUnderWay heap.now marking.old }
     ensures under_way { IsUnderWay heap.now marking.new }
     ensures whole { result ≡ true → IsWhole heap.now (R.roots roots.now) marking.new.kept }
-    ensures goes_on { result ≡ false → marking.new.marked ≡ marking.old.marked + slice_size }
+    ensures goes_on { result ≡ false → marking.new.marked + marked ≡ marking.old.marked + slice_size }
     ensures up { marking.old.marked ≤ marking.new.marked }
     ensures stays { (a : ℕ) → is_kept marking.old.kept a ≡ true → is_kept marking.new.kept a ≡ true }
 {
     // The proof reads off this call how the heap lies.
     let _ = heap.count();
-    let mut more = 0;
+    let mut more = marked;
     'turns: while more < SLICE {
         if is_done(heap, roots, marking) {
             return true;

@@ -6,7 +6,8 @@ use Rattle.compact.proofs.slicing.mark_slice.Given as goal
 abbrev pub invariant-turns : goal.invariant-turns
 invariant-turns g l = record {
   under_way : IsUnderWay l.heap l.marking;
-  count : l.marking.marked ≡ l.fn.marking.marked + l.more;
+  count : l.marking.marked + l.fn.marked ≡ l.fn.marking.marked + l.more;
+  begun : l.fn.marked ≤ l.more;
   within : l.more ≤ 64;
   stays : (a : ℕ) → is_kept l.fn.marking.kept a ≡ true → is_kept l.marking.kept a ≡ true;
 }

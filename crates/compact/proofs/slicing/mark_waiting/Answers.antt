@@ -1,0 +1,7 @@
+use Rattle.std.proofs.Common.{ap, sym}
+use Rattle.heap.specs.Heap.{bare}
+use Rattle.compact.proofs.Going.{closed_of}
+use Rattle.compact.proofs.slicing.mark_waiting.Goals as goal
+
+pub mark_some-marked-requires-clause-closed : goal.mark_some-marked-requires-clause-closed
+mark_some-marked-requires-clause-closed c = closed_of c.args.heap.now c.take_marking.new.self (sym (ap bare c.take_marking.ensures.space)) c.requires.closed
