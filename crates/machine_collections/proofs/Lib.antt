@@ -3,6 +3,7 @@ pub mod OwnedMonitors
 pub mod ReachableNames
 pub mod GatheredRoots
 pub mod MovedRoots
+pub mod Counts
 pub mod HeldViews
 pub mod KeptReferences
 pub mod GivenArguments

@@ -3,12 +3,12 @@
 ghost use Rattle.std.specs.Prelude.{◌≡◌, ℕ, IfOk, length};
 ghost use Rattle.semantics.specs.Views.{names_of};
 ghost use Rattle.machine_collections.specs.Clearing.{ArePut, ListsCleared};
-ghost use Rattle.machine_collections.specs.Gathering.{HasRoom, IsGathered};
+ghost use Rattle.machine_collections.specs.Gathering.{HasRoom, IsGathered, IsReserved};
 ghost use Rattle.machine_collections.specs.Moving.{AreMoved, AreReferred, moved_slots};
 ghost use Rattle.machine_collections.specs.Roots.{root_places};
 
-use crate::roots::{RootPlaces, gather, put_back};
-use crate::weak::{gather_weak, list_cleared, put_weak, weak_objects};
+use crate::roots::{RootPlaces, fill_roots, put_back, reserve_roots};
+use crate::weak::{fill_objects, fill_weak, list_cleared, put_weak};
 use compact::WeakList;
 use machine_scenes::store::Store;
 use machine_threads::thread::Thread;
@@ -35,11 +35,27 @@ pub(crate) fn gather_all(
     requires { AreReferred store.now threads.now }
     ensures { IfOk result (IsGathered store.now threads.now) }
 {
-    let objects = weak_objects(alloc, &store.heap, &store.weaks, &store.statics)?;
-    let names = Vec::with_capacity(alloc, objects.len())?;
-    let cleared = Vec::with_capacity(alloc, objects.len())?;
-    let roots = gather(alloc, store, threads)?;
-    let weak = gather_weak(alloc, &store.weaks)?;
+    let mut gathered = reserve_all(alloc, store, threads)?;
+    fill_all(&mut gathered, store, threads);
+    Ok(gathered)
+}
+
+/// Takes the memory for all that a collection needs, and looks at none of it.
+pub(crate) fn reserve_all(
+    alloc: Global,
+    store: &Store,
+    threads: &[Thread],
+) -> Result<Gathered, AllocError>
+    ensures { IfOk result (IsReserved store.now threads.now) }
+{
+    let statics = store.statics.len();
+    let objects = Vec::with_capacity(alloc, statics)?;
+    let names = Vec::with_capacity(alloc, statics)?;
+    let cleared = Vec::with_capacity(alloc, statics)?;
+    let roots = reserve_roots(alloc, store, threads)?;
+    let weak = WeakList {
+        places: Vec::with_capacity(alloc, store.weaks.len())?,
+    };
     Ok(Gathered {
         roots,
         weak,
@@ -47,6 +63,22 @@ pub(crate) fn gather_all(
         names,
         cleared,
     })
+}
+
+/// Lists all that a collection needs, for which there is room.
+pub(crate) fn fill_all(gathered: &mut Gathered, store: &Store, threads: &[Thread])
+    requires referred { AreReferred store.now threads.now }
+    requires reserved { IsReserved store.now threads.now gathered.old }
+    ensures { IsGathered store.now threads.now gathered.new }
+{
+    fill_objects(
+        &mut gathered.objects,
+        &store.heap,
+        &store.weaks,
+        &store.statics,
+    );
+    fill_roots(&mut gathered.roots, store, threads);
+    fill_weak(&mut gathered.weak, &store.weaks);
 }
 
 /// Puts the roots and the weak references back, where a collection has moved what they name. Gives the objects of the weak

@@ -3,6 +3,7 @@
 #![tactic(auto)]
 
 pub mod collecting;
+mod counting;
 mod gathered;
 pub mod roots;
 pub mod slicing;

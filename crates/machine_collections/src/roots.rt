@@ -2,10 +2,10 @@
 //! name, and moves them along. Views are no roots of a collection: what they are of is pinned, so it stays, and slots
 //! have its address yet. A report begins with them too.
 //!
-//! A kind of root has a line in `gather`, one in `put_back` and one in `root_places`, at the same place of each, and no
-//! other.
+//! A kind of root has a line in `fill_roots`, one in `put_back` and one in `root_places`, at the same place of each, one
+//! in `count_roots`, and no other.
 
-ghost use Rattle.std.specs.Prelude.{◌≡◌, ℕ, ◌+◌, ◌++◌, IfOk, OnOk, flat_map, length, map};
+ghost use Rattle.std.specs.Prelude.{◌≡◌, ℕ, [], ◌+◌, ◌++◌, ◌≤◌, IfOk, OnOk, flat_map, length, map, vec_capacity, vec_len};
 ghost use Rattle.std.specs.Option.{option_map};
 ghost use Rattle.compact.specs.Same.{moved_value};
 ghost use Rattle.tables.specs.Locals.{AreStacked};
@@ -14,8 +14,9 @@ ghost use Rattle.monitors.specs.Monitors.{addresses};
 ghost use Rattle.semantics.specs.Views.{names_of};
 ghost use Rattle.machine_collections.specs.Moving.{AreMoved, AreMovedAt, moved_call, moved_entering, moved_locals, moved_monitors, moved_slots, moved_thread};
 ghost use Rattle.machine_scenes.specs.Given.{object_there, ReferenceIsThere};
-ghost use Rattle.machine_collections.specs.Roots.{AreAddresses, CallIsStacked, CallersAreStacked, ThreadsAreStacked, argument_place, argument_places, call_places, loaded_places, pinned_names, reference_names, root_places, slots_of, thread_places};
+ghost use Rattle.machine_collections.specs.Roots.{AreAddresses, CallIsStacked, CallersAreStacked, ThreadIsStacked, ThreadsAreStacked, argument_place, argument_places, call_places, loaded_places, pinned_names, reference_names, root_places, slots_of, thread_places};
 
+use crate::counting::count_roots;
 use compact::Roots;
 use heap::{Addr, Heap, Value};
 use machine_scenes::activation::Activation;
@@ -57,12 +58,37 @@ pub fn gather(alloc: Global, store: &Store, threads: &[Thread]) -> Result<RootPl
     ensures places { IfOk result (λ roots. roots.places.items ≡ root_places store.now threads.now) }
     ensures stacked { IfOk result (λ _. ThreadsAreStacked threads.now) }
 {
-    let mut places = Vec::new(alloc);
-    push_loaded(&mut places, &store.loaded)?;
-    push_globals(&mut places, &store.globals)?;
-    push_threads(&mut places, threads)?;
-    push_monitors(&mut places, &store.monitors)?;
-    Ok(RootPlaces { places })
+    let mut roots = reserve_roots(alloc, store, threads)?;
+    fill_roots(&mut roots, store, threads);
+    Ok(roots)
+}
+
+/// Takes the memory for all roots, and lists none: of a call only the number of its local references is read.
+pub(crate) fn reserve_roots(
+    alloc: Global,
+    store: &Store,
+    threads: &[Thread],
+) -> Result<RootPlaces, AllocError>
+    ensures none { IfOk result (λ roots. roots.places.items ≡ []) }
+    ensures room { IfOk result (λ roots. length (root_places store.now threads.now) ≤ vec_capacity roots.places) }
+{
+    let count = count_roots(store, threads)?;
+    Ok(RootPlaces {
+        places: Vec::with_capacity(alloc, count)?,
+    })
+}
+
+/// Lists the roots, for which there is room.
+pub(crate) fn fill_roots(roots: &mut RootPlaces, store: &Store, threads: &[Thread])
+    requires none { roots.old.places.items ≡ [] }
+    requires room { length (root_places store.now threads.now) ≤ vec_capacity roots.old.places }
+    ensures places { roots.new.places.items ≡ root_places store.now threads.now }
+    ensures stacked { ThreadsAreStacked threads.now }
+{
+    push_loaded(&mut roots.places, &store.loaded);
+    push_globals(&mut roots.places, &store.globals);
+    push_threads(&mut roots.places, threads);
+    push_monitors(&mut roots.places, &store.monitors);
 }
 
 /// Puts the roots back, where a collection has moved what they name.
@@ -126,71 +152,91 @@ fn push_name(
 }
 
 /// Adds the objects made at load.
-fn push_loaded(places: &mut Vec<Option<Addr>>, loaded: &[Addr]) -> Result<(), AllocError>
-    ensures { OnOk result (places.new.items ≡ places.old.items ++ loaded_places loaded.now) }
+fn push_loaded(places: &mut Vec<Option<Addr>>, loaded: &[Addr])
+    requires room { vec_len places.old + length (loaded_places loaded.now) ≤ vec_capacity places.old }
+    ensures places { places.new.items ≡ places.old.items ++ loaded_places loaded.now }
+    ensures len { vec_len places.new ≡ vec_len places.old + length (loaded_places loaded.now) }
+    ensures capacity { vec_capacity places.new ≡ vec_capacity places.old }
 {
     for addr in loaded {
-        places.push(Some(*addr))?;
+        places.push_reserved(Some(*addr));
     }
-    Ok(())
 }
 
 /// Adds the global references.
-fn push_globals(places: &mut Vec<Option<Addr>>, globals: &Globals) -> Result<(), AllocError>
-    ensures { OnOk result (places.new.items ≡ places.old.items ++ globals.now) }
+fn push_globals(places: &mut Vec<Option<Addr>>, globals: &Globals)
+    requires room { vec_len places.old + length (globals.now) ≤ vec_capacity places.old }
+    ensures places { places.new.items ≡ places.old.items ++ globals.now }
+    ensures len { vec_len places.new ≡ vec_len places.old + length (globals.now) }
+    ensures capacity { vec_capacity places.new ≡ vec_capacity places.old }
 {
     for place in 0..globals.len() {
-        places.push(globals.root(place))?;
+        places.push_reserved(globals.root(place));
     }
-    Ok(())
 }
 
 /// Adds what threads refer to.
-fn push_threads(places: &mut Vec<Option<Addr>>, threads: &[Thread]) -> Result<(), AllocError>
-    ensures places { OnOk result (places.new.items ≡ places.old.items ++ flat_map thread_places threads.now) }
-    ensures stacked { OnOk result (ThreadsAreStacked threads.now) }
+fn push_threads(places: &mut Vec<Option<Addr>>, threads: &[Thread])
+    requires room { vec_len places.old + length (flat_map thread_places threads.now) ≤ vec_capacity places.old }
+    ensures places { places.new.items ≡ places.old.items ++ flat_map thread_places threads.now }
+    ensures len { vec_len places.new ≡ vec_len places.old + length (flat_map thread_places threads.now) }
+    ensures capacity { vec_capacity places.new ≡ vec_capacity places.old }
+    ensures stacked { ThreadsAreStacked threads.now }
 {
     for thread in threads {
-        push_callers(places, &thread.callers)?;
-        push_entering(places, &thread.entering)?;
-        push_call(places, &thread.call)?;
-        places.push(thread.pending)?;
+        push_thread(places, thread);
     }
-    Ok(())
+}
+
+/// Adds what a thread refers to.
+fn push_thread(places: &mut Vec<Option<Addr>>, thread: &Thread)
+    requires room { vec_len places.old + length (thread_places thread.now) ≤ vec_capacity places.old }
+    ensures places { places.new.items ≡ places.old.items ++ thread_places thread.now }
+    ensures len { vec_len places.new ≡ vec_len places.old + length (thread_places thread.now) }
+    ensures capacity { vec_capacity places.new ≡ vec_capacity places.old }
+    ensures stacked { ThreadIsStacked thread.now }
+{
+    push_callers(places, &thread.callers);
+    push_entering(places, &thread.entering);
+    push_call(places, &thread.call);
+    places.push_reserved(thread.pending);
 }
 
 /// Adds the local references of the calls from which others were made.
-fn push_callers(places: &mut Vec<Option<Addr>>, callers: &[Activation]) -> Result<(), AllocError>
-    ensures places { OnOk result (places.new.items ≡ places.old.items ++ flat_map call_places callers.now) }
-    ensures stacked { OnOk result (CallersAreStacked callers.now) }
+fn push_callers(places: &mut Vec<Option<Addr>>, callers: &[Activation])
+    requires room { vec_len places.old + length (flat_map call_places callers.now) ≤ vec_capacity places.old }
+    ensures places { places.new.items ≡ places.old.items ++ flat_map call_places callers.now }
+    ensures len { vec_len places.new ≡ vec_len places.old + length (flat_map call_places callers.now) }
+    ensures capacity { vec_capacity places.new ≡ vec_capacity places.old }
+    ensures stacked { CallersAreStacked callers.now }
 {
     for caller in callers {
-        push_locals(places, &caller.locals)?;
+        push_locals(places, &caller.locals);
     }
-    Ok(())
 }
 
 /// Adds what a call is given that isn't entered yet.
-fn push_entering(
-    places: &mut Vec<Option<Addr>>,
-    entering: &Option<Entering>,
-) -> Result<(), AllocError>
-    ensures { OnOk result (places.new.items ≡ places.old.items ++ argument_places entering.now) }
+fn push_entering(places: &mut Vec<Option<Addr>>, entering: &Option<Entering>)
+    requires room { vec_len places.old + length (argument_places entering.now) ≤ vec_capacity places.old }
+    ensures places { places.new.items ≡ places.old.items ++ argument_places entering.now }
+    ensures len { vec_len places.new ≡ vec_len places.old + length (argument_places entering.now) }
+    ensures capacity { vec_capacity places.new ≡ vec_capacity places.old }
 {
-    match entering {
-        None => Ok(()),
-        Some(entering) => push_arguments(places, &entering.arguments),
+    if let Some(entering) = entering {
+        push_arguments(places, &entering.arguments);
     }
 }
 
 /// Adds the arguments of a call, of which numbers have no address.
-fn push_arguments(places: &mut Vec<Option<Addr>>, arguments: &[Value]) -> Result<(), AllocError>
-    ensures { OnOk result (places.new.items ≡ places.old.items ++ map argument_place arguments.now) }
+fn push_arguments(places: &mut Vec<Option<Addr>>, arguments: &[Value])
+    requires room { vec_len places.old + length (map argument_place arguments.now) ≤ vec_capacity places.old }
+    ensures places { places.new.items ≡ places.old.items ++ map argument_place arguments.now }
+    ensures len { vec_len places.new ≡ vec_len places.old + length (map argument_place arguments.now) }
+    ensures capacity { vec_capacity places.new ≡ vec_capacity places.old }
 {
     for argument in arguments {
-        places.push(address_of(*argument))?;
+        places.push_reserved(address_of(*argument));
     }
-    Ok(())
 }
 
 /// The address of an argument that is a reference.
@@ -205,36 +251,42 @@ fn address_of(argument: Value) -> Option<Addr>
 }
 
 /// Adds the local references of a call in progress.
-fn push_call(places: &mut Vec<Option<Addr>>, call: &Option<Activation>) -> Result<(), AllocError>
-    ensures places { OnOk result (places.new.items ≡ places.old.items ++ slots_of call.now) }
-    ensures stacked { OnOk result (CallIsStacked call.now) }
+fn push_call(places: &mut Vec<Option<Addr>>, call: &Option<Activation>)
+    requires room { vec_len places.old + length (slots_of call.now) ≤ vec_capacity places.old }
+    ensures places { places.new.items ≡ places.old.items ++ slots_of call.now }
+    ensures len { vec_len places.new ≡ vec_len places.old + length (slots_of call.now) }
+    ensures capacity { vec_capacity places.new ≡ vec_capacity places.old }
+    ensures stacked { CallIsStacked call.now }
 {
-    match call {
-        None => Ok(()),
-        Some(activation) => push_locals(places, &activation.locals),
+    if let Some(activation) = call {
+        push_locals(places, &activation.locals);
     }
 }
 
 /// Adds local references.
-fn push_locals(places: &mut Vec<Option<Addr>>, locals: &Locals) -> Result<(), AllocError>
-    ensures places { OnOk result (places.new.items ≡ places.old.items ++ locals.now.slots) }
-    ensures stacked { OnOk result (AreStacked locals.now) }
+fn push_locals(places: &mut Vec<Option<Addr>>, locals: &Locals)
+    requires room { vec_len places.old + length (locals.now.slots) ≤ vec_capacity places.old }
+    ensures places { places.new.items ≡ places.old.items ++ locals.now.slots }
+    ensures len { vec_len places.new ≡ vec_len places.old + length (locals.now.slots) }
+    ensures capacity { vec_capacity places.new ≡ vec_capacity places.old }
+    ensures stacked { AreStacked locals.now }
 {
     let _frames = locals.frames();
     for place in 0..locals.len() {
-        places.push(locals.root(place))?;
+        places.push_reserved(locals.root(place));
     }
-    Ok(())
 }
 
 /// Adds the objects whose monitors are owned.
-fn push_monitors(places: &mut Vec<Option<Addr>>, monitors: &Monitors) -> Result<(), AllocError>
-    ensures { OnOk result (places.new.items ≡ places.old.items ++ addresses monitors.now) }
+fn push_monitors(places: &mut Vec<Option<Addr>>, monitors: &Monitors)
+    requires room { vec_len places.old + length (addresses monitors.now) ≤ vec_capacity places.old }
+    ensures places { places.new.items ≡ places.old.items ++ addresses monitors.now }
+    ensures len { vec_len places.new ≡ vec_len places.old + length (addresses monitors.now) }
+    ensures capacity { vec_capacity places.new ≡ vec_capacity places.old }
 {
     for place in 0..monitors.len() {
-        places.push(monitors.root(place))?;
+        places.push_reserved(monitors.root(place));
     }
-    Ok(())
 }
 
 /// Puts back the objects made at load, and tells the next place.

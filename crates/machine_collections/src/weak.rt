@@ -1,6 +1,6 @@
 //! Weak global references in a collection: they keep no object. Each follows its object, and is cleared where that is gone.
 
-ghost use Rattle.std.specs.Prelude.{◌≡◌, ℕ, [], ◌+◌, ◌++◌, ◌≤◌, Some, length, map, vec_capacity, vec_len, IfOk};
+ghost use Rattle.std.specs.Prelude.{◌≡◌, ℕ, [], ◌+◌, ◌++◌, ◌≤◌, Some, length, map, vec_capacity, vec_len};
 ghost use Rattle.std.specs.Option.{option_map};
 ghost use Rattle.heap.specs.Heap.{IsAddress};
 ghost use Rattle.tables.specs.Keys.{value_at};
@@ -14,18 +14,17 @@ use heap::Heap;
 use machine_scenes::operands::object_there;
 use machine_scenes::statics::StaticReference;
 use semantics::ObjectId;
-use std::alloc::{AllocError, Global};
 use tables::Weaks;
 
-/// The weak references, place by place: each with the address of its object, or none.
-pub(crate) fn gather_weak(alloc: Global, weaks: &Weaks) -> Result<WeakList, AllocError>
-    ensures { IfOk result (λ list. list.places.items ≡ weak_places weaks.now) }
+/// Lists the weak references, place by place: each with the address of its object, or none. There is room for them.
+pub(crate) fn fill_weak(list: &mut WeakList, weaks: &Weaks)
+    requires none { list.old.places.items ≡ [] }
+    requires room { length weaks.now ≤ vec_capacity list.old.places }
+    ensures { list.new.places.items ≡ weak_places weaks.now }
 {
-    let mut places = Vec::new(alloc);
     for place in 0..weaks.len() {
-        places.push(weaks.weak(place))?;
+        list.places.push_reserved(weaks.weak(place));
     }
-    Ok(WeakList { places })
 }
 
 /// Puts the weak references back, place by place.
@@ -52,21 +51,21 @@ fn weak_object(heap: &Heap, weaks: &Weaks, held: StaticReference) -> Option<Obje
     }
 }
 
-/// The objects that statics hold weakly, static by static.
-pub(crate) fn weak_objects(
-    alloc: Global,
+/// Lists the objects that statics hold weakly, static by static. There is room for them.
+pub(crate) fn fill_objects(
+    objects: &mut Vec<Option<ObjectId>>,
     heap: &Heap,
     weaks: &Weaks,
     statics: &[StaticReference],
-) -> Result<Vec<Option<ObjectId>>, AllocError>
-    requires { (key a : ℕ) → value_at weaks.now key ≡ Some (Some a) → IsAddress heap.now a }
-    ensures { IfOk result (λ names. AreNamed heap.now weaks.now statics.now names.items) }
+)
+    requires weak { (key a : ℕ) → value_at weaks.now key ≡ Some (Some a) → IsAddress heap.now a }
+    requires none { objects.old.items ≡ [] }
+    requires room { length statics.now ≤ vec_capacity objects.old }
+    ensures { AreNamed heap.now weaks.now statics.now objects.new.items }
 {
-    let mut names = Vec::new(alloc);
     for held in statics {
-        names.push(weak_object(heap, weaks, *held))?;
+        objects.push_reserved(weak_object(heap, weaks, *held));
     }
-    Ok(names)
 }
 
 /// Whether a static's weak reference is cleared.

@@ -6,22 +6,34 @@ use Rattle.tables.specs.Locals.{AreStacked}
 use Rattle.machine_scenes.specs.declared.activation.Activation.{Activation}
 use Rattle.machine_collections.specs.Roots.{call_places}
 use Rattle.machine_threads.proofs.Lists.{drop_next}
+use Rattle.machine_collections.proofs.Counts.{counted_all, counted_next}
 use Rattle.machine_collections.proofs.MovedRoots.{drop_past}
 use Rattle.machine_collections.proofs.RootNames.{holds_more, there_within}
 use Rattle.machine_collections.proofs.roots.push_callers.Goals as goal
 
+pub push_locals-requires : goal.push_locals-requires
+push_locals-requires c =
+    let xs = c.args.callers.now in
+    let i = c.loop-caller.caller-index in
+    let x = c.caller-item.result in
+    let next = counted_next call_places xs i x (slice_get_read xs (length xs) i x refl c.loop-caller-test.true c.caller-item.is) in
+    omega (arith, next, c.loop-caller.invariant.len, c.loop-caller.invariant.capacity, c.requires)
+
 pub loop-caller-preserved : goal.loop-caller-preserved
 loop-caller-preserved c =
-    let calls = c.args.callers.now in
+    let xs = c.args.callers.now in
     let i = c.loop-caller.caller-index in
     let x = c.caller-item.result in
     let places = c.loop-caller.places.items in
-    let at = slice_get_read calls (length calls) i x refl c.loop-caller-test.true c.caller-item.is in
-    let further = flat_map call_places (drop (i + 1) calls) in
+    let at = slice_get_read xs (length xs) i x refl c.loop-caller-test.true c.caller-item.is in
+    let next = counted_next call_places xs i x at in
+    let further = flat_map call_places (drop (i + 1) xs) in
     record {
-      places = ap (λ (l : List (Option ℕ)). l ++ further) c.in_ok-push_locals.ensures.places ∙ append_assoc places (call_places x) further
-          ∙ ap (λ (l : List (Option ℕ)). places ++ l) (sym (ap (flat_map call_places) (drop_next calls i x at) ∙ flat_map-cons call_places x (drop (i + 1) calls))) ∙ c.loop-caller.invariant.places;
-      stacked = holds_more (λ (call : Activation). AreStacked call.locals) calls i x at c.in_ok-push_locals.ensures.stacked c.loop-caller.invariant.stacked;
+      places = ap (λ (l : List (Option ℕ)). l ++ further) c.push_locals.ensures.places ∙ append_assoc places (call_places x) further
+          ∙ ap (λ (l : List (Option ℕ)). places ++ l) (sym (ap (flat_map call_places) (drop_next xs i x at) ∙ flat_map-cons call_places x (drop (i + 1) xs))) ∙ c.loop-caller.invariant.places;
+      len = omega (arith, next, c.loop-caller.invariant.len, c.push_locals.ensures.len);
+      capacity = c.push_locals.ensures.capacity ∙ c.loop-caller.invariant.capacity;
+      stacked = holds_more (λ (call : Activation). AreStacked call.locals) xs i x at c.push_locals.ensures.stacked c.loop-caller.invariant.stacked;
     }
 
 pub returns-clause-places : goal.returns-clause-places
@@ -29,8 +41,13 @@ returns-clause-places c =
     let places = c.loop-caller.places.items in
     sym (ap (λ (l : List (Option ℕ)). places ++ l) (ap (flat_map call_places) (drop_past c.args.callers.now c.loop-caller.caller-index c.loop-caller-test.false)) ∙ append-nil places) ∙ c.loop-caller.invariant.places
 
+pub returns-clause-len : goal.returns-clause-len
+returns-clause-len c =
+    let none = counted_all call_places c.args.callers.now c.loop-caller.caller-index c.loop-caller-test.false in
+    omega (arith, none, c.loop-caller.invariant.len)
+
 pub returns-clause-stacked : goal.returns-clause-stacked
-returns-clause-stacked c = λ i call e.
-    let less = there_within c.args.callers.now i call e in
+returns-clause-stacked c = λ i x e.
+    let less = there_within c.args.callers.now i x e in
     let past : length c.args.callers.now ≤ c.loop-caller.caller-index = c.loop-caller-test.false in
-    c.loop-caller.invariant.stacked i call (omega (arith, less, past)) e
+    c.loop-caller.invariant.stacked i x (omega (arith, less, past)) e
