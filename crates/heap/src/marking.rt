@@ -61,7 +61,8 @@ impl Marking {
         }
     }
 
-    /// Keeps a block that is new: it counts as marked, as nothing refers to anything from it that isn't noted by itself.
+    /// Keeps a block that is new, and doesn't list it: it counts as marked, as whoever writes a reference into it notes
+    /// that too.
     pub fn note_new(&mut self, addr: Addr)
         requires { addr < length self.old.kept }
         ensures { self.new ≡ record self.old { kept = slice_set self.old.kept addr true } }
