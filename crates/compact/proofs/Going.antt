@@ -68,17 +68,15 @@ noting m n b e within = subst (λ (x : Marks). Noting m x b) (sym e) (record {
 
 -- ---- under way
 
-none_kept : (n a : ℕ) → is_kept (replicate n false) a ≡ true → ⊥
-none_kept zero a k = absurd (cc)
-none_kept (suc n) zero k = absurd (cc)
-none_kept (suc n) (suc a) k = none_kept n a k
+none_kept : (b : Bool) → b ≡ false → b ≡ true → ⊥
+none_kept b clear k = absurd (cc)
 
-pub UnderWay-new : (s : Space) (m : Marks) → m ≡ record { kept = replicate s.cells false; waiting = []; marked = 0 } → IsUnderWay s m
-UnderWay-new s m e = subst (λ (x : Marks). IsUnderWay s x) (sym e) (record {
-  count = length-replicate s.cells false;
-  blocks = λ a k. absurd (none_kept s.cells a k);
+pub UnderWay-new : (s : Space) (kept : List Bool) (m : Marks) → ((a : ℕ) → is_kept kept a ≡ false) → length kept ≡ s.cells → m ≡ record { kept = kept; waiting = []; marked = 0 } → IsUnderWay s m
+UnderWay-new s kept m clear count e = subst (λ (x : Marks). IsUnderWay s x) (sym e) (record {
+  count = count;
+  blocks = λ a k. absurd (none_kept (is_kept kept a) (clear a) k);
   waits = λ a c. absurd (none_in a c);
-  each = λ a k out. absurd (none_kept s.cells a k);
+  each = λ a k out. absurd (none_kept (is_kept kept a) (clear a) k);
 })
 
 -- more blocks are noted

@@ -9,11 +9,11 @@ ghost use Rattle.compact.specs.Marks.{Adds, IsFollowed};
 ghost use Rattle.compact.specs.Reach.{AreAddresses, IsClosed, Refers};
 ghost use Rattle.compact.specs.Slices.{HasMarked, IsSliced, IsWhole, MarksOn, slice_size};
 
-use crate::collecting::lend_notes;
+use crate::collecting::{lend_marks, lend_table};
 use crate::compacting::compact;
 use crate::roots::{Roots, Weak};
 use base::limits::MOST_CELLS;
-use heap::{Addr, Heap, Marking};
+use heap::{Addr, ClearMarks, Heap, Marking};
 use std::alloc::{AllocError, Global};
 
 /// How many blocks a slice marks, where so many are on the list.
@@ -23,8 +23,7 @@ pub const SLICE: u32 = 64;
 /// ends the marking, and moves together what it keeps: what roots name, what is pinned and all that these lead to, and
 /// what they led to at some time since the marking began. All else is gone.
 ///
-/// Fails where the host has too little memory to begin a marking; then nothing has changed. To go on takes none, where
-/// the heap has its notes.
+/// Fails where the host has too little memory to begin a marking; then nothing has changed. To go on takes none.
 pub fn slice<R: Roots, W: Weak>(
     alloc: Global,
     heap: &mut Heap,
@@ -42,9 +41,9 @@ pub fn slice<R: Roots, W: Weak>(
     ensures roots { OnErr result (R.roots roots.new ≡ R.roots roots.old) }
     ensures weak { OnErr result (W.weak weak.new ≡ W.weak weak.old) }
 {
-    let mut notes = lend_notes(alloc, heap)?;
-    let result = slice_or_end(alloc, heap, roots, weak, &mut notes.to);
-    heap.put_notes(notes);
+    let mut to = lend_table(alloc, heap)?;
+    let result = slice_or_end(alloc, heap, roots, weak, &mut to);
+    heap.put_table(to);
     result
 }
 
@@ -105,6 +104,7 @@ pub fn slice_on<R: Roots, W: Weak>(
     if mark_slice(heap, roots, &mut current, marked) {
         let mut kept = current.into_kept();
         compact(heap, roots, weak, &mut kept, to);
+        heap.put_marks(ClearMarks::of(kept));
     } else {
         heap.put_marking(Some(current));
     }
@@ -192,14 +192,16 @@ fn mark_listed(heap: &Heap, marking: &mut Marking)
 }
 
 /// A marking whose list has the blocks that roots name and those that are pinned. No block is marked.
-fn begin<R: Roots>(alloc: Global, heap: &Heap, roots: &R) -> Result<Marking, AllocError>
-    requires roots { AreAddresses heap.now (R.roots roots.now) }
-    ensures under_way { IfOk result (IsUnderWay heap.now) }
+fn begin<R: Roots>(alloc: Global, heap: &mut Heap, roots: &R) -> Result<Marking, AllocError>
+    requires roots { AreAddresses heap.old (R.roots roots.now) }
+    ensures same { heap.new ≡ heap.old }
+    ensures under_way { IfOk result (IsUnderWay heap.old) }
     ensures none { IfOk result (λ m. m.marked ≡ 0) }
     ensures roots { IfOk result (λ m. (a : ℕ) → Contains (R.roots roots.now) (Some a) → is_kept m.kept a ≡ true) }
-    ensures pinned { IfOk result (λ m. (a : ℕ) → 0 < pins_at heap.now a → is_kept m.kept a ≡ true) }
+    ensures pinned { IfOk result (λ m. (a : ℕ) → 0 < pins_at heap.old a → is_kept m.kept a ≡ true) }
 {
-    let mut marking = Marking::new(alloc, heap.cells())?;
+    let kept = lend_marks(alloc, heap)?;
+    let mut marking = Marking::new(alloc, kept)?;
     note_pinned(heap, &mut marking);
     note_roots(heap, roots, &mut marking);
     Ok(marking)

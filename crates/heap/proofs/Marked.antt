@@ -1,5 +1,5 @@
 -- Marks by address.
-use Rattle.std.proofs.Common.{◌≡◌, ℕ, zero, suc, ◌+◌, ◌<◌, ◌≤◌, Bool, true, false, cond, List, [], ◌∷◌, ◌++◌, length, set, replicate, refl, ap, arith}
+use Rattle.std.proofs.Common.{◌≡◌, ℕ, zero, suc, ◌+◌, ◌<◌, ◌≤◌, Bool, true, false, cond, List, [], ◌∷◌, ◌++◌, length, set, refl, ap, arith}
 use Rattle.std.proofs.lemmas.List.{length_push, length-set}
 use Rattle.heap.specs.Marks.{is_kept}
 use Rattle.heap.specs.Marking.{unmarked, HasRoom}
@@ -21,9 +21,10 @@ unmarked-less [] a = omega arith
 unmarked-less (m ∷ ms) zero = omega arith
 unmarked-less (m ∷ ms) (suc a) = let rest = unmarked-less ms a in omega arith
 
-pub none_marked : (n : ℕ) → unmarked (replicate n false) ≡ n
-none_marked zero = refl
-none_marked (suc n) = let rest = none_marked n in omega arith
+pub few_unmarked : (ms : List Bool) → unmarked ms ≤ length ms
+few_unmarked [] = omega arith
+few_unmarked (true ∷ ms) = let rest = few_unmarked ms in omega arith
+few_unmarked (false ∷ ms) = let rest = few_unmarked ms in omega arith
 
 some_unmarked : (ms : List Bool) (a : ℕ) → a < length ms → is_kept ms a ≡ false → 0 < unmarked ms
 some_unmarked ms a h unseen = let e = unmarked-set ms a h unseen in omega arith

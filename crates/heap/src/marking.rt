@@ -1,6 +1,6 @@
 //! A marking that goes on between calls.
 
-ghost use Rattle.std.specs.Prelude.{◌≡◌, ℕ, ◌+◌, ◌<◌, ◌≤◌, ◌∷◌, [], true, false, length, replicate, slice_set, IfOk, IfSome, MatchOption};
+ghost use Rattle.std.specs.Prelude.{◌≡◌, ℕ, ◌+◌, ◌<◌, ◌≤◌, ◌∷◌, [], true, false, length, slice_set, IfOk, IfSome, MatchOption};
 ghost use Rattle.std.specs.Option.{option_map};
 ghost use Rattle.heap.specs.declared.value.Value.TheVariants.{Block as Reference};
 ghost use Rattle.heap.specs.Marks.{noted, with_new, noted_in};
@@ -14,8 +14,8 @@ use std::marker::Model;
 /// Which blocks are kept, by their addresses, and a list of those that are to be marked: what they refer to has still
 /// to be kept too.
 ///
-/// A block is put on the list once at most, when it is first kept. `new` takes all of the host's memory that a marking
-/// ever needs: no other call allocates.
+/// A block is put on the list once at most, when it is first kept. `new` takes all of the host's memory that the list ever
+/// needs: no other call allocates.
 #[derive(Drop)]
 pub struct Marking {
     kept: Vec<bool>,
@@ -38,13 +38,15 @@ impl Model for Marking {
 }
 
 impl Marking {
-    /// A marking of a heap of so many cells, by which nothing is kept yet. Fails where the host has too little memory.
-    pub fn new(alloc: Global, cells: usize) -> Result<Marking, AllocError>
-        ensures { IfOk result (λ m. m ≡ record { kept = replicate cells false; waiting = []; marked = 0 }) }
+    /// A marking that keeps what these marks say, a mark a cell, with nothing on the list. Fails where the host has too little
+    /// memory.
+    pub fn new(alloc: Global, kept: Vec<bool>) -> Result<Marking, AllocError>
+        ensures { IfOk result (λ m. m ≡ record { kept = kept.items; waiting = []; marked = 0 }) }
     {
+        let list = Vec::with_capacity(alloc, kept.len())?;
         Ok(Marking {
-            kept: vec![in alloc; false; cells]?,
-            list: Vec::with_capacity(alloc, cells)?,
+            kept,
+            list,
             taken: 0,
         })
     }

@@ -12,7 +12,7 @@ ghost use Rattle.machine_collections.specs.Slices.{AreSliced};
 
 use crate::gathered::{Gathered, fill_all, gather_all, put_all, reserve_all};
 use base::limits::MOST_CELLS;
-use compact::{lend_notes, mark_on, mark_waiting, slice, slice_on};
+use compact::{lend_table, mark_on, mark_waiting, slice, slice_on};
 use machine_scenes::store::Store;
 use machine_threads::thread::Thread;
 use semantics::ObjectId;
@@ -58,13 +58,13 @@ fn slice_along(
     ensures threads { OnErr result (threads.new ≡ threads.old) }
 {
     let gathered = reserve_all(alloc, store, threads)?;
-    let mut notes = lend_notes(alloc, &mut store.heap)?;
+    let mut to = lend_table(alloc, &mut store.heap)?;
     let Some(marked) = mark_waiting(&mut store.heap) else {
-        store.heap.put_notes(notes);
+        store.heap.put_table(to);
         return Ok(Vec::new(alloc));
     };
-    let cleared = slice_rest(gathered, store, threads, &mut notes.to, marked);
-    store.heap.put_notes(notes);
+    let cleared = slice_rest(gathered, store, threads, &mut to, marked);
+    store.heap.put_table(to);
     Ok(cleared)
 }
 

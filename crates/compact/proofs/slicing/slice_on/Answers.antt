@@ -2,7 +2,8 @@ use Rattle.std.proofs.Common.{◌≡◌, ℕ, ◌+◌, ◌≤◌, Bool, true, Li
 use Rattle.heap.specs.Heap.{Space, bare}
 use Rattle.heap.specs.Marks.{is_kept, Marks}
 use Rattle.heap.specs.Marking.{unmarked}
-use Rattle.compact.specs.Slices.{AreNoted, GoesOn, HasEnded, HasMarked, IsKeptBy, IsSlicedBy, IsWhole, count_of, slice_size}
+use Rattle.compact.specs.Reach.{IsClosed}
+use Rattle.compact.specs.Slices.{AreNoted, GoesOn, HasEnded, HasMarked, IsKeptBy, IsSliced, IsSlicedBy, IsWhole, count_of, slice_size}
 use Rattle.compact.proofs.Going.{closed_of, kept_many, marks_are, of_bare, whole_of}
 use Rattle.compact.proofs.slicing.slice_on.Goals as goal
 
@@ -37,7 +38,12 @@ returns-then-mark_slice-clause-sliced g c = λ s h.
       same = moved;
       many = kept_many s c.compact.new.heap kept moved.same.to (count_of s.marking) (whole_of s u roots kept space w).blocks moved.same.blocks few;
     } in
-    subst (λ (o : Option Marks). IsSlicedBy o s c.compact.new.heap roots (g.R.Roots.roots c.compact.new.roots) (g.W.Weak.weak c.args.weak.now) (g.W.Weak.weak c.compact.new.weak)) (sym c.compact.ensures.none) ended
+    let sliced : IsSliced s c.compact.new.heap roots (g.R.Roots.roots c.compact.new.roots) (g.W.Weak.weak c.args.weak.now) (g.W.Weak.weak c.compact.new.weak) =
+    subst (λ (o : Option Marks). IsSlicedBy o s c.compact.new.heap roots (g.R.Roots.roots c.compact.new.roots) (g.W.Weak.weak c.args.weak.now) (g.W.Weak.weak c.compact.new.weak)) (sym c.compact.ensures.none) ended in
+    subst (λ (x : Space). IsSliced s x roots (g.R.Roots.roots c.compact.new.roots) (g.W.Weak.weak c.args.weak.now) (g.W.Weak.weak c.compact.new.weak)) (sym c.put_marks.ensures) sliced
+
+pub returns-then-mark_slice-clause-closed : goal.returns-then-mark_slice-clause-closed
+returns-then-mark_slice-clause-closed g c = subst (λ (x : Space). IsClosed x) (sym c.put_marks.ensures) c.compact.ensures.closed
 
 pub returns-else-mark_slice-clause-closed : goal.returns-else-mark_slice-clause-closed
 returns-else-mark_slice-clause-closed g c = closed_of c.args.heap.now c.put_marking.new.self (sym (ap bare (c.put_marking.ensures) ∙ ap bare c.take_marking.ensures.space)) c.requires.closed

@@ -12,12 +12,12 @@ use Rattle.machine_collections.proofs.slicing.slice_along.Goals as goal
 use Rattle.machine_collections.proofs.slicing.slice_along.Goals.{In-Some}
 
 pub mark_waiting-requires-clause-closed : goal.mark_waiting-requires-clause-closed
-mark_waiting-requires-clause-closed c = subst IsClosed (sym c.lend_notes.ensures.same) c.requires.referred.closed
+mark_waiting-requires-clause-closed c = subst IsClosed (sym c.lend_table.ensures.same) c.requires.referred.closed
 
 marked : (c : In-Some) → HasMarked c.args.store.now.heap c.mark_waiting.new.heap (root_places c.args.store.now c.args.threads.now) c.in-Some.marked
 marked c =
     let roots = root_places c.args.store.now c.args.threads.now in
-    subst (λ (x : Space). HasMarked x c.mark_waiting.new.heap roots c.in-Some.marked) c.lend_notes.ensures.same (c.in-Some.ensures.part roots)
+    subst (λ (x : Space). HasMarked x c.mark_waiting.new.heap roots c.in-Some.marked) c.lend_table.ensures.same (c.in-Some.ensures.part roots)
 
 pub slice_rest-cleared-requires-clause-referred : goal.slice_rest-cleared-requires-clause-referred
 slice_rest-cleared-requires-clause-referred c =
@@ -35,19 +35,19 @@ slice_rest-cleared-requires-clause-under_way c =
 pub slice_rest-cleared-requires-clause-count : goal.slice_rest-cleared-requires-clause-count
 slice_rest-cleared-requires-clause-count c =
     let h = marked (goal.at.slice_rest-cleared-requires-clause-count c).In-Some in
-    ap (λ (l : List ℕ). length l) c.deref_mut.ensures.value ∙ c.in_ok-notes.ensures.to ∙ sym (ap (λ (x : Space). x.cells) h.heap)
+    ap (λ (l : List ℕ). length l) c.deref_mut.ensures.value ∙ c.in_ok-to.ensures.count ∙ sym (ap (λ (x : Space). x.cells) h.heap)
 
 pub slice_rest-cleared-requires-clause-limit : goal.slice_rest-cleared-requires-clause-limit
 slice_rest-cleared-requires-clause-limit c =
     let h = marked (goal.at.slice_rest-cleared-requires-clause-limit c).In-Some in
     let cells = ap (λ (x : Space). x.cells) h.heap in
-    omega (arith, cells, c.in_ok-notes.ensures.limit)
+    omega (arith, cells, c.in_ok-to.ensures.limit)
 
 pub returns-clause-ok : goal.returns-clause-ok
 returns-clause-ok c =
     let after = c.slice_rest-cleared.new.store in
     let rest = c.slice_rest-cleared.ensures.sliced c.args.store.now.heap (marked (goal.at.returns-clause-ok c).In-Some) in
-    subst (λ (x : Space). let y : Store = record after { heap = x } in AreSliced c.args.store.now c.args.threads.now y c.slice_rest-cleared.new.threads) (sym c.put_notes-2.ensures) rest
+    subst (λ (x : Space). let y : Store = record after { heap = x } in AreSliced c.args.store.now c.args.threads.now y c.slice_rest-cleared.new.threads) (sym c.put_table-2.ensures) rest
 
 pub returns-clause-cleared : goal.returns-clause-cleared
 returns-clause-cleared c =

@@ -1,14 +1,12 @@
-use Rattle.std.proofs.Common.{false, arith}
-use Rattle.std.proofs.lemmas.List.{length-replicate}
-use Rattle.heap.proofs.Marked.{none_marked}
+use Rattle.std.proofs.Common.{ap, length, arith}
+use Rattle.heap.proofs.Marked.{few_unmarked}
 use Rattle.heap.proofs.marking.Marking.new.Goals as goal
 
 pub invariant_of-result : goal.invariant_of-result
 invariant_of-result c =
-    let all = none_marked c.args.cells in
-    let count = length-replicate c.args.cells false in
-    rw (c.in_ok-vec.ensures.items_if_clones_equal (λ y h. h), c.in_ok-with_capacity.ensures.items) (record {
-      few = omega arith;
-      room = omega (arith, c.in_ok-with_capacity.ensures.capacity);
+    let few = few_unmarked c.args.kept.items in
+    rw c.in_ok-list.ensures.items (record {
+      few = omega (arith, few);
+      room = omega (arith, c.in_ok-list.ensures.capacity, c.args.kept.ok);
       within = omega arith;
     })
