@@ -2,7 +2,7 @@
 use Rattle.std.specs.Prelude.{◌≡◌, true, false, ℕ, List, [], ◌∷◌, ◌++◌, Some, codes}
 use Rattle.clap.specs.declared.builder.command.Command.TheViews.{out-Command}
 use Rattle.clap.specs.Walk.{Rule}
-use Rattle.clap.specs.declared.builder.action.ArgAction.TheVariants.{SetTrue}
+use Rattle.clap.specs.declared.builder.action.ArgAction.TheVariants.{Append, SetTrue}
 use Rattle.clap.specs.Simple.{Shape, App, new_rule, new_shape, shape_of, with_subcommand}
 use Rattle.clap.specs.declared.builder.command.Command.{Command}
 
@@ -11,6 +11,10 @@ use Rattle.clap.specs.declared.builder.command.Command.{Command}
 -- that must be given
 abbrev pub required : (name : List ℕ) → Rule
 required name = record (new_rule name) { required = true }
+
+-- that must be given, and may be given more than once
+abbrev pub several : (name : List ℕ) → Rule
+several name = record (required name) { action = Some Append }
 
 -- that may be left out
 abbrev pub optional : (name : List ℕ) → Rule
@@ -30,9 +34,9 @@ after option name = record (new_rule name) { long = Some option }
 abbrev pub words_of : (name : List ℕ) → List Rule → Shape
 words_of name rules = record (new_shape name) { rules = rules }
 
--- `check PROG`
+-- `check PROG`, of one program or of more
 abbrev pub check_words : Shape
-check_words = words_of (codes "check") (required (codes "PROG") ∷ [])
+check_words = words_of (codes "check") (several (codes "PROG") ∷ [])
 
 -- the files of a program and of a world
 abbrev pub files : List Rule

@@ -1,11 +1,11 @@
 -- What words ask for, by the rules of `clap`.
-use Rattle.std.specs.Prelude.{◌≡◌, ◌≢◌, ◌⊎◌, ℕ, List, [], Option, Some, None, Result, Ok, Err, codes}
+use Rattle.std.specs.Prelude.{◌≡◌, ◌≢◌, ◌<◌, ◌⊎◌, ℕ, List, [], ◌∷◌, map, length, Option, Some, None, Result, Ok, Err, codes}
 use Rattle.std.specs.Str.Parse.{IsNumeral, digits_value, without_leading_plus}
 use Rattle.clap.specs.Faults.{fault_of}
 use Rattle.clap.specs.Kinds.{Kinds, IsAmong, HasKind}
 use Rattle.clap.specs.Simple.{subcommand_of}
 use Rattle.clap.specs.Values.{kind_of}
-use Rattle.clap.specs.Walk.{Row, first_of}
+use Rattle.clap.specs.Walk.{Row, all_of, first_of}
 use Rattle.clap.specs.declared.error.Error.{Error}
 use Rattle.clap.specs.declared.error.kind.ErrorKind.{ErrorKind}
 use Rattle.clap.specs.declared.error.kind.ErrorKind.TheVariants.{DisplayHelp, DisplayVersion, OutOfMemory}
@@ -15,7 +15,7 @@ use Rattle.cli_explanations.specs.Titles.{fault_title, trap_title}
 use Rattle.cli_explanations.specs.declared.Explanation.{Explanation}
 use Rattle.cli_words.specs.CommandLine.{command_line}
 use Rattle.cli_words.specs.declared.request.Request.{Request}
-use Rattle.cli_words.specs.declared.request.Request.TheVariants.{Serve, Explain, Show, Misuse, LacksOrder, LacksMemory}
+use Rattle.cli_words.specs.declared.request.Request.TheVariants.{Serve, CheckEach, Explain, Show, Misuse, LacksOrder, LacksMemory}
 
 -- ---- words that `clap` takes
 
@@ -27,13 +27,17 @@ Found = Option (List ℕ × List Row)
 abbrev pub HasValue : List Row → (name : List ℕ) → List ℕ → Type 0
 HasValue rows name value = first_of name rows ≡ Some value
 
+-- the values of a word of a command that may be given more than once
+abbrev pub HasValues : List Row → (name : List ℕ) → List (List ℕ) → Type 0
+HasValues rows name values = all_of name rows ≡ Some values
+
 -- a word of a command that stands for itself is given
 abbrev pub IsGiven : List Row → (name : List ℕ) → Type 0
 IsGiven rows name = HasValue rows name (codes "true")
 
 -- the command on files that the words name, each file by the word of its name; a run goes by a schedule or by workers, and not by both
 abbrev pub Names : (command : List ℕ) → List Row → Command → Type 0
-Names name rows (Check program) = (name ≡ codes "check") × HasValue rows (codes "PROG") program.now
+Names name rows (Check program) = (name ≡ codes "check") × HasValues rows (codes "PROG") (program.now ∷ [])
 Names name rows (Run program world schedule) =
     (name ≡ codes "run") × HasValue rows (codes "PROG") program.now × HasValue rows (codes "WORLD") world.now × HasValue rows (codes "FILE") schedule.now
     × (IsGiven rows (codes "WORKERS") → ⊥)
@@ -47,6 +51,10 @@ Names name rows (Replay program world journal) =
 abbrev pub AreNamed : (command : List ℕ) → List Row → Option Command → Type 0
 AreNamed name rows (Some command) = Names name rows command
 AreNamed name rows None = (command : Command) → Names name rows command → ⊥
+
+-- the words name programs to check, two or more
+abbrev pub NamesSeveral : (command : List ℕ) → List Row → (programs : List (List ℕ)) → Type 0
+NamesSeveral name rows programs = (name ≡ codes "check") × HasValues rows (codes "PROG") programs × (1 < length programs)
 
 -- the number that a text spells in decimal digits, before which a plus may be
 abbrev pub Spells : (text : List ℕ) → (number : ℕ) → Type 0
@@ -72,8 +80,9 @@ IsSaid rows None = (number : ℕ) → (AsksFault rows number → fault_title num
 -- what is asked for: something with the files that are named, an explanation, or something of which a file isn't named, or that goes by no order or by two
 abbrev pub AsksFor : Found → Request → Type 0
 AsksFor (Some (name, rows)) (Serve command) = Names name rows command
+AsksFor (Some (name, rows)) (CheckEach programs) = NamesSeveral name rows (map (λ p. p.now) programs.items)
 AsksFor (Some (name, rows)) (Explain explanation) = (name ≡ codes "explain") × IsSaid rows explanation
-AsksFor (Some (name, rows)) LacksOrder = (name ≢ codes "explain") × AreNamed name rows None
+AsksFor (Some (name, rows)) LacksOrder = (name ≢ codes "explain") × AreNamed name rows None × ((programs : List (List ℕ)) → NamesSeveral name rows programs → ⊥)
 AsksFor None LacksOrder = Unit {0}
 AsksFor found request = ⊥
 
@@ -89,6 +98,7 @@ IsTold error (Show text) = IsHelp (kind_of error)
 IsTold error (Misuse text) = (IsHelp (kind_of error) → ⊥) × (kind_of error ≢ OutOfMemory)
 IsTold error LacksMemory = Unit {0}
 IsTold error (Serve command) = ⊥
+IsTold error (CheckEach programs) = ⊥
 IsTold error (Explain explanation) = ⊥
 IsTold error LacksOrder = ⊥
 

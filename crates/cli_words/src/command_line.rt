@@ -3,7 +3,7 @@
 ghost use Rattle.std.specs.Prelude.{◌≡◌, ℕ, List, [], IfOk, false, codes};
 ghost use Rattle.clap.specs.Simple.{Shape, app_of, with_subcommand};
 ghost use Rattle.clap.specs.Walk.{rule_of};
-ghost use Rattle.cli_words.specs.CommandLine.{required, optional, flag, after, words_of, files, IsLeaf, check_words, run_words, replay_words, explain_words, line, command_line};
+ghost use Rattle.cli_words.specs.CommandLine.{required, several, optional, flag, after, words_of, files, IsLeaf, check_words, run_words, replay_words, explain_words, line, command_line};
 
 use clap::{Arg, ArgAction, Command};
 use std::alloc::{AllocError, Global};
@@ -14,6 +14,14 @@ fn required<'a>(alloc: Global, name: &'a str, help: &'a str) -> Arg<'a>
     ensures local { result.global ≡ false }
 {
     Arg::new(alloc, name).required(true).help(help)
+}
+
+/// A word that must be given, and may be given more than once.
+fn several<'a>(alloc: Global, name: &'a str, help: &'a str) -> Arg<'a>
+    ensures rule { rule_of result ≡ several name.entry.now }
+    ensures local { result.global ≡ false }
+{
+    required(alloc, name, help).action(ArgAction::Append)
 }
 
 /// A word that may be left out.
@@ -101,13 +109,17 @@ fn journal<'a>(alloc: Global) -> Arg<'a>
     )
 }
 
-/// `check PROG`.
+/// `check PROG`, of one program or of more.
 fn check_command<'a>(alloc: Global) -> Result<Command<'a>, AllocError>
     ensures { IfOk result (IsLeaf check_words) }
 {
     Command::new(alloc, "check")
-        .about("Checks a program, and prints ok or its first fault")
-        .arg(program(alloc))
+        .about("Checks programs, and prints of each ok or its first fault")
+        .arg(several(
+            alloc,
+            "PROG",
+            "The text of the native methods; of several, each line begins with the name",
+        ))
 }
 
 /// A command with the files of a program and of a world.

@@ -1,13 +1,13 @@
 //! From words to what they ask for.
 
-ghost use Rattle.std.specs.Prelude.{◌≡◌, IfOk, List, codes, map, option_map};
+ghost use Rattle.std.specs.Prelude.{◌≡◌, ◌≢◌, IfOk, List, Some, codes, map, option_map};
 ghost use Rattle.clap.specs.Faults.{fault_of};
 ghost use Rattle.clap.specs.Kinds.{FailsBy};
 ghost use Rattle.clap.specs.Matches.{found_of};
 ghost use Rattle.clap.specs.Simple.{subcommand_of, subcommand_rows_of};
 ghost use Rattle.clap.specs.Walk.{Row, first_of, rows_of};
 ghost use Rattle.cli_words.specs.CommandLine.{command_line};
-ghost use Rattle.cli_words.specs.Requests.{HasValue, IsSaid, AreNamed, AsksFor, IsTold, AreParsed, AreRead};
+ghost use Rattle.cli_words.specs.Requests.{HasValue, HasValues, IsSaid, AreNamed, AsksFor, IsTold, AreParsed, AreRead};
 
 use crate::command_line::command_line;
 use crate::request::Request;
@@ -43,7 +43,29 @@ fn run_of<'a>(
     }
 }
 
-/// What is to be done with files, by the command's name and the words that are given.
+/// The check of these programs, of one or of more.
+fn check_of<'a>(alloc: Global, programs: &[&'a str]) -> Result<Request<'a>, AllocError>
+    ensures { (rows : List Row) → HasValues rows (codes "PROG") (map (λ p. p.now) programs.now)
+        → IfOk result (AsksFor (Some (codes "check", rows))) }
+{
+    match programs {
+        [] => Ok(Request::LacksOrder),
+        [program] => Ok(Request::Serve(Command::Check { program: *program })),
+        [_, _, ..] => Ok(Request::CheckEach(programs.to_vec(alloc)?)),
+    }
+}
+
+/// The check that the words after the command's name ask for.
+fn checked<'a>(alloc: Global, given: &ArgMatches<'a>) -> Result<Request<'a>, AllocError>
+    ensures { IfOk result (AsksFor (Some (codes "check", rows_of (found_of given.now)))) }
+{
+    match given.get_raw("PROG") {
+        Some(programs) => check_of(alloc, programs),
+        None => Ok(Request::LacksOrder),
+    }
+}
+
+/// What is to be done with the files of a program and of a world, by the command's name and the words that are given.
 fn command_of<'a>(
     name: &str,
     program: &'a str,
@@ -52,6 +74,7 @@ fn command_of<'a>(
     workers: Option<&'a str>,
     journal: Option<&'a str>,
 ) -> Option<Command<'a>>
+    requires { name.now ≢ codes "check" }
     ensures { (rows : List Row) → HasValue rows (codes "PROG") program.entry.now
         → option_map (λ w. w.now) world.entry ≡ first_of (codes "WORLD") rows
         → option_map (λ w. w.now) schedule.entry ≡ first_of (codes "FILE") rows
@@ -59,7 +82,6 @@ fn command_of<'a>(
         → option_map (λ w. w.now) journal.entry ≡ first_of (codes "JOURNAL") rows → AreNamed name.now rows result }
 {
     match (name, world, journal) {
-        ("check", _, _) => Some(Command::Check { program }),
         ("run", Some(world), _) => run_of(program, world, schedule, workers),
         ("replay", Some(world), Some(journal)) => Some(Command::Replay {
             program,
@@ -70,8 +92,9 @@ fn command_of<'a>(
     }
 }
 
-/// What is to be done with files, as the words after the command's name say.
+/// What is to be done with the files of a program and of a world, as the words after the command's name say.
 fn served<'a>(name: &str, given: &ArgMatches<'a>) -> Option<Command<'a>>
+    requires { name.now ≢ codes "check" }
     ensures { AreNamed name.now (rows_of (found_of given.now)) result }
 {
     command_of(
@@ -105,16 +128,17 @@ fn explained(given: &ArgMatches<'_>) -> Option<Explanation>
 }
 
 /// What words ask for that `clap` takes.
-fn asked_of<'a>(matches: &ArgMatches<'a>) -> Request<'a>
-    ensures { AsksFor (subcommand_rows_of matches.now) result }
+fn asked_of<'a>(alloc: Global, matches: &ArgMatches<'a>) -> Result<Request<'a>, AllocError>
+    ensures { IfOk result (AsksFor (subcommand_rows_of matches.now)) }
 {
     match matches.subcommand() {
-        Some(("explain", given)) => Request::Explain(explained(given)),
+        Some(("explain", given)) => Ok(Request::Explain(explained(given))),
+        Some(("check", given)) => checked(alloc, given),
         Some((name, given)) => match served(name, given) {
-            Some(command) => Request::Serve(command),
-            None => Request::LacksOrder,
+            Some(command) => Ok(Request::Serve(command)),
+            None => Ok(Request::LacksOrder),
         },
-        None => Request::LacksOrder,
+        None => Ok(Request::LacksOrder),
     }
 }
 
@@ -134,7 +158,10 @@ fn parse<'a, S: AsStr>(alloc: Global, words: &'a [S]) -> Result<Request<'a>, Err
     ensures { AreParsed (map S.text words.now) result }
 {
     let matches = matches_of(alloc, words)?;
-    Ok(asked_of(&matches))
+    match asked_of(alloc, &matches) {
+        Ok(request) => Ok(request),
+        Err(refused) => Err(Error::from(refused)),
+    }
 }
 
 /// What words ask for that `clap` doesn't take: its help or its version, or why they are no command line.

@@ -8,6 +8,8 @@ use cli_explanations::Explanation;
 pub enum Request<'a> {
     /// Something is done with files.
     Serve(Command<'a>),
+    /// The programs of these names are checked, two or more.
+    CheckEach(Vec<&'a str>),
     /// A fault or a trap is explained, where there is one of the number.
     Explain(Option<Explanation>),
     /// This text is shown: the help or the version, for which a word asks.

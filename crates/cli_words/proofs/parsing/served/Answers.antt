@@ -6,7 +6,7 @@ use Rattle.cli_words.proofs.parsing.served.Goals as goal
 
 pub returns-in_err-get_str : goal.returns-in_err-get_str
 returns-in_err-get_str c =
-    none_named c.args.name.now (rows_of (found_of c.args.given.now)) c.from_residual.result
+    none_named c.args.name.now (rows_of (found_of c.args.given.now)) c.from_residual.result c.requires
     (sym (value_is (found_of c.args.given.now) _ (codes "PROG") c.get_str.result c.get_str.ensures (search rules)) ∙ (search rules)) (search rules)
 
 pub returns : goal.returns
