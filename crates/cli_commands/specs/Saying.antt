@@ -9,6 +9,10 @@ abbrev pub fault_line : ℕ → Place → List ℕ
 fault_line number (Line text line) = codes "fault " ++ decimal number ++ codes " line " ++ decimal line ++ codes "\n"
 fault_line number (Entry entry) = codes "fault " ++ decimal number ++ codes " entry " ++ decimal entry ++ codes "\n"
 
+-- `a.c: fault 81 line 1`: a line of one of several files
+abbrev pub line_of : (name line : List ℕ) → List ℕ
+line_of name line = name ++ codes ": " ++ line
+
 -- the text was appended, and nothing waits in the sink
 pub record SendsText (old new : Written) (text : List ℕ) : Type 0 where
   pub appended : AppendsText old new text

@@ -9,6 +9,6 @@ mod telling;
 
 pub use command::Command;
 pub use files::{FileFault, FileSystem, Files, MOST_BYTES, Texts, read_texts};
-pub use saying::{fail, say, say_fault};
+pub use saying::{fail, fail_of, say, say_fault, say_fault_of, say_of};
 pub use status::{COMMAND_LINE, DONE, FAILED, REFUSED};
 pub use telling::{Reason, Source, tell};
