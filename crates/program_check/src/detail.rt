@@ -1,13 +1,16 @@
 //! What is told of a program's fault beside its title.
 
+ghost use Rattle.scan.specs.Spelling.{Spells};
+
+use crate::meant::{asked, asks_for_names};
 use details::Detail;
 use parse::parse;
 use regions::{CheckError, Checked, check};
-use scan::scan;
+use scan::{Token, scan};
 use std::alloc::Global;
 use step_counts::long_function;
 use syntax::Unit;
-use types::{TypeError, type_unit};
+use types::{TypeError, TypeFault, type_unit};
 
 /// The function that is too long.
 fn detail_of_length(checked: &Checked) -> Detail {
@@ -19,12 +22,31 @@ fn detail_of_length(checked: &Checked) -> Detail {
     }
 }
 
-/// What was found where the names and sorts of a unit, or its ways, break a rule.
-fn detail_of_unit(alloc: Global, unit: Unit) -> Detail {
+/// What was found where the names and sorts of a unit, whose tokens these are, break a rule. Where a name isn't known, the
+/// tokens are parsed once more, to ask whether a name near it is meant.
+fn detail_of_sorts(alloc: Global, text: &[u8], tokens: &[Token], fault: TypeFault) -> Detail
+    requires { Spells text.now tokens.now }
+{
+    let rule = fault.rule;
+    let line = fault.line.number();
+    let detail = fault.line.into_detail();
+    if !asks_for_names(rule) {
+        return detail;
+    }
+    match parse(alloc, text, tokens) {
+        Ok(unit) => asked(alloc, &unit, rule, line, &detail),
+        Err(_) => detail,
+    }
+}
+
+/// What was found where the names and sorts of a unit, whose tokens these are, or its ways, break a rule.
+fn detail_of_unit(alloc: Global, text: &[u8], tokens: &[Token], unit: Unit) -> Detail
+    requires { Spells text.now tokens.now }
+{
     let typed = match type_unit(alloc, unit) {
         Ok(typed) => typed,
         Err(TypeError::Memory) => return Detail::none(),
-        Err(TypeError::Fault(fault)) => return fault.line.into_detail(),
+        Err(TypeError::Fault(fault)) => return detail_of_sorts(alloc, text, tokens, fault),
     };
     match check(alloc, typed) {
         Ok(checked) => detail_of_length(&checked),
@@ -41,7 +63,7 @@ pub fn detail_of(alloc: Global, text: &[u8]) -> Detail {
         Err(error) => return error.detail(text),
     };
     match parse(alloc, text, &tokens) {
-        Ok(unit) => detail_of_unit(alloc, unit),
+        Ok(unit) => detail_of_unit(alloc, text, &tokens, unit),
         Err(error) => error.detail(text, &tokens),
     }
 }

@@ -4,6 +4,7 @@
 mod checking;
 mod detail;
 mod fault;
+mod meant;
 mod program;
 
 pub use checking::check_text;

@@ -1,0 +1,228 @@
+//! The known name that may be meant where a name or a function of the JNI isn't known.
+
+use details::Detail;
+use jni::Access::{ArrayView, CharsCopy, CharsView, ElementsCopy};
+use jni::JniFunction;
+use nearest::Nearest;
+use std::alloc::Global;
+use syntax::ElementType::{Byte, Char, Int, Short};
+use syntax::{Block, ElementType, Form, Function, Item, Name, Unit};
+use types::SortRule;
+
+/// The most blocks around a statement: those that may be nested, and the body of the function.
+const MOST_BLOCKS: usize = 33;
+
+/// The constants with a name.
+static CONSTANTS: [&[u8]; 5] = [
+    b"NULL",
+    b"JNI_TRUE",
+    b"JNI_FALSE",
+    b"JNI_COMMIT",
+    b"JNI_ABORT",
+];
+
+/// The functions of which there is one.
+static SINGLE: [JniFunction; 41] = [
+    JniFunction::FindClass,
+    JniFunction::GetSuperclass,
+    JniFunction::GetObjectClass,
+    JniFunction::IsInstanceOf,
+    JniFunction::IsAssignableFrom,
+    JniFunction::AllocObject,
+    JniFunction::NewLocalRef,
+    JniFunction::NewGlobalRef,
+    JniFunction::NewWeakGlobalRef,
+    JniFunction::DeleteLocalRef,
+    JniFunction::DeleteGlobalRef,
+    JniFunction::DeleteWeakGlobalRef,
+    JniFunction::IsSameObject,
+    JniFunction::EnsureLocalCapacity,
+    JniFunction::PushLocalFrame,
+    JniFunction::PopLocalFrame,
+    JniFunction::GetFieldID,
+    JniFunction::GetStaticFieldID,
+    JniFunction::GetObjectField,
+    JniFunction::SetObjectField,
+    JniFunction::GetStaticObjectField,
+    JniFunction::SetStaticObjectField,
+    JniFunction::GetArrayLength,
+    JniFunction::NewObjectArray,
+    JniFunction::GetObjectArrayElement,
+    JniFunction::SetObjectArrayElement,
+    JniFunction::NewStringUTF,
+    JniFunction::GetStringLength,
+    JniFunction::GetStringRegion,
+    JniFunction::Throw,
+    JniFunction::ThrowNew,
+    JniFunction::ExceptionOccurred,
+    JniFunction::ExceptionCheck,
+    JniFunction::ExceptionClear,
+    JniFunction::FatalError,
+    JniFunction::MonitorEnter,
+    JniFunction::MonitorExit,
+    JniFunction::GetStaticMethodID,
+    JniFunction::CallStaticVoidMethod,
+    JniFunction::CallStaticIntMethod,
+    JniFunction::CallStaticObjectMethod,
+];
+
+/// Offers the functions that there are for each element type.
+fn offer_elements(alloc: Global, nearest: &mut Nearest<'_>, element: ElementType) {
+    let functions = [
+        JniFunction::GetField(element),
+        JniFunction::SetField(element),
+        JniFunction::GetStaticField(element),
+        JniFunction::SetStaticField(element),
+        JniFunction::NewArray(element),
+        JniFunction::GetArrayRegion(element),
+        JniFunction::SetArrayRegion(element),
+        JniFunction::GetBuffer(ElementsCopy(element)),
+        JniFunction::ReleaseBuffer(ElementsCopy(element)),
+    ];
+    for function in &functions {
+        nearest.offer(alloc, function.prototype().name);
+    }
+}
+
+/// Offers all functions of the JNI.
+fn offer_functions(alloc: Global, nearest: &mut Nearest<'_>) {
+    for function in &SINGLE {
+        nearest.offer(alloc, function.prototype().name);
+    }
+    for element in [Int, Short, Byte, Char] {
+        offer_elements(alloc, nearest, element);
+    }
+    for access in [ArrayView, CharsCopy, CharsView] {
+        nearest.offer(alloc, JniFunction::GetBuffer(access).prototype().name);
+        nearest.offer(alloc, JniFunction::ReleaseBuffer(access).prototype().name);
+    }
+}
+
+/// The name that a statement declares.
+fn declared(form: &Form) -> Option<&Name> {
+    match form {
+        Form::Declare(_, name, _)
+        | Form::DeclareBuffer(_, name, _)
+        | Form::DeclareChars(name, _)
+        | Form::DeclareArray(_, name, _) => Some(name),
+        _ => None,
+    }
+}
+
+/// The block of a statement in which another on this line may be.
+fn block_of(form: &Form, line: usize) -> Option<&Block> {
+    match form {
+        Form::If(_, block) | Form::While(_, block) => Some(block),
+        Form::IfElse(_, block, other) => {
+            if line > block.end_line {
+                Some(other)
+            } else {
+                Some(block)
+            }
+        }
+        _ => None,
+    }
+}
+
+/// Offers what a block declares before its last statement that begins on this line or above, which is the answer.
+fn offer_declared<'a>(
+    alloc: Global,
+    nearest: &mut Nearest<'a>,
+    block: &'a Block,
+    line: usize,
+) -> Option<&'a Form> {
+    let mut last: Option<&'a Form> = None;
+    for stmt in &block.statements {
+        if stmt.line > line {
+            return last;
+        }
+        if let Some(form) = last {
+            if let Some(name) = declared(form) {
+                nearest.offer(alloc, name.as_bytes());
+            }
+        }
+        last = Some(&stmt.form);
+    }
+    last
+}
+
+/// Offers the names that a statement on this line sees of a function's own.
+fn offer_own<'a>(
+    alloc: Global,
+    nearest: &mut Nearest<'a>,
+    function: &'a Function,
+    line: usize,
+) {
+    nearest.offer(alloc, function.class_name.as_bytes());
+    for parameter in &function.parameters {
+        nearest.offer(alloc, parameter.name.as_bytes());
+    }
+    let mut block = &function.body;
+    for _ in 0..MOST_BLOCKS {
+        let Some(form) = offer_declared(alloc, nearest, block, line) else {
+            return;
+        };
+        let Some(inside) = block_of(form, line) else {
+            return;
+        };
+        block = inside;
+    }
+}
+
+/// The last function that begins on this line or above. The statics before it are offered.
+fn offer_statics<'a>(
+    alloc: Global,
+    nearest: &mut Nearest<'a>,
+    unit: &'a Unit,
+    line: usize,
+) -> Option<&'a Function> {
+    let mut last: Option<&'a Function> = None;
+    for item in unit.items() {
+        match item {
+            Item::Static(item) => {
+                if item.line <= line {
+                    nearest.offer(alloc, item.name.as_bytes());
+                }
+            }
+            Item::Function(function) => {
+                if function.line <= line {
+                    last = Some(function);
+                }
+            }
+        }
+    }
+    last
+}
+
+/// Offers the names that a statement on this line sees.
+fn offer_names<'a>(alloc: Global, nearest: &mut Nearest<'a>, unit: &'a Unit, line: usize) {
+    if let Some(function) = offer_statics(alloc, nearest, unit, line) {
+        offer_own(alloc, nearest, function, line);
+    }
+    for name in &CONSTANTS {
+        nearest.offer(alloc, name);
+    }
+}
+
+/// Whether this rule is broken by a name that isn't known.
+pub(crate) fn asks_for_names(rule: SortRule) -> bool {
+    matches!(rule, SortRule::UnknownName | SortRule::UnknownFunction)
+}
+
+/// What is told of a name that isn't known, on this line of a unit, and which name may be meant.
+pub(crate) fn asked<'a>(
+    alloc: Global,
+    unit: &'a Unit,
+    rule: SortRule,
+    line: usize,
+    detail: &'a Detail,
+) -> Detail {
+    let told = detail.as_bytes();
+    let mut nearest = Nearest::to(told);
+    match rule {
+        SortRule::UnknownName => offer_names(alloc, &mut nearest, unit, line),
+        SortRule::UnknownFunction => offer_functions(alloc, &mut nearest),
+        _ => {}
+    }
+    nearest.asked_after(Detail::of(told))
+}
