@@ -10,8 +10,8 @@ use strsim::generic_damerau_levenshtein;
 /// The most bytes of a name that is compared.
 const MOST_BYTES: usize = 100;
 
-/// The most bytes of words on a fault that the question may end at, so that none of them is cut.
-const MOST_ASKED: usize = 118;
+/// The most bytes of words on a fault of which none is cut.
+const MOST_WHOLE: usize = 118;
 
 /// A name that isn't known, and the nearest of the known ones that were offered, if one is near.
 ///
@@ -19,9 +19,9 @@ const MOST_ASKED: usize = 118;
 /// less, another byte, or two neighbours that change places. What both begin with, up to a `_` or a `/`, isn't counted.
 /// Of two that are as near it is the one that was offered first. Names of more than 100 bytes are near none.
 #[derive(Drop)]
-pub struct Nearest<'a> {
-    name: &'a [u8],
-    found: Option<&'a [u8]>,
+pub struct Nearest<'n, 'k> {
+    name: &'n [u8],
+    found: Option<&'k [u8]>,
     /// How many changes lead to the name that was found.
     changes: usize,
     ghost other: { ForSome found (λ known. known.now ≢ name.now) },
@@ -45,9 +45,9 @@ fn shared_front(name: &[u8], known: &[u8]) -> usize
     shared
 }
 
-impl<'a> Nearest<'a> {
+impl<'n, 'k> Nearest<'n, 'k> {
     /// No name was offered yet.
-    pub fn to(name: &'a [u8]) -> Nearest<'a>
+    pub fn to(name: &'n [u8]) -> Nearest<'n, 'k>
         ensures { result.name ≡ name.entry }
     {
         Nearest {
@@ -58,7 +58,7 @@ impl<'a> Nearest<'a> {
     }
 
     /// Offers a known name. Where memory is refused it isn't near.
-    pub fn offer(&mut self, alloc: Global, known: &'a [u8])
+    pub fn offer(&mut self, alloc: Global, known: &'k [u8])
         ensures { self.new.name ≡ self.old.name }
     {
         if self.name.len() > MOST_BYTES || known.len() > MOST_BYTES || known == self.name {
@@ -81,22 +81,26 @@ impl<'a> Nearest<'a> {
     }
 
     /// The nearest name. It is never the one that isn't known.
-    pub fn found(&self) -> Option<&'a [u8]>
+    pub fn found(&self) -> Option<&'k [u8]>
         ensures { ForSome result (λ known. known.now ≢ self.now.name.now) }
     {
         self.found
     }
 
-    /// Asks after these words whether the nearest name is meant, where one is near and all of that has room.
-    pub fn asked_after(&self, detail: Detail) -> Detail {
+    /// Asks after these words whether the nearest name is meant, with the mark that stands before such a name, where one is near
+    /// and all of that has room.
+    pub fn asked_after(&self, detail: Detail, mark: &[u8]) -> Detail {
         let Some(known) = self.found else {
             return detail;
         };
-        let asking = b": did you mean ``?".len();
-        let len = detail.as_bytes().len().saturating_add(known.len());
-        if len.saturating_add(asking) > MOST_ASKED {
+        let name = Detail::of(mark).words(known);
+        let question = Detail::of(b": did you mean ")
+            .quoted(name.as_bytes())
+            .words(b"?");
+        let question = question.as_bytes();
+        if detail.as_bytes().len().saturating_add(question.len()) > MOST_WHOLE {
             return detail;
         }
-        detail.words(b": did you mean ").quoted(known).words(b"?")
+        detail.words(question)
     }
 }

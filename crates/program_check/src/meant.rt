@@ -67,7 +67,7 @@ static SINGLE: [JniFunction; 41] = [
 ];
 
 /// Offers the functions that there are for each element type.
-fn offer_elements(alloc: Global, nearest: &mut Nearest<'_>, element: ElementType) {
+fn offer_elements(alloc: Global, nearest: &mut Nearest<'_, '_>, element: ElementType) {
     let functions = [
         JniFunction::GetField(element),
         JniFunction::SetField(element),
@@ -85,7 +85,7 @@ fn offer_elements(alloc: Global, nearest: &mut Nearest<'_>, element: ElementType
 }
 
 /// Offers all functions of the JNI.
-fn offer_functions(alloc: Global, nearest: &mut Nearest<'_>) {
+fn offer_functions(alloc: Global, nearest: &mut Nearest<'_, '_>) {
     for function in &SINGLE {
         nearest.offer(alloc, function.prototype().name);
     }
@@ -127,7 +127,7 @@ fn block_of(form: &Form, line: usize) -> Option<&Block> {
 /// Offers what a block declares before its last statement that begins on this line or above, which is the answer.
 fn offer_declared<'a>(
     alloc: Global,
-    nearest: &mut Nearest<'a>,
+    nearest: &mut Nearest<'_, 'a>,
     block: &'a Block,
     line: usize,
 ) -> Option<&'a Form> {
@@ -149,7 +149,7 @@ fn offer_declared<'a>(
 /// Offers the names that a statement on this line sees of a function's own.
 fn offer_own<'a>(
     alloc: Global,
-    nearest: &mut Nearest<'a>,
+    nearest: &mut Nearest<'_, 'a>,
     function: &'a Function,
     line: usize,
 ) {
@@ -172,7 +172,7 @@ fn offer_own<'a>(
 /// The last function that begins on this line or above. The statics before it are offered.
 fn offer_statics<'a>(
     alloc: Global,
-    nearest: &mut Nearest<'a>,
+    nearest: &mut Nearest<'_, 'a>,
     unit: &'a Unit,
     line: usize,
 ) -> Option<&'a Function> {
@@ -195,7 +195,7 @@ fn offer_statics<'a>(
 }
 
 /// Offers the names that a statement on this line sees.
-fn offer_names<'a>(alloc: Global, nearest: &mut Nearest<'a>, unit: &'a Unit, line: usize) {
+fn offer_names<'a>(alloc: Global, nearest: &mut Nearest<'_, 'a>, unit: &'a Unit, line: usize) {
     if let Some(function) = offer_statics(alloc, nearest, unit, line) {
         offer_own(alloc, nearest, function, line);
     }
@@ -210,12 +210,12 @@ pub(crate) fn asks_for_names(rule: SortRule) -> bool {
 }
 
 /// What is told of a name that isn't known, on this line of a unit, and which name may be meant.
-pub(crate) fn asked<'a>(
+pub(crate) fn asked(
     alloc: Global,
-    unit: &'a Unit,
+    unit: &Unit,
     rule: SortRule,
     line: usize,
-    detail: &'a Detail,
+    detail: &Detail,
 ) -> Detail {
     let told = detail.as_bytes();
     let mut nearest = Nearest::to(told);
@@ -224,5 +224,5 @@ pub(crate) fn asked<'a>(
         SortRule::UnknownFunction => offer_functions(alloc, &mut nearest),
         _ => {}
     }
-    nearest.asked_after(Detail::of(told))
+    nearest.asked_after(Detail::of(told), b"")
 }
