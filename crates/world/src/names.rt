@@ -7,6 +7,7 @@ ghost use Rattle.base.specs.Bytes.{lookup};
 
 use class_rules::ClassId;
 use indexmap::IndexMap;
+use nearest::Nearest;
 use std::alloc::{AllocError, Global};
 use std::marker::Model;
 
@@ -63,6 +64,13 @@ impl ObjectNames {
         ensures { result ≡ position (λ o. bytes_eq o.0 name.now) self.now }
     {
         self.classes.get_index_of(name)
+    }
+
+    /// Offers all names.
+    pub fn offer_to<'a>(&'a self, alloc: Global, nearest: &mut Nearest<'_, 'a>) {
+        for name in self.classes.keys() {
+            nearest.offer(alloc, name);
+        }
     }
 
     /// Puts a name after the others, of which none is the same.

@@ -4,8 +4,10 @@ use crate::builder::WorldBuilder;
 use crate::rules::is_known;
 use crate::text::begun;
 use base::limits::{LEAST_CELLS, MOST_CELLS};
+use class_rules::ClassId;
 use classes::table::ClassTable;
 use details::Detail;
+use nearest::Nearest;
 use std::alloc::Global;
 use world_lines::{
     FieldWords, Line, ObjectWords, Value, cells_added, heap_of_line, is_class_allowed, name_given,
@@ -81,16 +83,28 @@ fn taken(line: &Line<'_>) -> Detail {
     }
 }
 
+/// Asks after these words whether another class is meant than the one of this name.
+fn with_class_asked(alloc: Global, detail: Detail, classes: &ClassTable, name: &[u8], mark: &[u8]) -> Detail {
+    let mut nearest = Nearest::to(name);
+    for number in 1..classes.len().saturating_add(1) {
+        nearest.offer(alloc, classes.name(ClassId { number }));
+    }
+    nearest.asked_after(detail, mark)
+}
+
 /// A superclass that isn't there, or has no subclasses.
-fn superclass(classes: &ClassTable, line: &Line<'_>) -> Detail {
+fn superclass(alloc: Global, classes: &ClassTable, line: &Line<'_>) -> Detail {
     match line {
         Line::Class(_, Some(name)) => match classes.find(*name) {
             Some(_) => Detail::of(b"class ")
                 .words(*name)
                 .words(b" has no subclasses"),
-            None => Detail::of(b"class ")
-                .words(*name)
-                .words(b" isn't defined before"),
+            None => {
+                let detail = Detail::of(b"class ")
+                    .words(*name)
+                    .words(b" isn't defined before");
+                with_class_asked(alloc, detail, classes, *name, b"")
+            }
         },
         _ => Detail::none(),
     }
@@ -160,11 +174,14 @@ fn class_of<'a>(line: &Line<'a>) -> Option<&'a [u8]> {
 }
 
 /// A class that isn't there, or that such a line can't speak of.
-fn wrong_class(classes: &ClassTable, line: &Line<'_>) -> Detail {
+fn wrong_class(alloc: Global, classes: &ClassTable, line: &Line<'_>) -> Detail {
     match class_of(line) {
         None => Detail::none(),
         Some(name) => match classes.find(name) {
-            None => Detail::of(b"class ").words(name).words(b" isn't there"),
+            None => {
+                let detail = Detail::of(b"class ").words(name).words(b" isn't there");
+                with_class_asked(alloc, detail, classes, name, b"")
+            }
             Some(_) => Detail::of(b"class ")
                 .words(name)
                 .words(b" can't stand here"),
@@ -172,27 +189,41 @@ fn wrong_class(classes: &ClassTable, line: &Line<'_>) -> Detail {
     }
 }
 
+/// A value that isn't known.
+fn lacking(alloc: Global, builder: &WorldBuilder, value: Value<'_>) -> Detail {
+    let detail = with_value(Detail::none(), value).words(b" isn't there");
+    match value {
+        Value::Object(name) => {
+            let mut nearest = Nearest::to(name);
+            builder.names.offer_to(alloc, &mut nearest);
+            nearest.asked_after(detail, b"@")
+        }
+        Value::Class(name) => with_class_asked(alloc, detail, &builder.classes, name, b"class:"),
+        Value::Number(_) | Value::Null => detail,
+    }
+}
+
 /// The first value of a line that isn't known.
-fn unknown_value(builder: &WorldBuilder, line: &Line<'_>) -> Option<Detail> {
+fn unknown_value(alloc: Global, builder: &WorldBuilder, line: &Line<'_>) -> Option<Detail> {
     for value in values_of(line) {
         if !is_known(&builder.classes, &builder.names, *value) {
-            return Some(with_value(Detail::none(), *value).words(b" isn't there"));
+            return Some(lacking(alloc, builder, *value));
         }
     }
     None
 }
 
 /// A name that is taken or isn't known, a class that isn't allowed, or a value that doesn't fit its place.
-fn misnamed(builder: &WorldBuilder, line: &Line<'_>) -> Detail {
+fn misnamed(alloc: Global, builder: &WorldBuilder, line: &Line<'_>) -> Detail {
     if let Some(name) = name_given(line) {
         if builder.names.class_of(name).is_some() {
             return Detail::of(b"@").words(name).words(b" is taken");
         }
     }
     if !is_class_allowed(&builder.classes, builder.methods, line) {
-        return wrong_class(&builder.classes, line);
+        return wrong_class(alloc, &builder.classes, line);
     }
-    match unknown_value(builder, line) {
+    match unknown_value(alloc, builder, line) {
         Some(detail) => detail,
         None => Detail::of(b"a value doesn't fit its place"),
     }
@@ -219,14 +250,14 @@ fn roomless(builder: &WorldBuilder, line: &Line<'_>) -> Detail {
 }
 
 /// What is told of a line that breaks a rule after the lines before it.
-fn line_detail(builder: &WorldBuilder, line: &Line<'_>, rule: Rule) -> Detail {
+fn line_detail(alloc: Global, builder: &WorldBuilder, line: &Line<'_>, rule: Rule) -> Detail {
     match rule {
         Rule::NameTaken => taken(line),
-        Rule::Superclass => superclass(&builder.classes, line),
+        Rule::Superclass => superclass(alloc, &builder.classes, line),
         Rule::Signature => signature(line),
         Rule::Classes => too_many(line),
         Rule::Form => misformed(builder, line),
-        Rule::Name => misnamed(builder, line),
+        Rule::Name => misnamed(alloc, builder, line),
         Rule::Limit => limited(builder, line),
         Rule::Heap => roomless(builder, line),
     }
@@ -243,7 +274,7 @@ fn take_or_tell(
         Err(_) => Some(Detail::none()),
         Ok(None) => Some(formless(bytes)),
         Ok(Some(line)) => match builder.least_rule(&line) {
-            Some(rule) => Some(line_detail(builder, &line, rule)),
+            Some(rule) => Some(line_detail(alloc, builder, &line, rule)),
             None => match builder.take(alloc, number, &line) {
                 Ok(()) => None,
                 Err(_) => Some(Detail::none()),
