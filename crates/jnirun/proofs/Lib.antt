@@ -3,3 +3,4 @@ mod WorkLemmas
 mod ReplayLemmas
 mod ReplayLaws
 mod ServeLemmas
+mod EachLemmas

@@ -6,6 +6,7 @@ pub mod Works
 pub mod Replays
 pub mod ReplayLaws
 pub mod Serve
+pub mod ServeEach
 -- What the clauses of its calls are about, passed on.
 
 pub use Rattle.places.specs.Places

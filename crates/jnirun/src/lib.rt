@@ -2,6 +2,7 @@
 //! journal; and the same of files, with what is said of them on standard output and standard error.
 #![tactic(auto)]
 
+mod checks;
 mod errors;
 mod replaying;
 mod run;
@@ -13,6 +14,7 @@ pub use cli_commands::{
     COMMAND_LINE, Command, DONE, FAILED, FileFault, FileSystem, Files, MOST_BYTES, REFUSED, fail,
     say,
 };
+pub use checks::check_each;
 pub use places::{Place, Text};
 pub use program_check::{RunError, check_text};
 pub use replay::TrapAt;

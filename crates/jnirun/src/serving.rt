@@ -100,7 +100,7 @@ fn tell_trap<E: Sink>(command: Command<'_>, program: &[u8], trap: Option<TrapAt>
 }
 
 /// What a fault is, in a few words.
-fn words_of(number: u32) -> &'static [u8]
+pub(crate) fn words_of(number: u32) -> &'static [u8]
     ensures { result.now ≡ fault_words number }
 {
     match cli_explanations::fault(number) {

@@ -4,6 +4,7 @@ use crate::run::thread_count;
 use cli_commands::Texts;
 use details::Detail;
 use machine::RunFault;
+use nearest::Nearest;
 use places::{Place, Text};
 use program_check::{detail_of, read_program};
 use region_rules::Checked;
@@ -54,7 +55,7 @@ fn detail_of_world(alloc: Global, texts: &Texts, line: usize) -> Detail {
         );
     };
     match read_program(alloc, &texts.program) {
-        Ok(checked) => detail_of_call(&checked, call),
+        Ok(checked) => detail_of_call(alloc, &checked, call),
         Err(_) => Detail::none(),
     }
 }
@@ -73,9 +74,9 @@ fn call_on(world: &World, line: usize) -> Option<&Call> {
 
 /// A call that doesn't go with the program or the classes: its function isn't there, its arguments don't fit, or else its
 /// class isn't there.
-fn detail_of_call(checked: &Checked, call: &Call) -> Detail {
+fn detail_of_call(alloc: Global, checked: &Checked, call: &Call) -> Detail {
     let Some(function) = function_of(checked, call.function()) else {
-        return Detail::of(b"the program has no function ").words(call.function());
+        return lacking(alloc, checked, call.function());
     };
     let found = call.arguments().len();
     let wanted = function.parameters.len();
@@ -91,6 +92,18 @@ fn detail_of_call(checked: &Checked, call: &Call) -> Detail {
             .words(call.function())
             .words(b" isn't there"),
     }
+}
+
+/// That the program has no function of this name, and which other may be meant.
+fn lacking(alloc: Global, checked: &Checked, name: &[u8]) -> Detail {
+    let mut nearest = Nearest::to(name);
+    for item in checked.items() {
+        if let Item::Function(function) = item {
+            nearest.offer(alloc, function.name.as_bytes());
+        }
+    }
+    let detail = Detail::of(b"the program has no function ").words(name);
+    nearest.asked_after(detail, b"")
 }
 
 /// The function of this name.

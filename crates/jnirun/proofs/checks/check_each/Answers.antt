@@ -1,0 +1,24 @@
+use Rattle.std.proofs.Common.{rules}
+use Rattle.std.proofs.lemmas.List.{drop_more, drop_all}
+use Rattle.jnirun.proofs.EachLemmas.{starts, goes_on, ends_at, finished, files_kept}
+use Rattle.jnirun.proofs.checks.check_each.Goals as goal
+
+pub loop-name-init : goal.loop-name-init
+loop-name-init g c = (starts _ _ c.args.names.now _ _, record { given = λ name bytes h. h; lacked = λ name h. h })
+
+pub returns-in-Err : goal.returns-in-Err
+returns-in-Err g c =
+    let at = drop_more c.args.names.now c.loop-name.name-index _ c.loop-name-test.true in
+    let ended = rw c.in-Err.is at c.check_one.ensures.checks in
+    ends_at _ _ c.loop-name.invariant.0 at c.loop-name.invariant.1 ended.1 ended.0
+
+pub loop-name-preserved : goal.loop-name-preserved
+loop-name-preserved g c =
+    let at = drop_more c.args.names.now c.loop-name.name-index _ c.loop-name-test.true in
+    (
+      goes_on _ _ c.loop-name.invariant.0 at c.loop-name.invariant.1 (rw c.in-Ok.is at c.check_one.ensures.checks) c.worse-status.ensures,
+      files_kept c.check_one.ensures.kept c.check_one.ensures.still c.loop-name.invariant.1,
+    )
+
+pub returns : goal.returns
+returns g c = finished c.loop-name.invariant.0 (drop_all c.loop-name.name-index c.args.names.now (search rules))
