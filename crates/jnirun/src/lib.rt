@@ -10,11 +10,11 @@ mod serving;
 mod telling;
 mod working;
 
+pub use checks::check_each;
 pub use cli_commands::{
     COMMAND_LINE, Command, DONE, FAILED, FileFault, FileSystem, Files, MOST_BYTES, REFUSED, fail,
     say,
 };
-pub use checks::check_each;
 pub use places::{Place, Text};
 pub use program_check::{RunError, check_text};
 pub use replay::TrapAt;

@@ -84,7 +84,13 @@ fn taken(line: &Line<'_>) -> Detail {
 }
 
 /// Asks after these words whether another class is meant than the one of this name.
-fn with_class_asked(alloc: Global, detail: Detail, classes: &ClassTable, name: &[u8], mark: &[u8]) -> Detail {
+fn with_class_asked(
+    alloc: Global,
+    detail: Detail,
+    classes: &ClassTable,
+    name: &[u8],
+    mark: &[u8],
+) -> Detail {
     let mut nearest = Nearest::to(name);
     for number in 1..classes.len().saturating_add(1) {
         nearest.offer(alloc, classes.name(ClassId { number }));

@@ -14,8 +14,7 @@ returns-in-Err g c =
 
 pub loop-name-preserved : goal.loop-name-preserved
 loop-name-preserved g c =
-    let at = drop_more c.args.names.now c.loop-name.name-index _ c.loop-name-test.true in
-    (
+    let at = drop_more c.args.names.now c.loop-name.name-index _ c.loop-name-test.true in (
       goes_on _ _ c.loop-name.invariant.0 at c.loop-name.invariant.1 (rw c.in-Ok.is at c.check_one.ensures.checks) c.worse-status.ensures,
       files_kept c.check_one.ensures.kept c.check_one.ensures.still c.loop-name.invariant.1,
     )
