@@ -1,13 +1,14 @@
 -- What the program answers, by what its words ask for.
-use Rattle.std.specs.Prelude.{◌≡◌, ℕ, Bool, false, List, Option, Some, None, codes, string_bytes}
+use Rattle.std.specs.Prelude.{◌≡◌, ℕ, Bool, false, List, map, Option, Some, None, codes, string_bytes}
 use Rattle.sinks.specs.Sink.{Written}
 use Rattle.jnirun.specs.Runs.{AppendsRun, StopsRun}
 use Rattle.cli_commands.specs.Commands.{runs_workers}
 use Rattle.cli_commands.specs.Saying.{Tells}
 use Rattle.jnirun.specs.Serve.{Serves}
+use Rattle.jnirun.specs.ServeEach.{ServesEach}
 use Rattle.cli_explanations.specs.declared.Explanation.{Explanation}
 use Rattle.cli_words.specs.declared.request.Request.{Request}
-use Rattle.cli_words.specs.declared.request.Request.TheVariants.{Serve, Explain, Show, Misuse, LacksOrder, LacksMemory}
+use Rattle.cli_words.specs.declared.request.Request.TheVariants.{Serve, CheckEach, Explain, Show, Misuse, LacksOrder, LacksMemory}
 
 -- ---- texts for a reader
 
@@ -41,6 +42,7 @@ asks_for_workers request = false
 -- what the program answers
 abbrev pub Answers : (gives : List ℕ → List ℕ → Type 0) → (lacks : List ℕ → Type 0) → Request → (out out_after err err_after : Written) → (status : ℕ) → Type 0
 Answers gives lacks (Serve command) out out_after err err_after status = Serves gives lacks command out out_after err err_after status
+Answers gives lacks (CheckEach programs) out out_after err err_after status = ServesEach gives lacks (map (λ p. p.now) programs.items) out out_after err err_after status
 Answers gives lacks (Explain explanation) out out_after err err_after status = Shows (IsTextOf explanation) out out_after err err_after status
 Answers gives lacks (Show text) out out_after err err_after status = Shows (λ t. t ≡ string_bytes text) out out_after err err_after status
 Answers gives lacks (Misuse text) out out_after err err_after status = (out_after ≡ out) × Declines (string_bytes text) err err_after status

@@ -1,13 +1,13 @@
 //! The program over any files and sinks, once the words are read.
 
-ghost use Rattle.std.specs.Prelude.{◌≡◌, ◌≢◌, false, codes, IfSome, IfNone};
+ghost use Rattle.std.specs.Prelude.{◌≡◌, ◌≢◌, ◌<◌, ◌^◌, false, codes, IfSome, IfNone};
 ghost use Rattle.sinks.specs.Sink.{CanFail};
 ghost use Rattle.cli_commands.specs.Saying.{Tells};
 ghost use Rattle.cli.specs.Answers.{IsTextOf, Shows, Declines, asks_for_workers, Answers};
 
 use cli_explanations::Explanation;
 use cli_words::Request;
-use jnirun::{COMMAND_LINE, Command, DONE, Files, fail, say, serve_sequential};
+use jnirun::{COMMAND_LINE, Command, DONE, Files, check_each, fail, say, serve_sequential};
 use sinks::Sink;
 use std::alloc::Global;
 use std::io::ErrorKind;
@@ -80,7 +80,8 @@ pub fn run_by_workers<'a>(request: &Request<'a>) -> Option<Command<'a>>
                 None
             }
         }
-        Request::Explain(_)
+        Request::CheckEach(_)
+        | Request::Explain(_)
         | Request::Show(_)
         | Request::Misuse(_)
         | Request::LacksOrder
@@ -99,13 +100,15 @@ pub fn answer<F: Files, O: Sink, E: Sink>(
     err: &mut E,
 ) -> u8
     requires out { CanFail (O.written out.old) }
-    requires err { CanFail (E.written err.old) }
+    // Of several programs each may have something said on standard error.
+    requires err { (E.written err.old).failures < 2 ^ 63 }
     requires sequential { asks_for_workers request.now ≡ false }
     ensures { Answers (F.gives files.old) (F.lacks files.old) request.now (O.written out.old) (O.written out.new)
         (E.written err.old) (E.written err.new) result }
 {
     match request {
         Request::Serve(command) => serve_sequential(alloc, *command, files, out, err),
+        Request::CheckEach(programs) => check_each(alloc, programs, files, out, err),
         Request::Explain(explanation) => explain(*explanation, out, err),
         Request::Show(text) => show(text.as_bytes(), out, err),
         Request::Misuse(text) => decline(text.as_bytes(), err),

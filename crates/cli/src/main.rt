@@ -1,4 +1,4 @@
-//! Checks native methods, `jnirun check PROG`, runs them over a heap, `jnirun run PROG WORLD --schedule FILE` or
+//! Checks native methods, `jnirun check PROG ..`, runs them over a heap, `jnirun run PROG WORLD --schedule FILE` or
 //! `--workers`, replays their journals, `jnirun replay PROG WORLD JOURNAL`, and explains faults and traps, `jnirun
 //! explain N` and `jnirun explain trap N`.
 #![tactic(auto)]

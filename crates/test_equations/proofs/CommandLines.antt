@@ -4,7 +4,7 @@ use Rattle.std.specs.Prelude.{codes, option_map}
 use Rattle.clap.proofs.OnLiterals.{clap_on_literals}
 use Rattle.clap.specs.Faults.{fault_of}
 use Rattle.clap.specs.Simple.{subcommand_of}
-use Rattle.clap.specs.Walk.{first_of}
+use Rattle.clap.specs.Walk.{all_of, first_of}
 use Rattle.clap.specs.declared.error.kind.ErrorKind.TheVariants.{DisplayHelp, DisplayVersion, MissingSubcommand, MissingRequiredArgument, UnknownArgument}
 use Rattle.cli_words.specs.CommandLine.{command_line}
 
@@ -13,7 +13,7 @@ check_help : fault_of command_line (codes "jnirun" ∷ codes "check" ∷ codes "
 unfolding clap_on_literals
 check_help = refl
 
-check_help_file : option_map (λ f. first_of (codes "PROG") f.1) (subcommand_of command_line (codes "jnirun" ∷ codes "check" ∷ codes "help" ∷ [])) ≡ Some (Some (codes "help"))
+check_help_file : option_map (λ f. all_of (codes "PROG") f.1) (subcommand_of command_line (codes "jnirun" ∷ codes "check" ∷ codes "help" ∷ [])) ≡ Some (Some (codes "help" ∷ []))
 unfolding clap_on_literals
 check_help_file = refl
 
@@ -33,7 +33,19 @@ no_program : fault_of command_line (codes "jnirun" ∷ codes "check" ∷ []) ≡
 unfolding clap_on_literals
 no_program = refl
 
-a_word_more : fault_of command_line (codes "jnirun" ∷ codes "check" ∷ codes "a.c" ∷ codes "b.c" ∷ []) ≡ UnknownArgument ∷ []
+-- several programs, in their order
+abbrev several : List (List ℕ)
+several = codes "jnirun" ∷ codes "check" ∷ codes "b.c" ∷ codes "a.c" ∷ codes "b.c" ∷ []
+
+check_several : fault_of command_line several ≡ []
+unfolding clap_on_literals
+check_several = refl
+
+check_several_files : option_map (λ f. all_of (codes "PROG") f.1) (subcommand_of command_line several) ≡ Some (Some (codes "b.c" ∷ codes "a.c" ∷ codes "b.c" ∷ []))
+unfolding clap_on_literals
+check_several_files = refl
+
+a_word_more : fault_of command_line (codes "jnirun" ∷ codes "replay" ∷ codes "p" ∷ codes "w" ∷ codes "j" ∷ codes "x" ∷ []) ≡ UnknownArgument ∷ []
 unfolding clap_on_literals
 a_word_more = refl
 
