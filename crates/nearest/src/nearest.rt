@@ -10,6 +10,9 @@ use strsim::generic_damerau_levenshtein;
 /// The most bytes of a name that is compared.
 const MOST_BYTES: usize = 100;
 
+/// The most pairs of a byte of the name and one of a known name that are compared, so that many names take little time.
+const MOST_PAIRS: usize = 4_000_000;
+
 /// The most bytes of words on a fault of which none is cut.
 const MOST_WHOLE: usize = 118;
 
@@ -17,13 +20,16 @@ const MOST_WHOLE: usize = 118;
 ///
 /// A name is near where a third of the bytes of the one that isn't known have to change, or fewer: by a byte more, a byte
 /// less, another byte, or two neighbours that change places. What both begin with, up to a `_` or a `/`, isn't counted.
-/// Of two that are as near it is the one that was offered first. Names of more than 100 bytes are near none.
+/// Of two that are as near it is the one that was offered first. Names of more than 100 bytes are near none, no more names
+/// are compared once four million pairs of bytes were, and none is near where memory is refused.
 #[derive(Drop)]
 pub struct Nearest<'n, 'k> {
     name: &'n [u8],
     found: Option<&'k [u8]>,
     /// How many changes lead to the name that was found.
     changes: usize,
+    /// How many pairs of bytes may still be compared.
+    pairs: usize,
     ghost other: { ForSome found (λ known. known.now ≢ name.now) },
 }
 
@@ -54,10 +60,11 @@ impl<'n, 'k> Nearest<'n, 'k> {
             name,
             found: None,
             changes: 0,
+            pairs: MOST_PAIRS,
         }
     }
 
-    /// Offers a known name. Where memory is refused it isn't near.
+    /// Offers a known name.
     pub fn offer(&mut self, alloc: Global, known: &'k [u8])
         ensures { self.new.name ≡ self.old.name }
     {
@@ -71,7 +78,14 @@ impl<'n, 'k> Nearest<'n, 'k> {
         if own.len().abs_diff(other.len()) > most {
             return;
         }
+        let pairs = own.len().saturating_mul(other.len());
+        if pairs > self.pairs {
+            return;
+        }
+        self.pairs -= pairs;
         let Ok(changes) = generic_damerau_levenshtein(alloc, own, other) else {
+            self.found = None;
+            self.pairs = 0;
             return;
         };
         if changes <= most && (self.found.is_none() || changes < self.changes) {
