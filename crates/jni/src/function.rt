@@ -577,3 +577,15 @@ pub fn function_named(name: &[u8]) -> Option<JniFunction>
 {
     named_at(&BY_LENGTH, name.len() % 32, name)
 }
+
+/// The functions of a length among these.
+fn all_at(table: &[&'static [JniFunction]], place: usize) -> &'static [JniFunction]
+    requires { place < length table.now }
+{
+    table[place]
+}
+
+/// The functions whose names have so many bytes, or 32 more or fewer: a walk over 32 lengths in a row meets each once.
+pub fn functions_of_length(length: usize) -> &'static [JniFunction] {
+    all_at(&BY_LENGTH, length % 32)
+}

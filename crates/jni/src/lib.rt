@@ -8,7 +8,7 @@ mod mode;
 mod subject;
 
 pub use access::{Access, is_same_element};
-pub use function::{JniFunction, function_named};
+pub use function::{JniFunction, function_named, functions_of_length};
 pub use kinds::{ParameterKind, Prototype, ResultKind, StateEffect};
 pub use mode::ReleaseMode;
 pub use subject::Subject;

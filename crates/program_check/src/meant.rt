@@ -1,12 +1,10 @@
 //! The known name that may be meant where a name or a function of the JNI isn't known.
 
 use details::Detail;
-use jni::Access::{ArrayView, CharsCopy, CharsView, ElementsCopy};
-use jni::JniFunction;
+use jni::functions_of_length;
 use nearest::Nearest;
 use std::alloc::Global;
-use syntax::ElementType::{Byte, Char, Int, Short};
-use syntax::{Block, ElementType, Form, Function, Item, Name, Unit};
+use syntax::{Block, Form, Function, Item, Name, Unit};
 use types::SortRule;
 
 /// The most blocks around a statement: those that may be nested, and the body of the function.
@@ -21,80 +19,12 @@ static CONSTANTS: [&[u8]; 5] = [
     b"JNI_ABORT",
 ];
 
-/// The functions of which there is one.
-static SINGLE: [JniFunction; 41] = [
-    JniFunction::FindClass,
-    JniFunction::GetSuperclass,
-    JniFunction::GetObjectClass,
-    JniFunction::IsInstanceOf,
-    JniFunction::IsAssignableFrom,
-    JniFunction::AllocObject,
-    JniFunction::NewLocalRef,
-    JniFunction::NewGlobalRef,
-    JniFunction::NewWeakGlobalRef,
-    JniFunction::DeleteLocalRef,
-    JniFunction::DeleteGlobalRef,
-    JniFunction::DeleteWeakGlobalRef,
-    JniFunction::IsSameObject,
-    JniFunction::EnsureLocalCapacity,
-    JniFunction::PushLocalFrame,
-    JniFunction::PopLocalFrame,
-    JniFunction::GetFieldID,
-    JniFunction::GetStaticFieldID,
-    JniFunction::GetObjectField,
-    JniFunction::SetObjectField,
-    JniFunction::GetStaticObjectField,
-    JniFunction::SetStaticObjectField,
-    JniFunction::GetArrayLength,
-    JniFunction::NewObjectArray,
-    JniFunction::GetObjectArrayElement,
-    JniFunction::SetObjectArrayElement,
-    JniFunction::NewStringUTF,
-    JniFunction::GetStringLength,
-    JniFunction::GetStringRegion,
-    JniFunction::Throw,
-    JniFunction::ThrowNew,
-    JniFunction::ExceptionOccurred,
-    JniFunction::ExceptionCheck,
-    JniFunction::ExceptionClear,
-    JniFunction::FatalError,
-    JniFunction::MonitorEnter,
-    JniFunction::MonitorExit,
-    JniFunction::GetStaticMethodID,
-    JniFunction::CallStaticVoidMethod,
-    JniFunction::CallStaticIntMethod,
-    JniFunction::CallStaticObjectMethod,
-];
-
-/// Offers the functions that there are for each element type.
-fn offer_elements(alloc: Global, nearest: &mut Nearest<'_, '_>, element: ElementType) {
-    let functions = [
-        JniFunction::GetField(element),
-        JniFunction::SetField(element),
-        JniFunction::GetStaticField(element),
-        JniFunction::SetStaticField(element),
-        JniFunction::NewArray(element),
-        JniFunction::GetArrayRegion(element),
-        JniFunction::SetArrayRegion(element),
-        JniFunction::GetBuffer(ElementsCopy(element)),
-        JniFunction::ReleaseBuffer(ElementsCopy(element)),
-    ];
-    for function in &functions {
-        nearest.offer(alloc, function.prototype().name);
-    }
-}
-
 /// Offers all functions of the JNI.
 fn offer_functions(alloc: Global, nearest: &mut Nearest<'_, '_>) {
-    for function in &SINGLE {
-        nearest.offer(alloc, function.prototype().name);
-    }
-    for element in [Int, Short, Byte, Char] {
-        offer_elements(alloc, nearest, element);
-    }
-    for access in [ArrayView, CharsCopy, CharsView] {
-        nearest.offer(alloc, JniFunction::GetBuffer(access).prototype().name);
-        nearest.offer(alloc, JniFunction::ReleaseBuffer(access).prototype().name);
+    for length in 0..32 {
+        for function in functions_of_length(length) {
+            nearest.offer(alloc, function.prototype().name);
+        }
     }
 }
 
