@@ -1,2 +1,3 @@
 mod FieldLemmas
 pub mod PassedActuals
+mod CheckedCalls

@@ -11,10 +11,10 @@ use Rattle.jni.specs.declared.function.JniFunction.{JniFunction as FunctionInMem
 use Rattle.syntax.specs.Views.{parameter_tree, parameter_type_tree}
 use Rattle.syntax.specs.declared.unit.Parameter.{Parameter as ParameterInMemory}
 use Rattle.semantics.specs.Arguments.{Actual, method_given}
-use Rattle.semantics.specs.CallTable.{all_pass, calls_well, passes}
+use Rattle.semantics.specs.CallTable.{all_pass, calls_well, go_together, passes}
 use Rattle.semantics.specs.Heap.{Heap}
 use Rattle.replay_arguments.specs.Actuals.{actual_view}
-use Rattle.replay_arguments.specs.Checked.{fit_together, is_wanted}
+use Rattle.replay_arguments.specs.Sights.{is_wanted}
 use Rattle.replay_arguments.specs.declared.actual.Actual.{Actual as ActualInMemory}
 use Rattle.replay_terms.proofs.PassedLemmas.{arguments_parted, as_passed}
 
@@ -81,6 +81,6 @@ module _ (classes : Classes) (heap : Heap) (buffer : ElementType) (args : List A
       ∙ pass_both p a ps (after_first ps) actuals (after_first actuals) parameters_are actuals_are
 
   -- a function that calls a method asks whether it is called well
-  pub called_well : (f g : FunctionInMemory) (fits : Bool) → f ≡ g → calls_well classes heap buffer args (is_wanted (function_value g)) (method_given args 1) ≡ fit_together classes heap args buffer (function_value g)
-      → fits ≡ calls_well classes heap buffer args (is_wanted (function_value f)) (method_given args 1) → fits ≡ fit_together classes heap args buffer (function_value f)
-  called_well f g fits same is = subst (λ (k : FunctionInMemory). fits ≡ calls_well classes heap buffer args (is_wanted (function_value k)) (method_given args 1) → fits ≡ fit_together classes heap args buffer (function_value k)) (sym same) (λ h. h ∙ is)
+  pub called_well : (f g : FunctionInMemory) (fits : Bool) → f ≡ g → calls_well classes heap buffer args (is_wanted (function_value g)) (method_given args 1) ≡ go_together classes heap buffer args (function_value g)
+      → fits ≡ calls_well classes heap buffer args (is_wanted (function_value f)) (method_given args 1) → fits ≡ go_together classes heap buffer args (function_value f)
+  called_well f g fits same is = subst (λ (k : FunctionInMemory). fits ≡ calls_well classes heap buffer args (is_wanted (function_value k)) (method_given args 1) → fits ≡ go_together classes heap buffer args (function_value k)) (sym same) (λ h. h ∙ is)

@@ -1,3 +1,3 @@
 pub mod Shares
 pub mod Actuals
-pub mod Checked
+pub mod Sights

@@ -1,20 +1,21 @@
 //! What is checked of a call before it does anything, in one order for all functions.
 
-ghost use Rattle.std.specs.Prelude.{◌≡◌, ◌||◌, List, is_some, map, slice_get, zip};
+ghost use Rattle.std.specs.Prelude.{◌≡◌, ◌||◌, [], List, map, slice_get, zip};
 ghost use Rattle.std.specs.List.{list_any};
 ghost use Rattle.std.specs.Option.{option_map};
 ghost use Rattle.class_rules.specs.BuiltIns.{throwable_class};
-ghost use Rattle.base.specs.Element.{ElementType as Element, element_value};
+ghost use Rattle.base.specs.Element.{ElementType as Element, JInt, element_value};
 ghost use Rattle.classes.specs.Views.{field_type_view};
 ghost use Rattle.jni.specs.Table.{function_value, parameter_value, result_value};
 ghost use Rattle.semantics.specs.Checks.{frames_after, is_deleted, is_full, is_misfit, is_missing, lacks_room};
 ghost use Rattle.class_rules.specs.Class.{Classes};
 ghost use Rattle.semantics.specs.Arguments.{Actual as ActualOfCall, method_given};
-ghost use Rattle.semantics.specs.CallTable.{all_pass, calls_well, passes};
+ghost use Rattle.semantics.specs.CallTable.{all_pass, calls_well, go_together, has_field, has_static, passes};
+ghost use Rattle.semantics.specs.CallTraps.{trap_of};
 ghost use Rattle.semantics.specs.Heap.{Heap, fits_class, fits_type, is_instance};
 ghost use Rattle.syntax.specs.Views.{parameter_tree, parameter_type_tree, result_tree};
 ghost use Rattle.replay_arguments.specs.Actuals.{actual_view};
-ghost use Rattle.replay_arguments.specs.Checked.{fit_together, fits_new_array, has_field, has_static, is_wanted, trap_found};
+ghost use Rattle.replay_arguments.specs.Sights.{is_wanted, scene_sight};
 ghost use Rattle.semantics.specs.EventViews.{trap_view};
 ghost use Rattle.semantics.specs.Views.{name_of};
 
@@ -34,15 +35,16 @@ use replay_terms::{StaticReference, passed};
 use semantics::{ObjectId, Trap};
 use syntax::{Parameter, ParameterType, ResultType};
 
-/// The trap of a call before it does anything, which may give a buffer of this element type.
+/// The trap of a call before it does anything, which may give a buffer of this element type, but for the depth of calls: that is
+/// checked where a method is entered.
 pub fn check(
     scene: Scene<'_, '_>,
     buffer: syntax::ElementType,
     function: JniFunction,
     actuals: &[Actual<'_>],
 ) -> Option<Trap>
-    ensures { option_map trap_view result ≡ trap_found scene.entry.classes.now scene.entry.shared.now.store scene.entry.locals.now.frames
-        (is_some scene.entry.pending) (element_value buffer) (function_value function) (map actual_view actuals.now) }
+    ensures { option_map trap_view result
+        ≡ trap_of scene.entry.classes.now (scene_sight scene.entry buffer function actuals.now) (function_value function) }
 {
     let asked = function.prototype();
     if scene.pending.is_some() && !asked.pending {
@@ -56,7 +58,7 @@ pub fn check(
     }
     let (classes, store) = (scene.classes, &scene.shared.store);
     if some_misfit(classes, store, asked.parameters, actuals)
-        || !fit_together(classes, store, buffer, function, actuals)
+        || !go_together(classes, store, buffer, function, actuals)
     {
         return Some(Trap::WrongObject);
     }
@@ -160,14 +162,15 @@ fn is_misfit(
 // ---- what a function asks beyond that
 
 /// Whether the arguments of a function, each of its kind, go together.
-fn fit_together(
+#[tactic(auto, unfolding(semantics::specs::CallTable::go_together))]
+fn go_together(
     classes: &ClassTable,
     store: &Store,
     buffer: syntax::ElementType,
     function: JniFunction,
     actuals: &[Actual<'_>],
 ) -> bool
-    ensures { result ≡ fit_together classes.now store.now (map actual_view actuals.now) (element_value buffer) (function_value function) }
+    ensures { result ≡ go_together classes.now store.now (element_value buffer) (map actual_view actuals.now) (function_value function) }
 {
     let field = field_given(actuals, 1);
     match function {
@@ -195,7 +198,11 @@ fn fit_together(
         JniFunction::GetBuffer(Access::ArrayView) => {
             store.class_of(object_given(actuals, 0)) == number_array(buffer)
         }
-        JniFunction::NewObjectArray => fits_new_array(classes, store, actuals),
+        JniFunction::NewObjectArray => {
+            let element = class_given(actuals, 1);
+            !classes.is_array(element)
+                && fits_class(classes, store, reference_given(actuals, 2), element)
+        }
         JniFunction::Throw => is_throwable(classes, store, object_given(actuals, 0)),
         JniFunction::ThrowNew => classes.assignable(class_given(actuals, 0), THROWABLE),
         JniFunction::CallStaticVoidMethod => calls_well(function, actuals),
@@ -261,7 +268,7 @@ fn passes(kind: ParameterType, actual: Actual<'_>) -> bool
 
 /// Whether argument 0 is an object that has the field of argument 1.
 fn has_field(classes: &ClassTable, store: &Store, actuals: &[Actual<'_>]) -> bool
-    ensures { result ≡ has_field classes.now store.now (map actual_view actuals.now) }
+    ensures { result ≡ has_field classes.now store.now JInt (map actual_view actuals.now) }
 {
     let field = field_given(actuals, 1);
     let class = store.class_of(object_given(actuals, 0));
@@ -270,18 +277,10 @@ fn has_field(classes: &ClassTable, store: &Store, actuals: &[Actual<'_>]) -> boo
 
 /// Whether argument 0 is a class that has the static of argument 1.
 fn has_static(classes: &ClassTable, actuals: &[Actual<'_>]) -> bool
-    ensures { result ≡ has_static classes.now (map actual_view actuals.now) }
+    ensures { result ≡ has_static classes.now [] JInt (map actual_view actuals.now) }
 {
     let field = field_given(actuals, 1);
     is_static(field) && classes.assignable(class_given(actuals, 0), declaring(field))
-}
-
-/// Whether argument 1 is a class that arrays can be made of, and argument 2 may be an element.
-fn fits_new_array(classes: &ClassTable, store: &Store, actuals: &[Actual<'_>]) -> bool
-    ensures { result ≡ fits_new_array classes.now store.now (map actual_view actuals.now) }
-{
-    let element = class_given(actuals, 1);
-    !classes.is_array(element) && fits_class(classes, store, reference_given(actuals, 2), element)
 }
 
 /// Whether an object can be thrown.
@@ -292,7 +291,7 @@ fn is_throwable(classes: &ClassTable, store: &Store, name: ObjectId) -> bool
 }
 
 /// Whether a reference fits a class, as NULL does always.
-pub fn fits_class(
+fn fits_class(
     classes: &ClassTable,
     store: &Store,
     reference: Option<ObjectId>,

@@ -1,1 +1,2 @@
-pub mod FittingFrames
+mod FittingAnswers
+mod FrameEffects

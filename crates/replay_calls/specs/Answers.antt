@@ -1,276 +1,154 @@
--- What calls do, as data, and what that leaves.
-use Rattle.std.specs.Prelude.{ℕ, ◌+◌, pos, negsuc, Bool, true, false, List, [], ◌∷◌, ◌++◌, drop, take, length, nat_le, IsTrue, Option, Some, None}
-use Rattle.base.specs.Limits.{most_references}
+-- Answers that lie in memory, as those of the language, and what their effects leave.
+use Rattle.std.specs.Prelude.{◌≡◌, ◌+◌, true, ℤ, List, [], ◌∷◌, ◌++◌, drop, length, map, nat_le, IsTrue, Option, Some}
 use Rattle.base.specs.Bytes.{Identifier, lookup}
 use Rattle.class_rules.specs.Class.{Classes}
+use Rattle.jni.specs.JniFunction.{JniFunction, calls_method, prototype}
 use Rattle.jni.specs.Prototype.{ResultKind, NewLocal}
-use Rattle.semantics.specs.CallEffects.{CallResult, NoResult, ScalarResult, ReferenceResult, BufferResult, begun_with, copied_elements, freed, local_array, out_of_memory, overwritten, monitor, with_capacity, with_local, without_local, without_one}
+use Rattle.jni.specs.Table.{function_value}
+use Rattle.jni.specs.declared.function.JniFunction.{JniFunction as FunctionInMemory}
+use Rattle.syntax.specs.Views.{unit_tree}
+use Rattle.semantics.specs.Answer.{Answer, Calls, Copies, CopiesBack, DeletesGlobal, DeletesLocal, DeletesWeak, Disowns, Ensures, Frees, GetsRegion, Gives, Halts, Makes, MakesGlobal, Owns, Pends, Pops, Pushes, Raises, RaisesWith, RefusesFrames, Region, SetsRegion, Views, Writes, effect_of}
+use Rattle.semantics.specs.AnswerTable.{call_answer}
+use Rattle.semantics.specs.Arguments.{Actual, passed_value, variable_given}
+use Rattle.semantics.specs.CallEffects.{CallResult, ReferenceResult, BufferResult, CallEffect, Throws, Leaves, local_array, with_local}
+use Rattle.semantics.specs.CallEffects as effects
 use Rattle.semantics.specs.CallStep.{failure}
-use Rattle.semantics.specs.Heap.{Heap, next_name, numbers_of, values_of, with_numbers, with_value_at}
-use Rattle.semantics.specs.Object.{ObjectValue, Reference}
-use Rattle.semantics.specs.Thread.{Frame, Shared, capacities, without_monitor}
-use Rattle.semantics.specs.Value.{Int, Trap}
-use Rattle.semantics.specs.Variable.{StaticReference, Live, Weakly, Cleared, Deleted, Variables, assign, change}
+use Rattle.semantics.specs.EventViews.{trap_view}
+use Rattle.semantics.specs.Heap.{Heap, next_name, values_of}
+use Rattle.semantics.specs.Object.{Object, ObjectValue}
+use Rattle.semantics.specs.Thread.{Frame, Shared, Thread}
+use Rattle.semantics.specs.Value.{Trap}
+use Rattle.semantics.specs.Variable.{Variables}
+use Rattle.semantics.specs.Views.{name_of}
 use Rattle.semantics.specs.World.{fresh_object}
+use Rattle.semantics.specs.declared.object_id.ObjectId.{ObjectId}
+use Rattle.replay_arguments.specs.Actuals.{actual_view}
+use Rattle.replay_arguments.specs.Shares.{shared_view}
+use Rattle.replay_arguments.specs.Sights.{scene_sight}
+use Rattle.replay_arguments.specs.declared.actual.Actual.{Actual as ActualInMemory}
+use Rattle.replay_arguments.specs.declared.scene.Locals.{Locals}
+use Rattle.replay_arguments.specs.declared.scene.Scene.{Scene}
+use Rattle.replay_arguments.specs.declared.scene.Turn.{Turn}
+use Rattle.replay_arguments.specs.declared.shared.Shared.{Shared as SharedInMemory}
 use Rattle.replay_calls.specs.declared.answer.Answer.{Answer as InMemory}
 use Rattle.replay_calls.specs.declared.answer.Answer.TheVariants as answer
+use Rattle.replay_calls.specs.declared.answer.Caller.{Caller}
 use Rattle.replay_calls.specs.declared.answer.Region.{Region as RegionInMemory}
-use Rattle.replay_objects.specs.Frames.{new_frame}
-use Rattle.replay_objects.specs.New.{New, new_view, object_of, thrown}
-use Rattle.semantics.specs.EventViews.{trap_view}
-use Rattle.semantics.specs.Views.{name_of}
-use Rattle.replay_terms.specs.Views.{given_view, lent_view}
-use Rattle.replay_terms.specs.declared.given.Lent.{Lent}
+use Rattle.replay_calls.specs.declared.carry_out.Done.{Done}
+use Rattle.replay_calls.specs.declared.carry_out.Done.TheVariants as done
+use Rattle.replay_objects.specs.New.{new_view, object_of}
+use Rattle.replay_terms.specs.Views.{given_view, in_use_view, lent_view, method_view, variables_view}
 use Rattle.world_values.specs.Views.{object_value_view}
 
--- a part of an array or of a string, and the name of a local array
-pub record Region : Type 0 where
-  pub object : ℕ
-  pub start : ℕ
-  pub count : ℕ
-  pub array : Identifier
-
 abbrev pub region_view : RegionInMemory → Region
-region_view r = record { object = r.object.number; start = r.start; count = r.count; array = r.array.now }
+region_view r = record { object = r.object.number; start = r.start; count = r.count }
 
--- What a call does: nothing changes and this is given, a value of an object is written, an object is made and given, an
--- exception of a class is made, a string of a text and an exception of a class with it as message are made and 0 is
--- given, the current frame gets room for this many more and 0 is given, a frame of this capacity is made and 0 is
--- given, the OutOfMemoryError object is pending and -4 is given, the current frame is dropped and this is given, a
--- local reference in the frame of a level is deleted, a global reference is made and given, the one of a static is
--- deleted, the weak one of a static is deleted, a pending exception or none replaces that before it and this is given, a local array begins with the numbers
--- of a region, a region's numbers become the first of a local array, a buffer is given, an object gets the numbers of
--- the copy of a variable, which is given up or not, the buffer of a variable is given up, the thread owns an object so
--- many times and 0 is given, nobody owns an object and 0 is given, the method is called whose function has this name, or the run stops.
-pub data Answer : Type 0 where
-  Gives : CallResult → Answer
-  Writes : (object place : ℕ) → ObjectValue → Answer
-  Makes : New → Answer
-  Raises : (class : ℕ) → Answer
-  ThrowsNew : (class : ℕ) → (text : List ℕ) → Answer
-  Ensures : (more : ℕ) → Answer
-  Pushes : (capacity : ℕ) → Answer
-  RefusesFrames : Answer
-  Pops : Reference → Answer
-  DeletesLocal : (level object : ℕ) → Answer
-  MakesGlobal : (object : ℕ) → Answer
-  DeletesGlobal : Identifier → Answer
-  DeletesWeak : Identifier → Answer
-  Pends : Reference → CallResult → Answer
-  GetsRegion : Region → Answer
-  SetsRegion : Region → Answer
-  Lends : Lent → Answer
-  CopiesBack : (object : ℕ) → (buffer : Identifier) → (frees : Bool) → Answer
-  Frees : (buffer : Identifier) → Answer
-  Owns : (object count : ℕ) → Answer
-  Disowns : (object : ℕ) → Answer
-  Calls : (function : Identifier) → Answer
-  Halts : Trap → Answer
+-- the object that is made is told by the classes, and a variable by its argument
+abbrev pub answer_view : Classes → InMemory → Answer
+answer_view classes (answer.Gives g) = Gives (given_view g)
+answer_view classes (answer.Writes n i v) = Writes n.number i (object_value_view v)
+answer_view classes (answer.Makes n) = Makes (object_of classes (new_view n))
+answer_view classes (answer.Raises c) = Raises c.number
+answer_view classes (answer.RaisesWith c text) = RaisesWith c.number text.now
+answer_view classes (answer.Pends r g) = Pends (name_of r) (given_view g)
+answer_view classes (answer.Ensures n) = Ensures n
+answer_view classes (answer.Pushes n) = Pushes n
+answer_view classes answer.RefusesFrames = RefusesFrames
+answer_view classes (answer.Pops r) = Pops (name_of r)
+answer_view classes (answer.DeletesLocal n) = DeletesLocal 0 n.number
+answer_view classes (answer.MakesGlobal r) = MakesGlobal (name_of r)
+answer_view classes (answer.DeletesGlobal n) = DeletesGlobal 0 n.number
+answer_view classes answer.DeletesWeak = DeletesWeak 0
+answer_view classes (answer.GetsRegion r) = GetsRegion (region_view r)
+answer_view classes (answer.SetsRegion r) = SetsRegion (region_view r)
+answer_view classes (answer.Copies n) = Copies n.number
+answer_view classes (answer.Views n) = Views n.number
+answer_view classes (answer.CopiesBack n frees) = CopiesBack n.number 1 frees
+answer_view classes answer.Frees = Frees 1
+answer_view classes (answer.Owns n count) = Owns n.number count
+answer_view classes (answer.Disowns n) = Disowns n.number
+answer_view classes (answer.Calls m) = Calls (method_view m)
+answer_view classes (answer.Halts trap) = Halts (trap_view trap)
 
-abbrev pub answer_view : InMemory → Answer
-answer_view (answer.Gives g) = Gives (given_view g)
-answer_view (answer.Writes n i v) = Writes n.number i (object_value_view v)
-answer_view (answer.Makes n) = Makes (new_view n)
-answer_view (answer.Raises c) = Raises c.number
-answer_view (answer.ThrowsNew c text) = ThrowsNew c.number text.now
-answer_view (answer.Ensures n) = Ensures n
-answer_view (answer.Pushes n) = Pushes n
-answer_view answer.RefusesFrames = RefusesFrames
-answer_view (answer.Pops r) = Pops (name_of r)
-answer_view (answer.DeletesLocal l n) = DeletesLocal l.number n.number
-answer_view (answer.MakesGlobal n) = MakesGlobal n.number
-answer_view (answer.DeletesGlobal x) = DeletesGlobal x.now
-answer_view (answer.DeletesWeak x) = DeletesWeak x.now
-answer_view (answer.Pends r g) = Pends (name_of r) (given_view g)
-answer_view (answer.GetsRegion r) = GetsRegion (region_view r)
-answer_view (answer.SetsRegion r) = SetsRegion (region_view r)
-answer_view (answer.Lends b) = Lends b
-answer_view (answer.CopiesBack n p frees) = CopiesBack n.number p.now frees
-answer_view (answer.Frees p) = Frees p.now
-answer_view (answer.Owns n count) = Owns n.number count
-answer_view (answer.Disowns n) = Disowns n.number
-answer_view (answer.Calls x) = Calls x.now
-answer_view (answer.Halts trap) = Halts (trap_view trap)
+-- the answer of a function to a call that this caller makes in this scene, all checks being passed
+abbrev pub scene_answer : Scene → Caller → FunctionInMemory → List ActualInMemory → Answer
+scene_answer scene caller f actuals =
+    call_answer (unit_tree caller.unit.now) scene.classes.now caller.thread (scene_sight scene caller.element f actuals) (function_value f)
 
--- the trap with which the run stops
-abbrev pub trap_in : Answer → Option Trap
-trap_in (Halts trap) = Some trap
-trap_in a = None
-
--- the trap of the first check that fails, or else what is worked out
-abbrev pub answer_or_trap : Option Trap → Answer → Answer
-answer_or_trap None a = a
-answer_or_trap (Some trap) a = Halts trap
-
--- these frames can have what it asks for
-abbrev pub FitsFrames : List Frame → Answer → Type 0
-FitsFrames frames (Ensures n) = IsTrue (nat_le (capacities (with_capacity n frames)) most_references)
-FitsFrames frames (Pushes n) = IsTrue (nat_le (capacities (new_frame n ∷ frames)) most_references)
-FitsFrames frames a = Unit {0}
+-- ---- what the table gives of each answer
 
 -- the array or the string has the region
 abbrev pub IsInside : Heap → Region → Type 0
 IsInside heap r = IsTrue (nat_le (r.start + r.count) (length (values_of heap r.object)))
 
--- its local array has as many numbers
-abbrev pub HasRoom : Variables → Region → Type 0
-HasRoom vs r = IsTrue (nat_le r.count (length (local_array (lookup r.array vs))))
+-- the local array has as many numbers
+abbrev pub HasRoom : List ℤ → Region → Type 0
+HasRoom array r = IsTrue (nat_le r.count (length array))
 
--- what it copies is there, and has its place
-abbrev pub FitsArrays : Heap → Variables → Answer → Type 0
-FitsArrays heap vs (GetsRegion r) = IsInside heap r × HasRoom vs r
-FitsArrays heap vs (SetsRegion r) = IsInside heap r × HasRoom vs r
-FitsArrays heap vs a = Unit {0}
+-- a function answers with a region that is there, and calls a method only if it is one that does
+abbrev pub FitsCall : Heap → (array : List ℤ) → JniFunction → Answer → Type 0
+FitsCall heap array f (GetsRegion r) = IsInside heap r × HasRoom array r
+FitsCall heap array f (SetsRegion r) = IsInside heap r × HasRoom array r
+FitsCall heap array f (Calls m) = calls_method f ≡ true
+FitsCall heap array f a = Unit {0}
 
--- variables of which a local array begins with the numbers of its region
-abbrev pub variables_with : Heap → Region → Variables → Variables
-variables_with heap r vs = change r.array (begun_with (take r.count (drop r.start (numbers_of heap r.object)))) vs
+-- the local array of the fourth argument
+abbrev pub array_given : Variables → List Actual → List ℤ
+array_given vs args = local_array (lookup (variable_given args 3) vs)
 
--- a heap in which the numbers of a region are the first of its local array
-abbrev pub heap_with : Variables → Region → Heap → Heap
-heap_with vs r heap =
-    with_numbers heap r.object
-    (overwritten (numbers_of heap r.object) r.start (take r.count (local_array (lookup r.array vs))))
+-- ---- what an answer leaves
 
--- a heap in which an object has the numbers of a copy
-abbrev pub heap_copied : (object : ℕ) → (buffer : Identifier) → Variables → Heap → Heap
-heap_copied n p vs heap = with_numbers heap n (copied_elements (lookup p vs))
+-- how a call is over, or goes on
+pub data Coming : Type 0 where
+  -- it gives this
+  Gave : CallResult → Coming
+  -- the function of this name is to be called
+  Enters : (function : Identifier) → List ObjectValue → Coming
+  -- the run stops
+  Stops : Trap → Coming
 
--- variables of which a buffer is given up or not
-abbrev pub variables_freed : Bool → (buffer : Identifier) → Variables → Variables
-variables_freed true p vs = change p freed vs
-variables_freed false p vs = vs
+-- what a call leaves
+pub record Left : Type 0 where
+  pub shared : Shared
+  pub thread : Thread
+  pub coming : Coming
 
--- the buffer that is given
-abbrev pub lent_in : Answer → Option Lent
-lent_in (Lends b) = Some b
-lent_in a = None
+-- what is shared with these objects made
+abbrev pub with_made : List Object → Shared → Shared
+with_made [] s = s
+with_made (o ∷ more) s = record s { heap = s.heap ++ o ∷ more }
 
--- the name of the function whose method is called
-abbrev pub called_in : Answer → Option Identifier
-called_in (Calls x) = Some x
-called_in a = None
+-- what a call of this kind of result leaves by its effect; an exception that it throws is pending
+abbrev pub left_of : Classes → ResultKind → Shared → Thread → CallEffect → Left
+left_of classes kind s t (Throws c) = record {
+  shared = with_made (fresh_object classes c ∷ []) s;
+  thread = record t { pending = Some (next_name s.heap) };
+  coming = Gave (failure kind);
+}
+left_of classes kind s t (Leaves made s' t' given) = record { shared = with_made made s'; thread = t'; coming = Gave given }
+left_of classes kind s t (effects.Enters function arguments) = record { shared = s; thread = t; coming = Enters function arguments }
+left_of classes kind s t (effects.Halts trap) = record { shared = s; thread = t; coming = Stops trap }
 
--- 0
-abbrev pub zero_result : CallResult
-zero_result = ScalarResult (Int (pos 0))
+-- the same in memory, over these objects
+abbrev pub done_view : Heap → List Actual → Done → Coming
+done_view heap args (done.Gives g) = Gave (given_view g)
+done_view heap args (done.Lends b) = Gave (BufferResult (lent_view heap b))
+done_view heap args (done.Calls x) = Enters x.now (map passed_value (drop 2 args))
+done_view heap args (done.Halts trap) = Stops (trap_view trap)
 
--- what is shared without the global reference that a static holds, which is marked, if it holds one
-abbrev pub without_global : Identifier → Option StaticReference → Shared → Shared
-without_global x (Some (Live n)) s = record s { globals = without_one n s.globals; statics = assign x Deleted s.statics }
-without_global x r s = s
+-- a thread with these variables and frames and this pending exception
+abbrev pub with_locals : Thread → Locals → (pending : Option ObjectId) → Thread
+with_locals t locals pending = record t { variables = variables_view locals.variables; frames = locals.frames; pending = name_of pending }
 
--- what is shared without the weak global reference that a static holds, which is marked, if it holds one
-abbrev pub without_weak : Identifier → Option StaticReference → Shared → Shared
-without_weak x (Some (Weakly n)) s = record s { statics = assign x Deleted s.statics }
-without_weak x (Some Cleared) s = record s { statics = assign x Deleted s.statics }
-without_weak x r s = s
-
--- what is shared where thread k owns an object so many times
-abbrev pub with_owned : (k : ℕ) → (object count : ℕ) → Shared → Shared
-with_owned k n count s = record s { monitors = monitor n k count ∷ without_monitor s.monitors n }
-
--- what is shared where nobody owns an object
-abbrev pub with_disowned : (object : ℕ) → Shared → Shared
-with_disowned n s = record s { monitors = without_monitor s.monitors n }
-
--- whether it is done to the frames of a call alone
-abbrev pub is_of_frames : Answer → Bool
-is_of_frames (Ensures n) = true
-is_of_frames (Pushes n) = true
-is_of_frames RefusesFrames = true
-is_of_frames (Pops r) = true
-is_of_frames (DeletesLocal l n) = true
-is_of_frames a = false
-
--- or to the references or the monitors that there are
-abbrev pub is_of_references : Answer → Bool
-is_of_references (MakesGlobal n) = true
-is_of_references (DeletesGlobal x) = true
-is_of_references (DeletesWeak x) = true
-is_of_references (Owns n count) = true
-is_of_references (Disowns n) = true
-is_of_references a = is_of_frames a
-
--- whether it copies numbers between an object and a variable
-abbrev pub is_of_numbers : Answer → Bool
-is_of_numbers (GetsRegion r) = true
-is_of_numbers (SetsRegion r) = true
-is_of_numbers (CopiesBack n p frees) = true
-is_of_numbers a = false
-
--- ---- what it leaves
-
--- whether there is an object to refuse
-abbrev pub makes_object : Answer → Bool
-makes_object (Makes n) = true
-makes_object (Raises c) = true
-makes_object (ThrowsNew c text) = true
-makes_object a = false
-
--- what is shared after it, by a call of thread k
-abbrev pub shared_after : Classes → (k : ℕ) → Shared → Variables → Answer → Shared
-shared_after classes k s vs (Writes n i v) = record s { heap = with_value_at s.heap n i v }
-shared_after classes k s vs (Makes n) = record s { heap = s.heap ++ object_of classes n ∷ [] }
-shared_after classes k s vs (Raises c) = record s { heap = s.heap ++ fresh_object classes c ∷ [] }
-shared_after classes k s vs (ThrowsNew c text) = record s { heap = s.heap ++ thrown classes s.heap c text }
-shared_after classes k s vs (MakesGlobal n) = record s { globals = n ∷ s.globals }
-shared_after classes k s vs (DeletesGlobal x) = without_global x (lookup x s.statics) s
-shared_after classes k s vs (DeletesWeak x) = without_weak x (lookup x s.statics) s
-shared_after classes k s vs (SetsRegion r) = record s { heap = heap_with vs r s.heap }
-shared_after classes k s vs (CopiesBack n p frees) = record s { heap = heap_copied n p vs s.heap }
-shared_after classes k s vs (Owns n count) = with_owned k n count s
-shared_after classes k s vs (Disowns n) = with_disowned n s
-shared_after classes k s vs a = s
-
--- the variables after it, without what it tells of a buffer
-abbrev pub variables_after : Heap → Variables → Answer → Variables
-variables_after heap vs (GetsRegion r) = variables_with heap r vs
-variables_after heap vs (CopiesBack n p frees) = variables_freed frees p vs
-variables_after heap vs (Frees p) = change p freed vs
-variables_after heap vs a = vs
-
--- the frames after it, without what it gives
-abbrev pub frames_after : List Frame → Answer → List Frame
-frames_after frames (Ensures n) = with_capacity n frames
-frames_after frames (Pushes n) = new_frame n ∷ frames
-frames_after frames (Pops r) = drop 1 frames
-frames_after frames (DeletesLocal l n) = without_local l n frames
-frames_after frames a = frames
-
--- the pending exception after it
-abbrev pub pending_after : Classes → Heap → Reference → Answer → Reference
-pending_after classes heap pending (Raises c) = Some (next_name heap)
-pending_after classes heap pending (ThrowsNew c text) = Some (next_name heap + 1)
-pending_after classes heap pending RefusesFrames = Some (out_of_memory classes)
-pending_after classes heap pending (Pends r g) = r
-pending_after classes heap pending a = pending
-
--- what a call of this kind of result gives
-abbrev pub given_after : Heap → ResultKind → Answer → CallResult
-given_after heap kind (Gives g) = g
-given_after heap kind (Writes n i v) = NoResult
-given_after heap kind (Makes n) = ReferenceResult (Some (next_name heap))
-given_after heap kind (Raises c) = failure kind
-given_after heap kind (ThrowsNew c text) = zero_result
-given_after heap kind (Ensures n) = zero_result
-given_after heap kind (Pushes n) = zero_result
-given_after heap kind RefusesFrames = ScalarResult (Int (negsuc 3))
-given_after heap kind (Pops r) = ReferenceResult r
-given_after heap kind (DeletesLocal l n) = NoResult
-given_after heap kind (MakesGlobal n) = ReferenceResult (Some n)
-given_after heap kind (DeletesGlobal x) = NoResult
-given_after heap kind (DeletesWeak x) = NoResult
-given_after heap kind (Pends r g) = g
-given_after heap kind (GetsRegion r) = NoResult
-given_after heap kind (SetsRegion r) = NoResult
-given_after heap kind (Lends b) = BufferResult (lent_view heap b)
-given_after heap kind (CopiesBack n p frees) = NoResult
-given_after heap kind (Frees p) = NoResult
-given_after heap kind (Owns n count) = zero_result
-given_after heap kind (Disowns n) = zero_result
-given_after heap kind (Calls x) = NoResult
-given_after heap kind (Halts trap) = NoResult
+-- An answer to a call with these arguments, in this turn, is carried out: of each thread with these locals and this pending
+-- exception its effect leaves what is there then.
+abbrev pub CarriesOut : Turn → JniFunction → List ActualInMemory → InMemory → SharedInMemory → Locals → Option ObjectId → Done
+    → SharedInMemory → Locals → Option ObjectId → Type 0
+CarriesOut turn f actuals a s locals pending did s' locals' pending' =
+    (t : Thread) → left_of turn.classes.now (prototype f).result (shared_view s) (with_locals t locals pending)
+    (effect_of turn.classes.now (in_use_view turn.in_use) turn.thread (shared_view s) (with_locals t locals pending) (map actual_view actuals)
+    (answer_view turn.classes.now a))
+    ≡ record { shared = shared_view s'; thread = with_locals t locals' pending'; coming = done_view (shared_view s').heap (map actual_view actuals) did }
 
 -- the frames with what a call of this kind of result gave
 abbrev pub frames_with : ResultKind → CallResult → List Frame → List Frame

@@ -1,27 +1,31 @@
 //! What a function of the JNI does, as data.
 
-ghost use Rattle.std.specs.Prelude.{◌≡◌, is_some, map};
+ghost use Rattle.std.specs.Prelude.{◌≡◌, [], false, length, map, pos, slice_get, true};
 ghost use Rattle.std.specs.Option.{option_map};
-ghost use Rattle.base.specs.Bytes.{lookup};
 ghost use Rattle.classes.specs.FieldViews.{field_id_view};
+ghost use Rattle.base.specs.Bytes.{lookup};
+ghost use Rattle.class_rules.specs.Class.{Classes, class_kind, element_class};
 ghost use Rattle.class_rules.specs.ClassIds.{number_of};
+ghost use Rattle.class_rules.specs.Fields.{find_field, find_static};
 ghost use Rattle.class_rules.specs.Grown.{IsGrown};
-ghost use Rattle.jni.specs.Table.{function_value};
-ghost use Rattle.semantics.specs.CallEffects.{level_of, same_reference};
-ghost use Rattle.semantics.specs.Method.{find_method};
-ghost use Rattle.syntax.specs.Views.{unit_tree};
-ghost use Rattle.semantics.specs.Heap.{field_place, fits_class, number_in, reference_in, static_place};
-ghost use Rattle.semantics.specs.Arguments.{field_given, method_given, number_given, object_given, reference_given, text_given, variable_given};
-ghost use Rattle.replay_arguments.specs.Actuals.{actual_view};
-ghost use Rattle.replay_calls.specs.Answers.{answer_or_trap, answer_view, called_in, lent_in, trap_in};
-ghost use Rattle.replay_arguments.specs.Checked.{trap_found};
 ghost use Rattle.jni.specs.Subjects.{subject_of};
-ghost use Rattle.replay_calls.specs.WorkedOut.{IsByClasses, IsByFrames, IsByObjects, element_given, element_set, ensured, field_named, fits_element, found_class, found_field, found_method, index_given, local_deleted, made_global, method_called, new_array, new_object_array, pushed, worked_out};
+ghost use Rattle.jni.specs.Table.{function_value};
 ghost use Rattle.jni.specs.declared.subject.Subject.TheVariants as subject;
-ghost use Rattle.semantics.specs.EventViews.{trap_view};
+ghost use Rattle.syntax.specs.Views.{unit_tree};
+ghost use Rattle.semantics.specs.AnswerTable.{element_given, element_set, ensured, fits, found_class, found_field, found_method, global_deleted, index_within, local_deleted, method_called, new_array, pushed, weak_deleted};
+ghost use Rattle.semantics.specs.Arguments.{field_given, number_given, object_given, reference_given, text_given, variable_given};
+ghost use Rattle.semantics.specs.CallEffects.{same_reference};
+ghost use Rattle.semantics.specs.CallSight.{argument_seen};
+ghost use Rattle.semantics.specs.CallTraps.{answered, trap_of};
+ghost use Rattle.semantics.specs.Heap.{class_of, field_place, number_in, reference_in, static_place, values_of};
+ghost use Rattle.semantics.specs.Method.{find_method};
+ghost use Rattle.semantics.specs.Object.{Number, Refers};
 ghost use Rattle.semantics.specs.Views.{name_of};
-ghost use Rattle.replay_terms.specs.Views.{in_use_view, method_view, variables_view};
-ghost use Rattle.base.specs.Element.{element_value};
+ghost use Rattle.replay_arguments.specs.Actuals.{actual_view};
+ghost use Rattle.replay_arguments.specs.Sights.{scene_sight};
+ghost use Rattle.replay_calls.specs.Answers.{FitsCall, answer_view, array_given, scene_answer};
+ghost use Rattle.replay_objects.specs.New.{array_class};
+ghost use Rattle.replay_terms.specs.Views.{held_view, method_view, variables_view};
 ghost use Rattle.world_values.specs.Views.{object_value_view};
 
 use crate::buffers::buffer_answer;
@@ -38,18 +42,18 @@ use classes::fields::FieldId;
 use classes::table::ClassTable;
 use jni::{JniFunction, Subject};
 use replay_arguments::actual::{
-    Actual, class_given, field_given, level_of, method_given, number_given, object_given,
-    reference_given, text_given, variable_given,
+    Actual, class_given, field_given, method_given, number_given, object_given, reference_given,
+    text_given, variable_given,
 };
-use replay_arguments::check::{check, fits_class};
+use replay_arguments::check::check;
 use replay_arguments::{Scene, field};
-use replay_objects::{Frames, New, Store};
-use replay_terms::{BuffersInUse, Given, Lent, MethodId, Variables, convert};
-use semantics::{Level, ObjectId, Trap};
+use replay_objects::{New, Store};
+use replay_terms::{Given, MethodId, StaticReference, Statics, convert};
+use semantics::{ObjectId, Trap};
 use syntax::{ElementType, Item};
 use world_values::ObjectValue;
 
-/// What a call does.
+/// What a call does, all checks being passed. A variable is that of an argument.
 #[derive(Clone, Copy)]
 pub enum Answer<'a> {
     /// Nothing changes, and this is given.
@@ -66,48 +70,46 @@ pub enum Answer<'a> {
     Raises(ClassId),
     /// A string of this text is made, and an exception of the class of this number with it as message; the exception is
     /// pending, and 0 is given.
-    ThrowsNew {
+    RaisesWith {
         class: ClassId,
         text: &'a [u8],
     },
-    /// The current frame gets room for this number of references more, and 0 is given.
-    Ensures(usize),
-    /// A frame of this capacity is made, and 0 is given.
-    Pushes(usize),
-    /// -4 is given, and the OutOfMemoryError object is pending: the frames can't have so large capacities.
-    RefusesFrames,
-    /// The current frame is dropped, and this is given.
-    Pops(Option<ObjectId>),
-    /// A local reference to the object of this name is deleted, in the frame of a level.
-    DeletesLocal {
-        level: Level,
-        object: ObjectId,
-    },
-    /// A global reference to the object of this name is made, and given.
-    MakesGlobal(ObjectId),
-    /// The global reference that the static of this name holds is deleted, and the static is marked, if it holds one.
-    DeletesGlobal(&'a [u8]),
-    /// The weak global reference that the static of this name holds is deleted, and the static is marked, if it holds one.
-    DeletesWeak(&'a [u8]),
     /// The exception of this name is pending, or none is, whatever was pending before, and this is given.
     Pends {
         exception: Option<ObjectId>,
         given: Given<'a>,
     },
-    /// The local array of a region begins with the region's numbers.
-    GetsRegion(Region<'a>),
-    /// The numbers of a region become the first of its local array.
-    SetsRegion(Region<'a>),
-    /// This buffer is given.
-    Lends(Lent),
-    /// The object of this name gets the numbers of the copy that a variable holds, which is given up or not.
+    /// The current frame gets room for this number of references more and 0 is given, or -4 where the frames can't have it.
+    Ensures(usize),
+    /// A frame of this capacity is made and 0 is given, or -4 where the frames can't have it.
+    Pushes(usize),
+    /// -4 is given, and the OutOfMemoryError object is pending.
+    RefusesFrames,
+    /// The current frame is dropped, and this is given.
+    Pops(Option<ObjectId>),
+    /// A local reference to the object of this name is deleted, in the frame of the first argument's variable.
+    DeletesLocal(ObjectId),
+    /// A global reference to the object of this name is made and given, and none for NULL.
+    MakesGlobal(Option<ObjectId>),
+    /// A global reference to the object of this name is deleted, and the static of the first argument, which held it, is marked.
+    DeletesGlobal(ObjectId),
+    /// The static of the first argument, which held a weak global reference, is marked.
+    DeletesWeak,
+    /// The local array of the fourth argument begins with the numbers of a region.
+    GetsRegion(Region),
+    /// The numbers of a region become the first of the local array of the fourth argument.
+    SetsRegion(Region),
+    /// A copy of the numbers of the object of this name is given, or NULL where all copies would be too long.
+    Copies(ObjectId),
+    /// A view of the object of this name is given, or NULL where there are as many as there may be.
+    Views(ObjectId),
+    /// The object of this name gets the numbers of the copy that the second argument's variable holds, which is given up or not.
     CopiesBack {
         object: ObjectId,
-        buffer: &'a [u8],
         frees: bool,
     },
-    /// The buffer that a variable holds is given up.
-    Frees(&'a [u8]),
+    /// The buffer that the second argument's variable holds is given up.
+    Frees,
     /// The thread owns the object of this name so many times, and 0 is given.
     Owns {
         object: ObjectId,
@@ -115,20 +117,19 @@ pub enum Answer<'a> {
     },
     /// Nobody owns the object of this name, and 0 is given.
     Disowns(ObjectId),
-    /// The method is called whose function has this name, with what is passed to it.
-    Calls(&'a [u8]),
+    /// The method is called, with what is passed to it.
+    Calls(MethodId<'a>),
     /// The run stops.
     Halts(Trap),
 }
 
-/// A part of an array or of a string, and a local array to or from which its numbers are copied.
+/// A part of an array or of a string.
 #[derive(Clone, Copy)]
-pub struct Region<'a> {
+pub struct Region {
     pub object: ObjectId,
     /// The place of the first value, counted from 0.
     pub start: usize,
     pub count: usize,
-    pub array: &'a [u8],
 }
 
 /// Who calls, and what a call goes by beside what it sees.
@@ -138,14 +139,12 @@ pub struct Caller<'a> {
     pub unit: &'a [Item],
     /// The thread's number, from 1.
     pub thread: u8,
-    /// What the buffers of all threads take before the call.
-    pub in_use: BuffersInUse,
-    /// The element type of the buffer that is to hold it.
+    /// The element type of the buffer that the call is to fill.
     pub element: ElementType,
 }
 
 /// What a call does, its arguments being looked up: the run stops by the first check that fails, or else it does what
-/// its function does.
+/// its function does. How deep calls are is none of these checks: that is checked where a method is entered.
 pub fn answer_or_trap<'a>(
     scene: Scene<'_, 'a>,
     caller: Caller<'a>,
@@ -153,48 +152,16 @@ pub fn answer_or_trap<'a>(
     actuals: &[Actual<'a>],
 ) -> Answer<'a>
     requires { IsGrown scene.classes.now }
-    ensures { answer_view result ≡ answer_or_trap
-        (trap_found scene.entry.classes.now scene.entry.shared.now.store scene.entry.locals.now.frames
-        (is_some (name_of scene.entry.pending)) (element_value caller.entry.element) (function_value function)
-        (map actual_view actuals.now))
-        (worked_out (unit_tree caller.entry.unit.now) scene.entry.classes.now (in_use_view caller.entry.in_use) caller.entry.thread
-        scene.entry.shared.now.monitors scene.entry.shared.now.store
-        (variables_view scene.entry.locals.now.variables) scene.entry.locals.now.frames (name_of scene.entry.pending)
-        (map actual_view actuals.now) (function_value function)) }
+    ensures answer { answer_view scene.entry.classes.now result
+        ≡ answered (trap_of scene.entry.classes.now (scene_sight scene.entry caller.entry.element function actuals.now) (function_value function))
+        (scene_answer scene.entry caller.entry function actuals.now) }
+    ensures fits { FitsCall scene.entry.shared.now.store
+        (array_given (variables_view scene.entry.locals.now.variables) (map actual_view actuals.now)) (function_value function)
+        (answer_view scene.entry.classes.now result) }
 {
     match check(scene, caller.element, function, actuals) {
         Some(trap) => Answer::Halts(trap),
         None => work_out(scene, caller, function, actuals),
-    }
-}
-
-/// The trap with which the run stops.
-pub fn trap_in(answer: Answer<'_>) -> Option<Trap>
-    ensures { option_map trap_view result ≡ trap_in (answer_view answer.entry) }
-{
-    match answer {
-        Answer::Halts(trap) => Some(trap),
-        _ => None,
-    }
-}
-
-/// The buffer that a call gives.
-pub fn lent_in(answer: Answer<'_>) -> Option<Lent>
-    ensures { result ≡ lent_in (answer_view answer.entry) }
-{
-    match answer {
-        Answer::Lends(buffer) => Some(buffer),
-        _ => None,
-    }
-}
-
-/// The name of the function whose method is called.
-pub fn called_in<'a>(answer: Answer<'a>) -> Option<&'a [u8]>
-    ensures { option_map (λ x. x.now) result ≡ called_in (answer_view answer.entry) }
-{
-    match answer {
-        Answer::Calls(function) => Some(function),
-        _ => None,
     }
 }
 
@@ -206,43 +173,34 @@ fn work_out<'a>(
     actuals: &[Actual<'a>],
 ) -> Answer<'a>
     requires { IsGrown scene.classes.now }
-    ensures { answer_view result
-        ≡ worked_out (unit_tree caller.entry.unit.now) scene.entry.classes.now (in_use_view caller.entry.in_use) caller.entry.thread
-        scene.entry.shared.now.monitors scene.entry.shared.now.store
-        (variables_view scene.entry.locals.now.variables) scene.entry.locals.now.frames (name_of scene.entry.pending)
-        (map actual_view actuals.now) (function_value function) }
+    ensures { answer_view scene.entry.classes.now result ≡ scene_answer scene.entry caller.entry function actuals.now }
 {
-    let classes = scene.classes;
-    let store = &scene.shared.store;
-    let variables = &scene.locals.variables;
     match function.subject() {
-        Subject::Classes => class_answer(caller.unit, classes, store, function, actuals),
-        Subject::References => reference_answer(variables, &scene.locals.frames, function, actuals),
-        Subject::Fields => field_answer(classes, store, function, actuals),
-        Subject::Statics => static_answer(classes, store, function, actuals),
-        Subject::Arrays => array_answer(classes, store, function, actuals),
-        Subject::Regions => region_answer(store, variables, function, actuals),
-        Subject::Buffers => buffer_answer(store, caller.in_use, function, actuals),
-        Subject::Exceptions => exception_answer(scene.pending, function, actuals),
-        Subject::Monitors => {
-            monitor_answer(&scene.shared.monitors, caller.thread, function, actuals)
-        }
+        Subject::Classes => class_answer(scene, caller, function, actuals),
+        Subject::References => reference_answer(scene, caller, function, actuals),
+        Subject::Fields => field_answer(scene, caller, function, actuals),
+        Subject::Statics => static_answer(scene, caller, function, actuals),
+        Subject::Arrays => array_answer(scene, caller, function, actuals),
+        Subject::Regions => region_answer(scene, caller, function, actuals),
+        Subject::Buffers => buffer_answer(scene, caller, function, actuals),
+        Subject::Exceptions => exception_answer(scene, caller, function, actuals),
+        Subject::Monitors => monitor_answer(scene, caller, function, actuals),
     }
 }
 
 /// What a function does that works on classes and methods.
+#[tactic(auto, unfolding(semantics::specs::AnswerTable::call_answer))]
 #[inline]
 fn class_answer<'a>(
-    unit: &'a [Item],
-    classes: &'a ClassTable,
-    store: &Store,
+    scene: Scene<'_, 'a>,
+    caller: Caller<'a>,
     function: JniFunction,
     actuals: &[Actual<'a>],
 ) -> Answer<'a>
     requires { subject_of (function_value function) ≡ subject.Classes }
-    ensures { IsByClasses (unit_tree unit.now) classes.now store.now (map actual_view actuals.now) (function_value function)
-        (answer_view result) }
+    ensures { answer_view scene.entry.classes.now result ≡ scene_answer scene.entry caller.entry function actuals.now }
 {
+    let (classes, store) = (scene.classes, &scene.shared.store);
     let first = class_given(actuals, 0);
     let second = class_given(actuals, 1);
     match function {
@@ -256,8 +214,7 @@ fn class_answer<'a>(
             Answer::Gives(Given::Reference(Some(ObjectId::of_class(class))))
         }
         JniFunction::IsInstanceOf => {
-            let reference = reference_given(actuals, 0);
-            Answer::Gives(Given::Flag(fits_class(classes, store, reference, second)))
+            Answer::Gives(Given::Flag(fits(classes, store, actuals, 0, second)))
         }
         JniFunction::IsAssignableFrom => {
             Answer::Gives(Given::Flag(classes.assignable(first, second)))
@@ -265,7 +222,7 @@ fn class_answer<'a>(
         JniFunction::AllocObject => Answer::Makes(New::Fresh(first)),
         JniFunction::GetFieldID => field_named(classes, actuals, false),
         JniFunction::GetStaticFieldID => field_named(classes, actuals, true),
-        JniFunction::GetStaticMethodID => method_named(unit, classes, actuals),
+        JniFunction::GetStaticMethodID => method_named(caller.unit, classes, actuals),
         JniFunction::CallStaticVoidMethod => method_called(method_given(actuals, 1)),
         JniFunction::CallStaticIntMethod => method_called(method_given(actuals, 1)),
         JniFunction::CallStaticObjectMethod => method_called(method_given(actuals, 1)),
@@ -274,48 +231,49 @@ fn class_answer<'a>(
 }
 
 /// What a function does that works on references and frames.
+#[tactic(auto, unfolding(semantics::specs::AnswerTable::call_answer))]
 #[inline]
 fn reference_answer<'a>(
-    variables: &Variables<'_>,
-    frames: &Frames,
+    scene: Scene<'_, 'a>,
+    caller: Caller<'a>,
     function: JniFunction,
     actuals: &[Actual<'a>],
 ) -> Answer<'a>
     requires { subject_of (function_value function) ≡ subject.References }
-    ensures { IsByFrames (variables_view variables.now) frames.now (map actual_view actuals.now)
-        (function_value function) (answer_view result) }
+    ensures { answer_view scene.entry.classes.now result ≡ scene_answer scene.entry caller.entry function actuals.now }
 {
     match function {
         JniFunction::NewLocalRef => { Answer::Gives(Given::Reference(reference_given(actuals, 0))) }
-        JniFunction::NewGlobalRef => made_global(reference_given(actuals, 0)),
+        JniFunction::NewGlobalRef => Answer::MakesGlobal(reference_given(actuals, 0)),
         JniFunction::NewWeakGlobalRef => { Answer::Gives(Given::Weak(reference_given(actuals, 0))) }
-        JniFunction::DeleteLocalRef => local_deleted(variables, actuals),
-        JniFunction::DeleteGlobalRef => Answer::DeletesGlobal(variable_given(actuals, 0)),
-        JniFunction::DeleteWeakGlobalRef => Answer::DeletesWeak(variable_given(actuals, 0)),
+        JniFunction::DeleteLocalRef => local_deleted(reference_given(actuals, 0)),
+        JniFunction::DeleteGlobalRef => global_deleted(held(&scene.shared.statics, actuals)),
+        JniFunction::DeleteWeakGlobalRef => weak_deleted(held(&scene.shared.statics, actuals)),
         JniFunction::IsSameObject => {
             let same = same_reference(reference_given(actuals, 0), reference_given(actuals, 1));
             Answer::Gives(Given::Flag(same))
         }
-        JniFunction::EnsureLocalCapacity => ensured(frames, number_given(actuals, 0)),
-        JniFunction::PushLocalFrame => pushed(frames, number_given(actuals, 0)),
+        JniFunction::EnsureLocalCapacity => ensured(number_given(actuals, 0)),
+        JniFunction::PushLocalFrame => pushed(number_given(actuals, 0)),
         JniFunction::PopLocalFrame => Answer::Pops(reference_given(actuals, 0)),
         _ => unreachable!(),
     }
 }
 
 /// What a function does that works on the fields of an object.
+#[tactic(auto, unfolding(semantics::specs::AnswerTable::call_answer))]
 #[inline]
 fn field_answer<'a>(
-    classes: &ClassTable,
-    store: &Store,
+    scene: Scene<'_, 'a>,
+    caller: Caller<'a>,
     function: JniFunction,
     actuals: &[Actual<'a>],
 ) -> Answer<'a>
     requires subject { subject_of (function_value function) ≡ subject.Fields }
-    requires grown { IsGrown classes.now }
-    ensures { IsByObjects classes.now store.now (map actual_view actuals.now) (function_value function)
-        (answer_view result) }
+    requires grown { IsGrown scene.classes.now }
+    ensures { answer_view scene.entry.classes.now result ≡ scene_answer scene.entry caller.entry function actuals.now }
 {
+    let (classes, store) = (scene.classes, &scene.shared.store);
     let object = object_given(actuals, 0);
     let place = place_of_field(classes, store, actuals);
     match function {
@@ -345,18 +303,19 @@ fn field_answer<'a>(
 }
 
 /// What a function does that works on a static of a class.
+#[tactic(auto, unfolding(semantics::specs::AnswerTable::call_answer))]
 #[inline]
 fn static_answer<'a>(
-    classes: &ClassTable,
-    store: &Store,
+    scene: Scene<'_, 'a>,
+    caller: Caller<'a>,
     function: JniFunction,
     actuals: &[Actual<'a>],
 ) -> Answer<'a>
     requires subject { subject_of (function_value function) ≡ subject.Statics }
-    requires grown { IsGrown classes.now }
-    ensures { IsByObjects classes.now store.now (map actual_view actuals.now) (function_value function)
-        (answer_view result) }
+    requires grown { IsGrown scene.classes.now }
+    ensures { answer_view scene.entry.classes.now result ≡ scene_answer scene.entry caller.entry function actuals.now }
 {
+    let (classes, store) = (scene.classes, &scene.shared.store);
     let class = ObjectId::of_class(declarer(actuals));
     let place = place_of_static(classes, actuals);
     match function {
@@ -386,17 +345,18 @@ fn static_answer<'a>(
 }
 
 /// What a function does that works on arrays or strings.
+#[tactic(auto, unfolding(semantics::specs::AnswerTable::call_answer))]
 #[inline]
 fn array_answer<'a>(
-    classes: &ClassTable,
-    store: &Store,
+    scene: Scene<'_, 'a>,
+    caller: Caller<'a>,
     function: JniFunction,
     actuals: &[Actual<'a>],
 ) -> Answer<'a>
     requires { subject_of (function_value function) ≡ subject.Arrays }
-    ensures { IsByObjects classes.now store.now (map actual_view actuals.now) (function_value function)
-        (answer_view result) }
+    ensures { answer_view scene.entry.classes.now result ≡ scene_answer scene.entry caller.entry function actuals.now }
 {
+    let (classes, store) = (scene.classes, &scene.shared.store);
     match function {
         JniFunction::GetArrayLength | JniFunction::GetStringLength => {
             let values = store.values_of(object_given(actuals, 0));
@@ -415,7 +375,12 @@ fn array_answer<'a>(
 
 /// The field or the static of a class with the name and the type of arguments 1 and 2, or else an exception.
 fn field_named<'a>(classes: &'a ClassTable, actuals: &[Actual<'a>], is_static: bool) -> Answer<'a>
-    ensures { answer_view result ≡ found_field (field_named is_static classes.now (map actual_view actuals.now)) }
+    ensures field { is_static ≡ false → (cs : Classes) → answer_view cs result
+        ≡ found_field (find_field classes.now (object_given (map actual_view actuals.now) 0)
+        (text_given (map actual_view actuals.now) 1) (text_given (map actual_view actuals.now) 2)) }
+    ensures static_field { is_static ≡ true → (cs : Classes) → answer_view cs result
+        ≡ found_field (find_static classes.now (object_given (map actual_view actuals.now) 0)
+        (text_given (map actual_view actuals.now) 1) (text_given (map actual_view actuals.now) 2)) }
 {
     let (name, text) = (text_given(actuals, 1), text_given(actuals, 2));
     found_field(classes.field(class_given(actuals, 0), name, text, is_static))
@@ -423,7 +388,7 @@ fn field_named<'a>(classes: &'a ClassTable, actuals: &[Actual<'a>], is_static: b
 
 /// The method of a class with the name and the signature of arguments 1 and 2, or else an exception.
 fn method_named<'a>(unit: &'a [Item], classes: &ClassTable, actuals: &[Actual<'a>]) -> Answer<'a>
-    ensures { answer_view result
+    ensures { (cs : Classes) → answer_view cs result
         ≡ found_method
         (find_method (unit_tree unit.now) classes.now (object_given (map actual_view actuals.now) 0)
         (text_given (map actual_view actuals.now) 1) (text_given (map actual_view actuals.now) 2)) }
@@ -441,17 +406,17 @@ fn method_named<'a>(unit: &'a [Item], classes: &ClassTable, actuals: &[Actual<'a
 
 /// The method is called; without one the run stops.
 fn method_called<'a>(method: Option<MethodId<'a>>) -> Answer<'a>
-    ensures { answer_view result ≡ method_called (option_map method_view method.entry) }
+    ensures { (cs : Classes) → answer_view cs result ≡ method_called (option_map method_view method.entry) }
 {
     match method {
-        Some(method) => Answer::Calls(method.function.name.as_bytes()),
+        Some(method) => Answer::Calls(method),
         None => Answer::Halts(Trap::NullReference),
     }
 }
 
 /// A class that was found, or else an exception.
 fn found_class<'a>(class: Option<ClassId>) -> Answer<'a>
-    ensures { answer_view result ≡ found_class (number_of class) }
+    ensures { (cs : Classes) → answer_view cs result ≡ found_class (number_of class) }
 {
     match class {
         Some(class) => Answer::Gives(Given::Reference(Some(ObjectId::of_class(class)))),
@@ -461,7 +426,7 @@ fn found_class<'a>(class: Option<ClassId>) -> Answer<'a>
 
 /// A field that was found, or else an exception.
 fn found_field(field: Option<FieldId<'_>>) -> Answer<'_>
-    ensures { answer_view result ≡ found_field (option_map field_id_view field.entry) }
+    ensures { (cs : Classes) → answer_view cs result ≡ found_field (option_map field_id_view field.entry) }
 {
     match field {
         Some(field) => Answer::Gives(Given::Field(Some(field))),
@@ -469,61 +434,60 @@ fn found_field(field: Option<FieldId<'_>>) -> Answer<'_>
     }
 }
 
-/// Room for this number of references more in the current frame, if it may have it.
-fn ensured<'a>(frames: &Frames, more: i32) -> Answer<'a>
-    ensures { answer_view result ≡ ensured frames.now more }
+/// Room for this number of references more in the current frame.
+fn ensured<'a>(more: i32) -> Answer<'a>
+    ensures { (cs : Classes) → answer_view cs result ≡ ensured more }
 {
     if more < 0 {
         return Answer::RefusesFrames;
     }
-    let more = more as usize;
-    if frames.has_room(more) {
-        Answer::Ensures(more)
-    } else {
-        Answer::RefusesFrames
-    }
+    Answer::Ensures(more as usize)
 }
 
-/// A frame of this capacity, if it may be had.
-fn pushed<'a>(frames: &Frames, capacity: i32) -> Answer<'a>
-    ensures { answer_view result ≡ pushed frames.now capacity }
+/// A frame of this capacity.
+fn pushed<'a>(capacity: i32) -> Answer<'a>
+    ensures { (cs : Classes) → answer_view cs result ≡ pushed capacity }
 {
     if capacity < 0 {
         return Answer::RefusesFrames;
     }
-    let capacity = capacity as usize;
-    if frames.has_room_for(capacity) {
-        Answer::Pushes(capacity)
-    } else {
-        Answer::RefusesFrames
-    }
+    Answer::Pushes(capacity as usize)
 }
 
-/// A global reference to the same object; NULL for NULL.
-fn made_global<'a>(reference: Option<ObjectId>) -> Answer<'a>
-    ensures { answer_view result ≡ made_global (name_of reference) }
+/// This local reference is deleted, unless it is NULL.
+fn local_deleted<'a>(reference: Option<ObjectId>) -> Answer<'a>
+    ensures { (cs : Classes) → answer_view cs result ≡ local_deleted (name_of reference) }
 {
     match reference {
-        Some(name) => Answer::MakesGlobal(name),
-        None => Answer::Gives(Given::Reference(None)),
+        Some(object) => Answer::DeletesLocal(object),
+        None => Answer::Gives(Given::Nothing),
     }
 }
 
-/// The reference of argument 0 is deleted, unless it is NULL.
-fn local_deleted<'a>(variables: &Variables<'_>, actuals: &[Actual<'_>]) -> Answer<'a>
-    ensures { answer_view result
-        ≡ local_deleted
-        (level_of (lookup (variable_given (map actual_view actuals.now) 0) (variables_view variables.now)))
-        (reference_given (map actual_view actuals.now) 0) }
+/// What the static of the first argument holds, if it is one.
+fn held(statics: &Statics<'_>, actuals: &[Actual<'_>]) -> Option<StaticReference>
+    ensures { option_map held_view result ≡ lookup (variable_given (map actual_view actuals.now) 0) statics.now }
 {
-    match reference_given(actuals, 0) {
-        Some(name) => {
-            Answer::DeletesLocal {
-                level: level_of(variables, variable_given(actuals, 0)),
-                object: name,
-            }
-        }
-        None => Answer::Gives(Given::Nothing),
+    statics.held_named(variable_given(actuals, 0))
+}
+
+/// The global reference is deleted that a static holds, if it holds one.
+fn global_deleted<'a>(held: Option<StaticReference>) -> Answer<'a>
+    ensures { (cs : Classes) → answer_view cs result ≡ global_deleted (option_map held_view held) }
+{
+    match held {
+        Some(StaticReference::Live(object)) => Answer::DeletesGlobal(object),
+        _ => Answer::Gives(Given::Nothing),
+    }
+}
+
+/// The weak global reference is deleted that a static holds, cleared or not, if it holds one.
+fn weak_deleted<'a>(held: Option<StaticReference>) -> Answer<'a>
+    ensures { (cs : Classes) → answer_view cs result ≡ weak_deleted (option_map held_view held) }
+{
+    match held {
+        Some(StaticReference::Weakly(_)) | Some(StaticReference::Cleared) => Answer::DeletesWeak,
+        _ => Answer::Gives(Given::Nothing),
     }
 }
 
@@ -589,7 +553,7 @@ fn reference_in(value: ObjectValue) -> Option<ObjectId>
 
 /// An array of this class with this many zeros, or else an exception.
 fn new_array<'a>(class: ClassId, count: i32) -> Answer<'a>
-    ensures { answer_view result ≡ new_array class.number count }
+    ensures { (cs : Classes) → answer_view cs result ≡ new_array class.number count (Number (pos 0)) }
 {
     if count < 0 {
         return Answer::Raises(NEGATIVE_ARRAY_SIZE_EXCEPTION);
@@ -601,26 +565,35 @@ fn new_array<'a>(class: ClassId, count: i32) -> Answer<'a>
     })
 }
 
-/// An array with the length, the class of its elements and the reference of arguments 0 to 2, or else an exception.
-fn new_object_array<'a>(actuals: &[Actual<'_>]) -> Answer<'a>
-    ensures { answer_view result
-        ≡ new_object_array (object_given (map actual_view actuals.now) 1)
-        (reference_given (map actual_view actuals.now) 2) (number_given (map actual_view actuals.now) 0) }
+/// An array of this many equal references to objects of this class, or else an exception.
+fn object_array<'a>(element: ClassId, reference: Option<ObjectId>, count: i32) -> Answer<'a>
+    ensures { (cs : Classes) → answer_view cs result ≡ new_array (array_class cs element.number) count (Refers (name_of reference)) }
 {
-    let count = number_given(actuals, 0);
     if count < 0 {
         return Answer::Raises(NEGATIVE_ARRAY_SIZE_EXCEPTION);
     }
     Answer::Makes(New::ObjectArray {
-        element: class_given(actuals, 1),
+        element,
         count: count as usize,
-        reference: reference_given(actuals, 2),
+        reference,
     })
+}
+
+/// An array with the length, the class of its elements and the reference of arguments 0 to 2, or else an exception.
+fn new_object_array<'a>(actuals: &[Actual<'_>]) -> Answer<'a>
+    ensures { (cs : Classes) → answer_view cs result
+        ≡ new_array (array_class cs (object_given (map actual_view actuals.now) 1)) (number_given (map actual_view actuals.now) 0)
+        (Refers (reference_given (map actual_view actuals.now) 2)) }
+{
+    let (element, reference) = (class_given(actuals, 1), reference_given(actuals, 2));
+    let count = number_given(actuals, 0);
+    object_array(element, reference, count)
 }
 
 /// The index of argument 1, where the array of argument 0 has it.
 fn index_given(store: &Store, actuals: &[Actual<'_>]) -> Option<usize>
-    ensures { result ≡ index_given store.now (map actual_view actuals.now) }
+    ensures { result ≡ index_within (length (values_of store.now (object_given (map actual_view actuals.now) 0)))
+        (number_given (map actual_view actuals.now) 1) }
 {
     let index = number_given(actuals, 1);
     if index < 0 {
@@ -636,9 +609,10 @@ fn index_given(store: &Store, actuals: &[Actual<'_>]) -> Option<usize>
 
 /// The element of an array of references at an index, or else an exception.
 fn element<'a>(store: &Store, actuals: &[Actual<'_>]) -> Answer<'a>
-    ensures { answer_view result
-        ≡ element_given store.now (object_given (map actual_view actuals.now) 0)
-        (index_given store.now (map actual_view actuals.now)) }
+    ensures { (cs : Classes) → answer_view cs result
+        ≡ element_given (values_of store.now (object_given (map actual_view actuals.now) 0))
+        (index_within (length (values_of store.now (object_given (map actual_view actuals.now) 0)))
+        (number_given (map actual_view actuals.now) 1)) }
 {
     match index_given(store, actuals) {
         Some(index) => {
@@ -651,10 +625,12 @@ fn element<'a>(store: &Store, actuals: &[Actual<'_>]) -> Answer<'a>
 
 /// The element of an array at an index becomes the reference of argument 2, or else there is an exception.
 fn element_set<'a>(classes: &ClassTable, store: &Store, actuals: &[Actual<'_>]) -> Answer<'a>
-    ensures { answer_view result
-        ≡ element_set (fits_element classes.now store.now (map actual_view actuals.now))
+    ensures { (cs : Classes) → answer_view cs result
+        ≡ element_set (fits classes.now (argument_seen store.now (slice_get (map actual_view actuals.now) 2))
+        (element_class (class_kind classes.now (class_of store.now (object_given (map actual_view actuals.now) 0)))))
         (object_given (map actual_view actuals.now) 0) (reference_given (map actual_view actuals.now) 2)
-        (index_given store.now (map actual_view actuals.now)) }
+        (index_within (length (values_of store.now (object_given (map actual_view actuals.now) 0)))
+        (number_given (map actual_view actuals.now) 1)) }
 {
     let Some(index) = index_given(store, actuals) else {
         return Answer::Raises(ARRAY_INDEX_OUT_OF_BOUNDS_EXCEPTION);
@@ -662,19 +638,37 @@ fn element_set<'a>(classes: &ClassTable, store: &Store, actuals: &[Actual<'_>]) 
     if !fits_element(classes, store, actuals) {
         return Answer::Raises(ARRAY_STORE_EXCEPTION);
     }
-    let reference = reference_given(actuals, 2);
     Answer::Writes {
         object: object_given(actuals, 0),
         place: index,
-        value: ObjectValue::Reference(reference),
+        value: ObjectValue::Reference(reference_given(actuals, 2)),
     }
 }
 
 /// Whether the reference of argument 2 may be an element of the array of argument 0.
 fn fits_element(classes: &ClassTable, store: &Store, actuals: &[Actual<'_>]) -> bool
-    ensures { result ≡ fits_element classes.now store.now (map actual_view actuals.now) }
+    ensures { result
+        ≡ fits classes.now (argument_seen store.now (slice_get (map actual_view actuals.now) 2))
+        (element_class (class_kind classes.now (class_of store.now (object_given (map actual_view actuals.now) 0)))) }
 {
     let class = store.class_of(object_given(actuals, 0));
     let element = element_class(classes, class);
-    fits_class(classes, store, reference_given(actuals, 2), element)
+    fits(classes, store, actuals, 2, element)
+}
+
+/// Whether the reference of an argument fits a class, as NULL does always.
+fn fits(
+    classes: &ClassTable,
+    store: &Store,
+    actuals: &[Actual<'_>],
+    place: usize,
+    class: ClassId,
+) -> bool
+    ensures { result
+        ≡ fits classes.now (argument_seen store.now (slice_get (map actual_view actuals.now) place)) class.number }
+{
+    match reference_given(actuals, place) {
+        Some(object) => classes.assignable(store.class_of(object), class),
+        None => true,
+    }
 }

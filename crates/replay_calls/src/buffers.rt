@@ -1,66 +1,80 @@
 //! What functions of element buffers do, as data.
 
-ghost use Rattle.std.specs.Prelude.{◌≡◌, IfOk, length, map};
+ghost use Rattle.std.specs.Prelude.{◌≡◌, ◌+◌, IfOk, if◌then◌else◌, length, map, nat_le, nat_lt};
 ghost use Rattle.std.specs.Option.{option_map};
-ghost use Rattle.jni.specs.Table.{access_value, function_value};
+ghost use Rattle.base.specs.Limits.{most_copied, most_views};
+ghost use Rattle.class_rules.specs.Class.{Classes};
+ghost use Rattle.jni.specs.Subjects.{subject_of};
+ghost use Rattle.jni.specs.Table.{function_value};
+ghost use Rattle.jni.specs.declared.subject.Subject.TheVariants as subject;
+ghost use Rattle.semantics.specs.Answer.{freed_if, with_copied_back};
+ghost use Rattle.semantics.specs.AnswerTable.{released};
 ghost use Rattle.semantics.specs.CallEffects.{BufferResult};
 ghost use Rattle.semantics.specs.CallStep.{tell_copy};
 ghost use Rattle.semantics.specs.Heap.{Heap, numbers_of};
+ghost use Rattle.semantics.specs.Variable.{Copy, NoBuffer, View};
 ghost use Rattle.semantics.specs.Views.{mode_view};
-ghost use Rattle.replay_arguments.specs.Actuals.{actual_view};
-ghost use Rattle.replay_calls.specs.Answers.{answer_view, heap_copied, variables_freed};
-ghost use Rattle.jni.specs.Subjects.{subject_of};
-ghost use Rattle.replay_calls.specs.WorkedOut.{IsByBuffers, copy_lent, lent_by, released, view_lent};
-ghost use Rattle.jni.specs.declared.subject.Subject.TheVariants as subject;
+ghost use Rattle.replay_calls.specs.Answers.{answer_view, scene_answer};
 ghost use Rattle.replay_terms.specs.Views.{in_use_view, lent_view, variables_view};
 
-use crate::answer::Answer;
+use crate::answer::{Answer, Caller};
 use base::limits::{MOST_COPIED, MOST_VIEWS};
 use jni::{Access, JniFunction};
-use replay_arguments::actual::{Actual, ReleaseMode, mode_given, object_given, variable_given};
+use replay_arguments::Scene;
+use replay_arguments::actual::{Actual, ReleaseMode, mode_given, object_given};
 use replay_objects::Store;
 use replay_terms::{BuffersInUse, Content, Lent, Value, Variables};
 use semantics::ObjectId;
 use std::alloc::AllocError;
 
 /// What a function does that gives a buffer or takes it back.
+#[tactic(auto, unfolding(semantics::specs::AnswerTable::call_answer))]
 #[inline]
 pub(crate) fn buffer_answer<'a>(
-    store: &Store,
-    in_use: BuffersInUse,
+    scene: Scene<'_, 'a>,
+    caller: Caller<'a>,
     function: JniFunction,
     actuals: &[Actual<'a>],
 ) -> Answer<'a>
     requires { subject_of (function_value function) ≡ subject.Buffers }
-    ensures { IsByBuffers store.now (in_use_view in_use) (map actual_view actuals.now) (function_value function)
-        (answer_view result) }
+    ensures { answer_view scene.entry.classes.now result ≡ scene_answer scene.entry caller.entry function actuals.now }
 {
+    let object = object_given(actuals, 0);
     match function {
-        JniFunction::GetBuffer(access) => {
-            Answer::Lends(lent(store, in_use, access, object_given(actuals, 0)))
+        JniFunction::GetBuffer(Access::ElementsCopy(_) | Access::CharsCopy) => {
+            Answer::Copies(object)
         }
+        JniFunction::GetBuffer(Access::ArrayView | Access::CharsView) => Answer::Views(object),
         JniFunction::ReleaseBuffer(Access::ElementsCopy(_)) => {
-            let object = object_given(actuals, 0);
-            released(object, variable_given(actuals, 1), mode_given(actuals, 2))
+            released(object, mode_given(actuals, 2))
         }
-        JniFunction::ReleaseBuffer(_) => Answer::Frees(variable_given(actuals, 1)),
+        JniFunction::ReleaseBuffer(_) => Answer::Frees,
         _ => unreachable!(),
     }
 }
 
-/// The buffer with which an object is accessed so.
-fn lent(store: &Store, in_use: BuffersInUse, access: Access, object: ObjectId) -> Lent
-    ensures { result ≡ lent_by (access_value access) (in_use_view in_use) store.now object.number }
+/// What a release of a copy in this mode does.
+fn released<'a>(object: ObjectId, mode: ReleaseMode) -> Answer<'a>
+    ensures { (cs : Classes) → answer_view cs result ≡ released object.number (mode_view mode) }
 {
-    match access {
-        Access::ElementsCopy(_) | Access::CharsCopy => copy_lent(store, in_use, object),
-        Access::ArrayView | Access::CharsView => view_lent(in_use, object),
+    match mode {
+        ReleaseMode::CopyBackAndFree => Answer::CopiesBack {
+            object,
+            frees: true,
+        },
+        ReleaseMode::CopyBack => Answer::CopiesBack {
+            object,
+            frees: false,
+        },
+        ReleaseMode::FreeUncopied => Answer::Frees,
     }
 }
 
 /// A copy of an object, or NULL where all copies together would be too long.
-fn copy_lent(store: &Store, in_use: BuffersInUse, object: ObjectId) -> Lent
-    ensures { result ≡ copy_lent (in_use_view in_use) (length (numbers_of store.now object.number)) object.number }
+pub(crate) fn copy_lent(store: &Store, in_use: BuffersInUse, object: ObjectId) -> Lent
+    ensures { lent_view store.now result
+        ≡ (if nat_le ((in_use_view in_use).copied + length (numbers_of store.now object.number)) most_copied
+        then Copy object.number (numbers_of store.now object.number) else NoBuffer) }
 {
     let count = store.values_of(object).len();
     if in_use.copied <= MOST_COPIED && count <= MOST_COPIED - in_use.copied {
@@ -71,32 +85,14 @@ fn copy_lent(store: &Store, in_use: BuffersInUse, object: ObjectId) -> Lent
 }
 
 /// A view of an object, or NULL where there are as many as there may be.
-fn view_lent(in_use: BuffersInUse, object: ObjectId) -> Lent
-    ensures { result ≡ view_lent (in_use_view in_use) object.number }
+pub(crate) fn view_lent(in_use: BuffersInUse, object: ObjectId) -> Lent
+    ensures { (heap : Heap) → lent_view heap result
+        ≡ (if nat_lt (in_use_view in_use).views most_views then View object.number else NoBuffer) }
 {
     if in_use.views < MOST_VIEWS as usize {
         Lent::View(object)
     } else {
         Lent::Nothing
-    }
-}
-
-/// What a release of a copy in this mode does.
-fn released<'a>(object: ObjectId, buffer: &'a [u8], mode: ReleaseMode) -> Answer<'a>
-    ensures { answer_view result ≡ released object.number buffer.entry.now (mode_view mode) }
-{
-    match mode {
-        ReleaseMode::CopyBackAndFree => Answer::CopiesBack {
-            object,
-            buffer,
-            frees: true,
-        },
-        ReleaseMode::CopyBack => Answer::CopiesBack {
-            object,
-            buffer,
-            frees: false,
-        },
-        ReleaseMode::FreeUncopied => Answer::Frees(buffer),
     }
 }
 
@@ -109,9 +105,9 @@ pub(crate) fn copy_back(
     frees: bool,
 ) -> Result<(), AllocError>
     ensures heap { IfOk result (λ _. store.new
-        ≡ heap_copied object.number buffer.now (variables_view variables.old) store.old) }
+        ≡ with_copied_back (variables_view variables.old) buffer.now object.number store.old) }
     ensures variables { IfOk result (λ _. variables_view variables.new
-        ≡ variables_freed frees buffer.now (variables_view variables.old)) }
+        ≡ freed_if frees buffer.now (variables_view variables.old)) }
 {
     store.put_numbers(object, variables.copy_named(buffer))?;
     if frees {

@@ -1,72 +1,76 @@
 //! What the answer of a function does to what all threads share, to the variables, to the frames and to the pending
 //! exception.
 
-ghost use Rattle.std.specs.Prelude.{◌≡◌, IfOk, List, None, Some, true, ℕ};
-ghost use Rattle.base.specs.Bytes.{lookup};
-ghost use Rattle.jni.specs.Prototype.{ResultKind as SourceKind};
-ghost use Rattle.jni.specs.Table.{result_value};
-ghost use Rattle.semantics.specs.CallEffects.{out_of_memory};
-ghost use Rattle.semantics.specs.CallStep.{failure};
-ghost use Rattle.semantics.specs.Heap.{Heap};
+ghost use Rattle.std.specs.Prelude.{◌≡◌, ◌++◌, ℕ, IfOk, List, Some, map, negsuc};
+ghost use Rattle.std.specs.Option.{option_to_list};
 ghost use Rattle.class_rules.specs.Class.{Classes};
-ghost use Rattle.semantics.specs.Object.{Reference};
-ghost use Rattle.semantics.specs.Thread.{Frame};
+ghost use Rattle.jni.specs.Table.{function_value, result_value};
+ghost use Rattle.semantics.specs.Answer.{effect_of};
+ghost use Rattle.semantics.specs.Arguments.{Actual as ActualOfCall};
+ghost use Rattle.semantics.specs.CallEffects.{ScalarResult, out_of_memory};
+ghost use Rattle.semantics.specs.CallStep.{failure, makes_objects};
+ghost use Rattle.semantics.specs.Thread.{BuffersInUse as InUse, Shared as SharedOfThreads, Thread};
+ghost use Rattle.semantics.specs.Value.{Int};
 ghost use Rattle.semantics.specs.Views.{name_of};
-ghost use Rattle.semantics.specs.Variable.{Variables as VariablesOfCall};
-ghost use Rattle.replay_calls.specs.Answers.{FitsArrays, FitsFrames, answer_view, called_in, frames_after, frames_with, given_after, is_of_frames, is_of_numbers, is_of_references, lent_in, makes_object, pending_after, shared_after, trap_in, variables_after, without_global, without_weak};
-ghost use Rattle.replay_terms.specs.Views.{given_view, variables_view};
+ghost use Rattle.replay_arguments.specs.Actuals.{actual_view};
 ghost use Rattle.replay_arguments.specs.Shares.{shared_view};
+ghost use Rattle.replay_calls.specs.Answers.{CarriesOut, FitsCall, answer_view, array_given, frames_with};
+ghost use Rattle.replay_terms.specs.Views.{given_view, variables_view};
 
 use crate::answer::Answer;
-use crate::buffers::copy_back;
+use crate::buffers::{copy_back, copy_lent, view_lent};
 use crate::regions::{get_region, set_region};
 use classes::table::ClassTable;
-use jni::ResultKind;
+use jni::{JniFunction, ResultKind};
+use replay_arguments::actual::{Actual, level_of, variable_given};
 use replay_arguments::{Locals, Shared, Turn};
-use replay_objects::{Frames, New, make, make_thrown};
-use replay_terms::{Given, StaticReference, Variables};
-use semantics::ObjectId;
+use replay_objects::{Frames, Names, New, make, make_thrown};
+use replay_terms::{Given, Lent, StaticReference};
+use semantics::{ObjectId, Trap};
 use std::alloc::AllocError;
 
-/// Does what a function of this kind of result answers to a thread's call, where the run goes on, and tells what it
-/// gives. It gives no buffer and calls no method.
+/// How a call is over, or goes on.
+#[derive(Clone, Copy)]
+pub enum Done<'a> {
+    /// It gives this.
+    Gives(Given<'a>),
+    /// It gives this buffer.
+    Lends(Lent),
+    /// The function of this name is to be called, with what is passed.
+    Calls(&'a [u8]),
+    /// The run stops.
+    Halts(Trap),
+}
+
+/// Does what a function answers to a thread's call with these arguments.
+#[tactic(auto, unfolding(semantics::specs::Answer::effect_of))]
 pub fn carry_out<'a>(
     turn: Turn<'_>,
     shared: &mut Shared<'a>,
     pending: &mut Option<ObjectId>,
     locals: &mut Locals<'a>,
-    kind: ResultKind,
+    function: JniFunction,
+    actuals: &[Actual<'a>],
     answer: Answer<'a>,
-) -> Result<Given<'a>, AllocError>
-    requires goes { trap_in (answer_view answer) ≡ None }
-    requires unlent { lent_in (answer_view answer) ≡ None }
-    requires uncalled { called_in (answer_view answer) ≡ None }
-    requires fits { FitsFrames locals.old.frames (answer_view answer) }
-    requires arrays { FitsArrays shared.old.store (variables_view locals.old.variables) (answer_view answer) }
-    ensures shared { IfOk result (λ _. shared_view shared.new
-        ≡ shared_after turn.entry.classes.now turn.entry.thread (shared_view shared.old)
-        (variables_view locals.old.variables) (answer_view answer.entry)) }
-    ensures variables { IfOk result (λ _. variables_view locals.new.variables
-        ≡ variables_after shared.old.store (variables_view locals.old.variables) (answer_view answer.entry)) }
-    ensures frames { IfOk result (λ _. locals.new.frames ≡ frames_after locals.old.frames (answer_view answer.entry)) }
-    ensures pending { IfOk result (λ _. name_of pending.new
-        ≡ pending_after turn.entry.classes.now shared.old.store (name_of pending.old) (answer_view answer.entry)) }
-    ensures given { IfOk result (λ g. given_view g
-        ≡ given_after shared.old.store (result_value kind) (answer_view answer.entry)) }
+) -> Result<Done<'a>, AllocError>
+    requires { FitsCall shared.old.store (array_given (variables_view locals.old.variables) (map actual_view actuals.now))
+        (function_value function) (answer_view turn.classes.now answer) }
+    ensures { IfOk result (λ did. CarriesOut turn.entry (function_value function) actuals.now answer.entry shared.old locals.old pending.old did
+        shared.new locals.new pending.new) }
 {
     match answer {
-        Answer::Gives(given) => Ok(given),
+        Answer::Gives(given) => Ok(Done::Gives(given)),
         Answer::Writes {
-            object: name,
+            object,
             place,
             value,
         } => {
-            shared.store.set(name, place, value);
-            Ok(Given::Nothing)
+            shared.store.set(object, place, value);
+            Ok(Done::Gives(Given::Nothing))
         }
         Answer::Makes(new) => {
             let name = make(turn.alloc, turn.classes, &mut shared.store, new)?;
-            Ok(Given::Reference(Some(name)))
+            Ok(Done::Gives(Given::Reference(Some(name))))
         }
         Answer::Raises(class) => {
             let name = make(
@@ -76,185 +80,113 @@ pub fn carry_out<'a>(
                 New::Fresh(class),
             )?;
             *pending = Some(name);
-            Ok(failed(kind))
+            Ok(Done::Gives(failed(function.prototype().result)))
         }
-        Answer::ThrowsNew { class, text } => {
+        Answer::RaisesWith { class, text } => {
             let name = make_thrown(turn.alloc, turn.classes, &mut shared.store, class, text)?;
             *pending = Some(name);
-            Ok(Given::Number(0))
+            Ok(Done::Gives(Given::Number(0)))
         }
-        Answer::Pends {
-            exception: reference,
-            given,
-        } => {
-            *pending = reference;
-            Ok(given)
+        Answer::Pends { exception, given } => {
+            *pending = exception;
+            Ok(Done::Gives(given))
         }
-        Answer::GetsRegion(_) | Answer::SetsRegion(_) | Answer::CopiesBack { .. } => {
-            carry_out_numbers(shared, &mut locals.variables, answer)
+        Answer::Ensures(more) => {
+            if !locals.frames.has_room(more) {
+                return Ok(Done::Gives(refuse_frames(turn.classes, pending)));
+            }
+            locals.frames.reserve(more);
+            Ok(Done::Gives(Given::Number(0)))
         }
-        Answer::Frees(buffer) => {
-            locals.variables.free(buffer);
-            Ok(Given::Nothing)
+        Answer::Pushes(capacity) => {
+            if !locals.frames.has_room_for(capacity) {
+                return Ok(Done::Gives(refuse_frames(turn.classes, pending)));
+            }
+            locals.frames.push(turn.alloc, capacity)?;
+            Ok(Done::Gives(Given::Number(0)))
         }
-        Answer::Halts(_) | Answer::Lends(_) | Answer::Calls(_) => unreachable!(),
-        _ => carry_out_references(turn, shared, pending, &mut locals.frames, answer),
-    }
-}
-
-/// Copies between an object and a variable what an answer of numbers says.
-#[inline(always)]
-fn carry_out_numbers<'a>(
-    shared: &mut Shared<'a>,
-    variables: &mut Variables<'a>,
-    answer: Answer<'a>,
-) -> Result<Given<'a>, AllocError>
-    requires of_numbers { is_of_numbers (answer_view answer) ≡ true }
-    requires arrays { FitsArrays shared.old.store (variables_view variables.old) (answer_view answer) }
-    ensures shared { IfOk result (λ _. (classes : Classes) (k : ℕ) → shared_view shared.new
-        ≡ shared_after classes k (shared_view shared.old) (variables_view variables.old) (answer_view answer.entry)) }
-    ensures variables { IfOk result (λ _. variables_view variables.new
-        ≡ variables_after shared.old.store (variables_view variables.old) (answer_view answer.entry)) }
-    ensures frames { (frames : List Frame) → frames ≡ frames_after frames (answer_view answer.entry) }
-    ensures pending { (classes : Classes) (heap : Heap) (pending : Reference)
-        → pending ≡ pending_after classes heap pending (answer_view answer.entry) }
-    ensures given { IfOk result (λ g. (heap : Heap) (kind : SourceKind)
-        → given_view g ≡ given_after heap kind (answer_view answer.entry)) }
-{
-    match answer {
-        Answer::GetsRegion(region) => get_region(&shared.store, variables, region),
-        Answer::SetsRegion(region) => set_region(&mut shared.store, variables, region),
-        Answer::CopiesBack {
-            object,
-            buffer,
-            frees,
-        } => {
-            copy_back(&mut shared.store, variables, object, buffer, frees)?;
+        Answer::RefusesFrames => Ok(Done::Gives(refuse_frames(turn.classes, pending))),
+        Answer::Pops(reference) => {
+            locals.frames.pop();
+            Ok(Done::Gives(Given::Reference(reference)))
         }
-        _ => unreachable!(),
-    }
-    Ok(Given::Nothing)
-}
-
-/// Does to the references and monitors of all threads and to a call's frames what an answer of references, monitors or
-/// frames says.
-#[inline(always)]
-fn carry_out_references<'a>(
-    turn: Turn<'_>,
-    shared: &mut Shared<'a>,
-    pending: &mut Option<ObjectId>,
-    frames: &mut Frames,
-    answer: Answer<'a>,
-) -> Result<Given<'a>, AllocError>
-    requires of_references { is_of_references (answer_view answer) ≡ true }
-    requires fits { FitsFrames frames.old (answer_view answer) }
-    ensures shared { IfOk result (λ _. (vs : VariablesOfCall) → shared_view shared.new
-        ≡ shared_after turn.entry.classes.now turn.entry.thread (shared_view shared.old) vs
-        (answer_view answer.entry)) }
-    ensures variables { (heap : Heap) (vs : VariablesOfCall) → vs ≡ variables_after heap vs (answer_view answer.entry) }
-    ensures frames { IfOk result (λ _. frames.new ≡ frames_after frames.old (answer_view answer.entry)) }
-    ensures pending { IfOk result (λ _. (heap : Heap)
-        → name_of pending.new
-        ≡ pending_after turn.entry.classes.now heap (name_of pending.old) (answer_view answer.entry)) }
-    ensures given { IfOk result (λ g. (heap : Heap) (kind : SourceKind)
-        → given_view g ≡ given_after heap kind (answer_view answer.entry)) }
-{
-    match answer {
-        Answer::MakesGlobal(name) => {
-            shared.globals.push(name)?;
-            Ok(Given::Reference(Some(name)))
+        Answer::DeletesLocal(object) => {
+            let level = level_of(&locals.variables, variable_given(actuals, 0));
+            locals.frames.remove(level, object);
+            Ok(Done::Gives(Given::Nothing))
         }
-        Answer::DeletesGlobal(variable) => {
-            delete_global(shared, variable)?;
-            Ok(Given::Nothing)
+        Answer::MakesGlobal(reference) => {
+            add_global(&mut shared.globals, reference)?;
+            Ok(Done::Gives(Given::Reference(reference)))
         }
-        Answer::DeletesWeak(variable) => {
-            delete_weak(shared, variable)?;
-            Ok(Given::Nothing)
+        Answer::DeletesGlobal(object) => {
+            let variable = variable_given(actuals, 0);
+            shared.statics.set(variable, StaticReference::Deleted)?;
+            shared.globals.remove(object);
+            Ok(Done::Gives(Given::Nothing))
+        }
+        Answer::DeletesWeak => {
+            let weak = variable_given(actuals, 0);
+            shared.statics.set(weak, StaticReference::Deleted)?;
+            Ok(Done::Gives(Given::Nothing))
+        }
+        Answer::GetsRegion(region) => {
+            let array = variable_given(actuals, 3);
+            get_region(&shared.store, &mut locals.variables, array, region);
+            Ok(Done::Gives(Given::Nothing))
+        }
+        Answer::SetsRegion(region) => {
+            let array = variable_given(actuals, 3);
+            set_region(&mut shared.store, &locals.variables, array, region);
+            Ok(Done::Gives(Given::Nothing))
+        }
+        Answer::Copies(object) => { Ok(Done::Lends(copy_lent(&shared.store, turn.in_use, object))) }
+        Answer::Views(object) => Ok(Done::Lends(view_lent(turn.in_use, object))),
+        Answer::CopiesBack { object, frees } => {
+            let buffer = variable_given(actuals, 1);
+            copy_back(
+                &mut shared.store,
+                &mut locals.variables,
+                object,
+                buffer,
+                frees,
+            )?;
+            Ok(Done::Gives(Given::Nothing))
+        }
+        Answer::Frees => {
+            locals.variables.free(variable_given(actuals, 1));
+            Ok(Done::Gives(Given::Nothing))
         }
         Answer::Owns { object, count } => {
             shared.monitors.put(object, turn.thread, count)?;
-            Ok(Given::Number(0))
+            Ok(Done::Gives(Given::Number(0)))
         }
         Answer::Disowns(object) => {
             shared.monitors.remove(object);
-            Ok(Given::Number(0))
+            Ok(Done::Gives(Given::Number(0)))
         }
-        _ => carry_out_frames(turn, pending, frames, answer),
+        Answer::Calls(method) => Ok(Done::Calls(method.function.name.as_bytes())),
+        Answer::Halts(trap) => Ok(Done::Halts(trap)),
     }
 }
 
-/// The global reference that the static of this name holds is deleted, if it holds one.
-fn delete_global<'a>(shared: &mut Shared<'a>, variable: &'a [u8]) -> Result<(), AllocError>
-    ensures { IfOk result (λ _. shared_view shared.new
-        ≡ without_global variable.now (lookup variable.now shared.old.statics) (shared_view shared.old)) }
+/// A global reference to the same object; none for NULL.
+fn add_global(globals: &mut Names, reference: Option<ObjectId>) -> Result<(), AllocError>
+    ensures { IfOk result (λ _. globals.new ≡ option_to_list (name_of reference) ++ globals.old) }
 {
-    match shared.statics.held_named(variable) {
-        Some(StaticReference::Live(name)) => {
-            shared.statics.set(variable, StaticReference::Deleted)?;
-            shared.globals.remove(name);
-            Ok(())
-        }
-        _ => Ok(()),
+    match reference {
+        Some(name) => globals.push(name),
+        None => Ok(()),
     }
 }
 
-/// The weak global reference that the static of this name holds is deleted, if it holds one.
-fn delete_weak<'a>(shared: &mut Shared<'a>, variable: &'a [u8]) -> Result<(), AllocError>
-    ensures { IfOk result (λ _. shared_view shared.new
-        ≡ without_weak variable.now (lookup variable.now shared.old.statics) (shared_view shared.old)) }
+/// -4 is given, and the OutOfMemoryError object is pending: the frames can't have so large capacities.
+fn refuse_frames<'a>(classes: &ClassTable, pending: &mut Option<ObjectId>) -> Given<'a>
+    ensures pending { name_of pending.new ≡ Some (out_of_memory classes.now) }
+    ensures given { given_view result ≡ ScalarResult (Int (negsuc 3)) }
 {
-    match shared.statics.held_named(variable) {
-        Some(StaticReference::Weakly(_)) | Some(StaticReference::Cleared) => {
-            shared.statics.set(variable, StaticReference::Deleted)
-        }
-        _ => Ok(()),
-    }
-}
-
-/// Does to a call's frames what an answer of frames says.
-#[inline(always)]
-fn carry_out_frames<'a>(
-    turn: Turn<'_>,
-    pending: &mut Option<ObjectId>,
-    frames: &mut Frames,
-    answer: Answer<'a>,
-) -> Result<Given<'a>, AllocError>
-    requires of_frames { is_of_frames (answer_view answer) ≡ true }
-    requires fits { FitsFrames frames.old (answer_view answer) }
-    ensures frames { IfOk result (λ _. frames.new ≡ frames_after frames.old (answer_view answer.entry)) }
-    ensures pending { IfOk result (λ _. (heap : Heap)
-        → name_of pending.new
-        ≡ pending_after turn.entry.classes.now heap (name_of pending.old) (answer_view answer.entry)) }
-    ensures given { IfOk result (λ g. (heap : Heap) (kind : SourceKind)
-        → given_view g ≡ given_after heap kind (answer_view answer.entry)) }
-{
-    match answer {
-        Answer::Ensures(more) => {
-            frames.reserve(more);
-            Ok(Given::Number(0))
-        }
-        Answer::Pushes(capacity) => {
-            frames.push(turn.alloc, capacity)?;
-            Ok(Given::Number(0))
-        }
-        Answer::RefusesFrames => {
-            run_out(turn.classes, pending);
-            Ok(Given::Number(-4))
-        }
-        Answer::Pops(reference) => {
-            frames.pop();
-            Ok(Given::Reference(reference))
-        }
-        Answer::DeletesLocal {
-            level,
-            object: name,
-        } => {
-            frames.remove(level, name);
-            Ok(Given::Nothing)
-        }
-        _ => unreachable!(),
-    }
+    run_out(classes, pending);
+    Given::Number(-4)
 }
 
 /// Puts what a call of this kind of result gave into the current frame, if it is a new local reference.
@@ -268,19 +200,23 @@ pub fn put_local(frames: &mut Frames, kind: ResultKind, given: Given<'_>) -> Res
 }
 
 /// Whether a call makes an object, which may be refused.
+#[tactic(auto, using(crate::proofs::FrameEffects::make_none), unfolding(semantics::specs::Answer::effect_of))]
 pub fn makes_object(answer: Answer<'_>) -> bool
-    ensures { result ≡ makes_object (answer_view answer.entry) }
+    ensures { (classes : Classes) (in_use : InUse) (k : ℕ) (s : SharedOfThreads) (t : Thread) (args : List ActualOfCall)
+        → result ≡ makes_objects (effect_of classes in_use k s t args (answer_view classes answer.entry)) }
 {
     match answer {
-        Answer::Gives(_) | Answer::Writes { .. } => false,
-        Answer::Makes(_) | Answer::Raises(_) | Answer::ThrowsNew { .. } => true,
-        Answer::Ensures(_) | Answer::Pushes(_) | Answer::RefusesFrames => false,
-        Answer::Pops(_) | Answer::DeletesLocal { .. } => false,
-        Answer::MakesGlobal(_) | Answer::DeletesGlobal(_) | Answer::DeletesWeak(_) => false,
+        Answer::Makes(_) | Answer::Raises(_) | Answer::RaisesWith { .. } => true,
+        Answer::Gives(_) | Answer::Writes { .. } | Answer::Pends { .. } => false,
+        Answer::Ensures(_) => false,
+        Answer::Pushes(_) => false,
+        Answer::RefusesFrames | Answer::Pops(_) | Answer::DeletesLocal(_) => false,
+        Answer::MakesGlobal(_) | Answer::DeletesGlobal(_) | Answer::DeletesWeak => false,
         Answer::GetsRegion(_) | Answer::SetsRegion(_) => false,
-        Answer::Lends(_) | Answer::CopiesBack { .. } | Answer::Frees(_) => false,
+        Answer::Copies(_) | Answer::Views(_) => false,
+        Answer::CopiesBack { .. } | Answer::Frees => false,
         Answer::Owns { .. } | Answer::Disowns(_) => false,
-        Answer::Pends { .. } | Answer::Calls(_) | Answer::Halts(_) => false,
+        Answer::Calls(_) | Answer::Halts(_) => false,
     }
 }
 

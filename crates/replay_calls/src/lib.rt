@@ -8,5 +8,5 @@ mod exceptions;
 mod monitors;
 mod regions;
 
-pub use answer::{Answer, Caller, Region, answer_or_trap, called_in, lent_in, trap_in};
+pub use answer::{Answer, Caller, Region, answer_or_trap};
 pub use buffers::tell_copy;

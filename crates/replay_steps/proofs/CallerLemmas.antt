@@ -25,7 +25,7 @@ use Rattle.replay_steps.specs.Steps.{calling_by, values_passed, waiting}
 use Rattle.replay_steps.specs.declared.activation.Activation.{Activation}
 use Rattle.replay_steps.specs.declared.activation.Outer.{Outer}
 use Rattle.replay_steps.proofs.WaitLemmas.{BeginsPlain, around-plain}
-use Rattle.replay_steps.proofs.CallLemmas.{in_locals, in_received}
+use Rattle.replay_steps.proofs.ThreadLocals.{in_locals, in_received}
 use Rattle.replay_tasks.specs.Outcomes.{LeavesVariables, purpose_view}
 use Rattle.replay_tasks.specs.declared.task.Invocation.{Invocation}
 use Rattle.replay_tasks.specs.declared.task.Task.{Task as TaskInMemory}

@@ -1,6 +1,6 @@
 pub mod TaskLemmas
-mod AnswerEffects
 mod CallLemmas
+mod ThreadLocals
 mod Invocations
 mod ActivationLemmas
 mod WaitLemmas

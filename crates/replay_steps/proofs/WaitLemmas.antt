@@ -24,7 +24,11 @@ use Rattle.replay_steps.specs.Steps.{scene_with}
 use Rattle.replay_steps.specs.Waits.{WaitsIn, call_waits, is_kept_out, task_waits}
 use Rattle.replay_steps.specs.declared.activation.Outer.{Outer}
 use Rattle.replay_steps.specs.declared.activation.Work.{Work}
-use Rattle.replay_steps.proofs.CallLemmas.{as_it_is, in_locals, trap_is}
+use Rattle.replay_steps.proofs.ThreadLocals.{as_it_is, in_locals}
+use Rattle.semantics.specs.CallSight.{call_seen, sight_of_call}
+use Rattle.semantics.specs.CallTraps.{go_together, trap_of}
+use Rattle.semantics.proofs.CallTraps.{trap_is}
+use Rattle.base.specs.Element.{JInt}
 use Rattle.replay_tasks.specs.Outcomes.{purpose_view}
 use Rattle.replay_tasks.specs.Tasks.{end_view, tasks_of_statements, task_view}
 use Rattle.replay_tasks.specs.declared.outcome.End.{End}
@@ -177,11 +181,18 @@ module _ (classes : Classes) (k : ℕ) (s : Shared) (vs : Contents) (frames : Li
   free_tasks [] h = refl
   free_tasks (u ∷ rest) h = free_task u h
 
+  -- a call of MonitorEnter is never too deep, and fills no buffer
+  entering_alike : (target : Target) (args : List Actual) → trap_of classes (call_seen s (variables_view vs) frames 0 pending JInt MonitorEnter args) MonitorEnter
+      ≡ trap_of classes (sight_of_call s caller (target_element (variables_view vs) target) MonitorEnter args) MonitorEnter
+  unfolding trap_of go_together
+  entering_alike target args = refl
+
   -- a call that takes a step with a number, or is made
   enters : (line : ℕ) (target : Target) (b : Bool) (args : List Actual) (o : Outcome (List Operand))
-      → (b && is_kept_out classes k s frames pending args) ≡ waits_with classes k s caller (cond b (Calls line target MonitorEnter args) (goes_on line (Invoke line target MonitorEnter) o))
+      → (b && is_kept_out classes k s vs frames pending args) ≡ waits_with classes k s caller (cond b (Calls line target MonitorEnter args) (goes_on line (Invoke line target MonitorEnter) o))
   enters line target true args o =
-      ap (λ (found : Option Trap). is_none found && is_owned_by_other k (monitor_of s.monitors (object_given args 0))) (sym (trap_is classes s.heap (target_element (variables_view vs) target) args MonitorEnter caller))
+      ap (λ (found : Option Trap). is_none found && is_owned_by_other k (monitor_of s.monitors (object_given args 0)))
+      (entering_alike target args ∙ sym (trap_is classes s caller (target_element (variables_view vs) target) args MonitorEnter))
   enters line target false args (Gives operands) = refl
   enters line target false args (Traps trap) = refl
   enters line target false args Stuck = refl

@@ -1,5 +1,5 @@
 -- Calls in memory that wait for one that they made, and go on once it has returned.
-use Rattle.std.specs.Prelude.{◌≡◌, ◌+◌, if◌then◌else◌, nat_le, ℕ, List, ◌∷◌, length, map, Option, Some, None}
+use Rattle.std.specs.Prelude.{◌≡◌, ◌+◌, if◌then◌else◌, nat_le, ℕ, List, length, map, Option, Some, None}
 use Rattle.base.specs.Bytes.{Identifier}
 use Rattle.base.specs.Limits.{most_activations}
 use Rattle.jni.specs.JniFunction.{prototype}

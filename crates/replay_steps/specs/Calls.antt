@@ -1,5 +1,5 @@
 -- What a call in memory does.
-use Rattle.std.specs.Prelude.{◌≡◌, ℕ, Bool, true, false, List, ◌∷◌, map, Option, Some, None, is_some}
+use Rattle.std.specs.Prelude.{◌≡◌, ℕ, Bool, true, false, List, ◌∷◌, map, Option, Some, None}
 use Rattle.jni.specs.JniFunction.{JniFunction}
 use Rattle.jni.specs.Table.{function_value}
 use Rattle.semantics.specs.Arguments.{Actual, actuals}
@@ -21,9 +21,11 @@ use Rattle.replay_tasks.specs.declared.task.Task.{Task as TaskInMemory}
 use Rattle.replay_terms.specs.declared.reduction.Reduction.{Reduction as ReductionInMemory}
 use Rattle.replay_terms.specs.declared.reduction.Reduction.TheVariants as reduction
 use Rattle.replay_tasks.specs.Outcomes.{purpose_view}
-use Rattle.replay_calls.specs.Answers.{Answer, answer_or_trap}
-use Rattle.replay_arguments.specs.Checked.{trap_found}
-use Rattle.replay_calls.specs.WorkedOut.{worked_out}
+use Rattle.replay_calls.specs.Answers.{FitsCall, array_given}
+use Rattle.semantics.specs.Answer.{Answer}
+use Rattle.semantics.specs.AnswerTable.{call_answer}
+use Rattle.semantics.specs.CallSight.{CallSight, call_seen}
+use Rattle.semantics.specs.CallTraps.{answered, trap_of}
 use Rattle.replay_steps.specs.Steps.{Scene, Sees, in_scene, left_by}
 use Rattle.semantics.specs.EventViews.{trap_view}
 use Rattle.replay_terms.specs.Views.{Contents, operand_view, variables_view}
@@ -84,12 +86,15 @@ lent_outcome line (purpose.Test b other) lent = outcome.Tests line false b other
 abbrev pub wanted_element : Contents → PurposeInMemory → ElementType
 wanted_element vs p = target_element (variables_view vs) (purpose_view 0 p)
 
+-- what an invocation with these arguments sees in this scene, where no other call waits for it
+abbrev pub seen_by : Scene → Invocation → List Actual → CallSight
+seen_by scene i args =
+    call_seen scene.shared (variables_view scene.variables) scene.frames 0 scene.pending (wanted_element scene.variables i.purpose)
+    (function_value i.function) args
+
 -- this is the answer to an invocation with these arguments, in this scene
-abbrev pub HasAnswer : Scene → Invocation → List Actual → Answer → Type 0
-HasAnswer scene i args a =
-    a
-    ≡ answer_or_trap
-    (trap_found scene.classes scene.shared.heap scene.frames (is_some scene.pending)
-    (wanted_element scene.variables i.purpose) (function_value i.function) args)
-    (worked_out scene.unit scene.classes scene.in_use scene.thread scene.shared.monitors scene.shared.heap
-    (variables_view scene.variables) scene.frames scene.pending args (function_value i.function))
+pub record HasAnswer (scene : Scene) (i : Invocation) (args : List Actual) (a : Answer) : Type 0 where
+  pub is : a
+      ≡ answered (trap_of scene.classes (seen_by scene i args) (function_value i.function))
+      (call_answer scene.unit scene.classes scene.thread (seen_by scene i args) (function_value i.function))
+  pub fits : FitsCall scene.shared.heap (array_given (variables_view scene.variables) args) (function_value i.function) a

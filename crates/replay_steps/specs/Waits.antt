@@ -1,5 +1,5 @@
 -- Whether a thread waits for a monitor, by the task that is begun.
-use Rattle.std.specs.Prelude.{◌≡◌, ℕ, Bool, false, ◌&&◌, List, Option, Some, is_none, is_some, map}
+use Rattle.std.specs.Prelude.{◌≡◌, ℕ, Bool, false, ◌&&◌, List, Option, Some, is_none, map}
 use Rattle.base.specs.Element.{JInt}
 use Rattle.class_rules.specs.Class.{Classes}
 use Rattle.jni.specs.JniFunction.{JniFunction, MonitorEnter}
@@ -11,19 +11,20 @@ use Rattle.semantics.specs.Object.{Reference}
 use Rattle.semantics.specs.Task.{Operand}
 use Rattle.semantics.specs.Thread.{Frame, Shared, Thread, monitor_of}
 use Rattle.semantics.specs.ThreadStep.{waits}
-use Rattle.replay_arguments.specs.Checked.{trap_found}
+use Rattle.semantics.specs.CallSight.{call_seen}
+use Rattle.semantics.specs.CallTraps.{trap_of}
 use Rattle.replay_arguments.specs.Shares.{sight_in}
 use Rattle.replay_steps.specs.Activations.{IsAtStatement, tasks_left}
 use Rattle.replay_steps.specs.Steps.{Scene, Sees}
 use Rattle.replay_steps.specs.declared.activation.Work.{Work}
 use Rattle.replay_tasks.specs.declared.task.Task.{Task as TaskInMemory}
 use Rattle.replay_tasks.specs.declared.task.Task.TheVariants as task
-use Rattle.replay_terms.specs.Views.{Contents, operand_view}
+use Rattle.replay_terms.specs.Views.{Contents, operand_view, variables_view}
 
 -- a call of MonitorEnter passes all checks, and another thread than k owns its object
-abbrev pub is_kept_out : Classes → (k : ℕ) → Shared → List Frame → Reference → List Actual → Bool
-is_kept_out classes k s frames pending args =
-    is_none (trap_found classes s.heap frames (is_some pending) JInt MonitorEnter args)
+abbrev pub is_kept_out : Classes → (k : ℕ) → Shared → Contents → List Frame → Reference → List Actual → Bool
+is_kept_out classes k s vs frames pending args =
+    is_none (trap_of classes (call_seen s (variables_view vs) frames 0 pending JInt MonitorEnter args) MonitorEnter)
     && is_owned_by_other k (monitor_of s.monitors (object_given args 0))
 
 -- Thread k, with these variables, frames and pending exception.
@@ -31,7 +32,7 @@ module _ (classes : Classes) (k : ℕ) (s : Shared) (vs : Contents) (frames : Li
   -- the same of one whose arguments are still to be looked up, or whose numbers still to be worked out
   abbrev pub waits_to_enter : List Operand → Bool
   waits_to_enter operands =
-      is_ready (sight_in s vs).number operands && is_kept_out classes k s frames pending (actuals (sight_in s vs) MonitorEnter operands)
+      is_ready (sight_in s vs).number operands && is_kept_out classes k s vs frames pending (actuals (sight_in s vs) MonitorEnter operands)
 
   -- the same of a call of any function
   abbrev pub call_waits : JniFunction → List Operand → Bool

@@ -1,6 +1,6 @@
 //! Calls of functions of the JNI (JNI Specification, chapter 4).
 
-ghost use Rattle.std.specs.Prelude.{◌≡◌, IfOk, List, None, if◌then◌else◌, map, true, false};
+ghost use Rattle.std.specs.Prelude.{◌≡◌, IfOk, List, if◌then◌else◌, map, true, false};
 ghost use Rattle.class_rules.specs.Grown.{IsGrown};
 ghost use Rattle.jni.specs.Table.{function_value};
 ghost use Rattle.replay_tasks.specs.declared.outcome.Outcome.TheVariants as outcome;
@@ -8,7 +8,7 @@ ghost use Rattle.replay_tasks.specs.declared.task.Task.TheVariants as task;
 ghost use Rattle.semantics.specs.Arguments.{Actual as ActualOfCall, address_given};
 ghost use Rattle.semantics.specs.Thread.{Shared as SharedOfThreads};
 ghost use Rattle.replay_arguments.specs.Actuals.{actual_view};
-ghost use Rattle.replay_calls.specs.Answers.{FitsArrays, FitsFrames, answer_view, called_in, lent_in, trap_in};
+ghost use Rattle.replay_calls.specs.Answers.{answer_view};
 ghost use Rattle.replay_steps.specs.Calls.{HasAnswer, MakesCallOf, MakesInvocation, ReducesFirst, ReducesOne, lent_outcome, wanted_element};
 ghost use Rattle.replay_tasks.specs.Outcomes.{outcome_for};
 ghost use Rattle.replay_arguments.specs.declared.scene.Locals.{Locals as LocalsInMemory};
@@ -23,8 +23,8 @@ ghost use Rattle.base.specs.Element.{element_value};
 
 use replay_arguments::actual::{Actual, actuals, address_given};
 use replay_arguments::{Locals, Scene, Shared, Turn};
-use replay_calls::carry_out::{carry_out, makes_object, put_local, refuse};
-use replay_calls::{Answer, Caller, answer_or_trap, called_in, lent_in, tell_copy, trap_in};
+use replay_calls::carry_out::{Done, carry_out, makes_object, put_local, refuse};
+use replay_calls::{Answer, Caller, answer_or_trap, tell_copy};
 use replay_tasks::{Invocation, Outcome, Purpose, Target, VariableKind, reduced};
 use replay_terms::{
     Evaluated, Given, Lent, Operand, Reduction, Term, Variables, is_zero, number_in, reduce,
@@ -199,7 +199,6 @@ fn call<'a>(
     let caller = Caller {
         unit: turn.unit,
         thread: turn.thread,
-        in_use: turn.in_use,
         element: wanted_element(&locals.variables, i.purpose),
     };
     let scene = Scene {
@@ -209,22 +208,23 @@ fn call<'a>(
         pending: *pending,
     };
     let answer = answer_or_trap(scene, caller, i.function, actuals);
-    if let Some(trap) = trap_in(answer) {
-        return Ok(unless_refused(turn.refused, Outcome::Trapped { trap, line: i.line }));
-    }
     if turn.refused {
         return Ok(refuse_object(turn, pending, i, answer));
     }
-    if let Some(buffer) = lent_in(answer) {
-        return lend(locals, i, actuals, buffer);
-    }
-    if let Some(function) = called_in(answer) {
-        return Ok(Outcome::Calls {
+    let done = carry_out(turn, shared, pending, locals, i.function, actuals, answer)?;
+    match done {
+        Done::Gives(given) => {
+            let kind = i.function.prototype().result;
+            put_local(&mut locals.frames, kind, given)?;
+            Ok(outcome_for(i.line, i.purpose, given))
+        }
+        Done::Lends(buffer) => lend(locals, i, actuals, buffer),
+        Done::Calls(function) => Ok(Outcome::Calls {
             line: i.line,
             function,
-        });
+        }),
+        Done::Halts(trap) => Ok(Outcome::Trapped { trap, line: i.line }),
     }
-    complete(turn, shared, pending, locals, i, answer)
 }
 
 /// The element type of the buffer that a call is to fill; `jint` where there is none.
@@ -248,7 +248,7 @@ fn refuse_object<'a>(
 ) -> Outcome<'a>
     requires { PurposeInRange i.now.purpose }
     ensures step { (s : SharedOfThreads) (locals : LocalsInMemory) (args : List ActualOfCall)
-        → HasAnswer (scene_of turn.entry s locals pending.old) i.now args (answer_view answer.entry)
+        → HasAnswer (scene_of turn.entry s locals pending.old) i.now args (answer_view turn.entry.classes.now answer.entry)
         → MakesCallOf true (scene_of turn.entry s locals pending.old) i.now args result
         (scene_of turn.entry s locals pending.new) }
     ensures range { OutcomeInRange result }
@@ -258,35 +258,6 @@ fn refuse_object<'a>(
     }
     let given = refuse(turn.classes, pending, i.function.prototype().result);
     outcome_for(i.line, i.purpose, given)
-}
-
-/// What a call does by its answer, which gives no buffer and calls no method, with no object refused.
-#[inline]
-fn complete<'a>(
-    turn: Turn<'a>,
-    shared: &mut Shared<'a>,
-    pending: &mut Option<ObjectId>,
-    locals: &mut Locals<'a>,
-    i: &Invocation<'a>,
-    answer: Answer<'a>,
-) -> Result<Outcome<'a>, AllocError>
-    requires ways { PurposeInRange i.now.purpose }
-    requires goes { trap_in (answer_view answer) ≡ None }
-    requires unlent { lent_in (answer_view answer) ≡ None }
-    requires uncalled { called_in (answer_view answer) ≡ None }
-    requires fits { FitsFrames locals.old.frames (answer_view answer) }
-    requires arrays { FitsArrays shared.old.store (variables_view locals.old.variables) (answer_view answer) }
-    ensures step { (args : List ActualOfCall)
-        → HasAnswer (scene_at turn.entry shared.old locals.old pending.old) i.now args (answer_view answer.entry)
-        → IfOk result (λ o. MakesCallOf false
-        (scene_at turn.entry shared.old locals.old pending.old) i.now args o
-        (scene_at turn.entry shared.new locals.new pending.new)) }
-    ensures range { IfOk result OutcomeInRange }
-{
-    let kind = i.function.prototype().result;
-    let given = carry_out(turn, shared, pending, locals, kind, answer)?;
-    put_local(&mut locals.frames, kind, given)?;
-    Ok(outcome_for(i.line, i.purpose, given))
 }
 
 /// What a call does that gives a buffer.

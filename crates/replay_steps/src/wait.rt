@@ -63,7 +63,7 @@ fn is_owned_by_other(thread: usize, monitor: Option<Monitor>) -> bool
 /// Whether a call of `MonitorEnter` with these arguments passes all checks, and another thread owns its object.
 fn is_kept_out(scene: Scene<'_, '_>, thread: usize, actuals: &[Actual<'_>]) -> bool
     ensures { result ≡ is_kept_out scene.entry.classes.now thread (shared_view scene.entry.shared.now)
-        scene.entry.locals.now.frames (name_of scene.entry.pending) (map actual_view actuals.now) }
+        scene.entry.locals.now.variables scene.entry.locals.now.frames (name_of scene.entry.pending) (map actual_view actuals.now) }
 {
     match check(scene, ElementType::Int, JniFunction::MonitorEnter, actuals) {
         Some(_) => false,

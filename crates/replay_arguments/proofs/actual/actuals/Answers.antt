@@ -1,6 +1,6 @@
-use Rattle.std.proofs.Common.{◌≡◌, ◌++◌, Bool, true, false, List, [], drop, map, sym, ap, ◌∙◌, append-nil}
+use Rattle.std.proofs.Common.{◌++◌, Bool, List, [], drop, map, sym, ap, ◌∙◌, append-nil}
 use Rattle.std.specs.Prelude.{if◌then◌else◌, zip}
-use Rattle.jni.specs.JniFunction.{calls_method, prototype}
+use Rattle.jni.specs.JniFunction.{prototype}
 use Rattle.jni.specs.Prototype.{ParameterKind, Passed}
 use Rattle.jni.specs.Table.{Facts, function_value, parameter_value}
 use Rattle.semantics.specs.Arguments.{Actual, look_up}

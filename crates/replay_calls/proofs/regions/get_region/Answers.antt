@@ -17,7 +17,7 @@ returns c =
     let counted : start + count - start ≡ count = omega arith in
     let numbers : map held_number values ≡ numbers_of c.args.store.now c.args.region.object.number = sym (map-map number_in object_value_view values) ∙ ap (λ (l : List ObjectValue). map number_in l) c.values_of-values.ensures.values in
     c.begin_array.ensures
-    ∙ ap (λ (l : List ℤ). change c.args.region.array.now (begun_with l) (variables_view c.args.variables.now)) (
+    ∙ ap (λ (l : List ℤ). change c.args.array.now (begun_with l) (variables_view c.args.variables.now)) (
     ap (λ (n : ℕ). map held_number (take n (drop start values))) counted
     ∙ sym (take-map held_number count (drop start values))
     ∙ ap (λ (l : List ℤ). take count l) (sym (drop-map held_number start values))
