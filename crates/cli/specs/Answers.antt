@@ -42,7 +42,8 @@ asks_for_workers request = false
 -- what the program answers
 abbrev pub Answers : (gives : List ℕ → List ℕ → Type 0) → (lacks : List ℕ → Type 0) → Request → (out out_after err err_after : Written) → (status : ℕ) → Type 0
 Answers gives lacks (Serve command) out out_after err err_after status = Serves gives lacks command out out_after err err_after status
-Answers gives lacks (CheckEach programs) out out_after err err_after status = ServesEach gives lacks (map (λ p. p.now) programs.items) out out_after err err_after status
+Answers gives lacks (CheckEach programs) out out_after err err_after status =
+    ServesEach gives lacks (map (λ p. p.now) programs.items) out out_after err err_after status
 Answers gives lacks (Explain explanation) out out_after err err_after status = Shows (IsTextOf explanation) out out_after err err_after status
 Answers gives lacks (Show text) out out_after err err_after status = Shows (λ t. t ≡ string_bytes text) out out_after err err_after status
 Answers gives lacks (Misuse text) out out_after err err_after status = (out_after ≡ out) × Declines (string_bytes text) err err_after status

@@ -47,7 +47,8 @@ pub data EndsAt (gives : List ℕ → List ℕ → Type 0) (name : List ℕ) (ou
   cannot_read : out_after ≡ out → Tells err err_after (codes "memory\n") → EndsAt gives name out out_after err err_after
 
 -- the program is checked, with this status, or the check of all ends
-abbrev pub ChecksOrEnds : (gives : List ℕ → List ℕ → Type 0) → (lacks : List ℕ → Type 0) → (name : List ℕ) → (out out_after err err_after : Written) → Result ℕ ℕ → Type 0
+abbrev pub ChecksOrEnds : (gives : List ℕ → List ℕ → Type 0) → (lacks : List ℕ → Type 0) → (name : List ℕ) → (out out_after err err_after : Written)
+    → Result ℕ ℕ → Type 0
 ChecksOrEnds gives lacks name out out_after err err_after (Ok status) = ChecksOne gives lacks name out out_after err err_after status
 ChecksOrEnds gives lacks name out out_after err err_after (Err status) = (status ≡ 3) × EndsAt gives name out out_after err err_after
 
