@@ -116,10 +116,16 @@ fn superclass(alloc: Global, classes: &ClassTable, line: &Line<'_>) -> Detail {
     }
 }
 
-/// A signature that no type has.
-fn signature(line: &Line<'_>) -> Detail {
+/// A signature that no type has. It may be that of a class that isn't there.
+fn signature(alloc: Global, classes: &ClassTable, line: &Line<'_>) -> Detail {
     match line {
-        Line::Field(field) | Line::Static(field) => Detail::of(field.signature),
+        Line::Field(field) | Line::Static(field) => {
+            let detail = Detail::of(field.signature);
+            match field.signature {
+                [b'L', name @ .., b';'] => with_class_asked(alloc, detail, classes, name, b""),
+                _ => detail,
+            }
+        }
         _ => Detail::none(),
     }
 }
@@ -260,7 +266,7 @@ fn line_detail(alloc: Global, builder: &WorldBuilder, line: &Line<'_>, rule: Rul
     match rule {
         Rule::NameTaken => taken(line),
         Rule::Superclass => superclass(alloc, &builder.classes, line),
-        Rule::Signature => signature(line),
+        Rule::Signature => signature(alloc, &builder.classes, line),
         Rule::Classes => too_many(line),
         Rule::Form => misformed(builder, line),
         Rule::Name => misnamed(alloc, builder, line),
