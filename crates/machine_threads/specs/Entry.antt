@@ -41,11 +41,12 @@ pub record IsEnteringOf (loaded : List ℕ) (next : PendingCall) (entering : Ent
 
 -- ---- slots
 
--- this number of slots, the first of which hold the numbers among the arguments
+-- this number of slots, the first of which hold the numbers among the arguments; the others hold 0
 pub record IsNumbersOf (count : ℕ) (arguments : List Value) (slots : List ℕ) : Type 0 where
   pub counted : length slots ≡ count
   pub more : List ℕ
   pub given : slots ≡ filter_map given_word arguments ++ more
+  pub others : more ≡ replicate (length more) 0
 
 -- this number of addresses, the first of which are those of the class and of the references among the arguments; the others are NULL
 pub record IsReferencesOf (count : ℕ) (loaded : List ℕ) (class : ℕ) (arguments : List Value) (slots : List (Option ℕ)) : Type 0 where

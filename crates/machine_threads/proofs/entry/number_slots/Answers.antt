@@ -1,4 +1,7 @@
-use Rattle.std.proofs.Common.{◌≡◌, ℕ, List, [], ◌∷◌, ◌++◌, Some, filter_map, length, take, refl, sym, ap, ◌∙◌, ◌+◌, append-nil}
+use Rattle.std.proofs.Common.{◌≡◌, ℕ, ◌+◌, ◌-◌, ◌≤◌, List, [], ◌∷◌, ◌++◌, Some, filter_map, length, replicate, take, refl, sym, ap, ◌∙◌, arith, append-nil}
+use Rattle.std.specs.Prelude.{vec_len}
+use Rattle.std.proofs.lemmas.List.{length-replicate, take_all}
+use Rattle.std.proofs.lemmas.Grind.{common_steps}
 use Rattle.std.proofs.lemmas.Option.{slice_get_read}
 use Rattle.heap.specs.declared.value.Value.{Value}
 use Rattle.heap.specs.declared.value.Value.TheVariants.{Number, Null, Block}
@@ -24,3 +27,19 @@ loop-argument-preserved c =
           let at = there ∙ ap (λ (v : Value). Some v) w.in-Block.is in
           ap (λ v. v.items) w.slots-is ∙ c.loop-argument.invariant ∙ sym (append-nil _) ∙ sym (given_more given_word xs i (Block w.in-Block.field-0) at)
     ]
+
+pub returns : goal.returns
+returns c =
+    let xs = c.args.arguments.now in
+    let given : List ℕ = filter_map given_word xs in
+    let old : List ℕ = c.loop-argument.slots.items in
+    let all : old ≡ given = c.loop-argument.invariant ∙ ap (λ (l : List Value). filter_map given_word l) (take_all c.loop-argument.argument-index xs c.loop-argument-test.false) in
+    let few : length given ≤ c.args.count = c.requires in
+    let same : length old ≡ length given = ap length all in
+    let left : ℕ = c.args.count - vec_len c.loop-argument.slots in
+    record {
+      counted = grind (arith, common_steps);
+      more = replicate left 0;
+      given = c.in_ok-resize.ensures.items ∙ ap (λ (l : List ℕ). l ++ replicate left 0) (take_all c.args.count old (omega arith) ∙ all);
+      others = ap (λ (n : ℕ). replicate n 0) (sym (length-replicate left 0));
+    }
