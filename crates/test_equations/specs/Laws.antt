@@ -1,14 +1,15 @@
 -- What holds of the definitions.
-use Rattle.std.specs.Prelude.{◌≡◌, ◌↔◌, [], ◌∷◌, Option, Some, None}
+use Rattle.std.specs.Prelude.{◌≡◌, ◌↔◌, ℕ, [], ◌∷◌, Contains, Option, Some, None}
 use Rattle.syntax.specs.Tree.{SourceUnit}
 use Rattle.semantics.specs.declared.schedule.ScheduleWord.TheVariants.{Turn, Collect, Slice}
 use Rattle.semantics.specs.Journal.{Journal, clearings_in}
 use Rattle.semantics.specs.Schedule.{Schedule}
 use Rattle.semantics.specs.World.{World}
-use Rattle.semantics.specs.Run.{Follows}
+use Rattle.semantics.specs.Reachable.{Reachable}
+use Rattle.semantics.specs.Run.{EachFrom, Follows}
 use Rattle.semantics.specs.State.{State}
 use Rattle.semantics.specs.Step.{world_step}
-use Rattle.semantics.specs.WeakReferences.{lost}
+use Rattle.semantics.specs.WeakReferences.{lost, weakly_held}
 
 -- ---- collections
 
@@ -55,3 +56,16 @@ SlicesAllowClearings =
     (unit : SourceUnit) (w : World) (s end : State) (journal : Journal) (words : Schedule)
     → clearings_in journal ≡ 0
     → Follows unit w s journal words end → Follows unit w s journal (without_slices words) end
+
+-- what is held weakly can be reached from the roots
+abbrev pub HeldAreReached : World → State → Type 0
+HeldAreReached w s = (n : ℕ) → Contains (weakly_held s.shared.statics) n → Reachable w s n
+
+-- Where that holds in each state of a journal's replay that an entry follows, slices allow no other journals: the same follow a schedule
+-- with them and without them, to the same states. That nothing is lost says less of a state that no run has, where what is held weakly
+-- is no object.
+abbrev pub SlicesAllowTheSame : Type 0
+SlicesAllowTheSame =
+    (unit : SourceUnit) (w : World) (s end : State) (journal : Journal) (words : Schedule)
+    → EachFrom unit w (λ t e. HeldAreReached w t) (Some s) journal
+    → Follows unit w s journal words end ↔ Follows unit w s journal (without_slices words) end
