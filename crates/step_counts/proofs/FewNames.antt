@@ -2,6 +2,7 @@
 use Rattle.std.proofs.Common.{◌≡◌, ℕ, zero, suc, ◌<◌, ◌≤◌, Bool, true, false, ◌&&◌, List, [], ◌∷◌, ◌++◌, length, get_or, map, refl, ap, ◌∙◌, arith, length-append}
 use Rattle.std.specs.Prelude.{filter_map, nat_le}
 use Rattle.std.specs.List.{list_all}
+use Rattle.std.proofs.lemmas.Bool.{and_parts}
 use Rattle.base.specs.Limits.{most_names}
 use Rattle.syntax.specs.Parts.{functions_of, statements_of, parameter_names, names_declared}
 use Rattle.syntax.specs.Tree.{ParameterType, IntParameter, ReferenceParameter, Parameter, JIntVariable, JSize, Stmt, Declare, DeclareBuffer, DeclareChars, DeclareArray, Function, Item, StaticItem, FunctionItem}
@@ -42,10 +43,6 @@ and_alike : (a b c : Bool) → (b ≡ true → c ≡ true) → (a && b) ≡ true
 and_alike true b c f h = f h
 and_alike false b c f h = h
 
-both_true : (a b : Bool) → (a && b) ≡ true → (a ≡ true) × (b ≡ true)
-both_true true b h = (refl, h)
-both_true false b h = absurd (cc)
-
 pub few_items : (items : List Item) → list_all (λ f. nat_le (length (parameter_names f ++ names_declared (statements_of f.body))) most_names) (functions_of (record { items = items })) ≡ true → list_all has_few_names items ≡ true
 few_items [] h = refl
 few_items (StaticItem s ∷ items) h = few_items items h
@@ -53,5 +50,5 @@ few_items (FunctionItem f ∷ items) h = and_alike (few f) _ (list_all has_few_n
 
 pub few_at : (items : List ItemInMemory) (i : ℕ) (x : ItemInMemory) → i < length items → x ≡ get_or items i x → list_all has_few_names (map item_tree items) ≡ true → has_few_names (item_tree x) ≡ true
 few_at [] i x below is h = absurd (omega (arith, below))
-few_at (y ∷ items) zero x below is h = ap (λ z. has_few_names (item_tree z)) is ∙ (both_true (has_few_names (item_tree y)) (list_all has_few_names (map item_tree items)) h).0
-few_at (y ∷ items) (suc i) x below is h = few_at items i x (omega (arith, below)) is (both_true (has_few_names (item_tree y)) (list_all has_few_names (map item_tree items)) h).1
+few_at (y ∷ items) zero x below is h = ap (λ z. has_few_names (item_tree z)) is ∙ (and_parts (has_few_names (item_tree y)) (list_all has_few_names (map item_tree items)) h).0
+few_at (y ∷ items) (suc i) x below is h = few_at items i x (omega (arith, below)) is (and_parts (has_few_names (item_tree y)) (list_all has_few_names (map item_tree items)) h).1
