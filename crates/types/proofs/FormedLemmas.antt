@@ -21,7 +21,7 @@ sorted known (Prefix op a) h = h
 sorted known (Binary op a b) h = h
 sorted known (Paren a) h = h
 
-some_of : (p : Option Sort → Bool) (o : Option Sort) → p None ≡ false → p o ≡ true → is_some o ≡ true
+pub some_of : (p : Option Sort → Bool) (o : Option Sort) → p None ≡ false → p o ≡ true → is_some o ≡ true
 some_of p None none h = let f : true ≡ false = sym h ∙ none in absurd cc
 some_of p (Some s) none h = refl
 

@@ -12,6 +12,7 @@ use Rattle.type_rules.specs.Sorts.{Scope, Sort, Word, Jint, Flag, Truth, Ref, Gl
 use Rattle.type_rules.specs.SortRules.{SortMisfit, UnknownName, is_formed, variable_sort, value_sets, return_fits, statement_fits, breaks_sort_rule}
 use Rattle.type_rules.specs.Uses.{expr_uses, uses}
 use Rattle.type_rules.proofs.SortCases.{none_right}
+use Rattle.types.proofs.FormedLemmas.{some_of}
 use Rattle.types.proofs.StatementLemmas.{unknown_names}
 
 -- ---- operators
@@ -90,10 +91,6 @@ sorted_known scope (Binary op a b) h = elim (null_cases op a b) [
 ]
 
 -- ---- statements
-
-some_of : (p : Option Sort → Bool) (o : Option Sort) → p None ≡ false → p o ≡ true → is_some o ≡ true
-some_of p None none h = let f : true ≡ false = sym h ∙ none in absurd cc
-some_of p (Some s) none h = refl
 
 by_sort : (known : Scope) (p : Option Sort → Bool) (e : Expr) → p None ≡ false → p (sort_of known e) ≡ true → expr_uses (is_unknown known) e ≡ false
 by_sort known p e none h = sorted_known known e (some_of p (sort_of known e) none h)

@@ -1,6 +1,6 @@
-use Rattle.std.proofs.Common.{◌≡◌, ℕ, ◌+◌, ◌-◌, List, [], ◌∷◌, ◌++◌, Result, Ok, Err, OnOk, drop, length, refl, sym, ap, ap₂, subst, ◌∙◌, append_assoc, append-nil}
+use Rattle.std.proofs.Common.{◌≡◌, ℕ, ◌+◌, ◌-◌, List, [], ◌∷◌, ◌++◌, Result, Err, OnOk, drop, length, refl, sym, ap, ap₂, subst, ◌∙◌, append_assoc, append-nil}
 use Rattle.std.proofs.lemmas.List.Elements.{filter_map-append}
-use Rattle.std.proofs.lemmas.Result.{err_from_is_err_and}
+use Rattle.std.proofs.lemmas.Result.{err_from_is_err_and, on_ok_weaker}
 use Rattle.base.specs.Bytes.{Identifier}
 use Rattle.syntax.specs.declared.stmt.Block.{out-Block}
 use Rattle.syntax.specs.Parts.{statements_of, statements_within, names_declared, declared_name}
@@ -24,10 +24,6 @@ of_statement r e all here inside rest was is h = rw (was, is) (Refuses-first e (
 
 of_inside : {A : Type 0} (r : Result A TypeError) (e : TypeError) (all here inside rest : Faults) → r ≡ Err e → all ≡ (here ++ inside) ++ rest → here ≡ [] → Refuses e inside → Finds r all
 of_inside r e all here inside rest was is none h = rw (was, is, none) (Refuses-first e inside rest h)
-
-on_ok : {A E : Type 0} (r : Result A E) (P Q : Type 0) → (P → Q) → OnOk r P → OnOk r Q
-on_ok (Ok x) P Q f h = f h
-on_ok (Err e) P Q f h = h
 
 two_blocks : (taken : List Identifier) (line : ℕ) (test : Test) (b d : Block) → (taken ++ names_declared (statements_of b)) ++ names_declared (statements_of d) ≡ taken ++ names_declared (statements_within (IfElse line test b d))
 two_blocks taken line test b d = append_assoc taken _ _ ∙ ap (λ names. taken ++ names) (sym (filter_map-append declared_name (statements_of b) (statements_of d)))
@@ -132,7 +128,7 @@ check_block-returns-in_err-check_inside-clause-taken t c =
 
 pub check_inside-returns-in_ok-check_block-in-IfElse-clause-taken : goal.check_inside-returns-in_ok-check_block-in-IfElse-clause-taken
 check_inside-returns-in_ok-check_block-in-IfElse-clause-taken t c =
-    on_ok c.check_block-in-IfElse-2.result _ _
+    on_ok_weaker c.check_block-in-IfElse-2.result
     (λ e line.
     e ∙ ap (λ names. names ++ names_declared (statements_of (block_tree c.in-IfElse.d))) c.in_ok-check_block-in-IfElse.ensures.taken
     ∙ two_blocks c.args.taken.now.items line (test_tree c.in-IfElse.field-0) (block_tree c.in-IfElse.b) (block_tree c.in-IfElse.d)
@@ -153,7 +149,7 @@ check_inside-returns-in_default-clause-above t c = c.declare.ensures.above
 
 pub check_inside-returns-in_default-clause-taken : goal.check_inside-returns-in_default-clause-taken
 check_inside-returns-in_default-clause-taken t c =
-    on_ok c.declare.result _ _
+    on_ok_weaker c.declare.result
     (λ (e : (line : ℕ) → c.declare.new.taken.items ≡ c.args.taken.now.items ++ names_declared (form_tree line c.args.form.now ∷ [])) line.
     e line ∙ ap (λ all. c.args.taken.now.items ++ names_declared all) (sym (alone line c.args.form.now c.in_default.not-If c.in_default.not-IfElse c.in_default.not-While)))
     c.declare.ensures.taken
@@ -164,19 +160,19 @@ check_inside-returns-in-If-clause-finds t c line =
 
 pub check_inside-returns-in-If-clause-scope : goal.check_inside-returns-in-If-clause-scope
 check_inside-returns-in-If-clause-scope t c =
-    on_ok c.check_block.result _ _
+    on_ok_weaker c.check_block.result
     (λ (e : c.check_block.new.known ≡ c.args.known.now) line. ap scope_of e ∙ ap (λ f. with_declared (scope_of c.args.known.now) (form_tree line f)) (sym c.in-If.is))
     c.check_block.ensures.restored
 
 pub check_inside-returns-in-If-clause-above : goal.check_inside-returns-in-If-clause-above
 check_inside-returns-in-If-clause-above t c =
-    on_ok c.check_block.result _ _
+    on_ok_weaker c.check_block.result
     (λ (e : c.check_block.new.known ≡ c.args.known.now). subst (λ known. IsAbove known c.args.known.now) (sym e) (above-none c.args.known.now))
     c.check_block.ensures.restored
 
 pub check_inside-returns-in-If-clause-taken : goal.check_inside-returns-in-If-clause-taken
 check_inside-returns-in-If-clause-taken t c =
-    on_ok c.check_block.result _ _
+    on_ok_weaker c.check_block.result
     (λ (e : c.check_block.new.taken.items ≡ c.args.taken.now.items ++ names_declared (statements_of (block_tree c.in-If.b))) line.
     e ∙ ap (λ f. c.args.taken.now.items ++ names_declared (statements_within (form_tree line f))) (sym c.in-If.is))
     c.check_block.ensures.taken
@@ -187,19 +183,19 @@ check_inside-returns-in-While-clause-finds t c line =
 
 pub check_inside-returns-in-While-clause-scope : goal.check_inside-returns-in-While-clause-scope
 check_inside-returns-in-While-clause-scope t c =
-    on_ok c.check_block-in-While.result _ _
+    on_ok_weaker c.check_block-in-While.result
     (λ (e : c.check_block-in-While.new.known ≡ c.args.known.now) line. ap scope_of e ∙ ap (λ f. with_declared (scope_of c.args.known.now) (form_tree line f)) (sym c.in-While.is))
     c.check_block-in-While.ensures.restored
 
 pub check_inside-returns-in-While-clause-above : goal.check_inside-returns-in-While-clause-above
 check_inside-returns-in-While-clause-above t c =
-    on_ok c.check_block-in-While.result _ _
+    on_ok_weaker c.check_block-in-While.result
     (λ (e : c.check_block-in-While.new.known ≡ c.args.known.now). subst (λ known. IsAbove known c.args.known.now) (sym e) (above-none c.args.known.now))
     c.check_block-in-While.ensures.restored
 
 pub check_inside-returns-in-While-clause-taken : goal.check_inside-returns-in-While-clause-taken
 check_inside-returns-in-While-clause-taken t c =
-    on_ok c.check_block-in-While.result _ _
+    on_ok_weaker c.check_block-in-While.result
     (λ (e : c.check_block-in-While.new.taken.items ≡ c.args.taken.now.items ++ names_declared (statements_of (block_tree c.in-While.b))) line.
     e ∙ ap (λ f. c.args.taken.now.items ++ names_declared (statements_within (form_tree line f))) (sym c.in-While.is))
     c.check_block-in-While.ensures.taken

@@ -1,6 +1,7 @@
-use Rattle.std.proofs.Common.{◌-◌, ◌++◌, Result, Ok, Err, OnOk, drop, length, sym, ap, subst, ◌∙◌}
+use Rattle.std.proofs.Common.{◌-◌, ◌++◌, drop, length, sym, ap, subst, ◌∙◌}
 use Rattle.syntax.specs.Views.{block_tree, result_tree}
 use Rattle.type_rules.specs.declared.sort.Sort.{Sort as SortInMemory}
+use Rattle.std.proofs.lemmas.Result.{on_ok_weaker}
 use Rattle.base.specs.Bytes.{ByName}
 use Rattle.type_rules.specs.SortRules.{places_of}
 use Rattle.types.specs.Faults.{Finds, scope_of, found, head_faults}
@@ -17,12 +18,8 @@ returns-clause-finds c =
     ∙ sym (found-function c.args.names.now (scope_of c.args.known.now) f known c.in_ok-enter.ensures.scope))
     c.check_body-checked.ensures.finds
 
-on_ok : {A E : Type 0} (r : Result A E) (P Q : Type 0) → (P → Q) → OnOk r P → OnOk r Q
-on_ok (Ok x) P Q f h = f h
-on_ok (Err e) P Q f h = h
-
 pub returns-clause-restored : goal.returns-clause-restored
 returns-clause-restored c =
-    on_ok c.check_body-checked.result _ _
+    on_ok_weaker c.check_body-checked.result
     (λ e. c.leave.ensures ∙ ap (λ (k : ByName SortInMemory). drop (length k - c.len-outside.result) k) e ∙ ap (λ n. drop (length c.enter.new.known - n) c.enter.new.known) c.len-outside.ensures ∙ forgotten _ _ c.in_ok-enter.ensures.above)
     c.check_body-checked.ensures.restored
