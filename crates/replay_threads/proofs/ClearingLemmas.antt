@@ -1,5 +1,5 @@
 -- What a clearing does to the state that a state in memory stands for, and whether it is possible.
-use Rattle.std.proofs.Common.{◌≡◌, ℕ, ◌+◌, Bool, true, false, cond, List, ◌++◌, length, Some, None, refl, sym, ap, ◌∙◌, subst, append_assoc}
+use Rattle.std.proofs.Common.{◌≡◌, ℕ, Bool, true, false, cond, List, ◌++◌, Some, None, refl, sym, ap, ◌∙◌, append_assoc}
 use Rattle.std.specs.Prelude.{not, ◌&&◌, filter}
 use Rattle.std.specs.List.{list_all, list_any}
 use Rattle.std.specs.Option.{option_map}
@@ -13,7 +13,6 @@ use Rattle.semantics.specs.Reachable.{from_one, is_in, loaded_count, reached, ro
 use Rattle.semantics.specs.State.{State}
 use Rattle.semantics.specs.Step.{clearing_step}
 use Rattle.semantics.specs.Thread.{Shared}
-use Rattle.semantics.specs.Variable.{Statics}
 use Rattle.semantics.specs.WeakReferences.{are_rising, cleared_statics, may_clear, weakly_held, with_cleared}
 use Rattle.semantics.specs.World.{World}
 use Rattle.semantics.proofs.ReachableLemmas.{contains_in, reached_lists, to_contains}

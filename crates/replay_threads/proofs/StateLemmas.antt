@@ -1,13 +1,13 @@
 -- What an entry does to the state that a state in memory stands for.
-use Rattle.std.proofs.Common.{◌≡◌, ℕ, zero, suc, ◌+◌, ◌<◌, ◌≤◌, Bool, true, false, cond, List, [], ◌∷◌, ◌++◌, length, map, take, Option, Some, None, refl, sym, ap, ◌∙◌, subst, arith}
-use Rattle.std.specs.Prelude.{slice_get, slice_set, sum_by, flat_map, ◌&&◌, ◌==◌, not, is_none}
+use Rattle.std.proofs.Common.{◌≡◌, ℕ, zero, suc, ◌+◌, ◌-◌, ◌<◌, ◌≤◌, Bool, true, false, cond, List, [], ◌∷◌, ◌++◌, length, get_or, map, take, Option, Some, None, refl, sym, ap, ◌∙◌, subst, arith}
+use Rattle.std.specs.Prelude.{Vec as RawVec, slice_get, slice_set, vec_len, sum_by, flat_map, ◌&&◌, ◌==◌, not, is_none}
 use Rattle.std.proofs.lemmas.Bool.{eqb-true}
 use Rattle.std.proofs.lemmas.List.{length-set}
 use Rattle.std.proofs.lemmas.List.Concat.{flat_map-cons}
 use Rattle.std.proofs.lemmas.List.Sums.{sum_by-cons}
 use Rattle.std.proofs.lemmas.List.{length-map, take_all}
 use Rattle.std.proofs.lemmas.List.FromFn.{length-enumerate_from}
-use Rattle.std.proofs.lemmas.Option.{slice_get-map}
+use Rattle.std.proofs.lemmas.Option.{slice_get-map, slice_get_read}
 use Rattle.semantics.specs.Variable.{Variables}
 use Rattle.replay_steps.specs.declared.activation.Activation.{Activation}
 use Rattle.std.specs.List.{enumerate_from}
@@ -67,6 +67,11 @@ none_in [] is = refl
 none_in (x ∷ l) is = absurd (cc)
 
 -- ---- one thread of several
+
+-- what a list has at a number, counted from 1
+pub element_at : {A : Type 0} (v : RawVec ThreadInMemory A) (n k : ℕ) (t : ThreadInMemory) → (n ≡ 0 → ⊥) → n ≤ k → k ≡ vec_len v
+    → t ≡ get_or v.items (n - 1) t → slice_get v.items (n - 1) ≡ Some t
+element_at v n k t low high all h = slice_get_read v.items (length v.items) (n - 1) t refl (omega arith) h
 
 module _ (unit : SourceUnit) (classes : Classes) where
   pub record Found (t : ThreadInMemory) (ss : List Thread) (i : ℕ) : Type 0 where

@@ -1,11 +1,10 @@
-use Rattle.std.proofs.Common.{◌≡◌, ℕ, ◌-◌, ◌≤◌, List, length, get_or, Some, true, refl, sym, ap, ◌∙◌, subst, arith}
-use Rattle.std.specs.Prelude.{Vec as RawVec, slice_get, vec_len}
-use Rattle.std.proofs.lemmas.Option.{slice_get_read}
+use Rattle.std.proofs.Common.{◌≡◌, ℕ, ◌-◌, List, Some, true, sym, ap, ◌∙◌, subst, arith}
+use Rattle.std.specs.Prelude.{slice_get}
 use Rattle.semantics.specs.State.{thread_at}
 use Rattle.semantics.specs.Step.{is_blocked, is_unfinished}
 use Rattle.replay_threads.specs.declared.thread.Thread.{Thread}
 use Rattle.semantics.specs.EventViews.{ending_view}
-use Rattle.replay_threads.proofs.StateLemmas.{stopped, not_there, past_the_end, ended, waiting}
+use Rattle.replay_threads.proofs.StateLemmas.{stopped, not_there, past_the_end, ended, element_at, waiting}
 use Rattle.replay_threads.proofs.state.place_of.Goals as goal
 
 pub returns-then-is_some-clause-none : goal.returns-then-is_some-clause-none
@@ -25,21 +24,17 @@ returns-then-waits-clause-none c = λ unit refused w s h.
     ap (is_blocked w.classes s) (sym c.from-number.ensures) ∙ sym (c.waits.ensures unit w s h c.requires) ∙ c.if-waits.true in
     waiting unit w c.args.state.now s h c.requires c.args.k refused blocked
 
--- the thread of the entry
-thread_there : {A : Type 0} (v : RawVec Thread A) (n k : ℕ) (t : Thread) → (n ≡ 0 → ⊥) → n ≤ k → k ≡ vec_len v → t ≡ get_or v.items (n - 1) t → slice_get v.items (n - 1) ≡ Some t
-thread_there v n k t low high all h = slice_get_read v.items (length v.items) (n - 1) t refl (omega arith) h
-
 live_there : (ts : List Thread) (i : ℕ) (t u : Thread) → slice_get ts i ≡ Some t → is_unfinished (ending_view t.ending) ≡ true → slice_get ts i ≡ Some u → is_unfinished (ending_view u.ending) ≡ true
 live_there ts i t u at live same = let one : t ≡ u = cc in subst (λ (x : Thread). is_unfinished (ending_view x.ending) ≡ true) one live
 
 pub returns-else-is_unfinished-clause-none : goal.returns-else-is_unfinished-clause-none
 returns-else-is_unfinished-clause-none c = λ unit refused w s h.
-    let at = thread_there c.args.state.now.threads c.from-number.result c.len.result c.index.result.now c.if-number-eq0.false c.if-len-number.false c.len.ensures c.index.ensures in
+    let at = element_at c.args.state.now.threads c.from-number.result c.len.result c.index.result.now c.if-number-eq0.false c.if-len-number.false c.len.ensures c.index.ensures in
     ended unit w c.args.state.now s h c.requires c.args.k refused (c.from-number.result - 1) c.index.result.now (omega arith) at (sym c.is_unfinished.ensures ∙ c.if-is_unfinished.false)
 
 pub returns-then-is_unfinished-clause-some : goal.returns-then-is_unfinished-clause-some
 returns-then-is_unfinished-clause-some c =
-    let at = thread_there c.args.state.now.threads c.from-number.result c.len.result c.index.result.now c.if-number-eq0.false c.if-len-number.false c.len.ensures c.index.ensures in
+    let at = element_at c.args.state.now.threads c.from-number.result c.len.result c.index.result.now c.if-number-eq0.false c.if-len-number.false c.len.ensures c.index.ensures in
     record {
       counted = omega arith;
       there = omega arith;
