@@ -33,6 +33,11 @@ pub record AreNoted (s : Space) (roots : List (Option ℕ)) (kept : List Bool) :
   pub pinned : (a : ℕ) → 0 < pins_at s a → is_kept kept a ≡ true
   pub rooted : (a : ℕ) → Contains roots (Some a) → is_kept kept a ≡ true
 
+-- no more blocks wait on its list than a slice marks
+abbrev pub FewWait : Option Marks → Type 0
+FewWait None = Unit {0}
+FewWait (Some m) = length m.waiting ≤ slice_size
+
 -- the marking that is under way marked as many as a slice does, of a list on which more wait, and nothing has moved
 pub record MarksOn (s t : Space) : Type 0 where
   pub marks : Marks

@@ -7,7 +7,7 @@ ghost use Rattle.heap.specs.Marking.{IsUnderWay};
 ghost use Rattle.heap.specs.Marks.{is_kept};
 ghost use Rattle.compact.specs.Marks.{Adds, IsFollowed};
 ghost use Rattle.compact.specs.Reach.{AreAddresses, IsClosed, Refers};
-ghost use Rattle.compact.specs.Slices.{HasMarked, IsSliced, IsWhole, MarksOn, slice_size};
+ghost use Rattle.compact.specs.Slices.{FewWait, HasMarked, IsSliced, IsWhole, MarksOn, slice_size};
 
 use crate::collecting::{lend_marks, lend_table};
 use crate::compacting::compact;
@@ -116,6 +116,7 @@ pub fn mark_on(heap: &mut Heap) -> bool
     requires { IsClosed heap.old }
     ensures yes { result ≡ true → MarksOn heap.old heap.new }
     ensures no { result ≡ false → heap.new ≡ heap.old }
+    ensures few { result ≡ false → FewWait heap.old.marking }
 {
     // The proof reads off this call how the heap lies.
     let _ = heap.count();
