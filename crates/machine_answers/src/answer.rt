@@ -316,7 +316,7 @@ pub fn argument(scene: &Scene<'_>, call: &Call, place: usize) -> Option<Addr>
 
 /// The id of the object of the operand at a place, and the number 0 for NULL.
 #[inline(always)]
-fn name_of(scene: &Scene<'_>, call: &Call, place: usize) -> ObjectId
+pub(crate) fn name_of(scene: &Scene<'_>, call: &Call, place: usize) -> ObjectId
     requires { AreAddresses scene.now.heap.now scene.now.references call.now.operands.items }
     ensures { result.number ≡ name_there scene.now.heap.now (reference (scene_view scene.now) (call_view call.now) place) }
 {
@@ -497,7 +497,8 @@ pub(crate) fn count_there(heap: &Heap, reference: Option<Addr>) -> u32
 // ---- fields
 
 /// The place of the field of operand 1 among the values of operand 0.
-fn place_of_field(scene: &Scene<'_>, call: &Call) -> usize
+#[inline(always)]
+pub(crate) fn place_of_field(scene: &Scene<'_>, call: &Call) -> usize
     requires grown { IsGrown scene.now.classes.now }
     requires objects { AreAddresses scene.now.heap.now scene.now.references call.now.operands.items }
     requires handles { AreHandles scene.now.classes.now scene.now.fields.now call.now.operands.items }
@@ -528,7 +529,7 @@ fn place_of_static(scene: &Scene<'_>, call: &Call) -> usize
 
 /// The value of the field of operand 1 in operand 0.
 #[inline(always)]
-fn value_of_field(scene: &Scene<'_>, call: &Call) -> Option<Value>
+pub(crate) fn value_of_field(scene: &Scene<'_>, call: &Call) -> Option<Value>
     requires grown { IsGrown scene.now.classes.now }
     requires objects { AreAddresses scene.now.heap.now scene.now.references call.now.operands.items }
     requires handles { AreHandles scene.now.classes.now scene.now.fields.now call.now.operands.items }
@@ -581,6 +582,7 @@ fn writes_static(scene: &Scene<'_>, call: &Call, value: Value) -> Answer
 }
 
 /// The place of the field of a handle among those of a class, and 0 for NULL.
+#[inline(always)]
 fn field_place(classes: &ClassTable, class: ClassId, field: Option<FieldHandle>) -> usize
     requires grown { IsGrown classes.now }
     requires there { FieldIsThere classes.now field }
@@ -611,6 +613,7 @@ fn static_place(classes: &ClassTable, field: Option<FieldHandle>) -> usize
 }
 
 /// A value of an object, where the object has it.
+#[inline(always)]
 pub(crate) fn value_there(heap: &Heap, reference: Option<Addr>, place: usize) -> Option<Value>
     requires { ReferenceIsThere heap.now reference }
     ensures { result ≡ value_there heap.now reference place }
@@ -622,7 +625,8 @@ pub(crate) fn value_there(heap: &Heap, reference: Option<Addr>, place: usize) ->
 }
 
 /// The word in a cell, and 0 where there is none.
-fn word_in(value: Option<Value>) -> u32
+#[inline(always)]
+pub(crate) fn word_in(value: Option<Value>) -> u32
     ensures { result ≡ word_in value }
 {
     match value {
@@ -632,6 +636,7 @@ fn word_in(value: Option<Value>) -> u32
 }
 
 /// The address in a cell, and NULL where there is none.
+#[inline(always)]
 pub(crate) fn address_in(value: Option<Value>) -> Option<Addr>
     ensures { result ≡ address_in value }
 {
@@ -645,6 +650,7 @@ pub(crate) fn address_in(value: Option<Value>) -> Option<Addr>
 }
 
 /// How a cell holds a reference.
+#[inline(always)]
 pub(crate) fn held_reference(reference: Option<Addr>) -> Value
     ensures { result ≡ held_reference reference }
 {
@@ -675,6 +681,7 @@ pub(crate) fn writes_there(
 }
 
 /// The word on top of the stack, and 0 where there is none.
+#[inline(always)]
 pub(crate) fn top_word(stack: &Stack) -> u32
     ensures { result ≡ top_word stack.now }
 {
@@ -683,7 +690,8 @@ pub(crate) fn top_word(stack: &Stack) -> u32
 
 /// How a cell of this type holds the word on the stack.
 #[tactic(auto, using(code_meaning::proofs::ElementWords::element_same))]
-fn stored(element: syntax::ElementType, stack: &Stack) -> Value
+#[inline(always)]
+pub(crate) fn stored(element: syntax::ElementType, stack: &Stack) -> Value
     ensures { result ≡ Value.Number (element_word (element_of (element_value element)) (top_word stack.now)) }
 {
     Value::Number(element_word(element, top_word(stack)))

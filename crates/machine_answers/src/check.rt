@@ -1,6 +1,6 @@
 //! What is checked of a call before it does anything, in one order for all functions.
 
-ghost use Rattle.std.specs.Prelude.{◌≡◌, ℕ, ◌&&◌, not, is_some, IfSome, IfNone, map, false, slice_get};
+ghost use Rattle.std.specs.Prelude.{◌≡◌, ℕ, ◌&&◌, not, is_some, IfSome, IfNone, map, true, false, slice_get, Some};
 ghost use Rattle.std.specs.List.{list_any};
 ghost use Rattle.std.specs.Option.{option_map};
 ghost use Rattle.class_queries.specs.Kinds.{class_misfits};
@@ -11,6 +11,7 @@ ghost use Rattle.code.specs.Call.{call_view, IsPrepared};
 ghost use Rattle.jni.specs.JniFunction.{is_allowed_pending, prototype};
 ghost use Rattle.jni.specs.Table.{function_value, parameter_value, result_value};
 ghost use Rattle.syntax.specs.Views.{function_tree, parameter_tree, parameter_type_tree, result_tree, unit_tree};
+ghost use Rattle.heap.specs.Heap.{IsAddress};
 ghost use Rattle.machine_scenes.specs.Given.{method_at, operand_at, operand_of, AreAddresses, AreHandles, ReferenceIsThere};
 ghost use Rattle.machine_scenes.specs.Locals.{locals_after};
 ghost use Rattle.tables.specs.Locals.{has_room};
@@ -150,7 +151,8 @@ fn some_misfit(scene: &Scene<'_>, parameters: &[ParameterKind], operands: &[Oper
 }
 
 /// Whether a reference may be stored in a field of this type.
-fn fits_type(scene: &Scene<'_>, reference: Option<Addr>, field_type: FieldType) -> bool
+#[inline(always)]
+pub(crate) fn fits_type(scene: &Scene<'_>, reference: Option<Addr>, field_type: FieldType) -> bool
     requires { ReferenceIsThere scene.now.heap.now reference }
     ensures { result ≡ fits_type_there scene.now.classes.now scene.now.heap.now reference (field_type_view field_type) }
 {
@@ -161,7 +163,8 @@ fn fits_type(scene: &Scene<'_>, reference: Option<Addr>, field_type: FieldType) 
 }
 
 /// What the field or static of operand 1 holds, and numbers for NULL.
-fn asked_type(scene: &Scene<'_>, call: &Call) -> FieldType
+#[inline(always)]
+pub(crate) fn asked_type(scene: &Scene<'_>, call: &Call) -> FieldType
     requires { AreHandles scene.now.classes.now scene.now.fields.now call.now.operands.items }
     ensures { field_type_view result ≡ (field (scene_view scene.now) (call_view call.now)).field.type }
 {
@@ -169,7 +172,8 @@ fn asked_type(scene: &Scene<'_>, call: &Call) -> FieldType
 }
 
 /// Whether operand 0 is an object that has the field of operand 1.
-fn has_field(scene: &Scene<'_>, call: &Call) -> bool
+#[inline(always)]
+pub(crate) fn has_field(scene: &Scene<'_>, call: &Call) -> bool
     requires objects { AreAddresses scene.now.heap.now scene.now.references call.now.operands.items }
     requires handles { AreHandles scene.now.classes.now scene.now.fields.now call.now.operands.items }
     ensures { result ≡ has_field (unit_tree scene.now.items.now) scene.now.classes.now scene.now.heap.now scene.now.references scene.now.fields.now call.now.operands.items }
@@ -334,9 +338,66 @@ fn element_wanted(target: Target) -> ElementType
     }
 }
 
-/// The trap of a call for its arguments.
+/// Whether an object is of the kind that a parameter asks for.
+#[inline(always)]
+fn is_of_kind(scene: &Scene<'_>, parameter: ParameterKind, addr: Addr) -> bool
+    requires { IsAddress scene.now.heap.now addr }
+    ensures { result ≡ not (misfits scene.now.classes.now scene.now.heap.now (parameter_value parameter) (Some addr)) }
+{
+    !asks_kind(parameter) || !class_misfits(scene.classes, parameter, class_there(scene.heap, addr))
+}
+
+/// Whether an operand gives what its parameter takes by itself.
+#[inline(always)]
+fn passes(scene: &Scene<'_>, parameter: ParameterKind, operand: Operand) -> bool
+    requires { ReferenceIsThere scene.now.heap.now (operand_at scene.now.references operand) }
+    ensures { result ≡ true → (gives_deleted scene.now.references operand ≡ false)
+        × ((not (may_be_null (parameter_value parameter)) && gives_null scene.now.references scene.now.fields.now operand) ≡ false)
+        × (misfits scene.now.classes.now scene.now.heap.now (parameter_value parameter) (operand_at scene.now.references operand) ≡ false) }
+{
+    match operand {
+        Operand::Local(slot) => match scene.references.local(slot) {
+            Some(addr) => is_of_kind(scene, parameter, addr),
+            None => may_be_null(parameter),
+        },
+        Operand::Static(slot) => match scene.references.held(slot) {
+            Held::At(addr) | Held::Weakly(addr) => is_of_kind(scene, parameter, addr),
+            Held::Empty | Held::Cleared => may_be_null(parameter),
+            Held::Deleted => false,
+        },
+        Operand::Null => may_be_null(parameter),
+        Operand::FieldId(_) => {
+            field_in(scene.fields, operand).is_some() || may_be_null(parameter)
+        }
+        Operand::MethodId(_) => {
+            method_in(scene.fields, operand).is_some() || may_be_null(parameter)
+        }
+        Operand::Number | Operand::Text | Operand::Mode(_) => true,
+        Operand::Array(_) | Operand::Buffer(_) | Operand::IsCopy(_) => true,
+    }
+}
+
+/// Whether each operand does, in one walk over them.
+fn all_pass(scene: &Scene<'_>, parameters: &[ParameterKind], operands: &[Operand]) -> bool
+    requires { AreAddresses scene.now.heap.now scene.now.references operands.now }
+    ensures { result ≡ true → (list_any (gives_deleted scene.now.references) operands.now ≡ false)
+        × (some_missing scene.now.references scene.now.fields.now (map parameter_value parameters.now) operands.now ≡ false)
+        × (some_misfit scene.now.classes.now scene.now.heap.now scene.now.references (map parameter_value parameters.now) operands.now ≡ false) }
+{
+    match parameters {
+        [parameter, parameters @ ..] => match operands {
+            [operand, operands @ ..] => {
+                passes(scene, *parameter, *operand) && all_pass(scene, parameters, operands)
+            }
+            [] => true,
+        },
+        [] => !some_deleted(&scene.references, operands),
+    }
+}
+
+/// The trap of a call for its arguments, found test by test.
 #[inline(never)]
-fn check_arguments(scene: &Scene<'_>, call: &Call) -> Option<Trap>
+fn trap_of_arguments(scene: &Scene<'_>, call: &Call) -> Option<Trap>
     requires objects { AreAddresses scene.now.heap.now scene.now.references call.now.operands.items }
     requires handles { AreHandles scene.now.classes.now scene.now.fields.now call.now.operands.items }
     ensures some { IfSome result (λ t. ArgumentsTrap (scene_view scene.now) (call_view call.now) (trap_view t)) }
@@ -354,6 +415,21 @@ fn check_arguments(scene: &Scene<'_>, call: &Call) -> Option<Trap>
         return Some(Trap::WrongObject);
     }
     None
+}
+
+/// The trap of a call for its arguments. Where there is none, which is mostly so, they are walked over once.
+fn check_arguments(scene: &Scene<'_>, call: &Call) -> Option<Trap>
+    requires objects { AreAddresses scene.now.heap.now scene.now.references call.now.operands.items }
+    requires handles { AreHandles scene.now.classes.now scene.now.fields.now call.now.operands.items }
+    ensures some { IfSome result (λ t. ArgumentsTrap (scene_view scene.now) (call_view call.now) (trap_view t)) }
+    ensures none { IfNone result (ArgumentsPass (scene_view scene.now) (call_view call.now)) }
+{
+    let parameters = call.function.prototype().parameters;
+    if all_pass(scene, parameters, &call.operands) && fit_together(scene, call) {
+        None
+    } else {
+        trap_of_arguments(scene, call)
+    }
 }
 
 /// The trap of a call for its arguments, without a look at arguments of which nothing is asked.

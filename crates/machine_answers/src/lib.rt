@@ -2,6 +2,7 @@
 #![tactic(auto)]
 
 pub mod answer;
+pub mod at_once;
 mod arrays;
 pub mod buffers;
 pub mod check;
