@@ -58,6 +58,7 @@ pub fn has_room(classes: &ClassTable, texts: &[Vec<u8>], heap: &Heap, answer: &A
 ///
 /// An error says that host memory for a frame, a global reference, weak or not, or a copy of elements was refused; then all is as
 /// before.
+#[inline(always)]
 pub fn carry_out(
     world: &World,
     store: &mut Store,

@@ -24,6 +24,7 @@ pub mod ReturnedResults
 pub mod CallersCalls
 pub mod CopiedArrays
 pub mod AskedCalls
+pub mod SeenAnswers
 pub mod SeenCalls
 pub mod Waits
 pub mod Fetched

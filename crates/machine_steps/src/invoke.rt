@@ -25,13 +25,18 @@ use classes::table::ClassTable;
 use code::instr::{Call, Operand};
 use code_meaning::Program;
 use heap::{Addr, Heap};
-use machine_answers::answer::{Answer, work_out};
+use jni::JniFunction;
+use machine_answers::answer::{Answer, Given, work_out};
+use machine_answers::at_once::{
+    Write, deleted_at_once, number_at_once, reference_at_once, write_at_once,
+};
 use machine_answers::check::check;
 use machine_calls::carry_out::{carry_out, has_room};
 use machine_scenes::activation::Activation;
 use machine_scenes::store::Store;
 use semantics::Trap;
 use std::alloc::AllocError;
+use tables::Local;
 use world_values::World;
 
 /// What a call of a function of the JNI came to.
@@ -81,10 +86,162 @@ pub fn invoke(
             finish_monitor(store, activation, call, thread, answer)?;
             Ok(Invoked::Done)
         }
-        None => invoke_checked(
+        None => invoke_apart(
             program, world, store, pending, activation, call, thread, owner, may_refuse,
         ),
     }
+}
+
+/// The instruction that calls a function, where it isn't seen at once that it enters or leaves a monitor.
+#[inline(never)]
+fn invoke_apart(
+    program: &Program<'_>,
+    world: &World,
+    store: &mut Store,
+    pending: &mut Option<Addr>,
+    activation: &mut Activation,
+    call: &Call,
+    thread: u8,
+    owner: u16,
+    may_refuse: bool,
+) -> Result<Invoked, StepFault>
+    requires at_call { StandsAtCall program.now world.now store.old pending.old activation.old call.now thread owner }
+    requires place { activation.old.place + 1 < 2 ^ 64 }
+    requires few { store.old.births + 2 < 2 ^ 32 }
+    requires prepared { IsPrepared call.now }
+    ensures done { IfOk result (λ done. DoesCall program.now world.now store.old store.new pending.old pending.new
+        activation.old activation.new call.now thread owner done) }
+    ensures hindered { IfErr result (λ fault. IsHinderedAtCall program.now world.now store.old pending.old activation.old call.now
+        thread owner may_refuse fault) }
+    ensures refuses { result ≡ Ok Invoked.Refused → may_refuse ≡ true }
+    ensures calls { IfOk result (λ done. done ≡ Invoked.Calls → IsAsBefore store.old store.new pending.old pending.new
+        activation.old activation.new) }
+    ensures store { OnErr result (store.new ≡ store.old) }
+    ensures pending { OnErr result (pending.new ≡ pending.old) }
+    ensures activation { OnErr result (activation.new ≡ activation.old) }
+{
+    match call.function {
+        JniFunction::GetField(_)
+        | JniFunction::GetArrayLength
+        | JniFunction::IsSameObject
+        | JniFunction::ExceptionCheck => {
+            if let Some(word) = number_seen(program, world, store, *pending, activation, call, thread)
+            {
+                let answer = Answer::Gives(Given::Number(word));
+                return finish_seen(
+                    program, world, store, pending, activation, call, thread, owner, may_refuse, answer,
+                );
+            }
+        }
+        JniFunction::NewLocalRef | JniFunction::GetObjectField => {
+            if let Some(reference) =
+                reference_seen(program, world, store, *pending, activation, call, thread)
+            {
+                let answer = Answer::Gives(Given::Reference(reference));
+                return finish_seen(
+                    program, world, store, pending, activation, call, thread, owner, may_refuse, answer,
+                );
+            }
+        }
+        JniFunction::SetField(_) | JniFunction::SetObjectField => {
+            if let Some(write) = write_seen(program, world, store, *pending, activation, call, thread)
+            {
+                let answer = Answer::Writes {
+                    object: write.object,
+                    place: write.place,
+                    value: write.value,
+                };
+                return finish_seen(
+                    program, world, store, pending, activation, call, thread, owner, may_refuse, answer,
+                );
+            }
+        }
+        JniFunction::DeleteLocalRef => {
+            if let Some(key) = deleted_seen(program, world, store, *pending, activation, call, thread)
+            {
+                let answer = Answer::Deletes(key);
+                return finish_seen(
+                    program, world, store, pending, activation, call, thread, owner, may_refuse, answer,
+                );
+            }
+        }
+        _ => {}
+    }
+    invoke_checked(
+        program, world, store, pending, activation, call, thread, owner, may_refuse,
+    )
+}
+
+/// The number that a call gives, where that is seen at once, and that no check stops it.
+#[inline(always)]
+fn number_seen(
+    program: &Program<'_>,
+    world: &World,
+    store: &Store,
+    pending: Option<Addr>,
+    activation: &Activation,
+    call: &Call,
+    thread: u8,
+) -> Option<u32>
+    requires at_call { (owner : ℕ) × StandsAtCall program.now world.now store.now pending activation.now call.now thread owner }
+    ensures { IfSome result (λ x. IsAnswered program.now world.now store.now pending activation.now thread call.now (Answer.Gives (Given.Number x))) }
+{
+    let scene = scene_of(program, world, store, pending, activation, thread);
+    number_at_once(&scene, call)
+}
+
+/// The reference that a call gives, likewise.
+#[inline(always)]
+fn reference_seen(
+    program: &Program<'_>,
+    world: &World,
+    store: &Store,
+    pending: Option<Addr>,
+    activation: &Activation,
+    call: &Call,
+    thread: u8,
+) -> Option<Option<Addr>>
+    requires at_call { (owner : ℕ) × StandsAtCall program.now world.now store.now pending activation.now call.now thread owner }
+    ensures { IfSome result (λ x. IsAnswered program.now world.now store.now pending activation.now thread call.now (Answer.Gives (Given.Reference x))) }
+{
+    let scene = scene_of(program, world, store, pending, activation, thread);
+    reference_at_once(&scene, &activation.locals, call)
+}
+
+/// The change that a call makes, likewise.
+#[inline(always)]
+fn write_seen(
+    program: &Program<'_>,
+    world: &World,
+    store: &Store,
+    pending: Option<Addr>,
+    activation: &Activation,
+    call: &Call,
+    thread: u8,
+) -> Option<Write>
+    requires at_call { (owner : ℕ) × StandsAtCall program.now world.now store.now pending activation.now call.now thread owner }
+    ensures { IfSome result (λ x. IsAnswered program.now world.now store.now pending activation.now thread call.now (Answer.Writes x.object x.place x.value)) }
+{
+    let scene = scene_of(program, world, store, pending, activation, thread);
+    write_at_once(&scene, call)
+}
+
+/// The key of the local reference that a call ends, likewise.
+#[inline(always)]
+fn deleted_seen(
+    program: &Program<'_>,
+    world: &World,
+    store: &Store,
+    pending: Option<Addr>,
+    activation: &Activation,
+    call: &Call,
+    thread: u8,
+) -> Option<Local>
+    requires at_call { (owner : ℕ) × StandsAtCall program.now world.now store.now pending activation.now call.now thread owner }
+    ensures { IfSome result (λ x. IsAnswered program.now world.now store.now pending activation.now thread call.now (Answer.Deletes x)) }
+{
+    let scene = scene_of(program, world, store, pending, activation, thread);
+    deleted_at_once(&scene, call)
 }
 
 /// What a call answers, where it is seen at once that it enters or leaves a monitor and that no check stops it.
@@ -283,6 +440,43 @@ fn finish(
         }
         Err(fault) => Err(fault),
     }
+}
+
+/// Does what a call answers that makes nothing, and puts what it gives where it goes.
+#[inline(always)]
+fn finish_seen(
+    program: &Program<'_>,
+    world: &World,
+    store: &mut Store,
+    pending: &mut Option<Addr>,
+    activation: &mut Activation,
+    call: &Call,
+    thread: u8,
+    owner: u16,
+    may_refuse: bool,
+    answer: Answer,
+) -> Result<Invoked, StepFault>
+    requires at_call { StandsAtCall program.now world.now store.old pending.old activation.old call.now thread owner }
+    requires place { activation.old.place + 1 < 2 ^ 64 }
+    requires few { store.old.births + 2 < 2 ^ 32 }
+    requires prepared { IsPrepared call.now }
+    requires answered { IsAnswered program.now world.now store.old pending.old activation.old thread call.now answer }
+    requires runs { is_carried answer ≡ true }
+    requires makes { cells_of world.now.classes (texts_in call.now.texts.items) answer ≡ 0 }
+    ensures done { IfOk result (λ done. DoesCall program.now world.now store.old store.new pending.old pending.new
+        activation.old activation.new call.now thread owner done) }
+    ensures hindered { IfErr result (λ fault. IsHinderedAtCall program.now world.now store.old pending.old activation.old call.now
+        thread owner may_refuse fault) }
+    ensures refuses { result ≡ Ok Invoked.Refused → may_refuse ≡ true }
+    ensures calls { IfOk result (λ done. done ≡ Invoked.Calls → IsAsBefore store.old store.new pending.old pending.new
+        activation.old activation.new) }
+    ensures store { OnErr result (store.new ≡ store.old) }
+    ensures pending { OnErr result (pending.new ≡ pending.old) }
+    ensures activation { OnErr result (activation.new ≡ activation.old) }
+{
+    Ok(finish(
+        program, world, store, pending, activation, call, thread, owner, answer,
+    )?)
 }
 
 /// Enters or leaves a monitor, as a call answers, and puts 0 where it goes.

@@ -22,6 +22,7 @@ use tables::{Local, Locals};
 /// A new local reference is put into the current frame too. Before, the flag in the slot `told`, if there is one, tells
 /// a buffer that is a copy from a view (JNI Specification, chapter 4, "Get<PrimitiveType>ArrayElements Routines"). It
 /// takes no host memory.
+#[inline(always)]
 pub fn receive(
     activation: &mut Activation,
     statics: &mut [StaticReference],
