@@ -6,3 +6,4 @@ pub mod BufferChanges
 pub mod Answers
 pub mod Passed
 pub mod Sights
+pub mod AtOnce

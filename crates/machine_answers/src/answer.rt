@@ -498,7 +498,7 @@ pub(crate) fn count_there(heap: &Heap, reference: Option<Addr>) -> u32
 
 /// The place of the field of operand 1 among the values of operand 0.
 #[inline(always)]
-pub(crate) fn place_of_field(scene: &Scene<'_>, call: &Call) -> usize
+fn place_of_field(scene: &Scene<'_>, call: &Call) -> usize
     requires grown { IsGrown scene.now.classes.now }
     requires objects { AreAddresses scene.now.heap.now scene.now.references call.now.operands.items }
     requires handles { AreHandles scene.now.classes.now scene.now.fields.now call.now.operands.items }
@@ -510,7 +510,8 @@ pub(crate) fn place_of_field(scene: &Scene<'_>, call: &Call) -> usize
 }
 
 /// The class object that holds the static of operand 1.
-fn holder_of_static(scene: &Scene<'_>, call: &Call) -> Option<Addr>
+#[inline(always)]
+pub(crate) fn holder_of_static(scene: &Scene<'_>, call: &Call) -> Option<Addr>
     requires { AreHandles scene.now.classes.now scene.now.fields.now call.now.operands.items }
     ensures { result ≡ declaring (scene_view scene.now) (call_view call.now) }
 {
@@ -519,7 +520,8 @@ fn holder_of_static(scene: &Scene<'_>, call: &Call) -> Option<Addr>
 }
 
 /// The place of the static of operand 1 among the values of its class object.
-fn place_of_static(scene: &Scene<'_>, call: &Call) -> usize
+#[inline(always)]
+pub(crate) fn place_of_static(scene: &Scene<'_>, call: &Call) -> usize
     requires { AreHandles scene.now.classes.now scene.now.fields.now call.now.operands.items }
     ensures { (field (scene_view scene.now) (call_view call.now)).is_static ≡ true
         → result ≡ place_of_static (scene_view scene.now) (call_view call.now) }
@@ -529,7 +531,7 @@ fn place_of_static(scene: &Scene<'_>, call: &Call) -> usize
 
 /// The value of the field of operand 1 in operand 0.
 #[inline(always)]
-pub(crate) fn value_of_field(scene: &Scene<'_>, call: &Call) -> Option<Value>
+fn value_of_field(scene: &Scene<'_>, call: &Call) -> Option<Value>
     requires grown { IsGrown scene.now.classes.now }
     requires objects { AreAddresses scene.now.heap.now scene.now.references call.now.operands.items }
     requires handles { AreHandles scene.now.classes.now scene.now.fields.now call.now.operands.items }
@@ -557,7 +559,7 @@ fn writes_field(scene: &Scene<'_>, call: &Call, value: Value) -> Answer
 
 /// The value of the static of operand 1.
 #[inline(always)]
-fn value_of_static(scene: &Scene<'_>, call: &Call) -> Option<Value>
+pub(crate) fn value_of_static(scene: &Scene<'_>, call: &Call) -> Option<Value>
     requires loaded { (i a : ℕ) → slice_get scene.now.loaded.now i ≡ Some a → IsAddress scene.now.heap.now a }
     requires handles { AreHandles scene.now.classes.now scene.now.fields.now call.now.operands.items }
     ensures { (field (scene_view scene.now) (call_view call.now)).is_static ≡ true
@@ -583,7 +585,7 @@ fn writes_static(scene: &Scene<'_>, call: &Call, value: Value) -> Answer
 
 /// The place of the field of a handle among those of a class, and 0 for NULL.
 #[inline(always)]
-fn field_place(classes: &ClassTable, class: ClassId, field: Option<FieldHandle>) -> usize
+pub(crate) fn field_place(classes: &ClassTable, class: ClassId, field: Option<FieldHandle>) -> usize
     requires grown { IsGrown classes.now }
     requires there { FieldIsThere classes.now field }
     ensures { (field_there classes.now field).is_static ≡ false → result ≡ place_there classes.now field (layout classes.now class.number) }

@@ -102,7 +102,8 @@ fn fits_element(scene: &Scene<'_>, call: &Call) -> bool
 }
 
 /// An index of an array, where it has such an element.
-fn index_in(heap: &Heap, array: Addr, index: i32) -> Option<usize>
+#[inline(always)]
+pub(crate) fn index_in(heap: &Heap, array: Addr, index: i32) -> Option<usize>
     requires { IsAddress heap.now array }
     ensures { result ≡ index_there heap.now (Some array) index }
 {

@@ -2,14 +2,19 @@
 //! no check stops it. None says nothing of a call. Here checks and answers are one piece of code, so nothing is looked up
 //! twice.
 
-ghost use Rattle.std.specs.Prelude.{◌≡◌, ◌<◌, Bool, true, false, None, Some, [], ◌∷◌, is_some, length, IfSome};
+ghost use Rattle.std.specs.Prelude.{◌≡◌, ◌<◌, ℕ, Bool, true, false, None, Some, [], ◌∷◌, is_some, length, slice_get, IfSome};
+ghost use Rattle.class_rules.specs.Class.{assignable};
+ghost use Rattle.class_rules.specs.Fields.{layout};
 ghost use Rattle.class_rules.specs.Grown.{IsGrown};
 ghost use Rattle.code.specs.Call.{call_view};
-ghost use Rattle.heap.specs.Heap.{values_at};
+ghost use Rattle.class_queries.specs.Kinds.{class_misfits};
+ghost use Rattle.heap.specs.Heap.{values_at, IsAddress};
+ghost use Rattle.jni.specs.Prototype.{ClassObject, ObjectArray};
 ghost use Rattle.jni.specs.Table.{function_value};
-ghost use Rattle.machine_answers.specs.Checked.{element_wanted, trap_found};
-ghost use Rattle.machine_answers.specs.WorkedOut.{field, place, reference, IsWorkedOut};
-ghost use Rattle.machine_scenes.specs.Given.{AreAddresses, AreHandles, field_at, operand_at};
+ghost use Rattle.machine_answers.specs.AtOnce.{field_in_spot};
+ghost use Rattle.machine_answers.specs.Checked.{element_wanted, misfits, trap_found};
+ghost use Rattle.machine_answers.specs.WorkedOut.{declaring, element_there, field, index_there, place_of_static, place_there, stack_number, value_there, IsWorkedOut};
+ghost use Rattle.machine_scenes.specs.Given.{class_there, field_at, field_there, operand_at, AreAddresses, AreHandles, FieldIsThere, ReferenceIsThere};
 ghost use Rattle.machine_scenes.specs.Locals.{locals_after};
 ghost use Rattle.machine_scenes.specs.Scenes.{scene_view};
 ghost use Rattle.tables.specs.Locals.{has_room};
@@ -17,15 +22,19 @@ ghost use Rattle.machine_answers.specs.declared.answer.Given.TheVariants.{Number
 ghost use Rattle.machine_answers.specs.declared.answer.Answer.TheVariants.{Gives, Writes, Deletes};
 
 use crate::answer::{
-    address_in, argument, count_there, held_reference, name_of, place_of_field, stored,
-    value_of_field, word_in,
+    address_in, argument, count_there, field_place, held_reference, holder_of_static, name_of,
+    place_of_static, stored, value_of_static, value_there, word_in,
 };
-use crate::check::{asked_type, fits_type, has_field};
+use crate::arrays::{index_in, stack_number};
+use crate::check::{asked_type, fits_type, has_static};
 use class_queries::{holds_number, holds_reference};
+use class_rules::ClassId;
+use classes::built_ins::CLASS;
+use classes::class::{ClassKind, FieldHandle};
 use code::instr::{Call, Operand};
 use heap::{Addr, Value};
 use jni::JniFunction;
-use machine_scenes::operands::{class_there, field_in};
+use machine_scenes::operands::{class_there, declaring, field_in, is_static, type_of};
 use machine_scenes::scene::Scene;
 use tables::{Local, Locals};
 
@@ -37,20 +46,131 @@ pub struct Write {
     pub value: Value,
 }
 
-/// Whether the slot of a local reference gives an object, and that of a field ID a field.
+/// An object, its class, and a field that it has, by the class that declares the field and its place there. No field ID is kept
+/// whole, since it would be copied with what pads it.
+#[derive(Clone, Copy)]
+struct Spot {
+    object: Addr,
+    class: ClassId,
+    declarer: ClassId,
+    place: usize,
+}
+
+impl Spot {
+    /// The field.
+    #[inline(always)]
+    fn field(&self) -> Option<FieldHandle>
+        ensures { result ≡ field_in_spot self.now }
+    {
+        Some(FieldHandle {
+            class: self.declarer,
+            place: self.place,
+            is_static: false,
+        })
+    }
+}
+
+/// The object of the slot of a local reference, and the field of that of a field ID, where the object has it.
 #[inline(always)]
-fn gives_both(scene: &Scene<'_>, slot: u32, id: u32) -> bool
+fn field_spot(scene: &Scene<'_>, slot: u32, id: u32) -> Option<Spot>
+    requires object { ReferenceIsThere scene.now.heap.now (operand_at scene.now.references (Operand.Local slot)) }
+    requires field { FieldIsThere scene.now.classes.now (field_at scene.now.fields.now (Operand.FieldId id)) }
+    ensures object { IfSome result (λ spot. operand_at scene.now.references (Operand.Local slot) ≡ Some spot.object) }
+    ensures field { IfSome result (λ spot. field_at scene.now.fields.now (Operand.FieldId id) ≡ field_in_spot spot) }
+    ensures class { IfSome result (λ spot. spot.class.number ≡ class_there scene.now.heap.now spot.object) }
+    ensures own { IfSome result (λ spot. (field_there scene.now.classes.now (field_in_spot spot)).is_static ≡ false) }
+    ensures has { IfSome result (λ spot. assignable scene.now.classes.now (class_there scene.now.heap.now spot.object)
+        (field_there scene.now.classes.now (field_in_spot spot)).class ≡ true) }
+{
+    match scene.references.local(slot) {
+        Some(object) => match field_in(scene.fields, Operand::FieldId(id)) {
+            Some(field) => {
+                let class = class_there(scene.heap, object);
+                if !field.is_static
+                    && !is_static(Some(field))
+                    && scene.classes.assignable(class, declaring(Some(field)))
+                {
+                    Some(Spot {
+                        object,
+                        class,
+                        declarer: field.class,
+                        place: field.place,
+                    })
+                } else {
+                    None
+                }
+            }
+            None => None,
+        },
+        None => None,
+    }
+}
+
+/// The value of a field in an object that has it.
+#[inline(always)]
+fn value_at(scene: &Scene<'_>, spot: &Spot) -> Option<Value>
+    requires grown { IsGrown scene.now.classes.now }
+    requires object { IsAddress scene.now.heap.now spot.now.object }
+    requires class { spot.now.class.number ≡ class_there scene.now.heap.now spot.now.object }
+    requires field { FieldIsThere scene.now.classes.now (field_in_spot spot.now) }
+    requires own { (field_there scene.now.classes.now (field_in_spot spot.now)).is_static ≡ false }
+    ensures { result ≡ value_there scene.now.heap.now (Some spot.now.object) (place_there scene.now.classes.now
+        (field_in_spot spot.now) (layout scene.now.classes.now (class_there scene.now.heap.now spot.now.object))) }
+{
+    let place = field_place(scene.classes, spot.class, spot.field());
+    value_there(scene.heap, Some(spot.object), place)
+}
+
+/// The change of a field to this value in an object that has it, where it has such a place.
+#[inline(always)]
+fn write_to(scene: &Scene<'_>, spot: &Spot, value: Value) -> Option<Write>
+    requires grown { IsGrown scene.now.classes.now }
+    requires object { IsAddress scene.now.heap.now spot.now.object }
+    requires class { spot.now.class.number ≡ class_there scene.now.heap.now spot.now.object }
+    requires field { FieldIsThere scene.now.classes.now (field_in_spot spot.now) }
+    requires own { (field_there scene.now.classes.now (field_in_spot spot.now)).is_static ≡ false }
+    ensures value { IfSome result (λ write. write.value ≡ value) }
+    ensures object { IfSome result (λ write. write.object ≡ spot.now.object) }
+    ensures place { IfSome result (λ write. write.place ≡ place_there scene.now.classes.now (field_in_spot spot.now)
+        (layout scene.now.classes.now (class_there scene.now.heap.now spot.now.object))) }
+    ensures inside { IfSome result (λ write. write.place < length (values_at scene.now.heap.now write.object)) }
+{
+    let object = spot.object;
+    let place = field_place(scene.classes, spot.class, spot.field());
+    if place < scene.heap.len_of(object) {
+        Some(Write {
+            object,
+            place,
+            value,
+        })
+    } else {
+        None
+    }
+}
+
+/// Whether the slot of a local reference gives a class object, and that of a field ID a field.
+#[inline(always)]
+fn gives_class_and_field(scene: &Scene<'_>, slot: u32, id: u32) -> bool
+    requires { ReferenceIsThere scene.now.heap.now (operand_at scene.now.references (Operand.Local slot)) }
     ensures object { result ≡ true → is_some (operand_at scene.now.references (Operand.Local slot)) ≡ true }
+    ensures class { result ≡ true → misfits scene.now.classes.now scene.now.heap.now ClassObject
+        (operand_at scene.now.references (Operand.Local slot)) ≡ false }
     ensures field { result ≡ true → is_some (field_at scene.now.fields.now (Operand.FieldId id)) ≡ true }
 {
-    scene.references.local(slot).is_some()
-        && field_in(scene.fields, Operand::FieldId(id)).is_some()
+    match scene.references.local(slot) {
+        Some(addr) => {
+            class_there(scene.heap, addr) == CLASS
+                && field_in(scene.fields, Operand::FieldId(id)).is_some()
+        }
+        None => false,
+    }
 }
 
 /// The number that a call gives.
 #[inline(always)]
 pub fn number_at_once(scene: &Scene<'_>, call: &Call) -> Option<u32>
     requires grown { IsGrown scene.now.classes.now }
+    requires loaded { (i a : ℕ) → slice_get scene.now.loaded.now i ≡ Some a → IsAddress scene.now.heap.now a }
     requires objects { AreAddresses scene.now.heap.now scene.now.references call.now.operands.items }
     requires handles { AreHandles scene.now.classes.now scene.now.fields.now call.now.operands.items }
     ensures free { IfSome result (λ word. (room : Bool) → trap_found (scene_view scene.now) room
@@ -62,12 +182,29 @@ pub fn number_at_once(scene: &Scene<'_>, call: &Call) -> Option<u32>
     match call.function {
         JniFunction::GetField(element) => match operands {
             [Operand::Local(slot), Operand::FieldId(id)] => {
+                match field_spot(scene, *slot, *id) {
+                    Some(spot) => {
+                        if scene.pending.is_none()
+                            && holds_number(element, type_of(scene.classes, spot.field()))
+                        {
+                            Some(word_in(value_at(scene, &spot)))
+                        } else {
+                            None
+                        }
+                    }
+                    None => None,
+                }
+            }
+            _ => None,
+        },
+        JniFunction::GetStaticField(element) => match operands {
+            [Operand::Local(slot), Operand::FieldId(id)] => {
                 if scene.pending.is_none()
-                    && gives_both(scene, *slot, *id)
-                    && has_field(scene, call)
+                    && gives_class_and_field(scene, *slot, *id)
+                    && has_static(scene, call)
                     && holds_number(element, asked_type(scene, call))
                 {
-                    Some(word_in(value_of_field(scene, call)))
+                    Some(word_in(value_of_static(scene, call)))
                 } else {
                     None
                 }
@@ -111,12 +248,9 @@ pub fn number_at_once(scene: &Scene<'_>, call: &Call) -> Option<u32>
 
 /// The reference that a call gives, for which there is room.
 #[inline(always)]
-pub fn reference_at_once(
-    scene: &Scene<'_>,
-    locals: &Locals,
-    call: &Call,
-) -> Option<Option<Addr>>
+pub fn reference_at_once(scene: &Scene<'_>, locals: &Locals, call: &Call) -> Option<Option<Addr>>
     requires grown { IsGrown scene.now.classes.now }
+    requires loaded { (i a : ℕ) → slice_get scene.now.loaded.now i ≡ Some a → IsAddress scene.now.heap.now a }
     requires objects { AreAddresses scene.now.heap.now scene.now.references call.now.operands.items }
     requires handles { AreHandles scene.now.classes.now scene.now.fields.now call.now.operands.items }
     ensures free { IfSome result (λ reference. trap_found (scene_view scene.now)
@@ -136,16 +270,63 @@ pub fn reference_at_once(
         },
         JniFunction::GetObjectField => match operands {
             [Operand::Local(slot), Operand::FieldId(id)] => {
-                if gives_both(scene, *slot, *id)
-                    && has_field(scene, call)
+                match field_spot(scene, *slot, *id) {
+                    Some(spot) => {
+                        if holds_reference(type_of(scene.classes, spot.field())) {
+                            Some(address_in(value_at(scene, &spot)))
+                        } else {
+                            None
+                        }
+                    }
+                    None => None,
+                }
+            }
+            _ => None,
+        },
+        JniFunction::GetStaticObjectField => match operands {
+            [Operand::Local(slot), Operand::FieldId(id)] => {
+                if gives_class_and_field(scene, *slot, *id)
+                    && has_static(scene, call)
                     && holds_reference(asked_type(scene, call))
                 {
-                    Some(address_in(value_of_field(scene, call)))
+                    Some(address_in(value_of_static(scene, call)))
                 } else {
                     None
                 }
             }
             _ => None,
+        },
+        JniFunction::GetObjectArrayElement => match operands {
+            [Operand::Local(slot), Operand::Number] => match scene.references.local(*slot) {
+                Some(array) => element_at_once(scene, array),
+                None => None,
+            },
+            _ => None,
+        },
+        JniFunction::ExceptionOccurred => match operands {
+            [] => Some(scene.pending),
+            _ => None,
+        },
+        _ => None,
+    }
+}
+
+/// The element of an array that the number on top of the stack tells, where the array is one of objects and has it.
+#[inline(always)]
+fn element_at_once(scene: &Scene<'_>, array: Addr) -> Option<Option<Addr>>
+    requires { IsAddress scene.now.heap.now array }
+    ensures kind { IfSome result (λ element. class_misfits scene.now.classes.now ObjectArray (class_there scene.now.heap.now array) ≡ false) }
+    ensures element { IfSome result (λ element. element_there scene.now.heap.now (Some array)
+        (index_there scene.now.heap.now (Some array) (stack_number scene.now.stack.now)) ≡ Gives (Reference element)) }
+{
+    match scene.classes.kind(class_there(scene.heap, array)) {
+        ClassKind::ArrayOfObjects(_) => match index_in(
+            scene.heap,
+            array,
+            stack_number(scene.stack),
+        ) {
+            Some(index) => Some(address_in(value_there(scene.heap, Some(array), index))),
+            None => None,
         },
         _ => None,
     }
@@ -155,6 +336,7 @@ pub fn reference_at_once(
 #[inline(always)]
 pub fn write_at_once(scene: &Scene<'_>, call: &Call) -> Option<Write>
     requires grown { IsGrown scene.now.classes.now }
+    requires loaded { (i a : ℕ) → slice_get scene.now.loaded.now i ≡ Some a → IsAddress scene.now.heap.now a }
     requires objects { AreAddresses scene.now.heap.now scene.now.references call.now.operands.items }
     requires handles { AreHandles scene.now.classes.now scene.now.fields.now call.now.operands.items }
     ensures free { IfSome result (λ write. (room : Bool) → trap_found (scene_view scene.now) room
@@ -169,13 +351,15 @@ pub fn write_at_once(scene: &Scene<'_>, call: &Call) -> Option<Write>
     match call.function {
         JniFunction::SetField(element) => match operands {
             [Operand::Local(slot), Operand::FieldId(id), Operand::Number] => {
-                if gives_both(scene, *slot, *id)
-                    && has_field(scene, call)
-                    && holds_number(element, asked_type(scene, call))
-                {
-                    write_to(scene, call, stored(element, scene.stack))
-                } else {
-                    None
+                match field_spot(scene, *slot, *id) {
+                    Some(spot) => {
+                        if holds_number(element, type_of(scene.classes, spot.field())) {
+                            write_to(scene, &spot, stored(element, scene.stack))
+                        } else {
+                            None
+                        }
+                    }
+                    None => None,
                 }
             }
             _ => None,
@@ -186,12 +370,45 @@ pub fn write_at_once(scene: &Scene<'_>, call: &Call) -> Option<Write>
                 Operand::FieldId(id),
                 Operand::Local(_),
             ] => {
+                match field_spot(scene, *slot, *id) {
+                    Some(spot) => {
+                        let value = argument(scene, call, 2);
+                        if fits_type(scene, value, type_of(scene.classes, spot.field())) {
+                            write_to(scene, &spot, held_reference(argument(scene, call, 2)))
+                        } else {
+                            None
+                        }
+                    }
+                    None => None,
+                }
+            }
+            _ => None,
+        },
+        JniFunction::SetStaticField(element) => match operands {
+            [Operand::Local(slot), Operand::FieldId(id), Operand::Number] => {
+                if gives_class_and_field(scene, *slot, *id)
+                    && has_static(scene, call)
+                    && holds_number(element, asked_type(scene, call))
+                {
+                    write_to_static(scene, call, stored(element, scene.stack))
+                } else {
+                    None
+                }
+            }
+            _ => None,
+        },
+        JniFunction::SetStaticObjectField => match operands {
+            [
+                Operand::Local(slot),
+                Operand::FieldId(id),
+                Operand::Local(_),
+            ] => {
                 let value = argument(scene, call, 2);
-                if gives_both(scene, *slot, *id)
-                    && has_field(scene, call)
+                if gives_class_and_field(scene, *slot, *id)
+                    && has_static(scene, call)
                     && fits_type(scene, value, asked_type(scene, call))
                 {
-                    write_to(scene, call, held_reference(argument(scene, call, 2)))
+                    write_to_static(scene, call, held_reference(argument(scene, call, 2)))
                 } else {
                     None
                 }
@@ -202,20 +419,19 @@ pub fn write_at_once(scene: &Scene<'_>, call: &Call) -> Option<Write>
     }
 }
 
-/// The change of the field of operand 1 in operand 0 to this value, where they have such a place.
+/// The change of the static of operand 1 to this value, where there is such a place.
 #[inline(always)]
-fn write_to(scene: &Scene<'_>, call: &Call, value: Value) -> Option<Write>
-    requires grown { IsGrown scene.now.classes.now }
-    requires objects { AreAddresses scene.now.heap.now scene.now.references call.now.operands.items }
+fn write_to_static(scene: &Scene<'_>, call: &Call, value: Value) -> Option<Write>
+    requires loaded { (i a : ℕ) → slice_get scene.now.loaded.now i ≡ Some a → IsAddress scene.now.heap.now a }
     requires handles { AreHandles scene.now.classes.now scene.now.fields.now call.now.operands.items }
     ensures { IfSome result (λ write. (write.value ≡ value)
-        × (reference (scene_view scene.now) (call_view call.now) 0 ≡ Some write.object)
+        × (declaring (scene_view scene.now) (call_view call.now) ≡ Some write.object)
         × (write.place < length (values_at scene.now.heap.now write.object))
-        × ((field (scene_view scene.now) (call_view call.now)).is_static ≡ false
-        → write.place ≡ place (scene_view scene.now) (call_view call.now))) }
+        × ((field (scene_view scene.now) (call_view call.now)).is_static ≡ true
+        → write.place ≡ place_of_static (scene_view scene.now) (call_view call.now))) }
 {
-    let place = place_of_field(scene, call);
-    match argument(scene, call, 0) {
+    let place = place_of_static(scene, call);
+    match holder_of_static(scene, call) {
         Some(object) => {
             if place < scene.heap.len_of(object) {
                 Some(Write {

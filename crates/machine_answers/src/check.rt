@@ -173,7 +173,7 @@ pub(crate) fn asked_type(scene: &Scene<'_>, call: &Call) -> FieldType
 
 /// Whether operand 0 is an object that has the field of operand 1.
 #[inline(always)]
-pub(crate) fn has_field(scene: &Scene<'_>, call: &Call) -> bool
+fn has_field(scene: &Scene<'_>, call: &Call) -> bool
     requires objects { AreAddresses scene.now.heap.now scene.now.references call.now.operands.items }
     requires handles { AreHandles scene.now.classes.now scene.now.fields.now call.now.operands.items }
     ensures { result ≡ has_field (unit_tree scene.now.items.now) scene.now.classes.now scene.now.heap.now scene.now.references scene.now.fields.now call.now.operands.items }
@@ -184,7 +184,8 @@ pub(crate) fn has_field(scene: &Scene<'_>, call: &Call) -> bool
 }
 
 /// Whether operand 0 is a class that has the static of operand 1.
-fn has_static(scene: &Scene<'_>, call: &Call) -> bool
+#[inline(always)]
+pub(crate) fn has_static(scene: &Scene<'_>, call: &Call) -> bool
     requires objects { AreAddresses scene.now.heap.now scene.now.references call.now.operands.items }
     requires handles { AreHandles scene.now.classes.now scene.now.fields.now call.now.operands.items }
     ensures { result ≡ has_static (unit_tree scene.now.items.now) scene.now.classes.now scene.now.heap.now scene.now.references scene.now.fields.now call.now.operands.items }

@@ -2,8 +2,8 @@
 #![tactic(auto)]
 
 pub mod answer;
-pub mod at_once;
 mod arrays;
+pub mod at_once;
 pub mod buffers;
 pub mod check;
 pub mod copies;

@@ -23,6 +23,7 @@ pub enum Handle {
 }
 
 /// The field ID that a slot holds; none for NULL, and for a method ID.
+#[inline(always)]
 pub fn field_held(held: Option<Handle>) -> Option<FieldHandle>
     ensures { result ≡ field_held held }
 {

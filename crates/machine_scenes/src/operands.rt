@@ -18,6 +18,7 @@ use semantics::{NO_OBJECT, ObjectId};
 use tables::Local;
 
 /// The operand at a place, and NULL where there is none.
+#[inline(always)]
 pub fn operand_of(operands: &[Operand], place: usize) -> Operand
     ensures { result ≡ operand_of operands.now place }
 {
@@ -25,6 +26,7 @@ pub fn operand_of(operands: &[Operand], place: usize) -> Operand
 }
 
 /// The reference that an operand gives.
+#[inline(always)]
 pub fn reference_in(references: &References<'_>, operand: Operand) -> Option<Addr>
     ensures { result ≡ operand_at references.now operand }
 {
@@ -49,6 +51,7 @@ pub fn key_in(references: &References<'_>, operand: Operand) -> Option<Local>
 }
 
 /// The field ID that an operand gives.
+#[inline(always)]
 pub fn field_in(fields: &[Option<Handle>], operand: Operand) -> Option<FieldHandle>
     ensures { result ≡ field_at fields.now operand }
 {
@@ -71,6 +74,7 @@ pub fn method_in(methods: &[Option<Handle>], operand: Operand) -> Option<MethodH
 }
 
 /// The reference of the operand at a place, which is NULL or the address of an object.
+#[inline(always)]
 pub fn reference_at(references: &References<'_>, operands: &[Operand], place: usize) -> Option<Addr>
     ensures reference { result ≡ operand_at references.now (operand_of operands.now place) }
     ensures there { (space : Space) → AreAddresses space references.now operands.now → ReferenceIsThere space result }
@@ -79,6 +83,7 @@ pub fn reference_at(references: &References<'_>, operands: &[Operand], place: us
 }
 
 /// The field ID of the operand at a place, which is NULL or that of a field.
+#[inline(always)]
 pub fn handle_at(
     fields: &[Option<Handle>],
     operands: &[Operand],
@@ -91,6 +96,7 @@ pub fn handle_at(
 }
 
 /// The class of the object at an address.
+#[inline(always)]
 pub fn class_there(heap: &Heap, addr: Addr) -> ClassId
     requires { IsAddress heap.now addr }
     ensures { result.number ≡ class_there heap.now addr }
@@ -101,6 +107,7 @@ pub fn class_there(heap: &Heap, addr: Addr) -> ClassId
 }
 
 /// The class of an object, and no class for NULL.
+#[inline(always)]
 pub fn class_of_given(heap: &Heap, reference: Option<Addr>) -> ClassId
     requires { ReferenceIsThere heap.now reference }
     ensures { result.number ≡ class_of_given heap.now reference }
@@ -112,6 +119,7 @@ pub fn class_of_given(heap: &Heap, reference: Option<Addr>) -> ClassId
 }
 
 /// The object at an address.
+#[inline(always)]
 pub fn object_there(heap: &Heap, addr: Addr) -> ObjectId
     requires { IsAddress heap.now addr }
     ensures { name_at heap.now addr ≡ Some result.number }
@@ -122,6 +130,7 @@ pub fn object_there(heap: &Heap, addr: Addr) -> ObjectId
 }
 
 /// The object of a reference, and `NO_OBJECT` for NULL.
+#[inline(always)]
 pub fn name_there(heap: &Heap, reference: Option<Addr>) -> ObjectId
     requires { ReferenceIsThere heap.now reference }
     ensures { result.number ≡ name_there heap.now reference }
@@ -149,6 +158,7 @@ pub fn fits_there(
 }
 
 /// Whether the field of a handle is a static; NULL is none.
+#[inline(always)]
 pub fn is_static(field: Option<FieldHandle>) -> bool
     ensures { (classes : Classes) → FieldIsThere classes field → result ≡ (field_there classes field).is_static }
 {
@@ -159,6 +169,7 @@ pub fn is_static(field: Option<FieldHandle>) -> bool
 }
 
 /// The class that declares the field of a handle, and no class for NULL.
+#[inline(always)]
 pub fn declaring(field: Option<FieldHandle>) -> ClassId
     ensures { (classes : Classes) → FieldIsThere classes field → result.number ≡ (field_there classes field).class }
 {
@@ -169,6 +180,7 @@ pub fn declaring(field: Option<FieldHandle>) -> ClassId
 }
 
 /// What the field of a handle holds, and numbers for NULL.
+#[inline(always)]
 pub fn type_of(classes: &ClassTable, field: Option<FieldHandle>) -> FieldType
     requires { FieldIsThere classes.now field }
     ensures { field_type_view result ≡ (field_there classes.now field).field.type }

@@ -76,6 +76,7 @@ impl<'a> Model for References<'a> {
 
 impl<'a> References<'a> {
     /// These references.
+    #[inline(always)]
     pub fn new(
         keys: &'a [Option<Local>],
         locals: &'a Locals,
@@ -95,6 +96,7 @@ impl<'a> References<'a> {
     }
 
     /// The key in the slot of a local reference; none for NULL, and where there is no slot.
+    #[inline(always)]
     pub fn key(&self, slot: u32) -> Option<Local>
         ensures { result ≡ held_in (slice_get self.now.keys slot) }
     {
@@ -102,6 +104,7 @@ impl<'a> References<'a> {
     }
 
     /// The address that the slot of a local reference gives; none for NULL, and for a reference that is dead.
+    #[inline(always)]
     pub fn local(&self, slot: u32) -> Option<Addr>
         ensures { result ≡ address_of self.now.locals (held_in (slice_get self.now.keys slot)) }
     {
