@@ -1,8 +1,7 @@
 -- What is seen at once of a call is what it answers.
-use Rattle.std.proofs.Common.{◌≡◌, ℕ, ◌+◌, ◌<◌, Bool, true, false, Option, Some, None, refl, sym, subst, arith}
+use Rattle.std.proofs.Common.{◌≡◌, ℕ, Bool, Option, Some, None, subst}
 use Rattle.std.specs.Prelude.{IfSome}
 use Rattle.syntax.specs.Views.{unit_tree}
-use Rattle.class_rules.specs.Class.{Classes}
 use Rattle.code.specs.Call.{call_view}
 use Rattle.code.specs.declared.instr.Call.{Call}
 use Rattle.code_meaning.specs.Lowered.{Lowered}

@@ -16,8 +16,9 @@ ghost use Rattle.machine_steps.specs.Resumed.{HasCalled, Resumes};
 ghost use Rattle.machine_steps.specs.Returned.{given_back};
 ghost use Rattle.jni.specs.Table.{result_value};
 
+use crate::buffer_elements::load_element;
 use crate::enter::enter;
-use crate::execute::{Executed, ReturnValue, execute, run_plain};
+use crate::execute::{Executed, ReturnValue, execute, run_plain, test_null};
 use crate::fault::StepFault;
 use crate::push::push;
 use crate::receive::receive;
@@ -83,6 +84,7 @@ pub fn advance(
             owner,
             may_refuse,
         ) {
+            Ok(Executed::Did(Event::Quiet)) => Ok(Advanced::Did(Event::Quiet)),
             Ok(Executed::Did(event)) => Ok(Advanced::Did(event)),
             Ok(Executed::Refused) => Ok(Advanced::Refused),
             Ok(Executed::Calls) => {
@@ -111,7 +113,8 @@ fn owner_at(thread: u8, below: usize) -> u16
     thread as u16 + 8 * below as u16
 }
 
-/// Takes one step of a thread, if its next instruction works on the stack and the number slots alone.
+/// Takes one step of a thread, if its next instruction works on the stack and the number slots alone, or reads beside them
+/// whether a variable is NULL, or an element of a buffer.
 /// It answers what is seen of it. None leaves all as it was. It takes no host memory.
 #[inline(always)]
 pub fn advance_plainly(program: &Program<'_>, store: &Store, thread: &mut Thread) -> Option<Event>
@@ -134,9 +137,14 @@ pub fn advance_plainly(program: &Program<'_>, store: &Store, thread: &mut Thread
             let code = program.code_at(activation.function);
             let instr = code.instr_at(activation.place);
             match instr {
-                Instr::TestNull { .. }
-                | Instr::StoreNull(_)
-                | Instr::LoadBuffer { .. }
+                Instr::TestNull { variable, equal } => {
+                    test_null(store, activation, *variable, *equal);
+                    Some(Event::Quiet)
+                }
+                Instr::LoadBuffer { slot, line } => {
+                    Some(load_element(store, activation, *slot, *line))
+                }
+                Instr::StoreNull(_)
                 | Instr::StoreBuffer { .. }
                 | Instr::PutJint
                 | Instr::Call(_)

@@ -107,6 +107,7 @@ pub fn execute(
             match invoke(
                 program, world, store, pending, activation, call, thread, owner, may_refuse,
             ) {
+                Ok(Invoked::Done) => Ok(Executed::Did(Event::Quiet)),
                 Ok(invoked) => Ok(outcome_of(call.line, invoked)),
                 Err(fault) => Err(fault),
             }
@@ -165,7 +166,12 @@ fn outcome_of(line: u32, invoked: Invoked) -> Executed
 
 /// Puts the truth whether a variable is NULL, or isn't, onto the stack.
 #[inline(always)]
-fn test_null(store: &Store, activation: &mut Activation, variable: NullableVariable, equal: bool)
+pub(crate) fn test_null(
+    store: &Store,
+    activation: &mut Activation,
+    variable: NullableVariable,
+    equal: bool,
+)
     requires room { length activation.old.stack < 64 }
     requires place { activation.old.place + 1 < 2 ^ 64 }
     ensures { HasMoved activation.old activation.new (activation.old.place + 1)

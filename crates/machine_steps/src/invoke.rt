@@ -122,46 +122,61 @@ fn invoke_apart(
 {
     match call.function {
         JniFunction::GetField(_)
+        | JniFunction::GetStaticField(_)
         | JniFunction::GetArrayLength
         | JniFunction::IsSameObject
         | JniFunction::ExceptionCheck => {
-            if let Some(word) = number_seen(program, world, store, *pending, activation, call, thread)
-            {
+            if let Some(word) = number_seen(
+                program, world, store, *pending, activation, call, thread,
+            ) {
                 let answer = Answer::Gives(Given::Number(word));
                 return finish_seen(
-                    program, world, store, pending, activation, call, thread, owner, may_refuse, answer,
+                    program, world, store, pending, activation, call, thread, owner, may_refuse,
+                    answer,
                 );
             }
         }
-        JniFunction::NewLocalRef | JniFunction::GetObjectField => {
-            if let Some(reference) =
-                reference_seen(program, world, store, *pending, activation, call, thread)
-            {
+        JniFunction::NewLocalRef
+        | JniFunction::GetObjectField
+        | JniFunction::GetStaticObjectField
+        | JniFunction::GetObjectArrayElement
+        | JniFunction::ExceptionOccurred => {
+            if let Some(reference) = reference_seen(
+                program, world, store, *pending, activation, call, thread,
+            ) {
                 let answer = Answer::Gives(Given::Reference(reference));
                 return finish_seen(
-                    program, world, store, pending, activation, call, thread, owner, may_refuse, answer,
+                    program, world, store, pending, activation, call, thread, owner, may_refuse,
+                    answer,
                 );
             }
         }
-        JniFunction::SetField(_) | JniFunction::SetObjectField => {
-            if let Some(write) = write_seen(program, world, store, *pending, activation, call, thread)
-            {
+        JniFunction::SetField(_)
+        | JniFunction::SetObjectField
+        | JniFunction::SetStaticField(_)
+        | JniFunction::SetStaticObjectField => {
+            if let Some(write) = write_seen(
+                program, world, store, *pending, activation, call, thread,
+            ) {
                 let answer = Answer::Writes {
                     object: write.object,
                     place: write.place,
                     value: write.value,
                 };
                 return finish_seen(
-                    program, world, store, pending, activation, call, thread, owner, may_refuse, answer,
+                    program, world, store, pending, activation, call, thread, owner, may_refuse,
+                    answer,
                 );
             }
         }
         JniFunction::DeleteLocalRef => {
-            if let Some(key) = deleted_seen(program, world, store, *pending, activation, call, thread)
-            {
+            if let Some(key) = deleted_seen(
+                program, world, store, *pending, activation, call, thread,
+            ) {
                 let answer = Answer::Deletes(key);
                 return finish_seen(
-                    program, world, store, pending, activation, call, thread, owner, may_refuse, answer,
+                    program, world, store, pending, activation, call, thread, owner, may_refuse,
+                    answer,
                 );
             }
         }

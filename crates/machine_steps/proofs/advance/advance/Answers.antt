@@ -12,6 +12,7 @@ use Rattle.semantics.specs.Object.{Reference}
 use Rattle.semantics.specs.Thread as source
 use Rattle.semantics.specs.Thread.{Shared, sight_of}
 use Rattle.semantics.specs.World.{World, loaded_objects}
+use Rattle.semantics.specs.declared.event.Event.{Event}
 use Rattle.semantics.specs.declared.event.Event.TheVariants.{Quiet}
 use Rattle.semantics_safety.specs.Owners.{ThreadOwners}
 use Rattle.code_meaning.specs.Lowered.{Lowered}
@@ -145,6 +146,13 @@ returns-in-Ok-Did-clause-advances c others own shared s shares h steady free =
     let b = it a others own shared s shares h steady c.in-Some.activation c.in-Some.is in
     did c.args.program.now c.args.world.now c.args.store.now others c.args.number own shared c.args.thread.now s h c.execute.new.store false c.in-Ok-Did.event b.task b.rest b.is c.execute.new.activation c.execute.new.pending
     (does a others own shared s shares h steady c.in-Some.activation c.in-Some.is c.execute.new.store c.execute.new.activation c.execute.new.pending _ (Did c.in-Ok-Did.event) free c.in-Ok-Did.ensures.done c.in-Ok-Did.field-0-is)
+
+pub returns-in-Ok-Did-Quiet-clause-advances : goal.returns-in-Ok-Did-Quiet-clause-advances
+returns-in-Ok-Did-Quiet-clause-advances c others own shared s shares h steady free =
+    let a = (goal.at.returns-in-Ok-Did-Quiet-clause-advances c).After-owner_at-owner in
+    let b = it a others own shared s shares h steady c.in-Some.activation c.in-Some.is in
+    did c.args.program.now c.args.world.now c.args.store.now others c.args.number own shared c.args.thread.now s h c.execute.new.store false Quiet b.task b.rest b.is c.execute.new.activation c.execute.new.pending
+    (does a others own shared s shares h steady c.in-Some.activation c.in-Some.is c.execute.new.store c.execute.new.activation c.execute.new.pending _ (Did Quiet) free c.in-Ok-Did-Quiet.ensures.done (c.in-Ok-Did-Quiet.field-0-is ∙ ap (λ (x : Event). Did x) c.in-Ok-Did-Quiet.field-0-0-is))
 
 pub returns-in-Ok-Refused-clause-advances : goal.returns-in-Ok-Refused-clause-advances
 returns-in-Ok-Refused-clause-advances c others own shared s shares h steady free =

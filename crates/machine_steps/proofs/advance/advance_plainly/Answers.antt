@@ -1,14 +1,20 @@
-use Rattle.std.proofs.Common.{◌≡◌, ◌≤◌, false, length, refl, arith}
+use Rattle.std.proofs.Common.{◌≡◌, ◌≤◌, ◌<◌, ℕ, false, List, [], ◌∷◌, length, Option, Some, None, refl, sym, ap, ◌∙◌, arith}
+use Rattle.code.specs.declared.instr.Instr.TheVariants as instr
 use Rattle.code.specs.declared.instr.Plain.{Plain}
 use Rattle.code.specs.declared.instr.Plain.TheVariants as plain
 use Rattle.code_meaning.specs.Slots.{visible_to}
 use Rattle.semantics.specs.declared.event.Event.{Event}
 use Rattle.semantics.specs.declared.event.Event.TheVariants as event
+use Rattle.semantics.specs.declared.trap.Trap.TheVariants.{OutOfRange}
 use Rattle.machine_threads.specs.Callers.{beside_callers, owner_at}
 use Rattle.machine_steps.specs.Moved.{IsSilent, WayIsSeen}
 use Rattle.machine_steps.specs.Waiting.{store_unowned, unowned}
-use Rattle.machine_steps.proofs.Calls.{leads}
-use Rattle.machine_steps.proofs.Effects.{plain_executes}
+use Rattle.machine_scenes.specs.declared.activation.Activation.{Activation}
+use Rattle.machine_steps.specs.BufferElements.{LoadsElement}
+use Rattle.machine_steps.proofs.Calls.{leads, one_word, room}
+use Rattle.machine_steps.proofs.Effects.{few_words, plain_executes, test_executes}
+use Rattle.machine_steps.proofs.ElementEffects.{load_executes}
+use Rattle.machine_steps.proofs.SlotBuffers.{slot_of_block}
 use Rattle.machine_steps.proofs.Fetched.{Fetched, reachable, ready_for}
 use Rattle.machine_steps.proofs.Threads.{did}
 use Rattle.machine_steps.proofs.Waits.{executes, function_there, goes_on, place_there, work, would_execute}
@@ -69,6 +75,118 @@ run_plain-requires-clause-leads c way stack numbers is =
     reachable f.code.instrs call.place way (length stack) c.instr_at-instr.ensures.few
     (leads p a.0.classes store.heap store.elements (owner_at a.2 (length a.5.callers)) call f.code (visible_to a.3.current a.4 a.5) a.5.frames it.task it.rest
     (ready_for p a.0 (store_unowned store) call i f t.pending (beside_callers a.1 a.5) a.2 (owner_at a.2 (length a.5.callers)) a.3.current (unowned a.4) a.5 it.task it.rest e) i f.at way stack numbers is)
+
+pub test_null-requires-clause-room : goal.test_null-requires-clause-room
+unfolding fetched_unowned
+test_null-requires-clause-room c =
+    let a = c.requires.stands in
+    let p = c.args.program.now in
+    let store = c.args.store.now in
+    let t = c.args.thread.now in
+    let call = c.in-Some.activation in
+    let i = c.instr_at-instr.result.now in
+    let f = fetched_unowned (goal.at.test_null-requires-clause-room c).After-instr_at-instr in
+    let it = work p a.0 store (beside_callers a.1 a.5) a.2 a.3 a.4 t a.5 call a.6.0 a.6.1 c.in-Some.is a.6.2 in
+    let e = would_execute p a.0 store (beside_callers a.1 a.5) a.2 a.3 a.4 t a.5 call a.6.0 a.6.1 c.in-Some.is a.6.2 in
+    few_words c.in-TestNull.variable c.in-TestNull.equal (length call.stack)
+    (room p a.0.classes store.heap store.elements (owner_at a.2 (length a.5.callers)) call f.code (visible_to a.3.current a.4 a.5) a.5.frames it.task it.rest
+    (ready_for p a.0 (store_unowned store) call i f t.pending (beside_callers a.1 a.5) a.2 (owner_at a.2 (length a.5.callers)) a.3.current (unowned a.4) a.5 it.task it.rest e) (instr.TestNull c.in-TestNull.variable c.in-TestNull.equal) (f.at ∙ ap (λ j. Some j) c.in-TestNull.is))
+
+pub load_element-requires-clause-operand : goal.load_element-requires-clause-operand
+unfolding fetched_unowned
+load_element-requires-clause-operand c =
+    let a = c.requires.stands in
+    let p = c.args.program.now in
+    let store = c.args.store.now in
+    let t = c.args.thread.now in
+    let call = c.in-Some.activation in
+    let i = c.instr_at-instr.result.now in
+    let f = fetched_unowned (goal.at.load_element-requires-clause-operand c).After-instr_at-instr in
+    let it = work p a.0 store (beside_callers a.1 a.5) a.2 a.3 a.4 t a.5 call a.6.0 a.6.1 c.in-Some.is a.6.2 in
+    let e = would_execute p a.0 store (beside_callers a.1 a.5) a.2 a.3 a.4 t a.5 call a.6.0 a.6.1 c.in-Some.is a.6.2 in
+    one_word c.in-LoadBuffer.slot c.in-LoadBuffer.line (length call.stack)
+    (room p a.0.classes store.heap store.elements (owner_at a.2 (length a.5.callers)) call f.code (visible_to a.3.current a.4 a.5) a.5.frames it.task it.rest
+    (ready_for p a.0 (store_unowned store) call i f t.pending (beside_callers a.1 a.5) a.2 (owner_at a.2 (length a.5.callers)) a.3.current (unowned a.4) a.5 it.task it.rest e) (instr.LoadBuffer c.in-LoadBuffer.slot c.in-LoadBuffer.line) (f.at ∙ ap (λ j. Some j) c.in-LoadBuffer.is))
+
+pub load_element-requires-clause-block : goal.load_element-requires-clause-block
+load_element-requires-clause-block c =
+    let a = c.requires.stands in
+    let p = c.args.program.now in
+    let store = c.args.store.now in
+    let t = c.args.thread.now in
+    let call = c.in-Some.activation in
+    let e = would_execute p a.0 store (beside_callers a.1 a.5) a.2 a.3 a.4 t a.5 call a.6.0 a.6.1 c.in-Some.is a.6.2 in
+    slot_of_block store.heap store.elements (owner_at a.2 (length a.5.callers)) call.slots.buffers.items e.stands.meant.buffers c.in-LoadBuffer.slot e.stands.holds.buffers
+
+pub returns-in-TestNull : goal.returns-in-TestNull
+returns-in-TestNull c = record {
+  advances = λ w others k own shared s stands.
+      let p = c.args.program.now in
+      let store = c.args.store.now in
+      let t = c.args.thread.now in
+      let call = c.in-Some.activation in
+      let i = c.instr_at-instr.result.now in
+      let at = (goal.at.returns-in-TestNull c).After-instr_at-instr in
+      let f = fetched at in
+      let free = goes_on p w store (beside_callers others s) k own shared t s call stands.0 stands.1 c.in-Some.is stands.2 i (fetched_unowned at) (λ x is enters. absurd (let both : instr.TestNull c.in-TestNull.variable c.in-TestNull.equal ≡ instr.Call x = sym c.in-TestNull.is ∙ is in cc)) in
+      let it = work p w store (beside_callers others s) k own shared t s call stands.0 stands.1 c.in-Some.is stands.2 in
+      let e = executes p w store (beside_callers others s) k own shared t s call stands.0 stands.1 c.in-Some.is stands.2 free in (
+        free,
+        did p w store others k own shared t s stands.1 store false event.Quiet it.task it.rest it.is c.test_null.new.activation t.pending
+            (test_executes p w store (beside_callers others s) k (owner_at k (length s.callers)) own.current shared s e.store_agrees t.pending e.pending_agrees call f.code it.task it.rest (ready_for p w store call i f t.pending (beside_callers others s) k (owner_at k (length s.callers)) own.current shared s it.task it.rest e) e.tasks e.views e.steady i f.at
+            c.in-TestNull.variable c.in-TestNull.equal c.test_null.new.activation c.in-TestNull.is c.test_null.ensures),
+      );
+  none = tt;
+  ending = refl;
+  silent = tt;
+}
+
+-- an element is loaded in silence
+loaded_silent : (line : ℕ) (words : List ℕ) (o : Option ℕ) (activation after : Activation) (e : Event) → LoadsElement line words o activation after e → IsSilent e
+loaded_silent line words o activation after event.Quiet h = tt
+loaded_silent line words o activation after (event.Trapped trap at) h = tt
+loaded_silent line words (Some word) activation after (event.Printed z) h = absurd (let clash : event.Printed z ≡ event.Quiet = h.1 in cc)
+loaded_silent line words None activation after (event.Printed z) h = absurd (let clash : event.Printed z ≡ event.Trapped OutOfRange line = h.1 in cc)
+
+silent_with : (words : List ℕ) (line : ℕ) (o : ℕ → Option ℕ) (activation after : Activation) (e : Event) → 0 < length words → ((index : ℕ) (stack : List ℕ) → words ≡ index ∷ stack → LoadsElement line stack (o index) activation after e) → IsSilent e
+silent_with [] line o activation after e some h = absurd (omega (arith, some))
+silent_with (index ∷ stack) line o activation after e some h = loaded_silent line stack (o index) activation after e (h index stack refl)
+
+pub returns-in-LoadBuffer : goal.returns-in-LoadBuffer
+returns-in-LoadBuffer c = record {
+  advances = λ w others k own shared s stands.
+      let p = c.args.program.now in
+      let store = c.args.store.now in
+      let t = c.args.thread.now in
+      let call = c.in-Some.activation in
+      let i = c.instr_at-instr.result.now in
+      let at = (goal.at.returns-in-LoadBuffer c).After-instr_at-instr in
+      let f = fetched at in
+      let free = goes_on p w store (beside_callers others s) k own shared t s call stands.0 stands.1 c.in-Some.is stands.2 i (fetched_unowned at) (λ x is enters. absurd (let both : instr.LoadBuffer c.in-LoadBuffer.slot c.in-LoadBuffer.line ≡ instr.Call x = sym c.in-LoadBuffer.is ∙ is in cc)) in
+      let it = work p w store (beside_callers others s) k own shared t s call stands.0 stands.1 c.in-Some.is stands.2 in
+      let e = executes p w store (beside_callers others s) k own shared t s call stands.0 stands.1 c.in-Some.is stands.2 free in (
+        free,
+        did p w store others k own shared t s stands.1 store false c.load_element.result it.task it.rest it.is c.load_element.new.activation t.pending
+            (load_executes p w store (beside_callers others s) k (owner_at k (length s.callers)) own.current shared s e.store_agrees t.pending e.pending_agrees call f.code it.task it.rest (ready_for p w store call i f t.pending (beside_callers others s) k (owner_at k (length s.callers)) own.current shared s it.task it.rest e) e.tasks e.views e.steady i f.at
+            c.in-LoadBuffer.slot c.in-LoadBuffer.line c.load_element.new.activation c.load_element.result c.in-LoadBuffer.is c.load_element.ensures),
+      );
+  none = tt;
+  ending = refl;
+  silent =
+      let a = c.requires.stands in
+      let p = c.args.program.now in
+      let store = c.args.store.now in
+      let t = c.args.thread.now in
+      let call = c.in-Some.activation in
+      let i = c.instr_at-instr.result.now in
+      let f = fetched_unowned (goal.at.returns-in-LoadBuffer c).After-instr_at-instr in
+      let it = work p a.0 store (beside_callers a.1 a.5) a.2 a.3 a.4 t a.5 call a.6.0 a.6.1 c.in-Some.is a.6.2 in
+      let e = would_execute p a.0 store (beside_callers a.1 a.5) a.2 a.3 a.4 t a.5 call a.6.0 a.6.1 c.in-Some.is a.6.2 in
+      let some = one_word c.in-LoadBuffer.slot c.in-LoadBuffer.line (length call.stack)
+      (room p a.0.classes store.heap store.elements (owner_at a.2 (length a.5.callers)) call f.code (visible_to a.3.current a.4 a.5) a.5.frames it.task it.rest
+      (ready_for p a.0 (store_unowned store) call i f t.pending (beside_callers a.1 a.5) a.2 (owner_at a.2 (length a.5.callers)) a.3.current (unowned a.4) a.5 it.task it.rest e) (instr.LoadBuffer c.in-LoadBuffer.slot c.in-LoadBuffer.line) (f.at ∙ ap (λ j. Some j) c.in-LoadBuffer.is)) in
+      silent_with call.stack c.in-LoadBuffer.line _ call c.load_element.new.activation c.load_element.result some c.load_element.ensures;
+}
 
 pub returns-in_default : goal.returns-in_default
 returns-in_default c = record {

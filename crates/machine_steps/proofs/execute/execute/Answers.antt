@@ -177,6 +177,13 @@ returns-in-Ok-clause-done c others own shared s task rest e =
     (c.in-Ok.ensures.done others own shared s task rest
     (at_call c.args.program.now c.args.world.now c.args.store.now c.args.pending.now c.args.activation.now c.instr_at-instr.result.now f c.call-call.result.now (c.in-Call.is ∙ ap (λ (x : Call). instr.Call x) (sym c.call-call.ensures.view)) others c.args.thread c.args.owner own shared s task rest e))
 
+pub returns-in-Ok-Done-clause-done : goal.returns-in-Ok-Done-clause-done
+returns-in-Ok-Done-clause-done c others own shared s task rest e =
+    let f = fetched (goal.at.returns-in-Ok-Done-clause-done c).After-instr_at-instr in
+    subst (λ (done : Invoked). Executes c.args.program.now c.args.world.now c.args.store.now c.invoke.new.store others c.args.thread c.args.owner own shared s rest c.invoke.new.activation c.invoke.new.pending (effect_of (sight_of shared s) task) (executed_as c.call-call.result.now.line done)) c.in-Ok-Done.field-0-is
+    (c.in-Ok-Done.ensures.done others own shared s task rest
+    (at_call c.args.program.now c.args.world.now c.args.store.now c.args.pending.now c.args.activation.now c.instr_at-instr.result.now f c.call-call.result.now (c.in-Call.is ∙ ap (λ (x : Call). instr.Call x) (sym c.call-call.ensures.view)) others c.args.thread c.args.owner own shared s task rest e))
+
 pub returns-in-PutJint-clause-done : goal.returns-in-PutJint-clause-done
 returns-in-PutJint-clause-done c others own shared s task rest e =
     let f = fetched (goal.at.returns-in-PutJint-clause-done c).After-instr_at-instr in

@@ -1,4 +1,3 @@
-use Rattle.syntax.specs.Views.{unit_tree}
 use Rattle.std.proofs.Common.{ℕ}
 use Rattle.machine_answers.specs.declared.answer.Answer.TheVariants as answer
 use Rattle.machine_scenes.specs.Scenes.{scene_view}

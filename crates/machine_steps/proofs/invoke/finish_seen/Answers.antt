@@ -1,6 +1,5 @@
-use Rattle.std.proofs.Common.{◌≡◌, ◌<◌, ap, sym, ◌∙◌, subst, arith}
+use Rattle.std.proofs.Common.{◌∙◌}
 use Rattle.std.proofs.lemmas.Result.{err_from_is_err_and}
-use Rattle.heap.specs.Heap.{left_of}
 use Rattle.jni.specs.Table.{result_value}
 use Rattle.machine_calls.proofs.CellsMade.{memory_free}
 use Rattle.machine_scenes.specs.NewObjects.{texts_in}

@@ -4,7 +4,7 @@ use Rattle.machine_answers.specs.declared.answer.Answer.TheVariants as answer
 use Rattle.machine_answers.specs.declared.answer.Given.TheVariants as given
 use Rattle.machine_scenes.specs.Scenes.{scene_view}
 use Rattle.machine_steps.proofs.SeenAnswers.{seen_with_room}
-use Rattle.machine_steps.proofs.SeenCalls.{addresses_seen, handles_seen}
+use Rattle.machine_steps.proofs.SeenCalls.{addresses_seen, handles_seen, loaded_seen}
 use Rattle.machine_steps.proofs.invoke.reference_seen.Goals as goal
 
 pub reference_at_once-requires-clause-objects : goal.reference_at_once-requires-clause-objects
@@ -18,6 +18,12 @@ reference_at_once-requires-clause-handles c =
     let at = c.requires.at_call in
     let a = at.1 in
     handles_seen c.args.program.now c.args.world.now c.args.store.now c.args.pending c.args.activation.now c.args.call.now a.0 c.args.thread at.0 a.1 a.2 a.3 a.4 a.5 a.6 c.args.store.now.monitors (unit_tree c.args.program.now.unit) (scene_view c.scene_of-scene.result) c.scene_of-scene.ensures.scene
+
+pub reference_at_once-requires-clause-loaded : goal.reference_at_once-requires-clause-loaded
+reference_at_once-requires-clause-loaded c =
+    let at = c.requires.at_call in
+    let a = at.1 in
+    loaded_seen c.args.program.now c.args.world.now c.args.store.now c.args.pending c.args.activation.now c.args.call.now a.0 c.args.thread at.0 a.1 a.2 a.3 a.4 a.5 a.6 c.args.store.now.monitors (unit_tree c.args.program.now.unit) (scene_view c.scene_of-scene.result) c.scene_of-scene.ensures.scene
 
 pub returns : goal.returns
 returns c =
