@@ -22,7 +22,7 @@ use tables::{Copied, Elements};
 
 /// Replaces the topmost word, an index, by the element of a buffer there.
 /// Past the end a trap on this line leaves all as it was.
-#[inline(never)]
+#[inline(always)]
 pub fn load_element(store: &Store, activation: &mut Activation, slot: u32, line: u32) -> Event
     requires operand { 0 < length activation.old.stack }
     requires place { activation.old.place + 1 < 2 ^ 64 }
@@ -102,6 +102,7 @@ fn count_of(store: &Store, buffer: Buffer) -> usize
 }
 
 /// The element of a buffer at an index, as a word, if it is there.
+#[inline(never)]
 fn element_at(store: &Store, buffer: Buffer, index: usize) -> Option<u32>
     requires { IsOfBlock store.now.heap buffer }
     ensures { result ≡ slice_get (words_held store.now buffer) index }
