@@ -1,5 +1,5 @@
 -- How many held buffers of an array variable there are.
-use Rattle.std.proofs.Common.{◌≡◌, ℕ, zero, suc, ◌+◌, ◌-◌, ◌<◌, ◌≤◌, Bool, true, false, ◌||◌, if◌then◌else◌, cond, List, [], ◌∷◌, ◌++◌, length, map, get_or, drop, take, Option, Some, None, refl, sym, ap, ap₂, ◌∙◌, subst, arith, nat_lt, bytes_eq, Bor, true≢false, add-one, drop-cons}
+use Rattle.std.proofs.Common.{◌≡◌, ℕ, zero, suc, ◌+◌, ◌-◌, ◌<◌, ◌≤◌, Bool, true, false, ◌||◌, if◌then◌else◌, cond, List, [], ◌∷◌, ◌++◌, length, map, get_or, drop, take, Option, Some, None, refl, sym, ap, ap₂, ◌∙◌, subst, arith, nat_lt, bytes_eq, Bor, true≢false}
 use Rattle.std.specs.List.{list_any}
 use Rattle.std.specs.Map as maps
 use Rattle.std.specs.Option.{unwrap_or}
@@ -18,7 +18,7 @@ use Rattle.region_states.specs.declared.variables.Change.TheVariants as change
 use Rattle.region_states.specs.VariableChanges.{change_value}
 use Rattle.region_rules.specs.Regions.{made_usable}
 use Rattle.region_rules.specs.RegionStates.{VariableState, ReferenceAt, BufferIn, Free, Untested, Usable, made_free, killed, killed_from}
-use Rattle.region_states.specs.StatesInMemory.{variable_state, held_in, is_holder, one_of, holders, count_of}
+use Rattle.region_states.specs.StatesInMemory.{variable_state, held_in, one_if, how_many, one_of, holders, count_of}
 
 -- ---- numbers by name
 
@@ -98,59 +98,43 @@ inserted k n (e ∷ es) = by (same_key k e.0) refl (inserted k n es)
     by true same more = ap (λ (x : Identifier). (x, n) ∷ by_name es) (sym ((bytes_decides k.now e.0.now).0 same))
     by false same more = ap (λ (l : ByName ℕ). (e.0.now, e.1) ∷ l) more
 
--- ---- held buffers among variables
+-- ---- how many variables there are of which something holds
 
-module _ (x : Identifier) where
-  pub holders_append : (vs ws : List VariableState) → holders x (vs ++ ws) ≡ holders x vs + holders x ws
-  holders_append [] ws = omega arith
-  holders_append (v ∷ vs) ws = let more = holders_append vs ws in omega (arith, more)
-
-  pub some_holders : (vs : List VariableState) → nat_lt 0 (holders x vs) ≡ list_any (is_holder (λ held. bytes_eq held.1 x)) vs
-  some_holders [] = refl
-  some_holders (v ∷ vs) = by (is_holder (λ held. bytes_eq held.1 x) v) (some_holders vs)
+module _ (q : VariableState → Bool) where
+  pub some_are : (vs : List VariableState) → nat_lt 0 (how_many q vs) ≡ list_any q vs
+  some_are [] = refl
+  some_are (v ∷ vs) = by (q v) (some_are vs)
     where
-      by : (b : Bool) → nat_lt 0 (holders x vs) ≡ list_any (is_holder (λ held. bytes_eq held.1 x)) vs → nat_lt 0 ((if b then 1 else 0) + holders x vs) ≡ (b || list_any (is_holder (λ held. bytes_eq held.1 x)) vs)
-      by true more = lt-ltb 0 (1 + holders x vs) (omega arith)
+      by : (b : Bool) → nat_lt 0 (how_many q vs) ≡ list_any q vs → nat_lt 0 ((if b then 1 else 0) + how_many q vs) ≡ (b || list_any q vs)
+      by true more = lt-ltb 0 (1 + how_many q vs) (omega arith)
       by false more = ap (nat_lt 0) (omega arith) ∙ more
 
   -- a change of one
-  pub holders_set : (items : List VariableStateInMemory) (n : ℕ) (old new : VariableStateInMemory) → n < length items → old ≡ get_or items n old
-      → one_of x (variable_state old) + holders x (map variable_state (set items n new)) ≡ one_of x (variable_state new) + holders x (map variable_state items)
-  holders_set [] n old new h e = absurd (omega (arith, h))
-  holders_set (v ∷ items) zero old new h e = let same = ap (λ (w : VariableStateInMemory). one_of x (variable_state w)) e in omega (arith, same)
-  holders_set (v ∷ items) (suc n) old new h e = let more = holders_set items n old new (omega (arith, h)) e in omega (arith, more)
+  pub many_set : (items : List VariableStateInMemory) (n : ℕ) (old new : VariableStateInMemory) → n < length items → old ≡ get_or items n old
+      → one_if q (variable_state old) + how_many q (map variable_state (set items n new)) ≡ one_if q (variable_state new) + how_many q (map variable_state items)
+  many_set [] n old new h e = absurd (omega (arith, h))
+  many_set (v ∷ items) zero old new h e = let same = ap (λ (w : VariableStateInMemory). one_if q (variable_state w)) e in omega (arith, same)
+  many_set (v ∷ items) (suc n) old new h e = let more = many_set items n old new (omega (arith, h)) e in omega (arith, more)
 
   -- one of some is among them
-  pub one_at : (items : List VariableStateInMemory) (n : ℕ) (v : VariableStateInMemory) → n < length items → v ≡ get_or items n v → one_of x (variable_state v) ≤ holders x (map variable_state items)
+  pub one_at : (items : List VariableStateInMemory) (n : ℕ) (v : VariableStateInMemory) → n < length items → v ≡ get_or items n v → one_if q (variable_state v) ≤ how_many q (map variable_state items)
   one_at [] n v h e = absurd (omega (arith, h))
-  one_at (w ∷ items) zero v h e = let same = ap (λ (u : VariableStateInMemory). one_of x (variable_state u)) e in omega (arith, same)
+  one_at (w ∷ items) zero v h e = let same = ap (λ (u : VariableStateInMemory). one_if q (variable_state u)) e in omega (arith, same)
   one_at (w ∷ items) (suc n) v h e = let more = one_at items n v (omega (arith, h)) e in omega (arith, more)
 
-  -- the first of those that are left
-  pub holders_next : (items : List VariableStateInMemory) (i : ℕ) (v : VariableStateInMemory) → i < length items → v ≡ get_or items i v
-      → holders x (map variable_state (drop i items)) ≡ one_of x (variable_state v) + holders x (map variable_state (drop (i + 1) items))
-  holders_next items i v h e =
-      let next : drop i items ≡ v ∷ drop (i + 1) items = rw add-one (drop-cons items i v h ∙ ap (λ (w : VariableStateInMemory). w ∷ drop (suc i) items) (sym e)) in
-      ap (λ (vs : List VariableStateInMemory). holders x (map variable_state vs)) next
-
-  pub holders_split : (n : ℕ) (items : List VariableStateInMemory) → holders x (map variable_state items) ≡ holders x (map variable_state (take n items)) + holders x (map variable_state (drop n items))
-  holders_split zero items = omega arith
-  holders_split (suc n) [] = refl
-  holders_split (suc n) (v ∷ items) = let more = holders_split n items in omega (arith, more)
+  pub many_split : (n : ℕ) (items : List VariableStateInMemory) → how_many q (map variable_state items) ≡ how_many q (map variable_state (take n items)) + how_many q (map variable_state (drop n items))
+  many_split zero items = omega arith
+  many_split (suc n) [] = refl
+  many_split (suc n) (v ∷ items) = let more = many_split n items in omega (arith, more)
 
   -- one more
-  pub holders_push : (items : List VariableStateInMemory) (v : VariableStateInMemory) → holders x (map variable_state (items ++ v ∷ [])) ≡ holders x (map variable_state items) + one_of x (variable_state v)
-  holders_push [] v = omega arith
-  holders_push (w ∷ items) v = let more = holders_push items v in omega (arith, more)
+  pub many_push : (items : List VariableStateInMemory) (v : VariableStateInMemory) → how_many q (map variable_state (items ++ v ∷ [])) ≡ how_many q (map variable_state items) + one_if q (variable_state v)
+  many_push [] v = omega arith
+  many_push (w ∷ items) v = let more = many_push items v in omega (arith, more)
 
-  pub none_left : (items : List VariableStateInMemory) (i : ℕ) → length items ≤ i → holders x (map variable_state (drop i items)) ≡ 0
-  none_left [] zero h = refl
-  none_left [] (suc i) h = refl
-  none_left (v ∷ items) zero h = absurd (omega (arith, h))
-  none_left (v ∷ items) (suc i) h = none_left items i (omega (arith, h))
+-- ---- what a change leaves held
 
-  -- ---- what a change leaves held
-
+module _ (x : Identifier) where
   pub none_freed : (v : VariableState) → one_of x (made_free v) ≡ 0
   none_freed (ReferenceAt level live) = refl
   none_freed (BufferIn b) = refl
@@ -211,16 +195,17 @@ is_key x es h e = let none : count_of (by_name es) x ≡ 0 = ap (λ (o : Option 
 
 -- ---- no more than there are variables
 
-one_few : (x : Identifier) (v : VariableState) → one_of x v ≤ 1
-one_few x v = by (is_holder (λ held. bytes_eq held.1 x) v)
-  where
-    by : (b : Bool) → (if b then 1 else 0) ≤ 1
-    by true = omega arith
-    by false = omega arith
+module _ (q : VariableState → Bool) where
+  one_few : (v : VariableState) → one_if q v ≤ 1
+  one_few v = by (q v)
+    where
+      by : (b : Bool) → (if b then 1 else 0) ≤ 1
+      by true = omega arith
+      by false = omega arith
 
-holders_few : (x : Identifier) (vs : List VariableState) → holders x vs ≤ length vs
-holders_few x [] = omega arith
-holders_few x (v ∷ vs) = omega (arith, one_few x v, holders_few x vs)
+  many_few : (vs : List VariableState) → how_many q vs ≤ length vs
+  many_few [] = omega arith
+  many_few (v ∷ vs) = omega (arith, one_few v, many_few vs)
 
-pub few_held : (x : Identifier) (items : List VariableStateInMemory) → holders x (map variable_state items) ≤ length items
-few_held x items = omega (arith, holders_few x (map variable_state items), length-map items variable_state)
+  pub few : (items : List VariableStateInMemory) → how_many q (map variable_state items) ≤ length items
+  few items = omega (arith, many_few (map variable_state items), length-map items variable_state)

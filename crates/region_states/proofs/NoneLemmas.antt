@@ -20,6 +20,7 @@ unknown condition.Reference = refl
 unknown condition.Untested = refl
 unknown condition.Free = refl
 unknown condition.Held = refl
+unknown condition.Critical = refl
 
 -- both of two are no
 neither : (a b : Bool) → (a || b) ≡ false → (a ≡ false) × (b ≡ false)

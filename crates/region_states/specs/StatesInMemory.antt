@@ -9,6 +9,7 @@ use Rattle.jni.specs.Table.{access_value}
 use Rattle.region_states.specs.declared.states.VariableState.{VariableState as VariableStateInMemory}
 use Rattle.region_states.specs.declared.states.VariableState.TheVariants as known
 use Rattle.region_states.specs.declared.states.Facts.{Facts}
+use Rattle.region_states.specs.declared.tally.Tally.{Tally}
 use Rattle.region_states.specs.declared.states.Condition.{Condition}
 use Rattle.region_states.specs.declared.states.Condition.TheVariants as condition
 use Rattle.region_rules.specs.RegionStates.{VariableState, ReferenceAt, BufferIn, Free, Untested, Usable, RegionState, state_of, buffer_of, held_by}
@@ -38,6 +39,14 @@ names_of state = reverse (map (λ v. v.0) state.variables)
 abbrev pub Grows : RegionState → RegionState → Type 0
 Grows old new = (own : List Identifier) × (names_of new ≡ names_of old ++ own)
 
+-- a held buffer's access and the variable of its array or string
+abbrev pub held_in : VariableState → Option (Access × Identifier)
+held_in v = option_and_then held_by (buffer_of v)
+
+-- a held buffer of which this holds
+abbrev pub is_holder : (Access × Identifier → Bool) → VariableState → Bool
+is_holder asked v = some_passes asked (held_in v)
+
 -- what a question asks
 abbrev pub condition_holds : Condition → Option VariableState → Bool
 condition_holds condition.Dead = is_dead
@@ -45,6 +54,7 @@ condition_holds condition.Reference = is_reference_now
 condition_holds condition.Untested = is_untested
 condition_holds condition.Free = is_free
 condition_holds condition.Held = is_held
+condition_holds condition.Critical = some_passes (is_holder (λ held. is_critical held.0))
 
 -- the answer about a variable
 abbrev pub asks : Condition → RegionState → Identifier → Bool
@@ -53,14 +63,6 @@ asks question state x = condition_holds question (state_of state x)
 -- the answer is yes about some variable
 abbrev pub any_asked : Condition → RegionState → Bool
 any_asked question state = list_any (λ v. condition_holds question (Some v.1)) state.variables
-
--- a held buffer's access and the variable of its array or string
-abbrev pub held_in : VariableState → Option (Access × Identifier)
-held_in v = option_and_then held_by (buffer_of v)
-
--- a held buffer of which this holds
-abbrev pub is_holder : (Access × Identifier → Bool) → VariableState → Bool
-is_holder asked v = some_passes asked (held_in v)
 
 -- some variable is one
 abbrev pub any_holder : (Access × Identifier → Bool) → RegionState → Bool
@@ -82,16 +84,49 @@ has_young_array state = any_holder (λ held. is_level state.frames (state_of sta
 abbrev pub holds_of : Identifier → RegionState → Bool
 holds_of x state = any_holder (λ held. bytes_eq held.1 x) state
 
+-- ---- how many variables there are of which something holds
+
+-- one, or none
+abbrev pub one_if : (VariableState → Bool) → VariableState → ℕ
+one_if asked v = if asked v then 1 else 0
+
+-- how many of these there are
+abbrev pub how_many : (VariableState → Bool) → List VariableState → ℕ
+how_many asked [] = 0
+how_many asked (v ∷ vs) = one_if asked v + how_many asked vs
+
+-- ---- how many meet each condition
+
+-- the answer to a question about a variable that there is
+abbrev pub meets : Condition → VariableState → Bool
+meets question v = condition_holds question (Some v)
+
+-- the number of a condition
+abbrev pub number_of : Tally → Condition → ℕ
+number_of tally condition.Dead = tally.dead
+number_of tally condition.Reference = tally.references
+number_of tally condition.Untested = tally.untested
+number_of tally condition.Free = tally.free
+number_of tally condition.Held = tally.held
+number_of tally condition.Critical = tally.critical
+
+-- the numbers are those of these variables
+abbrev pub IsTallied : Tally → List VariableState → Type 0
+IsTallied tally vs = (q : Condition) → number_of tally q ≡ how_many (meets q) vs
+
 -- ---- how many held buffers of each array variable there are
+
+-- a held buffer of this array variable
+abbrev pub is_of : Identifier → VariableState → Bool
+is_of x v = is_holder (λ held. bytes_eq held.1 x) v
 
 -- one, or none
 abbrev pub one_of : Identifier → VariableState → ℕ
-one_of x v = if is_holder (λ held. bytes_eq held.1 x) v then 1 else 0
+one_of x v = one_if (is_of x) v
 
 -- how many of these variables are held buffers of this array variable
 abbrev pub holders : Identifier → List VariableState → ℕ
-holders x [] = 0
-holders x (v ∷ vs) = one_of x v + holders x vs
+holders x vs = how_many (is_of x) vs
 
 -- the number of a name; one without a number has 0
 abbrev pub count_of : ByName ℕ → Identifier → ℕ
@@ -109,9 +144,9 @@ CountsMore v old new = (x : Identifier) → count_of new x ≡ one_of x v + coun
 abbrev pub IsCounted : ByName ℕ → List VariableState → Type 0
 IsCounted counts vs = (x : Identifier) → count_of counts x ≡ holders x vs
 
--- the same of facts in memory
+-- the same of facts in memory, and of the numbers of their conditions
 abbrev pub HasCounts : Facts → Type 0
-HasCounts facts = IsCounted facts.holders (map variable_state facts.variables.items)
+HasCounts facts = IsCounted facts.holders (map variable_state facts.variables.items) × IsTallied facts.tally (map variable_state facts.variables.items)
 
 -- what was saved of a state: with its names it is the state
 abbrev pub IsSaved : Facts → RegionState → Type 0

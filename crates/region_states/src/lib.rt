@@ -9,4 +9,5 @@ pub mod holders;
 pub mod names_used;
 pub mod scope;
 pub mod states;
+pub mod tally;
 pub mod variables;

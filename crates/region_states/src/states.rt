@@ -15,6 +15,7 @@ ghost use Rattle.region_states.specs.StatesInMemory.{any_asked, holds_other, var
 
 use crate::holders::Holders;
 use crate::scope::Names;
+use crate::tally::Tally;
 use jni::Access;
 use semantics::Level;
 use std::alloc::{AllocError, Global};
@@ -32,11 +33,13 @@ pub enum VariableState<'a> {
     Usable { access: Access, array: &'a [u8] },
 }
 
-/// What is known of the variables, by their numbers, with the numbers of held buffers, and the number of frames.
+/// What is known of the variables, by their numbers, with the numbers of held buffers and of the variables that meet each
+/// condition, and the number of frames.
 #[derive(Drop)]
 pub struct Facts<'a> {
     pub variables: Vec<VariableState<'a>>,
     pub holders: Holders<'a>,
+    pub tally: Tally,
     pub frames: usize,
 }
 
@@ -75,6 +78,8 @@ pub enum Condition {
     Free,
     /// Is it a buffer that is not free?
     Held,
+    /// Is it a critical buffer that is not free?
+    Critical,
 }
 
 impl<'a> VariableState<'a> {
@@ -150,12 +155,25 @@ impl Condition {
                 Condition::Untested => false,
                 Condition::Free => false,
                 Condition::Held => false,
+                Condition::Critical => false,
             },
             Some(VariableState::Free) => matches!(self, Condition::Free),
-            Some(VariableState::Untested { .. }) => {
-                matches!(self, Condition::Untested | Condition::Held)
-            }
-            Some(VariableState::Usable { .. }) => matches!(self, Condition::Held),
+            Some(VariableState::Untested { access, .. }) => match self {
+                Condition::Dead => false,
+                Condition::Reference => false,
+                Condition::Untested => true,
+                Condition::Free => false,
+                Condition::Held => true,
+                Condition::Critical => access.is_critical(),
+            },
+            Some(VariableState::Usable { access, .. }) => match self {
+                Condition::Dead => false,
+                Condition::Reference => false,
+                Condition::Untested => false,
+                Condition::Free => false,
+                Condition::Held => true,
+                Condition::Critical => access.is_critical(),
+            },
         }
     }
 }
@@ -192,18 +210,6 @@ fn is_one_after(variables: &[VariableState], count: usize, condition: Condition)
         (map variable_state (drop count variables.now)) }
 {
     is_one(&variables[count..], condition)
-}
-
-/// Whether one of these variables is a critical buffer that is held.
-fn has_critical(variables: &[VariableState]) -> bool
-    ensures { result ≡ list_any (is_holder (λ held. is_critical held.0)) (map variable_state variables.now) }
-{
-    for v in variables {
-        if v.is_held_critical() {
-            return true;
-        }
-    }
-    false
 }
 
 /// Whether the same is known of these variables, in the same order.
@@ -255,6 +261,7 @@ impl Facts<'_> {
             return;
         }
         self.holders.forget_all(&self.variables[count..]);
+        self.tally.forget_all(&self.variables[count..]);
         self.variables.truncate(count);
     }
 }
@@ -269,6 +276,7 @@ impl<'a> FlowState<'a> {
             facts: Facts {
                 variables: Vec::new(alloc),
                 holders: Holders::new(alloc),
+                tally: Tally::new(),
                 frames: 1,
             },
         }
@@ -281,6 +289,7 @@ impl<'a> FlowState<'a> {
         self.names.truncate(0);
         self.facts.variables.truncate(0);
         self.facts.holders.clear();
+        self.facts.tally = Tally::new();
         self.facts.frames = 1;
     }
 
@@ -321,7 +330,7 @@ impl<'a> FlowState<'a> {
     pub fn is_any(&self, condition: Condition) -> bool
         ensures { result ≡ any_asked condition self.now }
     {
-        is_one(&self.facts.variables, condition)
+        self.facts.tally.is_any(condition)
     }
 
     /// The answer to a question about a variable.
@@ -361,7 +370,7 @@ impl<'a> FlowState<'a> {
     pub fn holds_critical(&self) -> bool
         ensures { result ≡ holds_critical self.now }
     {
-        has_critical(&self.facts.variables)
+        self.is_any(Condition::Critical)
     }
 
     /// Whether a variable is the array of a held buffer.
@@ -411,7 +420,10 @@ impl<'a> FlowState<'a> {
     {
         self.facts.holders.note(known)?;
         match push(&mut self.names, &mut self.facts.variables, name, known) {
-            Ok(()) => Ok(()),
+            Ok(()) => {
+                self.facts.tally.note(known);
+                Ok(())
+            }
             Err(_) => {
                 self.facts.holders.forget(known);
                 Err(AllocError)
@@ -439,6 +451,7 @@ impl<'a> FlowState<'a> {
         Ok(Facts {
             variables,
             holders,
+            tally: self.facts.tally,
             frames: self.facts.frames,
         })
     }

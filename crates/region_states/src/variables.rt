@@ -8,6 +8,7 @@ ghost use Rattle.region_states.specs.StatesInMemory.{variable_state};
 ghost use Rattle.region_states.specs.VariableChanges.{get_value, change_value, set_from};
 
 use crate::states::{FlowState, VariableState};
+use crate::tally::Tally;
 use jni::Access;
 use semantics::Level;
 use std::alloc::AllocError;
@@ -125,7 +126,9 @@ impl<'a> FlowState<'a> {
     {
         match self.names.number_of(name) {
             Some(number) => {
-                let known = self.facts.variables[number].changed(change);
+                let old = self.facts.variables[number];
+                let known = old.changed(change);
+                self.facts.tally.replace(old, known);
                 self.facts.variables[number] = known;
             }
             None => {}
@@ -139,8 +142,10 @@ impl<'a> FlowState<'a> {
         match self.names.number_of(name) {
             Some(number) => {
                 let old = self.facts.variables[number];
+                let known = old.freed();
                 self.facts.holders.forget(old);
-                self.facts.variables[number] = old.freed();
+                self.facts.tally.replace(old, known);
+                self.facts.variables[number] = known;
             }
             None => {}
         }
@@ -160,6 +165,7 @@ impl<'a> FlowState<'a> {
                 let known = old.set_to(get);
                 self.facts.holders.note(known)?;
                 self.facts.holders.forget(old);
+                self.facts.tally.replace(old, known);
                 self.facts.variables[number] = known;
                 Ok(())
             }
@@ -173,6 +179,7 @@ impl<'a> FlowState<'a> {
     {
         let frames = self.facts.frames;
         kill_from(&mut self.facts.variables, Level { number: frames });
+        self.facts.tally = Tally::counted(&self.facts.variables);
         self.facts.frames = frames.saturating_sub(1);
     }
 

@@ -3,9 +3,9 @@ use Rattle.std.specs.List.{list_any}
 use Rattle.base.specs.Bytes.{Identifier}
 use Rattle.region_rules.specs.RegionStates.{RegionState, with_new}
 use Rattle.region_states.specs.SameStates.{NamedState}
-use Rattle.region_states.specs.StatesInMemory.{variable_state, variables_value, holders}
+use Rattle.region_states.specs.StatesInMemory.{variable_state, variables_value, how_many, is_of, meets}
 use Rattle.region_states.specs.declared.states.VariableState.{VariableState as VariableStateInMemory}
-use Rattle.region_states.proofs.HolderLemmas.{holders_push, few_held}
+use Rattle.region_states.proofs.HolderLemmas.{many_push, few}
 use Rattle.region_states.proofs.StateLemmas.{names_at, pushed_known}
 use Rattle.region_states.proofs.states.FlowState.add.Goals as goal
 
@@ -32,12 +32,22 @@ invariant_of-self-in-Ok c =
           ∙ sym (length-append names (c.args.name.now ∷ []))
           ∙ sym (ap (λ (ns : List Identifier). length ns) c.in-Ok.ensures.name),
       c.in-Ok.ensures.distinct,
-      λ x.
-          let pushed = ap (λ (vs : List VariableStateInMemory). holders x (map variable_state vs)) c.in-Ok.ensures.known in
-          omega (arith, pushed, holders_push x items c.args.known, c.in_ok-note.ensures.ok x, c.self.invariant.2 x),
+      (
+        λ x.
+            let pushed = ap (λ (vs : List VariableStateInMemory). how_many (is_of x) (map variable_state vs)) c.in-Ok.ensures.known in
+            omega (arith, pushed, many_push (is_of x) items c.args.known, c.in_ok-note.ensures.ok x, c.self.invariant.2.0 x),
+        λ q.
+            let pushed = ap (λ (vs : List VariableStateInMemory). how_many (meets q) (map variable_state vs)) c.in-Ok.ensures.known in
+            omega (arith, pushed, many_push (meets q) items c.args.known, c.note-in-Ok.ensures q, c.self.invariant.2.1 q),
+      ),
     )
 
 pub note-requires : goal.note-requires
 note-requires c = λ x.
     let variables = c.self.inside.facts.variables in
-    omega (arith, few_held x variables.items, c.self.invariant.2 x, variables.ok.0, variables.ok.1, variables.small)
+    omega (arith, few (is_of x) variables.items, c.self.invariant.2.0 x, variables.ok.0, variables.ok.1, variables.small)
+
+pub note-requires-in-Ok : goal.note-requires-in-Ok
+note-requires-in-Ok c = λ q.
+    let variables = c.self.inside.facts.variables in
+    omega (arith, few (meets q) variables.items, c.self.invariant.2.1 q, variables.ok.0, variables.ok.1, variables.small)

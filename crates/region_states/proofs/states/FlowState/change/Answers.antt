@@ -3,9 +3,9 @@ use Rattle.std.proofs.Math.ListN.{length-set}
 use Rattle.region_states.specs.VariableChanges.{change_value}
 use Rattle.region_rules.specs.RegionStates.{RegionState, VariableState, with_changed}
 use Rattle.region_states.specs.SameStates.{NamedState}
-use Rattle.region_states.specs.StatesInMemory.{variable_state, one_of}
+use Rattle.region_states.specs.StatesInMemory.{variable_state, one_of, is_of, meets}
 use Rattle.region_states.proofs.ScopeLemmas.{changed_none}
-use Rattle.region_states.proofs.HolderLemmas.{holders_set, changed_held}
+use Rattle.region_states.proofs.HolderLemmas.{many_set, one_at, few, changed_held}
 use Rattle.region_states.proofs.StateLemmas.{changed_known, within}
 use Rattle.region_states.proofs.states.FlowState.change.Goals as goal
 
@@ -14,7 +14,7 @@ returns-in-Some c =
     let names = c.self.inside.names in
     let items = c.self.inside.facts.variables.items in
     ap (λ (vs : List NamedState). let s : RegionState = record { variables = vs; frames = c.self.inside.facts.frames } in s)
-    (changed_known names items c.args.name.now (change_value c.args.change) c.in-Some.number c.index.result.now c.changed-known.result c.self.invariant.1 c.self.invariant.0 c.in-Some.ensures c.index.ensures c.changed-known.ensures)
+    (changed_known names items c.args.name.now (change_value c.args.change) c.in-Some.number c.index-old.result.now c.changed-known.result c.self.invariant.1 c.self.invariant.0 c.in-Some.ensures c.index-old.ensures c.changed-known.ensures)
     ∙ ap (λ (s : RegionState). with_changed s c.args.name.now (change_value c.args.change)) c.self.view_is
 
 pub returns-in-None : goal.returns-in-None
@@ -29,14 +29,29 @@ returns-in-None c =
 pub invariant_of-self : goal.invariant_of-self
 invariant_of-self c =
     let items = c.self.inside.facts.variables.items in
-    let old = c.index.result.now in
+    let old = c.index-old.result.now in
     let new = c.changed-known.result in
     let n = c.in-Some.number in
     let lt = within c.args.name.now c.self.inside.names items n c.self.invariant.0 c.in-Some.ensures in (
       length-set items n new ∙ c.self.invariant.0,
       c.self.invariant.1,
-      λ x.
-          let changed = holders_set x items n old new lt c.index.ensures in
-          let same = ap (λ (v : VariableState). one_of x v) c.changed-known.ensures ∙ changed_held x c.args.change (variable_state old) in
-          omega (arith, changed, same, c.self.invariant.2 x),
+      (
+        λ x.
+            let changed = many_set (is_of x) items n old new lt c.index-old.ensures in
+            let same = ap (λ (v : VariableState). one_of x v) c.changed-known.ensures ∙ changed_held x c.args.change (variable_state old) in
+            omega (arith, changed, same, c.self.invariant.2.0 x),
+        λ q. let changed = many_set (meets q) items n old new lt c.index-old.ensures in omega (arith, changed, c.replace.ensures q, c.self.invariant.2.1 q),
+      ),
     )
+
+pub replace-requires-clause-among : goal.replace-requires-clause-among
+replace-requires-clause-among c = λ q.
+    let items = c.self.inside.facts.variables.items in
+    let lt = within c.args.name.now c.self.inside.names items c.in-Some.number c.self.invariant.0 c.in-Some.ensures in
+    let among = one_at (meets q) items c.in-Some.number c.index-old.result.now lt c.index-old.ensures in
+    omega (arith, among, c.self.invariant.2.1 q)
+
+pub replace-requires-clause-few : goal.replace-requires-clause-few
+replace-requires-clause-few c = λ q.
+    let variables = c.self.inside.facts.variables in
+    omega (arith, few (meets q) variables.items, c.self.invariant.2.1 q, variables.ok.0, variables.ok.1, variables.small)

@@ -2,9 +2,9 @@ use Rattle.std.proofs.Common.{List, map, sym, ap, ◌∙◌, arith}
 use Rattle.std.proofs.Math.ListN.{length-set}
 use Rattle.region_rules.specs.RegionStates.{RegionState, VariableState, with_changed, made_free}
 use Rattle.region_states.specs.SameStates.{NamedState}
-use Rattle.region_states.specs.StatesInMemory.{variable_state, one_of}
+use Rattle.region_states.specs.StatesInMemory.{variable_state, one_of, is_of, meets}
 use Rattle.region_states.proofs.ScopeLemmas.{changed_none}
-use Rattle.region_states.proofs.HolderLemmas.{holders_set, one_at, none_freed}
+use Rattle.region_states.proofs.HolderLemmas.{many_set, one_at, few, none_freed}
 use Rattle.region_states.proofs.StateLemmas.{changed_known, within}
 use Rattle.region_states.proofs.states.FlowState.free.Goals as goal
 
@@ -13,7 +13,7 @@ returns-in-Some c =
     let names = c.self.inside.names in
     let items = c.self.inside.facts.variables.items in
     ap (λ (vs : List NamedState). let s : RegionState = record { variables = vs; frames = c.self.inside.facts.frames } in s)
-    (changed_known names items c.args.name.now made_free c.in-Some.number c.index-old.result.now c.freed.result c.self.invariant.1 c.self.invariant.0 c.in-Some.ensures c.index-old.ensures c.freed.ensures)
+    (changed_known names items c.args.name.now made_free c.in-Some.number c.index-old.result.now c.freed-known.result c.self.invariant.1 c.self.invariant.0 c.in-Some.ensures c.index-old.ensures c.freed-known.ensures)
     ∙ ap (λ (s : RegionState). with_changed s c.args.name.now made_free) c.self.view_is
 
 pub returns-in-None : goal.returns-in-None
@@ -29,20 +29,35 @@ pub forget-requires : goal.forget-requires
 forget-requires c = λ x.
     let items = c.self.inside.facts.variables.items in
     let lt = within c.args.name.now c.self.inside.names items c.in-Some.number c.self.invariant.0 c.in-Some.ensures in
-    let among = one_at x items c.in-Some.number c.index-old.result.now lt c.index-old.ensures in
-    omega (arith, among, c.self.invariant.2 x)
+    let among = one_at (is_of x) items c.in-Some.number c.index-old.result.now lt c.index-old.ensures in
+    omega (arith, among, c.self.invariant.2.0 x)
 
 pub invariant_of-self : goal.invariant_of-self
 invariant_of-self c =
     let items = c.self.inside.facts.variables.items in
     let old = c.index-old.result.now in
-    let new = c.freed.result in
+    let new = c.freed-known.result in
     let n = c.in-Some.number in
     let lt = within c.args.name.now c.self.inside.names items n c.self.invariant.0 c.in-Some.ensures in (
       length-set items n new ∙ c.self.invariant.0,
       c.self.invariant.1,
-      λ x.
-          let changed = holders_set x items n old new lt c.index-old.ensures in
-          let none = ap (λ (v : VariableState). one_of x v) c.freed.ensures ∙ none_freed x (variable_state old) in
-          omega (arith, changed, none, c.forget.ensures x, c.self.invariant.2 x),
+      (
+        λ x.
+            let changed = many_set (is_of x) items n old new lt c.index-old.ensures in
+            let none = ap (λ (v : VariableState). one_of x v) c.freed-known.ensures ∙ none_freed x (variable_state old) in
+            omega (arith, changed, none, c.forget.ensures x, c.self.invariant.2.0 x),
+        λ q. let changed = many_set (meets q) items n old new lt c.index-old.ensures in omega (arith, changed, c.replace.ensures q, c.self.invariant.2.1 q),
+      ),
     )
+
+pub replace-requires-clause-among : goal.replace-requires-clause-among
+replace-requires-clause-among c = λ q.
+    let items = c.self.inside.facts.variables.items in
+    let lt = within c.args.name.now c.self.inside.names items c.in-Some.number c.self.invariant.0 c.in-Some.ensures in
+    let among = one_at (meets q) items c.in-Some.number c.index-old.result.now lt c.index-old.ensures in
+    omega (arith, among, c.self.invariant.2.1 q)
+
+pub replace-requires-clause-few : goal.replace-requires-clause-few
+replace-requires-clause-few c = λ q.
+    let variables = c.self.inside.facts.variables in
+    omega (arith, few (meets q) variables.items, c.self.invariant.2.1 q, variables.ok.0, variables.ok.1, variables.small)

@@ -1,9 +1,10 @@
-use Rattle.std.proofs.Common.{ℕ, List, length, map, sym, ap, ap₂, ◌∙◌}
+use Rattle.std.proofs.Common.{ℕ, List, length, map, sym, ap, ap₂, ◌∙◌, arith}
 use Rattle.std.specs.Prelude.{reverse}
 use Rattle.std.specs.List.{zip}
 use Rattle.region_rules.specs.RegionStates.{RegionState, VariableState, after_pop, killed_from}
 use Rattle.region_states.specs.SameStates.{NamedState}
-use Rattle.region_states.specs.StatesInMemory.{variable_state, holders}
+use Rattle.region_states.specs.declared.states.VariableState.{VariableState as VariableStateInMemory}
+use Rattle.region_states.specs.StatesInMemory.{variable_state, holders, how_many, meets}
 use Rattle.std.proofs.lemmas.List.{length-map}
 use Rattle.region_states.proofs.HolderLemmas.{all_killed_held}
 use Rattle.region_states.proofs.ScopeLemmas.{changed_each}
@@ -31,5 +32,13 @@ invariant_of-self c =
           ∙ length-map items variable_state
           ∙ c.self.invariant.0,
       c.self.invariant.1,
-      λ x. c.self.invariant.2 x ∙ sym (ap (λ (vs : List VariableState). holders x vs) c.kill_from.ensures ∙ all_killed_held x level known),
+      (
+        λ x. c.self.invariant.2.0 x ∙ sym (ap (λ (vs : List VariableState). holders x vs) c.kill_from.ensures ∙ all_killed_held x level known),
+        λ q. c.counted-self-inside.ensures q ∙ ap (λ (vs : List VariableStateInMemory). how_many (meets q) (map variable_state vs)) c.deref.ensures.value,
+      ),
     )
+
+pub counted-self-inside-requires : goal.counted-self-inside-requires
+counted-self-inside-requires c =
+    let variables = c.kill_from.new.variables in
+    omega (arith, ap (λ (vs : List VariableStateInMemory). length vs) c.deref.ensures.value, variables.ok.0, variables.ok.1, variables.small)
