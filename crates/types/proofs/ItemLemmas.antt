@@ -79,7 +79,8 @@ one_item : (taken : List Identifier) (statics : Scope) (item : Item) (rest : Lis
 one_item taken statics (StaticItem s) rest = found-append (own_places taken statics (StaticItem s)) _
 one_item taken statics (FunctionItem f) rest = found-append (own_places taken statics (FunctionItem f)) _
 
-item_next : (items : List ItemInMemory) (i : ℕ) (item : ItemInMemory) → i < length items → item ≡ get_or items i item → drop i items ≡ item ∷ drop (i + 1) items
+-- the first of those that are left
+pub item_next : {A : Type 0} (items : List A) (i : ℕ) (item : A) → i < length items → item ≡ get_or items i item → drop i items ≡ item ∷ drop (i + 1) items
 item_next items i item h e = rw add-one (drop-cons items i item h ∙ ap (λ x. x ∷ drop (suc i) items) (sym e))
 
 -- what is refused at an item and after it

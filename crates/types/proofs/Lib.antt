@@ -10,3 +10,4 @@ pub mod ItemLemmas
 pub mod UnitLemmas
 pub mod FormedLemmas
 pub mod KnownLemmas
+pub mod TakenLemmas

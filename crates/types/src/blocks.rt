@@ -7,28 +7,28 @@ ghost use Rattle.type_rules.specs.SortRules.{places_of, with_declared};
 ghost use Rattle.types.specs.Faults.{Finds, IsAbove, scope_of, found, places_inside};
 
 use crate::fault::TypeError;
-use crate::scope::take;
 use crate::statements::{check_statement, declared};
-use syntax::{Block, Form, Name, ResultType};
+use crate::taken::Taken;
+use syntax::{Block, Form, ResultType};
 use type_rules::{Known, Sort};
 
 /// The name that a statement declares is known and taken.
-fn declare<'a>(
+fn declare<'a: 'n, 'n>(
     known: &mut Known<'a, Sort>,
-    taken: &mut Vec<Name>,
+    taken: &mut Taken<'n>,
     form: &'a Form,
 ) -> Result<(), TypeError>
     ensures finds { Finds result [] }
     ensures scope { OnOk result ((line : ℕ) → scope_of known.new
         ≡ with_declared (scope_of known.old) (form_tree line form.now)) }
     ensures above { OnOk result (IsAbove known.new known.old) }
-    ensures taken { OnOk result ((line : ℕ) → taken.new.items
-        ≡ taken.old.items ++ names_declared (form_tree line form.now ∷ [])) }
+    ensures taken { OnOk result ((line : ℕ) → taken.new
+        ≡ taken.old ++ names_declared (form_tree line form.now ∷ [])) }
 {
     match declared(form) {
         Some((name, sort)) => {
             known.declare(name, sort)?;
-            take(taken, name)?;
+            taken.add(name)?;
             Ok(())
         }
         None => Ok(()),
@@ -38,19 +38,19 @@ fn declare<'a>(
 /// The blocks inside a statement, and the name that it declares.
 #[tactic(auto, using(crate::proofs::PlaceLemmas::place_rules))]
 #[cycle(blocks)]
-fn check_inside<'a>(
+fn check_inside<'a: 'n, 'n>(
     known: &mut Known<'a, Sort>,
-    taken: &mut Vec<Name>,
+    taken: &mut Taken<'n>,
     returns: ResultType,
     form: &'a Form,
 ) -> Result<(), TypeError>
     ensures finds { (line : ℕ) → Finds result
-        (found (places_inside (result_tree returns) (scope_of known.old) taken.old.items (form_tree line form.now))) }
+        (found (places_inside (result_tree returns) (scope_of known.old) taken.old (form_tree line form.now))) }
     ensures scope { OnOk result ((line : ℕ) → scope_of known.new
         ≡ with_declared (scope_of known.old) (form_tree line form.now)) }
     ensures above { OnOk result (IsAbove known.new known.old) }
-    ensures taken { OnOk result ((line : ℕ) → taken.new.items
-        ≡ taken.old.items ++ names_declared (statements_within (form_tree line form.now))) }
+    ensures taken { OnOk result ((line : ℕ) → taken.new
+        ≡ taken.old ++ names_declared (statements_within (form_tree line form.now))) }
 {
     match form {
         Form::If(_, b) => check_block(known, taken, returns, b),
@@ -66,17 +66,17 @@ fn check_inside<'a>(
 /// A block of a function with this result, where these names are known and these are taken. After it the names that it
 /// declares are known no more, and stay taken.
 #[cycle(blocks)]
-pub(crate) fn check_block<'a>(
+pub(crate) fn check_block<'a: 'n, 'n>(
     known: &mut Known<'a, Sort>,
-    taken: &mut Vec<Name>,
+    taken: &mut Taken<'n>,
     returns: ResultType,
     block: &'a Block,
 ) -> Result<(), TypeError>
-    ensures finds { Finds result (found (places_of (result_tree returns) (scope_of known.old) taken.old.items
+    ensures finds { Finds result (found (places_of (result_tree returns) (scope_of known.old) taken.old
         (block_tree block.now))) }
     ensures restored { OnOk result (known.new ≡ known.old) }
-    ensures taken { OnOk result (taken.new.items
-        ≡ taken.old.items ++ names_declared (statements_of (block_tree block.now))) }
+    ensures taken { OnOk result (taken.new
+        ≡ taken.old ++ names_declared (statements_of (block_tree block.now))) }
 {
     let outside = known.len();
     for stmt in &block.statements {

@@ -1,23 +1,26 @@
 //! The check of a unit's items.
 
-ghost use Rattle.std.specs.Prelude.{◌≡◌, ◌∷◌, ◌++◌, OnOk, map};
+ghost use Rattle.std.specs.Prelude.{◌≡◌, List, ◌∷◌, ◌++◌, OnOk, map};
+ghost use Rattle.base.specs.Bytes.{Identifier};
 ghost use Rattle.syntax.specs.Parts.{item_name};
 ghost use Rattle.syntax.specs.Views.{block_tree, function_tree, item_tree, result_tree, static_type_tree};
-ghost use Rattle.type_rules.specs.SortRules.{DeclaredTwice, has_name, static_sort, places_of, function_places, item_places};
+ghost use Rattle.type_rules.specs.SortRules.{DeclaredTwice, has_name, has_repeated, static_sort, places_of, function_places, item_places};
 ghost use Rattle.types.specs.Faults.{Faults, Refuses, Finds, broken_if, scope_of, found, head_faults, own_places, with_static};
 
 use crate::blocks::check_block;
 use crate::fault::{SortRule, TypeError, refuse_if, refuse_name_if, told};
-use crate::scope::{enter, has_name, has_repeated};
+use crate::scope::{enter, has_name};
+use crate::taken::Taken;
 use crate::telling::head_detail;
 use class_rules::mangling::is_mangled;
 use std::alloc::{AllocError, Global};
 use syntax::{Function, Item, Name, Static};
 use type_rules::{Known, Sort, static_sort};
 
-/// The first rule that a function's head breaks after items of these names, where its parameters and the statics have those.
-fn judge_head(names: &[Name], entry: &[Name], f: &Function) -> Result<(), TypeError>
-    ensures { Finds result (head_faults names.now entry.now f.now) }
+/// The first rule that a function's head breaks after items of these names; `repeated` is whether two of its parameters and
+/// the statics are spelled alike.
+fn judge_head(names: &[Name], repeated: bool, f: &Function) -> Result<(), TypeError>
+    ensures { (entry : List Identifier) → repeated ≡ has_repeated entry → Finds result (head_faults names.now entry f.now) }
 {
     refuse_if(
         !is_mangled(f.name.as_bytes()),
@@ -25,7 +28,7 @@ fn judge_head(names: &[Name], entry: &[Name], f: &Function) -> Result<(), TypeEr
         f.line,
     )?;
     refuse_if(
-        has_name(names, &f.name) || has_repeated(entry),
+        has_name(names, &f.name) || repeated,
         SortRule::DeclaredTwice,
         f.line,
     )
@@ -44,29 +47,34 @@ fn with_detail(error: TypeError, names: &[Name], entry: &[Name], f: &Function) -
     }
 }
 
-/// Checks a function's head; `names` are those of the items before it, and `entry` those of its parameters and the statics.
-fn check_head(names: &[Name], entry: &[Name], f: &Function) -> Result<(), TypeError>
+/// Checks a function's head; `names` are those of the items before it, and `entry` those of its parameters and the statics,
+/// of which two may be spelled alike.
+fn check_head(names: &[Name], entry: &[Name], repeated: bool, f: &Function) -> Result<(), TypeError>
+    requires { repeated ≡ has_repeated entry.now }
     ensures { Finds result (head_faults names.now entry.now f.now) }
 {
-    match judge_head(names, entry, f) {
+    match judge_head(names, repeated, f) {
         Ok(()) => Ok(()),
         Err(error) => Err(with_detail(error, names, entry, f)),
     }
 }
 
-/// Checks a function's head and body; `taken` are the names of its scope, which are known.
+/// Checks a function's head and body; `entry` are the names of its scope, which are known.
 fn check_body<'a>(
+    alloc: Global,
     names: &[Name],
     known: &mut Known<'a, Sort>,
-    taken: &mut Vec<Name>,
+    entry: &[Name],
     f: &'a Function,
 ) -> Result<(), TypeError>
-    ensures finds { Finds result (head_faults names.now taken.old.items f.now
-        ++ found (places_of (result_tree f.now.result) (scope_of known.old) taken.old.items (block_tree f.now.body))) }
+    ensures finds { Finds result (head_faults names.now entry.now f.now
+        ++ found (places_of (result_tree f.now.result) (scope_of known.old) entry.now (block_tree f.now.body))) }
     ensures restored { OnOk result (known.new ≡ known.old) }
 {
-    check_head(names, taken, f)?;
-    check_block(known, taken, f.result, &f.body)
+    let mut taken = Taken::new(alloc);
+    let repeated = taken.enter(entry)?;
+    check_head(names, entry, repeated, f)?;
+    check_block(known, &mut taken, f.result, &f.body)
 }
 
 /// Checks a function after items of these names. What is known are the statics, before it and again after it.
@@ -81,8 +89,8 @@ fn check_function<'a>(
 {
     let outside = known.len();
     enter(known, f)?;
-    let mut taken = known.names(alloc)?;
-    let checked: Result<(), TypeError> = check_body(names, known, &mut taken, f);
+    let entry = known.names(alloc)?;
+    let checked: Result<(), TypeError> = check_body(alloc, names, known, &entry, f);
     known.leave(outside);
     checked
 }

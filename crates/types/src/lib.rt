@@ -9,6 +9,7 @@ mod items;
 mod scope;
 mod sort;
 mod statements;
+mod taken;
 mod telling;
 mod typed;
 

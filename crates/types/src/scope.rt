@@ -3,7 +3,7 @@
 ghost use Rattle.std.specs.Prelude.{◌≡◌, [], ◌∷◌, ◌++◌, OnOk, map, bytes_eq};
 ghost use Rattle.std.specs.Option.{option_map};
 ghost use Rattle.type_rules.specs.Sorts.{sort_in, is_unknown};
-ghost use Rattle.type_rules.specs.SortRules.{has_name, has_repeated, parameter_sort};
+ghost use Rattle.type_rules.specs.SortRules.{has_name, parameter_sort};
 ghost use Rattle.syntax.specs.Views.{parameter_type_tree};
 ghost use Rattle.type_rules.specs.SortViews.{sort_value};
 ghost use Rattle.types.specs.Faults.{IsAbove, scope_of, entry_scope};
@@ -38,27 +38,6 @@ pub(crate) fn has_name(names: &[Name], name: &Name) -> bool
     ensures { result ≡ has_name names.now name.now }
 {
     names.iter().any(|x| is_same(name, x))
-}
-
-/// Whether two of the names are spelled alike.
-pub(crate) fn has_repeated(names: &[Name]) -> bool
-    ensures { result ≡ has_repeated names.now }
-{
-    for (i, name) in names.iter().enumerate() {
-        if has_name(&names[i + 1..], name) {
-            return true;
-        }
-    }
-    false
-}
-
-/// One name more is taken.
-pub(crate) fn take(taken: &mut Vec<Name>, name: &Name) -> Result<(), AllocError>
-    ensures { OnOk result (taken.new.items ≡ taken.old.items ++ name.now ∷ []) }
-{
-    let alloc = *taken.allocator();
-    taken.push(Name::new(alloc, name.as_bytes())?)?;
-    Ok(())
 }
 
 /// What is known at a function's beginning, after the statics that are known.

@@ -23,10 +23,11 @@ use crate::calls::{
 };
 use crate::expressions::{has_unknown, is_null, name_sort, sort_of};
 use crate::fault::{SortRule, TypeError, refuse_if, told};
-use crate::scope::{has_name, is_unknown, sort_in};
+use crate::scope::{is_unknown, sort_in};
 use crate::sort::{
     has_elements, is_flag, is_index, is_jint, is_read_only, is_ref, is_truth, is_word,
 };
+use crate::taken::Taken;
 use crate::telling::statement_detail;
 use jni::{JniFunction, function_named};
 use syntax::{Call, ElementType, Expr, Form, Name, ResultType, RightSide, Stmt, Test};
@@ -121,11 +122,11 @@ pub(crate) fn declared(form: &Form) -> Option<(&Name, Sort)>
 }
 
 /// Whether a statement declares a name that is taken.
-fn declares_taken(taken: &[Name], form: &Form) -> bool
+fn declares_taken(taken: &Taken<'_>, form: &Form) -> bool
     ensures { (line : ℕ) → result ≡ breaks_sort_rule DeclaredTwice [] taken.now Void (form_tree line form.now) }
 {
     match declared(form) {
-        Some((x, _)) => has_name(taken, x),
+        Some((x, _)) => taken.has(x),
         None => false,
     }
 }
@@ -379,7 +380,7 @@ fn check_call(
 #[tactic(auto, using(crate::proofs::FindsLemmas::finds_rules))]
 fn judge_form(
     known: &Known<'_, Sort>,
-    taken: &[Name],
+    taken: &Taken<'_>,
     returns: ResultType,
     form: &Form,
     line: usize,
@@ -420,7 +421,7 @@ fn with_detail(
 /// A statement on this line, without the blocks inside it.
 fn check_form(
     known: &Known<'_, Sort>,
-    taken: &[Name],
+    taken: &Taken<'_>,
     returns: ResultType,
     form: &Form,
     line: usize,
@@ -437,7 +438,7 @@ fn check_form(
 /// A statement of a function with this result, where these names are known and these are taken.
 pub(crate) fn check_statement(
     known: &Known<'_, Sort>,
-    taken: &[Name],
+    taken: &Taken<'_>,
     returns: ResultType,
     stmt: &Stmt,
 ) -> Result<(), TypeError>

@@ -17,9 +17,9 @@ fn check_unit(alloc: Global, unit: &Unit) -> Result<(), TypeError>
     check_items(&mut Vec::new(alloc), &mut Known::new(alloc), unit.items())
 }
 
-/// The unit, where it keeps the rules on names and sorts. A statement's expressions are read once for each rule; each
-/// name is compared with those that are known, which are 512 at most with the statics, and each item's name with those of
-/// the items before it.
+/// The unit, where it keeps the rules on names and sorts. A statement's expressions are read once for each rule; a name
+/// is found among those that are known, and among those that are taken, in constant time; each item's name is compared
+/// with those of the items before it.
 #[tactic(auto, using(crate::proofs::UnitLemmas::unit_rules))]
 pub fn type_unit(alloc: Global, unit: Unit) -> Result<Typed, TypeError>
     // A unit that is answered is the one given, and it is sorted.

@@ -14,7 +14,7 @@ returns-clause-finds c =
     let f = c.args.f.now in
     let known = c.enter.new.known in
     subst (λ xs. Finds c.check_body-checked.result xs)
-    (ap (λ names. head_faults c.args.names.now names f ++ found (places_of (result_tree f.result) (scope_of known) names (block_tree f.body))) c.in_ok-taken.ensures
+    (ap (λ names. head_faults c.args.names.now names f ++ found (places_of (result_tree f.result) (scope_of known) names (block_tree f.body))) (c.deref.ensures.value ∙ c.in_ok-entry.ensures)
     ∙ sym (found-function c.args.names.now (scope_of c.args.known.now) f known c.in_ok-enter.ensures.scope))
     c.check_body-checked.ensures.finds
 
