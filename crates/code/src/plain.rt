@@ -69,6 +69,7 @@ fn invert(stack: &mut Stack)
     stack.replace_top(truth_word(word == 0));
 }
 
+#[inline(always)]
 fn operate(operator: Operator, stack: &mut Stack)
     requires { 1 < length stack.old }
     ensures { (numbers : List ℕ) → plain_of (Operate operator) stack.old numbers ≡ Some (Next, stack.new, numbers) }
@@ -85,6 +86,7 @@ fn truth_word(truth: bool) -> u32
     u32::from(truth)
 }
 
+#[inline(always)]
 fn result_of(operator: Operator, left: u32, right: u32) -> u32
     ensures { result ≡ operate operator left right }
 {
