@@ -2,7 +2,7 @@
 use Rattle.std.proofs.Common.{◌≡◌, ℕ, suc, true, List, [], ◌∷◌, ◌++◌, Option, Some, sym, ◌∙◌, ap, subst}
 use Rattle.std.specs.Prelude.{not, ◌&&◌}
 use Rattle.std.specs.List.{list_all, list_any}
-use Rattle.std.proofs.lemmas.Bool.{false≢true, or_left}
+use Rattle.std.proofs.lemmas.Bool.{and_parts, false≢true, or_left}
 use Rattle.syntax.specs.Tree.{SourceUnit}
 use Rattle.semantics.specs.declared.schedule.ScheduleWord.TheVariants.{Turn, Collect, Slice}
 use Rattle.semantics.specs.Heap.{Heap}
@@ -16,7 +16,6 @@ use Rattle.semantics.specs.Step.{world_step}
 use Rattle.semantics.specs.WeakReferences.{weakly_held, are_rising, held_beside, reached_with, may_clear}
 use Rattle.semantics.proofs.ReachableLemmas.{In, contains_in, to_contains, in_append_left, reached_lists}
 use Rattle.semantics.proofs.WeakLaws.{clearing_leaves}
-use Rattle.world_schedules.proofs.WordLaws.{both_true}
 use Rattle.test_equations.specs.Laws.{without_slices, HeldAreReached}
 
 -- ---- a clearing of what can be reached
@@ -32,9 +31,9 @@ none_may w s [] all h = false≢true h
 none_may w s (n ∷ names) all h =
     let held = weakly_held s.shared.statics in
     let from = reached_with w s (held_beside s (n ∷ names)) in
-    let first = both_true (are_rising (n ∷ names) && list_all (is_in held) (n ∷ names)) (not (list_any (is_in from) (n ∷ names))) h in
-    let second = both_true (are_rising (n ∷ names)) (list_all (is_in held) (n ∷ names)) first.0 in
-    let is_held : In held n = (both_true (is_in held n) (list_all (is_in held) names) second.1).0 in
+    let first = and_parts (are_rising (n ∷ names) && list_all (is_in held) (n ∷ names)) (not (list_any (is_in from) (n ∷ names))) h in
+    let second = and_parts (are_rising (n ∷ names)) (list_all (is_in held) (n ∷ names)) first.0 in
+    let is_held : In held n = (and_parts (is_in held n) (list_all (is_in held) names) second.1).0 in
     let more = reached_more s.shared.heap (roots w s) (held_beside s (n ∷ names)) n (all n (to_contains held n is_held)) in
     let found : In from n = contains_in from n ((reached_lists s.shared.heap (roots w s ++ held_beside s (n ∷ names))).complete n more) in
     false≢true (sym (ap not (or_left (is_in from n) (list_any (is_in from) names) found)) ∙ first.1)
