@@ -379,8 +379,8 @@ impl<'a> Machine<'a> {
     }
 
     /// Lets thread `k` take steps one after another, no more than this many, and answers how many it took.
-    /// They go on as long as its next instruction works on the stack and the number slots alone, and the journal has
-    /// memory for its entry.
+    /// They go on as long as its next instruction works on the stack and the number slots alone, or reads beside them whether
+    /// a variable is NULL or an element of a buffer, and the journal has memory for its entry.
     #[inline(always)]
     fn run_plainly(&mut self, k: u8, most: u32) -> u32
         requires counted { 0 < k }
@@ -572,7 +572,8 @@ fn turn_at_rest(stop: &Option<Stop>, thread: &Thread) -> Option<Turn>
     }
 }
 
-/// Takes steps of a thread as long as its next instruction works on the stack and the number slots alone.
+/// Takes steps of a thread as long as its next instruction works on the stack and the number slots alone, or reads beside
+/// them whether a variable is NULL or an element of a buffer.
 /// It is thread `k`, has not ended, and is of a machine that no trap has stopped. It takes this many at most, for which
 /// the journal has room and memory, and answers how many. A trap is the last.
 #[inline(always)]
