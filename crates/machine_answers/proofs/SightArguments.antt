@@ -1,44 +1,38 @@
 -- What is seen in memory of an argument is what the source's call sees of it.
-use Rattle.std.proofs.Common.{inl, inr, ◌≡◌, ℕ, zero, suc, ◌+◌, Bool, true, false, List, [], ◌∷◌, ◌++◌, length, Option, Some, None, is_none, refl, sym, ap, ◌∙◌, subst}
-use Rattle.std.specs.Prelude.{◌⊎◌, if◌then◌else◌, ℤ, pos, drop, take, slice_get, unwrap_or, FitsSigned}
-use Rattle.std.specs.Int.{w32, cast_signed, cast_unsigned}
-use Rattle.std.specs.List.{AllZip}
+use Rattle.std.proofs.Common.{inl, inr, ◌≡◌, ℕ, Bool, true, false, List, Option, Some, None, is_none, refl, sym, ap, ◌∙◌, subst}
+use Rattle.std.specs.Prelude.{◌⊎◌, ℤ, unwrap_or}
 use Rattle.std.specs.Option.{option_map}
-use Rattle.std.proofs.Math.Facts.{to_z-of_z}
 use Rattle.base.specs.Bytes.{Identifier}
 use Rattle.syntax.specs.Tree.{Function, SourceUnit}
 use Rattle.class_rules.specs.Class.{Classes}
 use Rattle.class_rules.specs.Fields.{FieldId}
-use Rattle.classes.specs.FieldViews.{field_of}
 use Rattle.classes.specs.declared.class.FieldHandle.{FieldHandle}
 use Rattle.code.specs.declared.instr.Operand.{Operand}
 use Rattle.code.specs.declared.instr.Operand.TheVariants as operand
 use Rattle.jni.specs.Prototype.{ParameterKind, IntNumber, Passed, TextBytes}
 use Rattle.jni.specs.Prototype as jni
-use Rattle.semantics.specs.Arguments.{Actual, ReferenceActual, FieldActual, MethodActual, NumberActual, TextActual, VariableActual, ModeActual, NothingActual, ReleaseMode, CopyBackAndFree, CopyBack, FreeUncopied, field_in_actual, method_in_actual, mode_in_actual, number_in_actual, name_or_zero, reference_in_actual, text_in_actual}
+use Rattle.semantics.specs.Arguments.{Actual, ReferenceActual, FieldActual, MethodActual, ReleaseMode, CopyBackAndFree, CopyBack, FreeUncopied, field_in_actual, number_in_actual, name_or_zero, reference_in_actual, text_in_actual}
 use Rattle.semantics.specs.Checks.{is_deleted}
 use Rattle.semantics.specs.CallSight as source
 use Rattle.semantics.specs.CallSight.{ArgumentSight}
 use Rattle.semantics.specs.Heap.{Heap}
 use Rattle.semantics.specs.Method.{MethodId}
 use Rattle.semantics.specs.Object.{Object, Reference}
-use Rattle.semantics.specs.Value.{Int}
-use Rattle.semantics.specs.Variable.{StaticReference, Empty, Live, Weakly, Cleared, Deleted, as_static}
+use Rattle.semantics.specs.Variable.{StaticReference, Empty, Live, Deleted, as_static}
 use Rattle.code_meaning.specs.Coding.{mode_code}
-use Rattle.code_meaning.specs.Does.{ActualFits, OperandFits, text_given, texts_given, word_given, words_given}
+use Rattle.code_meaning.specs.Does.{ActualFits, OperandFits}
 use Rattle.code_meaning.specs.Fits.{IsReferenceKind}
-use Rattle.code_meaning.specs.Slots.{word_of}
 use Rattle.machine_scenes.specs.declared.handle.MethodHandle.{MethodHandle}
 use Rattle.machine_scenes.specs.declared.references.Held.{Held}
 use Rattle.machine_scenes.specs.declared.references.Held.TheVariants as held
 use Rattle.machine_scenes.specs.FieldIds.{FieldAgrees, MethodAgrees}
-use Rattle.machine_scenes.specs.Given.{IsGiven, field_at, field_there, method_at, operand_at, operand_of}
+use Rattle.machine_scenes.specs.Given.{IsGiven, field_at, field_there, method_at, operand_at}
 use Rattle.machine_scenes.specs.HeapAgrees.{HeapAgrees, ReferenceAgrees}
 use Rattle.machine_scenes.specs.Scenes.{Scene}
 use Rattle.machine_scenes.specs.Statics.{held_address, held_argument, holds_deleted, holds_null, static_at}
 use Rattle.machine_scenes.specs.StoreAgrees.{HeldAgrees}
 use Rattle.machine_answers.specs.Checked.{gives_deleted, gives_null}
-use Rattle.machine_answers.specs.Sights.{is_number, is_reference, is_reference_kind, method_seen, mode_seen, name_seen, null_seen, number_at, object_seen, operand_seen, takes_word, text_seen, texts_of, words_of}
+use Rattle.machine_answers.specs.Sights.{is_number, is_reference, is_reference_kind, method_seen, mode_seen, null_seen, operand_seen, takes_word}
 use Rattle.machine_answers.proofs.SightParts.{name_seen_is, object_seen_is}
 
 -- ---- field IDs, method IDs and modes
@@ -187,6 +181,7 @@ module _ (scene : Scene) (heap : Heap) (agrees : HeapAgrees scene.space heap) (p
       as_it_is : (r : Reference) → reference_in_actual (Some (ReferenceActual h.name (as_static r))) ≡ r
       as_it_is None = refl
       as_it_is (Some n) = refl
+
       not_deleted : (r : Reference) → false ≡ is_deleted (ReferenceActual h.name (as_static r))
       not_deleted None = refl
       not_deleted (Some n) = refl

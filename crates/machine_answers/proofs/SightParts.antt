@@ -1,18 +1,18 @@
 -- What is seen in memory of references, values and objects is what they are in the source.
-use Rattle.std.proofs.Common.{◌≡◌, ℕ, zero, suc, Bool, true, false, List, [], ◌∷◌, length, Option, Some, None, refl, sym, ap, ◌∙◌}
+use Rattle.std.proofs.Common.{◌≡◌, ℕ, List, [], ◌∷◌, Option, Some, None, refl, sym, ap, ◌∙◌}
 use Rattle.std.specs.Prelude.{map, unwrap_or}
 use Rattle.std.specs.Int.{w32, cast_signed}
 use Rattle.std.specs.Option.{option_map, option_map_or}
 use Rattle.std.proofs.Math.Facts.{to_z-of_z}
-use Rattle.heap.specs.Heap.{Block, Space, block_at, class_at, name_at, values_at}
+use Rattle.heap.specs.Heap.{Block, Space, name_at}
 use Rattle.heap.specs.declared.value.Value.{Value}
 use Rattle.heap.specs.declared.value.Value.TheVariants.{Number as Word, Null, Block as Address}
 use Rattle.semantics.specs.Arguments.{name_or_zero}
 use Rattle.semantics.specs.CallSight as source
-use Rattle.semantics.specs.Heap.{Heap, class_of, object_at, values_of}
+use Rattle.semantics.specs.Heap.{Heap, object_at}
 use Rattle.semantics.specs.Object.{Object, ObjectValue, Number, Reference, Refers}
 use Rattle.machine_scenes.specs.HeapAgrees.{HeapAgrees, ReferenceAgrees, ValueAgrees, ValuesAgree}
-use Rattle.machine_scenes.proofs.BlocksOfNames.{Named, named}
+use Rattle.machine_scenes.proofs.BlocksOfNames.{named}
 use Rattle.machine_answers.specs.Sights.{name_seen, object_seen, value_seen}
 
 -- a reference

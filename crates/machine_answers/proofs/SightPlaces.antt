@@ -1,5 +1,5 @@
 -- Numbers and texts of arguments, which lie in memory by their places among the arguments.
-use Rattle.std.proofs.Common.{inl, inr, ◌≡◌, ℕ, zero, suc, ◌+◌, Bool, true, false, List, [], ◌∷◌, ◌++◌, length, Option, Some, None, refl, sym, ap, ◌∙◌, subst, append-nil}
+use Rattle.std.proofs.Common.{inl, inr, ◌≡◌, ℕ, zero, suc, true, false, List, [], ◌∷◌, ◌++◌, length, Option, Some, refl, sym, ap, ◌∙◌, subst, append-nil}
 use Rattle.std.specs.Prelude.{◌⊎◌, if◌then◌else◌, ℤ, pos, drop, take, slice_get, unwrap_or, FitsSigned}
 use Rattle.std.specs.Int.{w32, cast_signed}
 use Rattle.std.specs.List.{AllZip}
@@ -7,10 +7,9 @@ use Rattle.std.proofs.Math.Facts.{to_z-of_z}
 use Rattle.code.specs.declared.instr.Operand.{Operand}
 use Rattle.code.specs.declared.instr.Operand.TheVariants as operand
 use Rattle.jni.specs.Prototype.{ParameterKind, IntNumber, Passed, TextBytes}
-use Rattle.jni.specs.Prototype as jni
 use Rattle.semantics.specs.Arguments.{Actual, ReferenceActual, FieldActual, MethodActual, NumberActual, TextActual, VariableActual, ModeActual, NothingActual, number_in_actual, text_in_actual}
 use Rattle.semantics.specs.Value.{Int}
-use Rattle.code_meaning.specs.Does.{ActualFits, IsVariableKind, OperandFits, text_given, texts_given, word_given, words_given}
+use Rattle.code_meaning.specs.Does.{ActualFits, IsVariableKind, text_given, texts_given, word_given, words_given}
 use Rattle.code_meaning.specs.Fits.{IsReferenceKind}
 use Rattle.code_meaning.specs.Slots.{word_of}
 use Rattle.machine_scenes.specs.Given.{IsGiven}
@@ -181,6 +180,7 @@ text_is texts i ps args p a fits are there fit = by_text (texted p a fit)
     none_seen : (q : ParameterKind) → (q ≡ TextBytes → ⊥) → text_seen texts (Some q) (texts_of (take i ps)) ≡ []
     none_seen TextBytes never = absurd (never refl)
     none_seen q never = refl
+
     by_text : Texted p a → text_seen texts (Some p) (texts_of (take i ps)) ≡ text_in_actual (Some a)
     by_text (AText bytes is kind) =
         ap (λ (q : ParameterKind). text_seen texts (Some q) (texts_of (take i ps))) kind

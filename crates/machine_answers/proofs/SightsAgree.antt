@@ -1,12 +1,10 @@
 -- What a call sees in memory is what the source's call sees.
-use Rattle.std.proofs.Common.{inl, inr, ◌≡◌, ℕ, zero, suc, ◌+◌, ◌-◌, ◌<◌, ◌≤◌, Bool, true, false, not, List, [], ◌∷◌, length, Option, Some, None, refl, sym, ap, ◌∙◌, subst, arith}
-use Rattle.std.specs.Prelude.{◌⊎◌, ◌++◌, is_some, IsSome,  if◌then◌else◌, ℤ, pos, drop, map, slice_get, take, unwrap_or}
+use Rattle.std.proofs.Common.{inl, inr, ◌≡◌, ℕ, zero, suc, ◌+◌, ◌<◌, ◌≤◌, Bool, true, List, [], ◌∷◌, length, Option, Some, None, refl, sym, ap, ◌∙◌, subst, arith}
+use Rattle.std.specs.Prelude.{◌⊎◌, ◌++◌, is_some, IsSome, if◌then◌else◌, pos, drop, map, slice_get, take, unwrap_or}
 use Rattle.std.specs.List.{AllZip}
 use Rattle.std.specs.Option.{option_map}
-use Rattle.base.specs.Bytes.{Identifier, lookup}
+use Rattle.base.specs.Bytes.{lookup}
 use Rattle.base.specs.Element.{ElementType}
-use Rattle.syntax.specs.Tree.{SourceUnit}
-use Rattle.class_rules.specs.Class.{Classes}
 use Rattle.code.specs.Call.{Call}
 use Rattle.code.specs.declared.instr.Operand.{Operand}
 use Rattle.code.specs.declared.instr.Operand.TheVariants as operand
@@ -18,7 +16,7 @@ use Rattle.semantics.specs.CallSight as source
 use Rattle.semantics.specs.Thread as source_thread
 use Rattle.semantics.specs.CallSight.{ArgumentSight, CallSight}
 use Rattle.semantics.specs.Heap.{Heap}
-use Rattle.semantics.specs.Variable.{Variable, LocalArray, Variables}
+use Rattle.semantics.specs.Variable.{Variable, Variables}
 use Rattle.code_meaning.specs.Does.{ActualFits, OperandFits, texts_given, words_given}
 use Rattle.machine_scenes.specs.Given.{HasArray, IsGiven, operand_of, operand_or_null}
 use Rattle.machine_scenes.specs.HeapAgrees.{HeapAgrees}
@@ -38,7 +36,7 @@ use Rattle.semantics.specs.CallStep.{target_element}
 use Rattle.semantics.specs.Task.{Target}
 use Rattle.semantics.specs.Thread.{Shared, Thread}
 use Rattle.semantics.specs.Variable.{StaticReference, Empty, Live, Weakly, Cleared, Deleted}
-use Rattle.semantics.specs.World.{World, loaded_objects}
+use Rattle.semantics.specs.World.{World}
 use Rattle.code_meaning.specs.Lowered.{Lowered}
 use Rattle.machine_scenes.specs.declared.activation.Activation.{Activation}
 use Rattle.machine_scenes.specs.declared.references.Held.{Held}
@@ -119,6 +117,7 @@ module _ (scene : Scene) (locals : LocalTable) (callers : ℕ) (call : Call) (he
           operand_seen scene (slice_get ps i) (operand_of call.operands i)
           (if takes_word (slice_get ps i) (operand_of call.operands i) then number_at scene.stack (words_of (drop (suc i) ps) (drop (suc i) call.operands)) else pos 0)
           (text_seen call.texts (slice_get ps i) (texts_of (take i ps)))
+
       by_place : Place Given (parameters_for call.function (length args)) call.operands args i → by_kinds (parameters_for call.function (length args)) ≡ source.argument_seen heap (slice_get args i)
       by_place (There p o a at_p at_o at_a fit is_kind is_given) =
           ap (λ (q : Option ParameterKind). operand_seen scene q (operand_of call.operands i)
@@ -264,6 +263,7 @@ module _ (p : Lowered) (w : World) (store : Store) (pending : Option ℕ) (activ
       there [] j below e = absurd (omega (arith, below))
       there (x ∷ xs) zero below e = absurd (cc)
       there (x ∷ xs) (suc j) below e = there xs j (omega (arith, below)) e
+
       by_address : (o : Option ℕ) → slice_get store.loaded.items i ≡ o → object_seen store.heap o ≡ source.object_seen shared.heap (suc i)
       by_address None e = absurd (there store.loaded.items i (omega (arith, within, classes_loaded w, h.store_agrees.table.counted)) e)
       by_address (Some a) e =
@@ -278,6 +278,7 @@ module _ (p : Lowered) (w : World) (store : Store) (pending : Option ℕ) (activ
           → ((field_there w.classes x).class ≡ 0) ⊎ ((field_there w.classes x).class ≤ length w.classes)
       by_handle o None e known = inl refl
       by_handle o (Some i) e known = inr (subst (λ (c : ℕ). c ≤ length w.classes) (class_of_field w.classes i (known i refl)) (class_within w.classes i (known i refl)).1)
+
       by_place : Place (IsGiven scene.unit scene.classes scene.space scene.references scene.fields) (parameters_for call.function (length args)) call.operands args 1
           → ((field_there w.classes (field_at scene.fields (operand_of call.operands 1))).class ≡ 0) ⊎ ((field_there w.classes (field_at scene.fields (operand_of call.operands 1))).class ≤ length w.classes)
       by_place (There q o a at_p at_o at_a fits kind given) =
@@ -290,6 +291,7 @@ module _ (p : Lowered) (w : World) (store : Store) (pending : Option ℕ) (activ
     where
       fourth : (q : ParameterKind) → slice_get (prototype call.function).parameters 3 ≡ Some q → slice_get (parameters_for call.function (length args)) 3 ≡ Some q
       fourth q e = still_kind (prototype call.function).parameters _ 3 q e
+
       by_place : (T : ElementType) → slice_get (parameters_for call.function (length args)) 3 ≡ Some (ArrayVariable T)
           → Place (HasArray activation.slots.numbers.items s.variables) (parameters_for call.function (length args)) call.operands args 3
           → (array_in (operand_of call.operands 3)).len ≡ length (local_array (lookup (variable_given args 3) s.variables))
@@ -299,6 +301,7 @@ module _ (p : Lowered) (w : World) (store : Store) (pending : Option ℕ) (activ
           ∙ array_is activation.slots.numbers.items s.variables T o a (subst (λ (r : ParameterKind). OperandFits r o) same_kind fits) given
           ∙ sym (ap (λ (x : Option Actual). length (local_array (lookup (variable_in_actual x) s.variables))) at_a)
       by_place T is (Past at_p at_o at_a) = absurd (let e : None ≡ Some (ArrayVariable T) = sym at_p ∙ is in cc)
+
       by_kind : (q : Option ParameterKind) → slice_get (prototype call.function).parameters 3 ≡ q → elements_seen q (operand_of call.operands 3) ≡ source.elements_seen s.variables q (variable_given args 3)
       by_kind (Some (ArrayVariable T)) e =
           by_place T (fourth (ArrayVariable T) e) (place_at (HasArray activation.slots.numbers.items s.variables) 3 (parameters_for call.function (length args)) call.operands args h.kinds h.fit h.arrays)
@@ -310,13 +313,16 @@ module _ (p : Lowered) (w : World) (store : Store) (pending : Option ℕ) (activ
       -- the first operand of such a function is a static
       Is : JniFunction → Type 0
       Is f = deletes_static f ≡ true → (i : ℕ) × (operand_of call.operands 0 ≡ operand.Static i) × HeldStatic store.heap (references_of store activation) shared (variable_given args 0) i
+
       first_kind : (f : JniFunction) → deletes_static f ≡ true → (slice_get (parameters_for f (length args)) 0 ≡ Some StaticVariable) ⊎ (slice_get (parameters_for f (length args)) 0 ≡ Some WeakVariable)
       first_kind DeleteGlobalRef e = inl refl
       first_kind DeleteWeakGlobalRef e = inr refl
       first_kind f e = absurd (cc)
+
       by_operand : (q : ParameterKind) (o : Operand) → OperandFits q o → (q ≡ StaticVariable) ⊎ (q ≡ WeakVariable) → (i : ℕ) × (o ≡ operand.Static i)
       by_operand q o fits (inl e) = statics_alone StaticVariable o tt (subst (λ (r : ParameterKind). OperandFits r o) e fits)
       by_operand q o fits (inr e) = statics_alone WeakVariable o tt (subst (λ (r : ParameterKind). OperandFits r o) e fits)
+
       by_place : Place (IsGiven scene.unit scene.classes scene.space scene.references scene.fields) (parameters_for call.function (length args)) call.operands args 0 → Is call.function
       by_place (There q o a at_p at_o at_a fits kind given) deletes_one =
           let of_kind = kind_at q at_p (first_kind call.function deletes_one) in
@@ -324,6 +330,7 @@ module _ (p : Lowered) (w : World) (store : Store) (pending : Option ℕ) (activ
           let at : operand_of call.operands 0 ≡ operand.Static is.0 = ap operand_or_null at_o ∙ is.1 in
           (is.0, at, deletes deletes_one is.0 at)
       by_place (Past at_p at_o at_a) deletes_one = absurd (no_kind at_p (first_kind call.function deletes_one))
+
       by_function : (f : JniFunction) → Is f → deleted_seen scene f (operand_of call.operands 0) ≡ source.held_seen shared.statics f (variable_given args 0)
       by_function DeleteGlobalRef is =
           let there = is refl in
@@ -337,7 +344,7 @@ module _ (p : Lowered) (w : World) (store : Store) (pending : Option ℕ) (activ
       ≡ source_thread.monitor_of shared.monitors (name_or_zero (reference_in_actual (slice_get args 0)))
   monitor_alike =
       let name : name_there store.heap (operand_at scene.references (operand_of call.operands 0)) ≡ name_or_zero (reference_in_actual (slice_get args 0)) =
-          name_is store.heap (operand_at scene.references (operand_of call.operands 0)) ∙ ap (λ (a : ArgumentSight). name_or_zero a.reference) (same 0) in
+      name_is store.heap (operand_at scene.references (operand_of call.operands 0)) ∙ ap (λ (a : ArgumentSight). name_or_zero a.reference) (same 0) in
       ap (λ (n : ℕ). option_map monitor_seen (monitor_of store.monitors n)) name
       ∙ monitor_is (monitor_of store.monitors (name_or_zero (reference_in_actual (slice_get args 0)))) (source_thread.monitor_of shared.monitors (name_or_zero (reference_in_actual (slice_get args 0))))
       (h.store_agrees.monitors.at (name_or_zero (reference_in_actual (slice_get args 0))))
@@ -354,6 +361,7 @@ module _ (p : Lowered) (w : World) (store : Store) (pending : Option ℕ) (activ
       sight : List ArgumentSight → (first second third : ArgumentSight) → Object → Option source_thread.Monitor → ℕ → Option StaticReference → Reference → (full below : Bool) → ElementType → CallSight
       sight all first second third declaring monitor elements held pending full below element =
           record { arguments = all; first = first; second = second; third = third; declaring = declaring; monitor = monitor; elements = elements; held = held; pending = pending; is_full = full; is_full_below = below; callers = length s.callers; element = element }
+
       whole : {a a' : List ArgumentSight} {b b' c c' d d' : ArgumentSight} {e e' : Object} {m m' : Option source_thread.Monitor} {n n' : ℕ} {o o' : Option StaticReference} {q q' : Reference} {r r' t t' : Bool} {u u' : ElementType}
           → a ≡ a' → b ≡ b' → c ≡ c' → d ≡ d' → e ≡ e' → m ≡ m' → n ≡ n' → o ≡ o' → q ≡ q' → r ≡ r' → t ≡ t' → u ≡ u' → sight a b c d e m n o q r t u ≡ sight a' b' c' d' e' m' n' o' q' r' t' u'
       whole a b c d e m n o q r t u = cc

@@ -1,14 +1,12 @@
 -- What a call asks, as it is seen in memory.
-use Rattle.std.specs.Prelude.{ℕ, zero, suc, ◌+◌, if◌then◌else◌, Bool, true, false, not, ℤ, pos, List, [], ◌∷◌, drop, length, map, slice_get, take, is_none, unwrap_or, Option, Some, None}
+use Rattle.std.specs.Prelude.{ℕ, zero, suc, if◌then◌else◌, Bool, true, false, not, ℤ, pos, List, [], ◌∷◌, drop, length, map, slice_get, take, unwrap_or, Option, Some, None}
 use Rattle.std.specs.Int.{w32, cast_signed}
-use Rattle.std.specs.Option.{option_map, option_map_or}
-use Rattle.base.specs.Element.{ElementType}
+use Rattle.std.specs.Option.{option_map}
 use Rattle.syntax.specs.Tree.{Function, SourceUnit}
 use Rattle.syntax.specs.Parts.{functions_of}
 use Rattle.code.specs.Call.{Call}
 use Rattle.code.specs.declared.instr.Operand.{Operand}
 use Rattle.code.specs.declared.instr.Operand.TheVariants as operand
-use Rattle.code.specs.declared.instr.ReleaseMode.{ReleaseMode as ModeOfCode}
 use Rattle.code.specs.declared.instr.ReleaseMode.TheVariants as mode
 use Rattle.heap.specs.Heap.{Space, name_at, values_at}
 use Rattle.heap.specs.declared.value.Value.{Value}
@@ -31,7 +29,7 @@ use Rattle.machine_scenes.specs.Given.{class_of_given, field_at, field_there, me
 use Rattle.machine_scenes.specs.Scenes.{Scene}
 use Rattle.machine_scenes.specs.Statics.{static_at}
 use Rattle.machine_answers.specs.Checked.{element_wanted, gives_deleted, gives_null}
-use Rattle.machine_answers.specs.WorkedOut.{array_in, class_object}
+use Rattle.machine_answers.specs.WorkedOut.{array_in}
 
 -- ---- objects by their names, which are the birth numbers of their blocks
 
