@@ -18,14 +18,14 @@ use Rattle.class_rules.specs.Fields.{FieldId}
 use Rattle.class_rules.specs.Grown.{IsGrown}
 use Rattle.jni.specs.Access.{Access, ElementsCopy, ArrayView, CharsCopy, CharsView}
 use Rattle.jni.specs.JniFunction as jni
-use Rattle.jni.specs.JniFunction.{JniFunction, parameters_for}
+use Rattle.jni.specs.JniFunction.{JniFunction, parameters_for, prototype}
 use Rattle.jni.specs.Prototype.{ParameterKind, ClassObject, ObjectArray, StringObject, NumberArray, FieldID, TextBytes, ArrayVariable, ResultKind}
 use Rattle.type_rules.specs.Sorts.{Buffer, is_buffer_for}
 use Rattle.semantics.specs.Answer.{Answer, Region, with_region_got, with_region_set}
 use Rattle.semantics.specs.Answer as answer
 use Rattle.semantics.specs.Arguments.{Actual, reference_given, object_given, text_given, field_given, variable_given}
 use Rattle.semantics.specs.CallEffects.{CallResult, NoResult, ScalarResult, ReferenceResult, FieldResult, BufferResult, CallEffect, Throws, Halts, Leaves, Enters, with_capacity, frames_effect, heap_effect, new_effect, string_object, overwritten, local_array, begun_with, copy_effect, view_effect, copied_elements, freed, with_freed, with_message, throw_new_effect}
-use Rattle.semantics.specs.CallSight.{CallSight, sight_of_call}
+use Rattle.semantics.specs.CallSight.{CallSight, elements_seen, sight_of_call}
 use Rattle.semantics.specs.CallTable.{go_together, call_effect}
 use Rattle.semantics.specs.Heap.{Heap, object_at, class_of, values_of, next_name, with_value_at, with_numbers, numbers_of, field_place, static_place, is_instance, fits_class}
 use Rattle.semantics.specs.Object.{ObjectValue, Number, Refers, Reference, Object}
@@ -90,6 +90,11 @@ equal : (n m : ℕ) → (n == m) ≡ true → n ≡ m
 equal n m h = grind (arith, nat_tests, h)
 
 -- ---- variables
+
+-- where no array is asked for, none of its elements are seen
+few_there : (vs : Variables) (p : Option ParameterKind) (x : Identifier) (n : ℕ) → n ≤ elements_seen vs p x → n ≤ length (local_array (lookup x vs))
+few_there vs (Some (ArrayVariable T)) x n h = h
+few_there vs p x n h = omega (arith, h)
 
 pub changed_typed : (classes : Classes) (heap : Heap) (x : Identifier) (f : Variable → Variable) (vs : Variables) → AreTypedVariables classes heap vs → ((v : Variable) → lookup x vs ≡ Some v → IsTypedVariable classes heap v → IsTypedVariable classes heap (f v)) → AreTypedVariables classes heap (change x f vs)
 changed_typed classes heap x f [] h g = tt
@@ -502,7 +507,8 @@ module _ (unit : SourceUnit) (classes : Classes) (well : DeclaresWell classes) (
       answer_fits (RaisingWith takes_class takes_text is) = throw_new takes_class takes_text (is checked)
       answer_fits (Writing n i v is) = written (is checked)
       answer_fits (SettingRegion r is) =
-          set_region_fits (variable_given args 3) r (fits_array r is) (subst (λ (n : ℕ). r.start + r.count ≤ length (values_of s.heap n)) (sym is.object) is.within) is.few
+          set_region_fits (variable_given args 3) r (fits_array r is) (subst (λ (n : ℕ). r.start + r.count ≤ length (values_of s.heap n)) (sym is.object) is.within)
+          (few_there t.variables (slice_get (prototype f).parameters 3) (variable_given args 3) r.count is.few)
       answer_fits (Making o is) = one_more o (made (is checked))
       answer_fits (Ensuring n) = frames_fit (with_capacity n t.frames)
       answer_fits (Pushing n) = frames_fit (record { capacity = n; references = [] } ∷ t.frames)
