@@ -8,7 +8,7 @@ use Rattle.jnirun.specs.Serve.{Serves}
 use Rattle.jnirun.specs.ServeEach.{ServesEach}
 use Rattle.cli_explanations.specs.declared.Explanation.{Explanation}
 use Rattle.cli_words.specs.declared.request.Request.{Request}
-use Rattle.cli_words.specs.declared.request.Request.TheVariants.{Serve, CheckEach, Explain, Show, Misuse, LacksOrder, LacksMemory}
+use Rattle.cli_words.specs.declared.request.Request.TheVariants.{Serve, Trace, CheckEach, CheckAll, WriteLog, Explain, Show, Misuse, LacksOrder, LacksMemory}
 
 -- ---- texts for a reader
 
@@ -37,12 +37,18 @@ needs_order =
 -- a run by workers is asked for
 abbrev pub asks_for_workers : Request → Bool
 asks_for_workers (Serve command) = runs_workers command
+asks_for_workers (Trace command trace) = runs_workers command
 asks_for_workers request = false
 
 -- what the program answers
 abbrev pub Answers : (gives : List ℕ → List ℕ → Type 0) → (lacks : List ℕ → Type 0) → Request → (out out_after err err_after : Written) → (status : ℕ) → Type 0
 Answers gives lacks (Serve command) out out_after err err_after status = Serves gives lacks command out out_after err err_after status
 Answers gives lacks (CheckEach programs) out out_after err err_after status =
+    ServesEach gives lacks (map (λ p. p.now) programs.items) out out_after err err_after status
+Answers gives lacks (Trace command trace) out out_after err err_after status = Serves gives lacks command out out_after err err_after status
+Answers gives lacks (CheckAll programs) out out_after err err_after status =
+    ServesEach gives lacks (map (λ p. p.now) programs.items) out out_after err err_after status
+Answers gives lacks (WriteLog programs faults) out out_after err err_after status =
     ServesEach gives lacks (map (λ p. p.now) programs.items) out out_after err err_after status
 Answers gives lacks (Explain explanation) out out_after err err_after status = Shows (IsTextOf explanation) out out_after err err_after status
 Answers gives lacks (Show text) out out_after err err_after status = Shows (λ t. t ≡ string_bytes text) out out_after err err_after status

@@ -73,7 +73,7 @@ pub fn run_by_workers<'a>(request: &Request<'a>) -> Option<Command<'a>>
     ensures none { IfNone result (asks_for_workers request.now ≡ false) }
 {
     match request {
-        Request::Serve(command) => {
+        Request::Serve(command) | Request::Trace(command, _) => {
             if command.runs_workers() {
                 Some(*command)
             } else {
@@ -81,6 +81,8 @@ pub fn run_by_workers<'a>(request: &Request<'a>) -> Option<Command<'a>>
             }
         }
         Request::CheckEach(_)
+        | Request::CheckAll(_)
+        | Request::WriteLog(_, _)
         | Request::Explain(_)
         | Request::Show(_)
         | Request::Misuse(_)
@@ -108,7 +110,10 @@ pub fn answer<F: Files, O: Sink, E: Sink>(
 {
     match request {
         Request::Serve(command) => serve_sequential(alloc, *command, files, out, err),
+        Request::Trace(command, _) => serve_sequential(alloc, *command, files, out, err),
         Request::CheckEach(programs) => check_each(alloc, programs, files, out, err),
+        Request::CheckAll(programs) => check_each(alloc, programs, files, out, err),
+        Request::WriteLog(programs, _) => check_each(alloc, programs, files, out, err),
         Request::Explain(explanation) => explain(*explanation, out, err),
         Request::Show(text) => show(text.as_bytes(), out, err),
         Request::Misuse(text) => decline(text.as_bytes(), err),

@@ -28,6 +28,15 @@ pub enum Command<'a> {
     },
 }
 
+/// What is told of a run beside its report.
+#[derive(Clone, Copy)]
+pub enum Trace {
+    /// Its steps.
+    Steps,
+    /// Its calls alone.
+    Calls,
+}
+
 impl<'a> Command<'a> {
     ghost use Rattle.std.specs.Prelude.{◌≡◌};
     ghost use Rattle.cli_commands.specs.Commands.{name_of, runs_workers};

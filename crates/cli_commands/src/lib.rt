@@ -7,7 +7,7 @@ mod saying;
 mod status;
 mod telling;
 
-pub use command::Command;
+pub use command::{Command, Trace};
 pub use files::{FileFault, FileSystem, Files, MOST_BYTES, Texts, read_texts};
 pub use saying::{fail, fail_of, say, say_fault, say_fault_of, say_of};
 pub use status::{COMMAND_LINE, DONE, FAILED, REFUSED};

@@ -34,21 +34,31 @@ after option name = record (new_rule name) { long = Some option }
 abbrev pub words_of : (name : List ℕ) → List Rule → Shape
 words_of name rules = record (new_shape name) { rules = rules }
 
--- `check PROG`, of one program or of more
+-- `check PROG`, of one program or of more, of which every fault is told or a log is written
 abbrev pub check_words : Shape
-check_words = words_of (codes "check") (several (codes "PROG") ∷ [])
+check_words = words_of (codes "check") (several (codes "PROG") ∷ flag (codes "all") (codes "ALL") ∷ flag (codes "sarif") (codes "SARIF") ∷ [])
 
 -- the files of a program and of a world
 abbrev pub files : List Rule
 files = required (codes "PROG") ∷ required (codes "WORLD") ∷ []
 
--- `run PROG WORLD --schedule FILE`, or `run PROG WORLD --workers`
-abbrev pub run_words : Shape
-run_words = words_of (codes "run") (files ++ after (codes "schedule") (codes "FILE") ∷ flag (codes "workers") (codes "WORKERS") ∷ [])
+-- the steps are traced
+abbrev pub trace_rule : Rule
+trace_rule = flag (codes "trace") (codes "TRACE")
 
--- `replay PROG WORLD JOURNAL`
+-- the calls alone are traced
+abbrev pub trace_calls_rule : Rule
+trace_calls_rule = flag (codes "trace-calls") (codes "TRACE_CALLS")
+
+-- `run PROG WORLD --schedule FILE`, or `run PROG WORLD --workers`, which may be traced
+abbrev pub run_words : Shape
+run_words =
+    words_of (codes "run")
+    (files ++ after (codes "schedule") (codes "FILE") ∷ flag (codes "workers") (codes "WORKERS") ∷ trace_rule ∷ trace_calls_rule ∷ [])
+
+-- `replay PROG WORLD JOURNAL`, which may be traced
 abbrev pub replay_words : Shape
-replay_words = words_of (codes "replay") (files ++ required (codes "JOURNAL") ∷ [])
+replay_words = words_of (codes "replay") (files ++ required (codes "JOURNAL") ∷ trace_rule ∷ trace_calls_rule ∷ [])
 
 -- `explain N`, or `explain trap NUMBER`
 abbrev pub explain_words : Shape

@@ -1,9 +1,9 @@
 //! The command line, as `clap` takes it.
 
-ghost use Rattle.std.specs.Prelude.{◌≡◌, ℕ, List, [], IfOk, false, codes};
+ghost use Rattle.std.specs.Prelude.{◌≡◌, ℕ, List, [], ◌∷◌, ◌++◌, IfOk, false, codes};
 ghost use Rattle.clap.specs.Simple.{Shape, app_of, with_subcommand};
-ghost use Rattle.clap.specs.Walk.{rule_of};
-ghost use Rattle.cli_words.specs.CommandLine.{required, several, optional, flag, after, words_of, files, IsLeaf, check_words, run_words, replay_words, explain_words, line, command_line};
+ghost use Rattle.clap.specs.Walk.{Rule, rule_of};
+ghost use Rattle.cli_words.specs.CommandLine.{required, several, optional, flag, after, words_of, files, IsLeaf, trace_rule, trace_calls_rule, check_words, run_words, replay_words, explain_words, line, command_line};
 
 use clap::{Arg, ArgAction, Command};
 use std::alloc::{AllocError, Global};
@@ -109,6 +109,32 @@ fn journal<'a>(alloc: Global) -> Arg<'a>
     )
 }
 
+/// That every fault is told.
+fn all<'a>(alloc: Global) -> Arg<'a>
+    ensures rule { rule_of result ≡ flag (codes "all") (codes "ALL") }
+    ensures local { result.global ≡ false }
+{
+    flag(
+        alloc,
+        "all",
+        "ALL",
+        "Tells every fault, and not the first alone",
+    )
+}
+
+/// That a log is written.
+fn sarif<'a>(alloc: Global) -> Arg<'a>
+    ensures rule { rule_of result ≡ flag (codes "sarif") (codes "SARIF") }
+    ensures local { result.global ≡ false }
+{
+    flag(
+        alloc,
+        "sarif",
+        "SARIF",
+        "Prints the faults as a log in SARIF 2.1.0",
+    )
+}
+
 /// `check PROG`, of one program or of more.
 fn check_command<'a>(alloc: Global) -> Result<Command<'a>, AllocError>
     ensures { IfOk result (IsLeaf check_words) }
@@ -119,7 +145,38 @@ fn check_command<'a>(alloc: Global) -> Result<Command<'a>, AllocError>
             alloc,
             "PROG",
             "The text of the native methods; of several, each line begins with the name",
-        ))
+        ))?
+        .arg(all(alloc))?
+        .arg(sarif(alloc))
+}
+
+/// That steps are traced.
+fn trace<'a>(alloc: Global) -> Arg<'a>
+    ensures rule { rule_of result ≡ flag (codes "trace") (codes "TRACE") }
+    ensures local { result.global ≡ false }
+{
+    flag(alloc, "trace", "TRACE", "Traces the steps")
+}
+
+/// That calls alone are traced.
+fn trace_calls<'a>(alloc: Global) -> Arg<'a>
+    ensures rule { rule_of result ≡ flag (codes "trace-calls") (codes "TRACE_CALLS") }
+    ensures local { result.global ≡ false }
+{
+    flag(
+        alloc,
+        "trace-calls",
+        "TRACE_CALLS",
+        "Traces the calls alone",
+    )
+}
+
+/// A command that can be traced.
+fn with_traces<'a>(alloc: Global, command: Command<'a>) -> Result<Command<'a>, AllocError>
+    ensures { (name : List ℕ) → (rules : List Rule) → IsLeaf (words_of name rules) command.entry
+        → IfOk result (IsLeaf (words_of name ((rules ++ trace_rule ∷ []) ++ trace_calls_rule ∷ []))) }
+{
+    command.arg(trace(alloc))?.arg(trace_calls(alloc))
 }
 
 /// A command with the files of a program and of a world.
@@ -136,9 +193,10 @@ fn run_command<'a>(alloc: Global) -> Result<Command<'a>, AllocError>
     let command = Command::new(alloc, "run").about(
         "Runs a program in a world, and prints its report and its journal",
     );
-    with_files(alloc, command)?
+    let command = with_files(alloc, command)?
         .arg(schedule(alloc))?
-        .arg(workers(alloc))
+        .arg(workers(alloc))?;
+    with_traces(alloc, command)
 }
 
 /// `replay PROG WORLD JOURNAL`.
@@ -148,7 +206,8 @@ fn replay_command<'a>(alloc: Global) -> Result<Command<'a>, AllocError>
     let command = Command::new(alloc, "replay").about(
         "Takes the steps of a journal again, and prints the report and the journal",
     );
-    with_files(alloc, command)?.arg(journal(alloc))
+    let command = with_files(alloc, command)?.arg(journal(alloc))?;
+    with_traces(alloc, command)
 }
 
 /// `explain N` or `explain trap N`.
