@@ -8,4 +8,5 @@ mod trap_at;
 
 pub use fault::ReplayError;
 pub use journal::replay;
+pub use load::start;
 pub use trap_at::TrapAt;

@@ -194,7 +194,7 @@ fn begun<'a>(
 }
 
 /// The state before the first entry.
-pub(crate) fn start<'a>(
+pub fn start<'a>(
     alloc: Global,
     functions: &Functions<'a>,
     world: &'a World,

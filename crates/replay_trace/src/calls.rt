@@ -1,0 +1,207 @@
+//! Calls with their arguments, their entries, and what they give.
+
+use crate::held::{Objects, put_named};
+use crate::line::Line;
+use crate::terms::{constant_of, put_part};
+use replay_arguments::{Locals, Shared};
+use replay_tasks::{Invocation, Purpose, Target, Task};
+use replay_terms::{Content, Operand, Statics, Term, Value, Variables};
+use std::alloc::AllocError;
+use syntax::{Argument, Expr, Function, Name, Parameter};
+
+/// Whether a number of a call is to be worked out before it is made.
+fn is_unready(variables: &Variables<'_>, operand: &Operand<'_>) -> bool {
+    match operand {
+        Operand::Number(term) => !matches!(term, Term::Done(_)),
+        Operand::Passed(name) => matches!(variables.content_of(name), Some(Content::Number(_))),
+        Operand::Given(_) => false,
+    }
+}
+
+/// The place of the first number of a call that is to be worked out.
+pub(crate) fn first_unready(variables: &Variables<'_>, operands: &[Operand<'_>]) -> Option<usize> {
+    for (place, operand) in operands.iter().enumerate() {
+        if is_unready(variables, operand) {
+            return Some(place);
+        }
+    }
+    None
+}
+
+/// Adds the part of an operand that is worked out next. Whether its value is still to be told.
+pub(crate) fn put_operand_part(line: &mut Line, operand: &Operand<'_>) -> Result<bool, AllocError> {
+    match operand {
+        Operand::Number(term) => put_part(line, term),
+        Operand::Passed(name) => {
+            line.text(name.as_bytes())?;
+            Ok(true)
+        }
+        Operand::Given(_) => Ok(false),
+    }
+}
+
+/// Adds a variable that is given: its name, and what it holds, unless it is a local array.
+fn put_variable(
+    line: &mut Line,
+    objects: Objects<'_>,
+    statics: &Statics<'_>,
+    variables: &Variables<'_>,
+    name: &Name,
+) -> Result<(), AllocError> {
+    match variables.content_of(name) {
+        Some(Content::Array(_, _)) => line.text(name.as_bytes()),
+        _ => put_named(line, objects, statics, variables, name),
+    }
+}
+
+/// Adds an expression that is given as it is written.
+fn put_expression(
+    line: &mut Line,
+    objects: Objects<'_>,
+    statics: &Statics<'_>,
+    variables: &Variables<'_>,
+    e: &Expr,
+) -> Result<(), AllocError> {
+    match e {
+        Expr::Variable(name) => put_variable(line, objects, statics, variables, name),
+        Expr::Named(constant) => line.text(constant_of(*constant)),
+        Expr::Number { value, .. } => line.number(*value),
+        Expr::Paren(inner) => put_expression(line, objects, statics, variables, inner),
+        Expr::Element(_, _) | Expr::Prefix(_, _) | Expr::Binary(_, _) => line.text(b".."),
+    }
+}
+
+/// Adds an argument that is given as it is written.
+fn put_given(
+    line: &mut Line,
+    objects: Objects<'_>,
+    statics: &Statics<'_>,
+    variables: &Variables<'_>,
+    argument: &Argument,
+) -> Result<(), AllocError> {
+    match argument {
+        Argument::Value(e) => put_expression(line, objects, statics, variables, e),
+        Argument::Text(bytes) => {
+            line.text(b"\"")?;
+            line.text(bytes)?;
+            line.text(b"\"")
+        }
+        Argument::AddressOf(name) => {
+            line.text(b"&")?;
+            line.text(name.as_bytes())
+        }
+    }
+}
+
+/// Adds an argument of a call whose numbers are worked out.
+fn put_operand(
+    line: &mut Line,
+    objects: Objects<'_>,
+    statics: &Statics<'_>,
+    variables: &Variables<'_>,
+    operand: &Operand<'_>,
+) -> Result<(), AllocError> {
+    match operand {
+        Operand::Number(term) => {
+            put_part(line, term)?;
+            Ok(())
+        }
+        Operand::Passed(name) => put_named(line, objects, statics, variables, name),
+        Operand::Given(argument) => put_given(line, objects, statics, variables, argument),
+    }
+}
+
+/// Adds a call of a function of the JNI, with its arguments.
+pub(crate) fn put_call(
+    line: &mut Line,
+    objects: Objects<'_>,
+    statics: &Statics<'_>,
+    variables: &Variables<'_>,
+    call: &Invocation<'_>,
+) -> Result<(), AllocError> {
+    line.text(call.function.prototype().name)?;
+    line.text(b"(env")?;
+    for operand in &call.operands {
+        line.text(b", ")?;
+        put_operand(line, objects, statics, variables, operand)?;
+    }
+    line.text(b")")
+}
+
+/// Adds the parameters of a function with what they hold.
+fn put_parameters(
+    line: &mut Line,
+    objects: Objects<'_>,
+    statics: &Statics<'_>,
+    variables: &Variables<'_>,
+    parameters: &[Parameter],
+) -> Result<(), AllocError> {
+    for parameter in parameters {
+        line.text(b", ")?;
+        put_named(line, objects, statics, variables, &parameter.name)?;
+    }
+    Ok(())
+}
+
+/// Adds the entry into a call of a function.
+pub(crate) fn put_entry(
+    line: &mut Line,
+    objects: Objects<'_>,
+    statics: &Statics<'_>,
+    variables: &Variables<'_>,
+    function: &Function,
+) -> Result<(), AllocError> {
+    line.text(b"enters ")?;
+    line.text(function.name.as_bytes())?;
+    line.text(b"(")?;
+    put_named(line, objects, statics, variables, &function.class_name)?;
+    put_parameters(line, objects, statics, variables, &function.parameters)?;
+    line.text(b")")
+}
+
+/// Adds where the result of a call went, and what is there now.
+pub(crate) fn put_target(
+    line: &mut Line,
+    objects: Objects<'_>,
+    statics: &Statics<'_>,
+    variables: &Variables<'_>,
+    target: Target<'_>,
+) -> Result<(), AllocError> {
+    match target {
+        Target::Declared(_, name) | Target::Assigned(name) => {
+            put_named(line, objects, statics, variables, name)
+        }
+        Target::Dropped => Ok(()),
+    }
+}
+
+/// Adds what the test of an `if` came to, where a call was its test.
+fn put_test(line: &mut Line, task: &Option<Task<'_>>) -> Result<(), AllocError> {
+    let Some(Task::Branch(choice)) = task else {
+        return Ok(());
+    };
+    match &choice.test {
+        Term::Done(Value::Truth(true)) => line.text(b" is 0"),
+        Term::Done(Value::Truth(false)) => line.text(b" isn't 0"),
+        _ => Ok(()),
+    }
+}
+
+/// Adds what a call gave, once it is where it belongs.
+pub(crate) fn put_result(
+    line: &mut Line,
+    objects: Objects<'_>,
+    shared: &Shared<'_>,
+    locals: &Locals<'_>,
+    task: &Option<Task<'_>>,
+    purpose: Purpose<'_>,
+) -> Result<(), AllocError> {
+    match purpose {
+        Purpose::Put(Target::Dropped) => Ok(()),
+        Purpose::Put(target) => {
+            line.text(b" gives ")?;
+            put_target(line, objects, &shared.statics, &locals.variables, target)
+        }
+        Purpose::Test(_, _) => put_test(line, task),
+    }
+}

@@ -1,0 +1,17 @@
+//! What each entry of a journal did, in the program's words: a line for each, told by a replay. It is for the reader's eye, and no
+//! contract fixes it.
+#![tactic(auto)]
+
+mod calls;
+mod held;
+mod journal;
+mod keeping;
+mod line;
+mod step;
+mod terms;
+mod trace;
+mod tracker;
+
+pub use journal::{tell_lack, tell_nothing, trace_line};
+pub use keeping::Keeping;
+pub use trace::{Told, trace};
