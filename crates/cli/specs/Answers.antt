@@ -1,11 +1,12 @@
 -- What the program answers, by what its words ask for.
-use Rattle.std.specs.Prelude.{◌≡◌, ℕ, Bool, false, List, map, Option, Some, None, codes, string_bytes}
+use Rattle.std.specs.Prelude.{◌≡◌, ℕ, Bool, true, false, List, map, Option, Some, None, codes, string_bytes}
 use Rattle.sinks.specs.Sink.{Written}
 use Rattle.jnirun.specs.Runs.{AppendsRun, StopsRun}
 use Rattle.cli_commands.specs.Commands.{runs_workers}
 use Rattle.cli_commands.specs.Saying.{Tells}
 use Rattle.jnirun.specs.Serve.{Serves}
 use Rattle.jnirun.specs.ServeEach.{ServesEach}
+use Rattle.jnirun.specs.Traces.{ServesTraced}
 use Rattle.cli_explanations.specs.declared.Explanation.{Explanation}
 use Rattle.cli_words.specs.declared.request.Request.{Request}
 use Rattle.cli_words.specs.declared.request.Request.TheVariants.{Serve, Trace, CheckEach, CheckAll, WriteLog, Explain, Show, Misuse, LacksOrder, LacksMemory}
@@ -40,12 +41,17 @@ asks_for_workers (Serve command) = runs_workers command
 asks_for_workers (Trace command trace) = runs_workers command
 asks_for_workers request = false
 
+-- the entries of a run or a replay are to be told
+abbrev pub asks_for_trace : Request → Bool
+asks_for_trace (Trace command trace) = true
+asks_for_trace request = false
+
 -- what the program answers
 abbrev pub Answers : (gives : List ℕ → List ℕ → Type 0) → (lacks : List ℕ → Type 0) → Request → (out out_after err err_after : Written) → (status : ℕ) → Type 0
 Answers gives lacks (Serve command) out out_after err err_after status = Serves gives lacks command out out_after err err_after status
 Answers gives lacks (CheckEach programs) out out_after err err_after status =
     ServesEach gives lacks (map (λ p. p.now) programs.items) out out_after err err_after status
-Answers gives lacks (Trace command trace) out out_after err err_after status = Serves gives lacks command out out_after err err_after status
+Answers gives lacks (Trace command trace) out out_after err err_after status = ServesTraced gives lacks command out out_after err err_after status
 Answers gives lacks (CheckAll programs) out out_after err err_after status =
     ServesEach gives lacks (map (λ p. p.now) programs.items) out out_after err err_after status
 Answers gives lacks (WriteLog programs faults) out out_after err err_after status =

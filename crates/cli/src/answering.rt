@@ -3,11 +3,11 @@
 ghost use Rattle.std.specs.Prelude.{◌≡◌, ◌≢◌, ◌<◌, ◌^◌, false, codes, IfSome, IfNone};
 ghost use Rattle.sinks.specs.Sink.{CanFail};
 ghost use Rattle.cli_commands.specs.Saying.{Tells};
-ghost use Rattle.cli.specs.Answers.{IsTextOf, Shows, Declines, asks_for_workers, Answers};
+ghost use Rattle.cli.specs.Answers.{IsTextOf, Shows, Declines, asks_for_trace, asks_for_workers, Answers};
 
 use cli_explanations::Explanation;
 use cli_words::Request;
-use jnirun::{COMMAND_LINE, Command, DONE, Files, check_each, fail, say, serve_sequential};
+use jnirun::{COMMAND_LINE, Command, DONE, Files, Trace, check_each, fail, say, serve_sequential};
 use sinks::Sink;
 use std::alloc::Global;
 use std::io::ErrorKind;
@@ -91,7 +91,26 @@ pub fn run_by_workers<'a>(request: &Request<'a>) -> Option<Command<'a>>
     }
 }
 
-/// Does what was asked for, unless that is a run by workers, and answers the program's status: 0 done, 1 a text is refused,
+/// The run or the replay whose entries are to be told, and which of them, where that is asked for.
+pub fn traced<'a>(request: &Request<'a>) -> Option<(Command<'a>, Trace)>
+    ensures some { IfSome result (λ asked. request.now ≡ Request.Trace asked.0 asked.1) }
+    ensures none { IfNone result (asks_for_trace request.now ≡ false) }
+{
+    match request {
+        Request::Trace(command, which) => Some((*command, *which)),
+        Request::Serve(_)
+        | Request::CheckEach(_)
+        | Request::CheckAll(_)
+        | Request::WriteLog(_, _)
+        | Request::Explain(_)
+        | Request::Show(_)
+        | Request::Misuse(_)
+        | Request::LacksOrder
+        | Request::LacksMemory => None,
+    }
+}
+
+/// Does what was asked for, unless that is a run by workers or one that is traced, and answers the program's status: 0 done, 1 a text is refused,
 /// 2 the words are no command line, 3 memory, a file or a writer failed. It can't wait for a thread or a lock, so it
 /// returns, as the methods of its files and its sinks do.
 pub fn answer<F: Files, O: Sink, E: Sink>(
@@ -105,12 +124,13 @@ pub fn answer<F: Files, O: Sink, E: Sink>(
     // Of several programs each may have something said on standard error.
     requires err { (E.written err.old).failures < 2 ^ 63 }
     requires sequential { asks_for_workers request.now ≡ false }
+    requires untraced { asks_for_trace request.now ≡ false }
     ensures { Answers (F.gives files.old) (F.lacks files.old) request.now (O.written out.old) (O.written out.new)
         (E.written err.old) (E.written err.new) result }
 {
     match request {
         Request::Serve(command) => serve_sequential(alloc, *command, files, out, err),
-        Request::Trace(command, _) => serve_sequential(alloc, *command, files, out, err),
+        Request::Trace(_, _) => unreachable!(),
         Request::CheckEach(programs) => check_each(alloc, programs, files, out, err),
         Request::CheckAll(programs) => check_each(alloc, programs, files, out, err),
         Request::WriteLog(programs, _) => check_each(alloc, programs, files, out, err),

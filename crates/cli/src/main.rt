@@ -5,8 +5,8 @@
 
 mod answering;
 
-use crate::answering::{answer, lacks_words, run_by_workers};
-use jnirun::{FileSystem, serve};
+use crate::answering::{answer, lacks_words, run_by_workers, traced};
+use jnirun::{FileSystem, Keeping, serve, trace_all};
 use sinks::StdSink;
 use std::env::Env;
 use std::io::ErrorKind;
@@ -28,10 +28,16 @@ fn main(rt: HostRuntime) -> ExitCode {
     let status = match words_of(&rt) {
         Ok(words) => {
             let request = cli_words::read(alloc, &words);
-            // A run by workers waits for them. Nothing else can wait.
-            match run_by_workers(&request) {
-                Some(command) => serve(&rt, alloc, command, files, out, err),
-                None => answer(alloc, &request, files, out, err),
+            match traced(&request) {
+                Some((command, which)) => {
+                    let out = &mut Keeping::new(alloc, StdSink::new(rt.stdout()));
+                    trace_all(&rt, alloc, command, which, files, out, err)
+                }
+                // A run by workers waits for them. Nothing else can wait.
+                None => match run_by_workers(&request) {
+                    Some(command) => serve(&rt, alloc, command, files, out, err),
+                    None => answer(alloc, &request, files, out, err),
+                },
             }
         }
         Err(kind) => lacks_words(kind, err),

@@ -4,3 +4,4 @@ mod ReplayLemmas
 mod ReplayLaws
 mod ServeLemmas
 mod EachLemmas
+mod TraceLemmas

@@ -7,6 +7,7 @@ pub mod Replays
 pub mod ReplayLaws
 pub mod Serve
 pub mod ServeEach
+pub mod Traces
 -- What the clauses of its calls are about, passed on.
 
 pub use Rattle.places.specs.Places

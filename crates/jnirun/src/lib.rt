@@ -8,17 +8,20 @@ mod replaying;
 mod run;
 mod serving;
 mod telling;
+mod tracing;
 mod working;
 
 pub use checks::check_each;
 pub use cli_commands::{
-    COMMAND_LINE, Command, DONE, FAILED, FileFault, FileSystem, Files, MOST_BYTES, REFUSED, fail,
-    say,
+    COMMAND_LINE, Command, DONE, FAILED, FileFault, FileSystem, Files, MOST_BYTES, REFUSED, Trace,
+    fail, say,
 };
 pub use places::{Place, Text};
 pub use program_check::{RunError, check_text};
 pub use replay::TrapAt;
+pub use replay_trace::Keeping;
 pub use replaying::{replay_text, runs_are_replayed};
 pub use run::run_text;
 pub use serving::{serve, serve_sequential};
+pub use tracing::{trace_all, trace_sequential};
 pub use working::work_text;

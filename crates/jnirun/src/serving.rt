@@ -46,7 +46,7 @@ fn check_and_say<W: Sink>(
 }
 
 /// Checks, runs by a schedule or replays. Answers the trap that stopped the run, if one did.
-fn run_texts<W: Sink>(
+pub(crate) fn run_texts<W: Sink>(
     alloc: Global,
     command: Command<'_>,
     texts: &Texts,
@@ -147,7 +147,7 @@ fn refuse<O: Sink, E: Sink>(
 }
 
 /// Says how it went with the texts of a command, and answers the status.
-fn tell_outcome<O: Sink, E: Sink>(
+pub(crate) fn tell_outcome<O: Sink, E: Sink>(
     alloc: Global,
     command: Command<'_>,
     texts: &Texts,
@@ -177,7 +177,7 @@ fn tell_outcome<O: Sink, E: Sink>(
 }
 
 /// Reads the files of a command. Where that fails it says so on `err`, and the error is the status.
-fn read_or_tell<F: Files, E: Sink>(
+pub(crate) fn read_or_tell<F: Files, E: Sink>(
     alloc: Global,
     command: Command<'_>,
     files: &mut F,
