@@ -50,6 +50,10 @@ module _ (g : Variable → ℕ) where
       first true further = omega arith
       first false further = omega (arith, further)
 
+  -- no more is given up than is taken
+  pub given_within : (x : Identifier) (vs : Contents) (v : Variable) (given all : ℕ) → lookup x (variables_view vs) ≡ Some v → given ≡ g v → all ≡ total g (variables_view vs) → given ≤ all
+  given_within x vs v given all there gives taken = omega (arith, had_within x (variables_view vs), ap (had g) there, gives, taken)
+
   -- what has as much in the place of what was there
   pub as_before : (x : Identifier) (v w : Variable) (vs : Variables) → lookup x vs ≡ Some w → g v ≡ g w → total g (assign x v vs) ≡ total g vs
   as_before x v w vs there same = omega (arith, assigned_total x v vs, ap (had g) there, same)

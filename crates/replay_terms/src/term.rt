@@ -60,9 +60,21 @@ fn boxed_term_of(alloc: Global, e: &Expr) -> Result<Box<Term<'_>>, AllocError>
     ensures view { IfOk result (λ t. term_view t.value ≡ term_of (expr_tree e.now)) }
     ensures numbers { IfOk result (λ t. NumbersInRange t.value) }
 {
-    let term = term_of(alloc, e)?;
-    let term = Box::new(alloc, term)?;
-    Ok(term)
+    // Most parts are a name or a number: these go straight to their place.
+    match e {
+        Expr::Variable(name) => Ok(Box::new(alloc, Term::Read(name))?),
+        Expr::Number { value, unsigned } => {
+            let number = Term::Number {
+                value: *value,
+                unsigned: *unsigned,
+            };
+            Ok(Box::new(alloc, number)?)
+        }
+        e => {
+            let term = term_of(alloc, e)?;
+            Ok(Box::new(alloc, term)?)
+        }
+    }
 }
 
 /// The term of an operator between two expressions, which don't compare a bare name with NULL.

@@ -130,6 +130,23 @@ impl<'a> Variables<'a> {
     pub fn set_named(&mut self, name: &'a [u8], content: Content<'a>) -> Result<(), AllocError>
         ensures { IfOk result (λ _. variables_view self.new ≡ assign name.now (content_view content.entry) (variables_view self.old)) }
     {
+        let Some(place) = self.contents.get_index_of(name) else {
+            return self.insert(name, content);
+        };
+        let old = taken(&self.contents[place]);
+        let Some(in_use) = exchanged(self.in_use, old, taken(&content)) else {
+            return Err(AllocError);
+        };
+        put_content(&mut self.contents[place], content);
+        self.in_use = in_use;
+        Ok(())
+    }
+
+    /// The same of a name that may be new: it is looked up again as it is put into the table.
+    #[inline(never)]
+    fn insert(&mut self, name: &'a [u8], content: Content<'a>) -> Result<(), AllocError>
+        ensures { IfOk result (λ _. variables_view self.new ≡ assign name.now (content_view content.entry) (variables_view self.old)) }
+    {
         let old = self.taken_by(name);
         let Some(in_use) = exchanged(self.in_use, old, taken(&content)) else {
             return Err(AllocError);
@@ -223,6 +240,13 @@ impl<'a> Variables<'a> {
             begin_content(&mut self.contents[place], values);
         }
     }
+}
+
+/// Puts what a variable holds in the place of what it held.
+fn put_content<'a>(place: &mut Content<'a>, content: Content<'a>)
+    ensures { place.new ≡ content.entry }
+{
+    *place = content;
 }
 
 /// The number of a value; 0 for a reference.

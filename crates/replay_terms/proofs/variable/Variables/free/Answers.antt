@@ -1,30 +1,25 @@
-use Rattle.std.proofs.Common.{◌≡◌, ◌≤◌, ℕ, List, Some, ap, sym, ◌∙◌, subst, arith}
-use Rattle.base.specs.Bytes.{lookup}
+use Rattle.std.proofs.Common.{ap, sym, ◌∙◌, subst}
 use Rattle.indexmap.specs.IndexMap.{set_value_at}
 use Rattle.semantics.specs.CallEffects.{freed}
-use Rattle.semantics.specs.Variable.{Variable, copied_length}
-use Rattle.replay_terms.specs.Views.{Contents, Takes, by_name, content_view, count_viewed, had, total, variables_view}
-use Rattle.replay_terms.proofs.BufferLemmas.{had_within, takes_freed}
+use Rattle.semantics.specs.Variable.{copied_length}
+use Rattle.replay_terms.specs.Views.{Contents, Takes, by_name, content_view, count_viewed, had}
+use Rattle.replay_terms.proofs.BufferLemmas.{given_within, takes_freed}
 use Rattle.replay_terms.proofs.VariableLemmas.{changed_at, content_there, unchanged_at}
 use Rattle.replay_terms.proofs.variable.Variables.free.Goals as goal
-
--- no more is given up than is taken
-within : (g : Variable → ℕ) (x : List ℕ) (vs : Contents) (v : Variable) (given all : ℕ) → lookup x (variables_view vs) ≡ Some v → given ≡ g v → all ≡ total g (variables_view vs) → given ≤ all
-within g x vs v given all there gives taken = omega (arith, had_within g x (variables_view vs), ap (had g) there, gives, taken)
 
 pub overflow_sub-self : goal.overflow_sub-self
 overflow_sub-self c =
     let es = c.self.inside.contents.entries in
     let there = content_there c.args.name es c.args.self.now _ c.index_mut.result.now c.self.view_is c.in-Some.ensures.value c.index_mut.ensures.value in
     let takes = subst (λ (vs : Contents). Takes vs c.self.inside.in_use) c.self.view_is c.self.invariant in
-    within copied_length c.args.name.now c.args.self.now (content_view c.index_mut.result.now) c.free_content-old.result.copied c.self.inside.in_use.copied there c.free_content-old.ensures.copied takes.copied
+    given_within copied_length c.args.name.now c.args.self.now (content_view c.index_mut.result.now) c.free_content-old.result.copied c.self.inside.in_use.copied there c.free_content-old.ensures.copied takes.copied
 
 pub overflow_sub-self-in-Some : goal.overflow_sub-self-in-Some
 overflow_sub-self-in-Some c =
     let es = c.self.inside.contents.entries in
     let there = content_there c.args.name es c.args.self.now _ c.index_mut.result.now c.self.view_is c.in-Some.ensures.value c.index_mut.ensures.value in
     let takes = subst (λ (vs : Contents). Takes vs c.self.inside.in_use) c.self.view_is c.self.invariant in
-    within count_viewed c.args.name.now c.args.self.now (content_view c.index_mut.result.now) c.free_content-old.result.views c.self.inside.in_use.views there c.free_content-old.ensures.views takes.views
+    given_within count_viewed c.args.name.now c.args.self.now (content_view c.index_mut.result.now) c.free_content-old.result.views c.self.inside.in_use.views there c.free_content-old.ensures.views takes.views
 
 pub invariant_of-self : goal.invariant_of-self
 invariant_of-self c =
