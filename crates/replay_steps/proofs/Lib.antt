@@ -5,3 +5,4 @@ mod Invocations
 mod ActivationLemmas
 mod WaitLemmas
 mod CallerLemmas
+mod AttemptLemmas

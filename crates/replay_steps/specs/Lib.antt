@@ -3,3 +3,4 @@ pub mod Calls
 pub mod Activations
 pub mod Callers
 pub mod Waits
+pub mod Attempts

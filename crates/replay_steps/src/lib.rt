@@ -2,6 +2,7 @@
 #![tactic(auto)]
 
 mod activation;
+mod attempt;
 mod callers;
 mod invoke;
 mod step;

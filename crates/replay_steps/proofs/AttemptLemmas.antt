@@ -1,0 +1,78 @@
+-- Steps of terms are steps of their tasks, and of the call in progress.
+use Rattle.std.proofs.Common.{◌≡◌, ℕ, Bool, false, List, ◌∷◌, Option, Some, sym, ap, ◌∙◌, subst}
+use Rattle.semantics.specs.Sight.{Sight}
+use Rattle.semantics.specs.Task.{Task}
+use Rattle.semantics.specs.ThreadStep.{step_within}
+use Rattle.semantics.specs.declared.object_id.ObjectId.{ObjectId}
+use Rattle.replay_arguments.specs.Shares.{shared_view, sight_in}
+use Rattle.replay_arguments.specs.declared.scene.Turn.{Turn}
+use Rattle.replay_arguments.specs.declared.shared.Shared.{Shared}
+use Rattle.replay_steps.specs.declared.activation.Activation.{Activation}
+use Rattle.replay_steps.specs.declared.activation.Work.{Work}
+use Rattle.replay_steps.specs.declared.attempt.Attempt.{Attempt}
+use Rattle.replay_steps.specs.declared.attempt.Attempt.TheVariants as attempt
+use Rattle.replay_steps.specs.Activations.{Advances, IsAtStatement, tasks_after, tasks_from, tasks_left}
+use Rattle.replay_steps.specs.Attempts.{AttemptsAt, AttemptsTask, AttemptsTerm, IsOpen}
+use Rattle.replay_steps.specs.Steps.{Does, Scene, scene_of}
+use Rattle.replay_steps.proofs.TaskLemmas.{does}
+use Rattle.replay_tasks.specs.declared.outcome.Outcome.TheVariants as outcome
+use Rattle.replay_tasks.specs.declared.task.Task.{Task as TaskInMemory}
+use Rattle.replay_tasks.specs.Effects.{HasEffect, reduced}
+use Rattle.replay_tasks.specs.Tasks.{TaskInRange, task_view}
+use Rattle.replay_terms.specs.declared.reduction.Reduction.{Reduction}
+use Rattle.replay_terms.specs.declared.reduction.Reduction.TheVariants as reduction
+use Rattle.replay_terms.specs.declared.term.Term.{Term}
+use Rattle.replay_terms.specs.Views.{Reduces}
+
+-- a task takes the step of its term
+pub task_attempted : (sight : Sight) (line : ℕ) (at : Term → TaskInMemory)
+    → ((old new : Term) (took : Reduction) → IsOpen old → Reduces sight old took new → HasEffect sight (at old) (reduced line took) (at new))
+    → (old new : Term) (r : Attempt) → AttemptsTerm sight old r new → AttemptsTask sight (at old) r (at new)
+task_attempted sight line at steps old new attempt.Reduced h = steps old new reduction.Reduced h.0 h.1
+task_attempted sight line at steps old new attempt.Stuck h = steps old new reduction.Stuck h.0 h.1
+task_attempted sight line at steps old new attempt.Left h = ap at h
+
+-- the work with another task in the place of the one that is begun
+abbrev pub with_task : Work → TaskInMemory → Work
+with_task w task = record w { task = Some task }
+
+module _ (scene : Scene) (old : Work) (begun left : TaskInMemory) (is : old.task ≡ Some begun) where
+  abbrev rest : List Task
+  rest = tasks_after old.rest old.outer.items
+
+  first : tasks_left old ≡ task_view begun ∷ rest
+  first = ap (λ (o : Option TaskInMemory). tasks_from o rest) is
+
+  pub stays : Does false scene begun outcome.Stays scene left → Advances false scene old outcome.Stays scene (with_task old left)
+  stays steps = λ t sees has.
+      ap (λ (ts : List Task). step_within scene.unit scene.classes scene.in_use scene.thread scene.shared t false (Some ts)) first
+      ∙ steps t rest sees (has ∙ ap (λ (ts : List Task). let o : Option (List Task) = Some ts in o) first)
+
+  pub stops : Does false scene begun outcome.Impossible scene left → Advances false scene old outcome.Impossible scene (with_task old left)
+  stops steps = λ t sees has.
+      ap (λ (ts : List Task). step_within scene.unit scene.classes scene.in_use scene.thread scene.shared t false (Some ts)) first
+      ∙ steps t rest sees (has ∙ ap (λ (ts : List Task). let o : Option (List Task) = Some ts in o) first)
+
+module _ (turn : Turn) (shared : Shared) (pending : Option ObjectId) (old : Activation) (begun left : TaskInMemory) (is : old.work.task ≡ Some begun) where
+  abbrev scene_then : Scene
+  scene_then = scene_of turn (shared_view shared) old.locals pending
+
+  -- a call in progress takes the step of its task
+  pub call_attempted : turn.refused ≡ false → (r : Attempt) → AttemptsTask (sight_in (shared_view shared) old.locals.variables) begun r left
+      → AttemptsAt turn shared pending old r (record old { work = with_task old.work left })
+  call_attempted goes attempt.Reduced h =
+      subst (λ (b : Bool). Advances b scene_then old.work outcome.Stays scene_then (with_task old.work left)) (sym goes)
+      (stays scene_then old.work begun left is (does scene_then begun left outcome.Stays h))
+  call_attempted goes attempt.Stuck h =
+      subst (λ (b : Bool). Advances b scene_then old.work outcome.Impossible scene_then (with_task old.work left)) (sym goes)
+      (stops scene_then old.work begun left is (does scene_then begun left outcome.Impossible h))
+  call_attempted goes attempt.Left h =
+      ap (λ (task : TaskInMemory). let a : Activation = record old { work = with_task old.work task } in a) h
+      ∙ ap (λ (o : Option TaskInMemory). let a : Activation = record old { work = record old.work { task = o } } in a) (sym is)
+
+-- what is known stays so
+pub range_kept : (w : Work) (left : TaskInMemory) → IsAtStatement w → TaskInRange left → IsAtStatement (with_task w left)
+range_kept w left known task = record {
+  range = record { begun = task; rest = known.range.rest; outer = known.range.outer };
+  next = λ none. absurd (cc);
+}
