@@ -5,21 +5,10 @@ use Rattle.std.specs.Option.{option_map_or}
 use Rattle.std.specs.List.{list_any}
 use Rattle.std.proofs.lemmas.Bool.Decides.{nat_tests}
 use Rattle.std.proofs.lemmas.Option.{slice_get_within}
+use Rattle.std.proofs.lemmas.Bool.{or_cases, or_left, or_right}
 use Rattle.class_rules.specs.Class.{ClassKind, Plain, ArrayOfNumbers, ArrayOfObjects, Class, Classes, class_at, class_kind, superclass, is_plain, above, ancestry_within, is_subclass, elements_fit, assignable, IsAssignable, Itself, Above, ByElements}
 use Rattle.class_rules.specs.Grown.{AssignableIsTheRelation}
 use Rattle.class_rules.proofs.GrownTables.{IsBelow, IsOrdered, kind_of, grown_is_ordered}
-
-either : (a b : Bool) → (a || b) ≡ true → (a ≡ true) ⊎ (b ≡ true)
-either true b h = inl refl
-either false b h = inr h
-
-left : (a b : Bool) → a ≡ true → (a || b) ≡ true
-left true b h = refl
-left false b h = absurd (cc)
-
-right : (a b : Bool) → b ≡ true → (a || b) ≡ true
-right true b h = refl
-right false b h = h
 
 -- a superclass is that of a class of the table
 record IsSuper (T : Classes) (c s : ℕ) : Type 0 where
@@ -83,7 +72,7 @@ climbs T (suc n) c d h = by_test (λ s. climbs T n s d) (c == d) (superclass T c
 
 found : (T : Classes) (c d : ℕ) → assignable T c d ≡ true → IsAssignable T c d
 found T c d h =
-    elim (either (is_subclass T c d) (elements_fit T (class_kind T c) (class_kind T d)) h) [
+    elim (or_cases (is_subclass T c d) (elements_fit T (class_kind T c) (class_kind T d)) h) [
       | inl q ↦ climbs T (length T) c d q
       | inr q ↦ let a = are_arrays T (class_kind T c) (class_kind T d) q in ByElements c d a.first a.second a.one a.other (climbs T (length T) a.first a.second a.fit)
     ]
@@ -126,7 +115,7 @@ module _ (T : Classes) (o : IsOrdered T) where
   itself : (c : ℕ) → is_subclass T c c ≡ true
   itself c =
       let same : (c == c) ≡ true = grind (arith, nat_tests) in
-      ap (λ n. list_any (λ a. a == c) (ancestry_within n T c)) long.1 ∙ left (c == c) _ same
+      ap (λ n. list_any (λ a. a == c) (ancestry_within n T c)) long.1 ∙ or_left (c == c) _ same
 
   one_up : (c s e : ℕ) → superclass T c ≡ Some s → is_subclass T s e ≡ true → is_subclass T c e ≡ true
   one_up c s e h q =
@@ -139,24 +128,24 @@ module _ (T : Classes) (o : IsOrdered T) where
       sym (ap (list_any (λ a. a == e)) (settled m s low high)) ∙ sym (ap (λ n. list_any (λ a. a == e) (ancestry_within n T s)) long.1) ∙ q in
       ap (λ n. list_any (λ a. a == e) (ancestry_within n T c)) long.1
       ∙ ap (λ x. list_any (λ a. a == e) (c ∷ above (ancestry_within m T) x)) h
-      ∙ right (c == e) (list_any (λ a. a == e) (ancestry_within m T s)) kept
+      ∙ or_right (c == e) (list_any (λ a. a == e) (ancestry_within m T s)) kept
 
   -- a class that comes before another is assignable to its ancestors alone
   plain_fit : (s c e : ℕ) → IsBelow T s c → assignable T s e ≡ true → is_subclass T s e ≡ true
   plain_fit s c e b h =
-      elim (either (is_subclass T s e) (elements_fit T (class_kind T s) (class_kind T e)) h) [
+      elim (or_cases (is_subclass T s e) (elements_fit T (class_kind T s) (class_kind T e)) h) [
         | inl q ↦ q
         | inr q ↦ let a = are_arrays T (class_kind T s) (class_kind T e) q in absurd (no_array T s c a.first b a.one)
       ]
 
   finds : (c d : ℕ) → IsAssignable T c d → assignable T c d ≡ true
-  finds c d (Itself x) = left (is_subclass T c c) _ (itself c)
-  finds c d (Above x s y h r) = left (is_subclass T c d) _ (one_up c s d h (plain_fit s c d (before c s h) (finds s d r)))
+  finds c d (Itself x) = or_left (is_subclass T c c) _ (itself c)
+  finds c d (Above x s y h r) = or_left (is_subclass T c d) _ (one_up c s d h (plain_fit s c d (before c s h) (finds s d r)))
   finds c d (ByElements x y a b k l r) =
       let p = array_at T c a k in
       let q = plain_fit a c b (o.elements c a p.class p.is p.of) (finds a b r) in
       let fit : elements_fit T (class_kind T c) (class_kind T d) ≡ true = ap (λ (x : ClassKind). elements_fit T x (class_kind T d)) k ∙ ap (elements_fit T (ArrayOfObjects a)) l ∙ q in
-      right (is_subclass T c d) (elements_fit T (class_kind T c) (class_kind T d)) fit
+      or_right (is_subclass T c d) (elements_fit T (class_kind T c) (class_kind T d)) fit
 
 pub assignable_meets : AssignableIsTheRelation
 assignable_meets T grown c d = (found T c d, finds T (grown_is_ordered T grown) c d)

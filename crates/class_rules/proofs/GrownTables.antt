@@ -5,6 +5,7 @@ use Rattle.std.specs.Option.{option_map_or}
 use Rattle.std.specs.List.{enumerate_from}
 use Rattle.std.proofs.lemmas.Bool.Decides.{nat_tests}
 use Rattle.std.proofs.lemmas.Option.{slice_get_within}
+use Rattle.std.proofs.lemmas.Bool.{and_parts}
 use Rattle.base.specs.Bytes.{Identifier}
 use Rattle.class_rules.specs.Class.{ClassKind, Plain, ArrayOfNumbers, ArrayOfObjects, Class, Classes, class_at, class_kind, is_plain}
 use Rattle.class_rules.specs.BuiltIns.{built_ins, string_class, class_class, object_array_class}
@@ -22,11 +23,6 @@ pub record IsOrdered (T : Classes) : Type 0 where
   pub root : IsBelow T 1 2
   pub superclasses : (c s : ℕ) (d : Class) → class_at T c ≡ Some d → d.superclass ≡ Some s → IsBelow T s c
   pub elements : (c a : ℕ) (d : Class) → class_at T c ≡ Some d → d.kind ≡ ArrayOfObjects a → IsBelow T a c
-
-both : (a b : Bool) → (a && b) ≡ true → (a ≡ true) × (b ≡ true)
-both true true h = (refl, refl)
-both true false h = absurd (cc)
-both false b h = absurd (cc)
 
 -- ---- the built-in classes
 
@@ -53,24 +49,24 @@ each_below T n (d ∷ ds) = (super_below T n d.superclass && element_below T n d
 below_at : (T : Classes) (n : ℕ) (ds : Classes) (i : ℕ) (d : Class) → each_below T n ds ≡ true → slice_get ds i ≡ Some d → (super_below T (n + i) d.superclass ≡ true) × (element_below T (n + i) d.kind ≡ true)
 below_at T n [] i d h e = absurd (cc)
 below_at T n (x ∷ ds) zero d h e =
-    let b = both (super_below T n x.superclass && element_below T n x.kind) (each_below T (n + 1) ds) h in
-    let p = both (super_below T n x.superclass) (element_below T n x.kind) b.0 in
+    let b = and_parts (super_below T n x.superclass && element_below T n x.kind) (each_below T (n + 1) ds) h in
+    let p = and_parts (super_below T n x.superclass) (element_below T n x.kind) b.0 in
     let is : x ≡ d = cc in
     let here : n ≡ n + 0 = omega arith in (
       ap (λ k. super_below T k d.superclass) (sym here) ∙ ap (λ (y : Class). super_below T n y.superclass) (sym is) ∙ p.0,
       ap (λ k. element_below T k d.kind) (sym here) ∙ ap (λ (y : Class). element_below T n y.kind) (sym is) ∙ p.1,
     )
 below_at T n (x ∷ ds) (suc i) d h e =
-    let b = both (super_below T n x.superclass && element_below T n x.kind) (each_below T (n + 1) ds) h in
+    let b = and_parts (super_below T n x.superclass && element_below T n x.kind) (each_below T (n + 1) ds) h in
     let p = below_at T (n + 1) ds i d b.1 e in
     let here : (n + 1) + i ≡ n + suc i = omega arith in
     (ap (λ k. super_below T k d.superclass) (sym here) ∙ p.0, ap (λ k. element_below T k d.kind) (sym here) ∙ p.1)
 
 is_below_so : (T : Classes) (s c : ℕ) → is_below T s c ≡ true → IsBelow T s c
-is_below_so T s c h = by_class (class_at T s) refl ((both (nat_lt s c) (is_plain_at (class_at T s)) h).1)
+is_below_so T s c h = by_class (class_at T s) refl ((and_parts (nat_lt s c) (is_plain_at (class_at T s)) h).1)
   where
     first : s < c
-    first = let t = (both (nat_lt s c) (is_plain_at (class_at T s)) h).0 in grind (arith, nat_tests, t)
+    first = let t = (and_parts (nat_lt s c) (is_plain_at (class_at T s)) h).0 in grind (arith, nat_tests, t)
 
     by_class : (o : Option Class) → class_at T s ≡ o → is_plain_at o ≡ true → IsBelow T s c
     by_class None e p = absurd (cc)

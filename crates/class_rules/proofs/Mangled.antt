@@ -3,23 +3,12 @@ use Rattle.std.proofs.Common.{◌≡◌, ℕ, Bool, true, false, not, ◌&&◌, 
 use lib.Pointwise.{bytes_decides}
 use lib.Dec.{eqb→eq, T}
 use Rattle.std.specs.List.{list_all}
+use Rattle.std.proofs.lemmas.Bool.{and_parts, and_from, not_from_false}
 use Rattle.base.specs.Bytes.{is_letter, is_name_part, first_passes, with_first, split_at}
 use Rattle.base.specs.Options.{option_filter}
 use Rattle.class_rules.specs.Mangling.{is_simple_name, is_class_name, escaped_byte, mangle, unescaped, after_first, split_last, is_unmangled, unmangle, IsInverse}
 
 -- ---- truth values
-
-both : (s t : Bool) → (s && t) ≡ true → (s ≡ true) × (t ≡ true)
-both true t h = (refl, h)
-both false t h = absurd (true≢false (sym h))
-
-and_true : (s t : Bool) → s ≡ true → t ≡ true → (s && t) ≡ true
-and_true true t h k = k
-and_true false t h k = h
-
-not_true : (b : Bool) → b ≡ false → not b ≡ true
-not_true true h = sym h
-not_true false h = refl
 
 -- each number is 47, 95 or another
 number_is : (c d : ℕ) → (c == d) ≡ true → c ≡ d
@@ -79,7 +68,7 @@ back_step c rest free inner = go (c == 47) (c == 95) refl refl
 
 back : (p : List ℕ) → apart p ≡ true → unescaped (escaped p) ≡ p
 back [] h = refl
-back (c ∷ rest) h = let parts = both (not (c == 47 && first_passes (λ d. d == 49) rest)) (apart rest) h in back_step c rest parts.0 (back rest parts.1)
+back (c ∷ rest) h = let parts = and_parts (not (c == 47 && first_passes (λ d. d == 49) rest)) (apart rest) h in back_step c rest parts.0 (back rest parts.1)
 
 -- ---- the parts of a path
 
@@ -92,13 +81,13 @@ part_no_slash c h = elim (c == 47) as (λ b. (c == 47) ≡ b → b ≡ false) [ 
 
 all_no_slash : (p : List ℕ) → list_all is_name_part p ≡ true → no_slash p ≡ true
 all_no_slash [] h = refl
-all_no_slash (c ∷ rest) h = let parts = both (is_name_part c) (list_all is_name_part rest) h in
-    and_true (not (c == 47)) (no_slash rest) (not_true (c == 47) (part_no_slash c parts.0)) (all_no_slash rest parts.1)
+all_no_slash (c ∷ rest) h = let parts = and_parts (is_name_part c) (list_all is_name_part rest) h in
+    and_from (not (c == 47)) (no_slash rest) (not_from_false (c == 47) (part_no_slash c parts.0)) (all_no_slash rest parts.1)
 
 apart_name : (p : List ℕ) → no_slash p ≡ true → apart p ≡ true
 apart_name [] h = refl
-apart_name (c ∷ rest) h = let parts = both (not (c == 47)) (no_slash rest) h in
-    and_true (not (c == 47 && first_passes (λ d. d == 49) rest)) (apart rest) (free (c == 47) (first_passes (λ d. d == 49) rest) parts.0) (apart_name rest parts.1)
+apart_name (c ∷ rest) h = let parts = and_parts (not (c == 47)) (no_slash rest) h in
+    and_from (not (c == 47 && first_passes (λ d. d == 49) rest)) (apart rest) (free (c == 47) (first_passes (λ d. d == 49) rest) parts.0) (apart_name rest parts.1)
   where
     free : (s t : Bool) → not s ≡ true → not (s && t) ≡ true
     free true t k = absurd (true≢false (sym k))
@@ -106,7 +95,7 @@ apart_name (c ∷ rest) h = let parts = both (not (c == 47)) (no_slash rest) h i
 
 none_in : (p : List ℕ) → no_slash p ≡ true → split_last p ≡ None
 none_in [] h = refl
-none_in (c ∷ rest) h = let parts = both (not (c == 47)) (no_slash rest) h in
+none_in (c ∷ rest) h = let parts = and_parts (not (c == 47)) (no_slash rest) h in
     ap (λ o. after_first c o rest) (none_in rest parts.1) ∙ other (c == 47) parts.0
   where
     other : (b : Bool) → not b ≡ true → ◌≡◌ {A = Option (List ℕ × List ℕ)} (if b then Some ([], rest) else None) None
@@ -143,12 +132,12 @@ first_piece [] q h = absurd (true≢false (sym h))
 first_piece (c ∷ rest) q h = let inner = some_pieces rest in
     elim (c == 47) as (λ b. list_all is_simple_name (if b then [] ∷ pieces rest else with_first c (pieces rest)) ≡ true → (c == 49) ≡ false) [
       | true ↦ λ k. absurd (true≢false (sym k))
-      | false ↦ λ k. letter_not_one c (both (is_letter c) (list_all is_name_part (c ∷ inner.0)) (both (is_simple_name (c ∷ inner.0)) (list_all is_simple_name inner.1) (ap (λ ps. list_all is_simple_name (with_first c ps)) (sym inner.2) ∙ k)).0).0
+      | false ↦ λ k. letter_not_one c (and_parts (is_letter c) (list_all is_name_part (c ∷ inner.0)) (and_parts (is_simple_name (c ∷ inner.0)) (list_all is_simple_name inner.1) (ap (λ ps. list_all is_simple_name (with_first c ps)) (sym inner.2) ∙ k)).0).0
     ] h
 
 all_later : (ps : List (List ℕ)) → list_all is_simple_name ps ≡ true → list_all is_simple_name (drop 1 ps) ≡ true
 all_later [] h = refl
-all_later (p ∷ ps) h = (both (is_simple_name p) (list_all is_simple_name ps) h).1
+all_later (p ∷ ps) h = (and_parts (is_simple_name p) (list_all is_simple_name ps) h).1
 
 later_same : (c : ℕ) (ps : List (List ℕ)) → drop 1 (with_first c ps) ≡ drop 1 ps
 later_same c [] = refl
@@ -166,18 +155,18 @@ pieces_is false c rest = refl
 apart_step : (x : ℕ) (rest m : List ℕ) (b : Bool) → (x == 47) ≡ b → list_all is_simple_name (drop 1 (pieces_after b x rest)) ≡ true
     → (list_all is_simple_name (drop 1 (pieces rest)) ≡ true → apart (rest ++ 47 ∷ m) ≡ true) → apart (x ∷ rest ++ 47 ∷ m) ≡ true
 apart_step x rest m true e l inner =
-    and_true (not (x == 47 && first_passes (λ d. d == 49) (rest ++ 47 ∷ m))) (apart (rest ++ 47 ∷ m))
-    (ap (λ t. not (t && first_passes (λ d. d == 49) (rest ++ 47 ∷ m))) e ∙ not_true (first_passes (λ d. d == 49) (rest ++ 47 ∷ m)) (first_piece rest (47 ∷ m) l))
+    and_from (not (x == 47 && first_passes (λ d. d == 49) (rest ++ 47 ∷ m))) (apart (rest ++ 47 ∷ m))
+    (ap (λ t. not (t && first_passes (λ d. d == 49) (rest ++ 47 ∷ m))) e ∙ not_from_false (first_passes (λ d. d == 49) (rest ++ 47 ∷ m)) (first_piece rest (47 ∷ m) l))
     (inner (all_later (pieces rest) l))
 apart_step x rest m false e l inner =
-    and_true (not (x == 47 && first_passes (λ d. d == 49) (rest ++ 47 ∷ m))) (apart (rest ++ 47 ∷ m))
+    and_from (not (x == 47 && first_passes (λ d. d == 49) (rest ++ 47 ∷ m))) (apart (rest ++ 47 ∷ m))
     (ap (λ t. not (t && first_passes (λ d. d == 49) (rest ++ 47 ∷ m))) e)
     (inner (subst (λ ps. list_all is_simple_name ps ≡ true) (later_same x (pieces rest)) l))
 
 apart_path : (c m : List ℕ) → list_all is_simple_name (drop 1 (pieces c)) ≡ true → is_simple_name m ≡ true → apart (c ++ 47 ∷ m) ≡ true
-apart_path [] m h k = let parts = both (first_passes is_letter m) (list_all is_name_part m) k in
-    and_true (not (first_passes (λ d. d == 49) m)) (apart m)
-    (not_true (first_passes (λ d. d == 49) m) (subst (λ q. first_passes (λ d. d == 49) q ≡ false) (append-nil m) (first_simple m [] parts.0)))
+apart_path [] m h k = let parts = and_parts (first_passes is_letter m) (list_all is_name_part m) k in
+    and_from (not (first_passes (λ d. d == 49) m)) (apart m)
+    (not_from_false (first_passes (λ d. d == 49) m) (subst (λ q. first_passes (λ d. d == 49) q ≡ false) (append-nil m) (first_simple m [] parts.0)))
     (apart_name m (all_no_slash m parts.1))
 apart_path (x ∷ rest) m h k =
     apart_step x rest m (x == 47) refl (subst (λ ps. list_all is_simple_name (drop 1 ps) ≡ true) (pieces_is (x == 47) x rest) h) (λ l. apart_path rest m l k)
@@ -202,13 +191,13 @@ pub inverse : IsInverse
 unfolding unmangle
 inverse name class method = (
   (λ h. let test = filtered (is_unmangled name) (split_last (unescaped (drop 5 name))) (class, method) h in
-      let one = both (is_class_name class && is_simple_name method) (bytes_eq (mangle class method) name) test in
-      let two = both (is_class_name class) (is_simple_name method) one.0 in
+      let one = and_parts (is_class_name class && is_simple_name method) (bytes_eq (mangle class method) name) test in
+      let two = and_parts (is_class_name class) (is_simple_name method) one.0 in
       (two.0, two.1, sym ((bytes_decides (mangle class method) name).0 one.1))),
   (λ h. subst (λ n. option_filter (is_unmangled n) (split_last (unescaped (drop 5 n))) ≡ Some (class, method)) (sym h.2)
       (ap (λ p. option_filter (is_unmangled (mangle class method)) (split_last p)) (back (class ++ 47 ∷ method) (apart_path class method (all_later (pieces class) h.0) h.1))
-      ∙ ap (option_filter (is_unmangled (mangle class method))) (split_joined class method (all_no_slash method (both (first_passes is_letter method) (list_all is_name_part method) h.1).1))
+      ∙ ap (option_filter (is_unmangled (mangle class method))) (split_joined class method (all_no_slash method (and_parts (first_passes is_letter method) (list_all is_name_part method) h.1).1))
       ∙ kept (is_unmangled (mangle class method)) (class, method)
-      (and_true (is_class_name class && is_simple_name method) (bytes_eq (mangle class method) (mangle class method))
-      (and_true (is_class_name class) (is_simple_name method) h.0 h.1) ((bytes_decides (mangle class method) (mangle class method)).1 refl)))),
+      (and_from (is_class_name class && is_simple_name method) (bytes_eq (mangle class method) (mangle class method))
+      (and_from (is_class_name class) (is_simple_name method) h.0 h.1) ((bytes_decides (mangle class method) (mangle class method)).1 refl)))),
 )

@@ -3,6 +3,7 @@ use Rattle.std.proofs.Common.{◌≡◌, ℕ, Bool, true, false, eqb, ◌&&◌, 
 use Rattle.std.proofs.lemmas.Bool.Decides.{nat_tests}
 use Rattle.std.proofs.lemmas.Grind.{flat_map-append}
 use Rattle.std.specs.List.{list_all}
+use Rattle.std.proofs.lemmas.Bool.{eqb-true}
 use Rattle.base.specs.Bytes.{is_letter, is_name_part, with_first, split_at}
 use Rattle.class_rules.specs.Class.{array_name}
 use Rattle.class_rules.specs.Mangling.{is_simple_name, is_class_name, escaped_byte, mangle, unmangle}
@@ -73,9 +74,6 @@ letter-part b h = grind (arith, nat_tests)
 letter-word : (b : ℕ) → is_letter b ≡ true → is_word b ≡ true
 letter-word b h = rw h refl
 
-eqb-is : (a b : ℕ) → eqb a b ≡ true → a ≡ b
-eqb-is a b h = grind (arith, nat_tests)
-
 escape-word : (b : ℕ) → is_word b ≡ true → escaped_byte b ≡ b ∷ []
 escape-word b h = rw (word-no_slash b h, word-no_underscore b h) refl
 
@@ -102,7 +100,7 @@ mutual
   parts (b ∷ bs) s h =
       tested (eqb b 95)
       (λ is. let inside : reads_underscore bs s ≡ true = rw is at h in
-      subst (λ x. Parts (x ∷ bs) s) (sym (eqb-is b 95 is)) (underscore bs s inside))
+      subst (λ x. Parts (x ∷ bs) s) (sym (eqb-true b 95 is)) (underscore bs s inside))
       (λ no. let inside : (is_word b && reads_name bs s) ≡ true = rw no at h in
       let word = and-left _ _ inside in
       subst (λ xs. Parts (xs ++ bs) s) (escape-word b word)
@@ -114,14 +112,14 @@ mutual
       tested (is_letter b)
       (λ is. let inside : reads_name bs true ≡ true = rw is at h in separated b bs s is (parts bs true inside))
       (λ no. let inside : (eqb b 49 && reads_name bs s) ≡ true = rw no at h in
-      subst (λ x. Parts (95 ∷ x ∷ bs) s) (sym (eqb-is b 49 (and-left _ _ inside)))
+      subst (λ x. Parts (95 ∷ x ∷ bs) s) (sym (eqb-true b 49 (and-left _ _ inside)))
       (grow 95 bs s refl refl (parts bs s (and-right _ _ inside))))
 
 reads-after : (ps name : List ℕ) → reads_after ps name ≡ true → (rest : List ℕ) × (name ≡ ps ++ rest) × (reads_first rest ≡ true)
 reads-after [] name h = (name, refl, h)
 reads-after (p ∷ ps) [] h = absurd cc
 reads-after (p ∷ ps) (b ∷ bs) h =
-    let head = eqb-is b p (and-left _ _ h) in
+    let head = eqb-true b p (and-left _ _ h) in
     let tail = reads-after ps bs (and-right (eqb b p) _ h) in
     (tail.0, ap (λ x. x ∷ bs) head ∙ ap (λ xs. p ∷ xs) tail.1, tail.2)
 
@@ -149,7 +147,7 @@ reads-part [] h = refl
 reads-part (b ∷ p) h =
     let rest = reads-part p (and-right (is_name_part b) _ h) in
     tested (eqb b 95)
-    (λ is. subst (λ x. reads_name (escaped (x ∷ p)) true ≡ true) (sym (eqb-is b 95 is)) rest)
+    (λ is. subst (λ x. reads_name (escaped (x ∷ p)) true ≡ true) (sym (eqb-true b 95 is)) rest)
     (λ no. let word : is_word b ≡ true = part-word b (and-left (is_name_part b) _ h) no in
     rw (escape-word b word, no, word) rest)
 
@@ -165,11 +163,11 @@ mutual
   reads-goes (b ∷ c) s tail h k =
       tested (eqb b 47)
       (λ is. let inside : begins_part c ≡ true = rw is at h in
-      subst (λ x. reads_name (escaped (x ∷ c) ++ tail) s ≡ true) (sym (eqb-is b 47 is)) (reads-begins c s tail inside k))
+      subst (λ x. reads_name (escaped (x ∷ c) ++ tail) s ≡ true) (sym (eqb-true b 47 is)) (reads-begins c s tail inside k))
       (λ no. let inside : (is_name_part b && goes_on c) ≡ true = rw no at h in
       let rest = reads-goes c s tail (and-right (is_name_part b) _ inside) k in
       tested (eqb b 95)
-      (λ is. subst (λ x. reads_name (escaped (x ∷ c) ++ tail) s ≡ true) (sym (eqb-is b 95 is)) rest)
+      (λ is. subst (λ x. reads_name (escaped (x ∷ c) ++ tail) s ≡ true) (sym (eqb-true b 95 is)) rest)
       (λ other. let word : is_word b ≡ true = part-word b (and-left (is_name_part b) _ inside) other in
       rw (escape-word b word, other, word) rest))
 
