@@ -6,6 +6,7 @@ use Rattle.std.specs.Str.{bytes_eq}
 use Rattle.std.proofs.lemmas.List.{append_cancel_right}
 use Rattle.std.proofs.lemmas.List.Folds.{list_any-append}
 use Rattle.std.proofs.lemmas.Slice.Eq.{bytes_eq-Decides}
+use Rattle.std.proofs.lemmas.Bool.{or_right, and_parts}
 use Rattle.base.specs.Bytes.{Identifier}
 use Rattle.classes.specs.declared.built_ins.BuiltIn.{BuiltIn}
 use Rattle.class_rules.specs.Class.{Class, Classes, array_name}
@@ -13,7 +14,7 @@ use Rattle.class_rules.specs.BuiltIns.{number_array_classes, object_array_class}
 use Rattle.classes.specs.BuiltInList.{listed_class, array_classes, listed_classes}
 use Rattle.class_rules.specs.Mangling.{is_class_name}
 use Rattle.classes.specs.Tables.{ArraysHaveElements}
-use Rattle.classes.proofs.DistinctNames.{has_name, both}
+use Rattle.classes.proofs.DistinctNames.{has_name}
 use Rattle.class_rules.proofs.MangledNames.{array_name-no_class}
 
 pub same_name : (a b : Identifier) → bytes_eq a b ≡ true → a ≡ b
@@ -32,10 +33,6 @@ pub cases : {P : Type 0} (a b : Bool) → (a || b) ≡ true → (a ≡ true → 
 cases true b h f g = f refl
 cases false b h f g = g h
 
-or_true : (a b : Bool) → b ≡ true → (a || b) ≡ true
-or_true true b e = refl
-or_true false b e = e
-
 -- a class name is no array's
 pub no_array : (name element : Identifier) → is_class_name name ≡ true → bytes_eq name (array_name element) ≡ true → ⊥
 no_array name element is h =
@@ -46,7 +43,7 @@ no_array name element is h =
 none-plain : (list : List BuiltIn) (name : Identifier) → list_all (λ b. is_class_name b.name.now) list ≡ true → has_name (map listed_class list) (array_name name) ≡ true → ⊥
 none-plain [] name all h = absurd (cc)
 none-plain (b ∷ list) name all h =
-    let p = both (is_class_name b.name.now) (list_all (λ b. is_class_name b.name.now) list) all in
+    let p = and_parts (is_class_name b.name.now) (list_all (λ b. is_class_name b.name.now) list) all in
     cases (bytes_eq b.name.now (array_name name)) (has_name (map listed_class list) (array_name name)) h
     (no_array b.name.now name p.0)
     (none-plain list name p.1)
@@ -56,7 +53,7 @@ element-there n [] name h = h
 element-there n (c ∷ P) name h =
     cases (bytes_eq (array_name c.name) (array_name name)) (has_name (map object_array_class (enumerate_from (n + 1) P)) (array_name name)) h
     (λ q. ap (λ b. b || has_name P name) (is_same c.name name (element_name c.name name (same_name (array_name c.name) (array_name name) q))))
-    (λ q. or_true (bytes_eq c.name name) (has_name P name) (element-there (n + 1) P name q))
+    (λ q. or_right (bytes_eq c.name name) (has_name P name) (element-there (n + 1) P name q))
 
 pub either-append : (T U : Classes) (name : Identifier) → has_name (T ++ U) name ≡ (has_name T name || has_name U name)
 either-append T U name = list_any-append (λ (c : Class). bytes_eq c.name name) T U
@@ -65,7 +62,7 @@ pub first_of_both : (T U : Classes) (name : Identifier) → has_name T name ≡ 
 first_of_both T U name h = either-append T U name ∙ ap (λ b. b || has_name U name) h
 
 pub second_of_both : (T U : Classes) (name : Identifier) → has_name U name ≡ true → has_name (T ++ U) name ≡ true
-second_of_both T U name h = either-append T U name ∙ or_true (has_name T name) (has_name U name) h
+second_of_both T U name h = either-append T U name ∙ or_right (has_name T name) (has_name U name) h
 
 pub listed-elements : (list : List BuiltIn) → list_all (λ b. is_class_name b.name.now) list ≡ true → ArraysHaveElements (listed_classes list)
 listed-elements list all name h =

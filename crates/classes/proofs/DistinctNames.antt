@@ -6,6 +6,7 @@ use Rattle.std.specs.List.{list_any, enumerate_from, prefix_len}
 use Rattle.std.specs.Str.{bytes_eq}
 use Rattle.std.proofs.lemmas.Option.{slice_get-map, slice_get-get_or}
 use Rattle.std.proofs.lemmas.Bool.Decides.{nat_tests}
+use Rattle.std.proofs.lemmas.Bool.{and_parts, or_parts, not-true}
 use Rattle.base.specs.Bytes.{Identifier}
 use Rattle.class_rules.specs.Class.{ClassKind, Class, Classes, class_named}
 use Rattle.class_rules.specs.BuiltIns.{array_class, object_array_class}
@@ -15,19 +16,6 @@ use Rattle.classes.proofs.Places.{same_bytes}
 
 abbrev pub has_name : Classes → Identifier → Bool
 has_name T name = list_any (λ (c : Class). bytes_eq c.name name) T
-
-pub both : (a b : Bool) → (a && b) ≡ true → (a ≡ true) × (b ≡ true)
-both true true h = (refl, refl)
-both true false h = absurd (cc)
-both false b h = absurd (cc)
-
-pub neither : (a b : Bool) → (a || b) ≡ false → (a ≡ false) × (b ≡ false)
-neither true b h = absurd (cc)
-neither false b h = (refl, h)
-
-pub was_false : (a : Bool) → not a ≡ true → a ≡ false
-was_false true h = absurd (cc)
-was_false false h = refl
 
 -- a name that no class has names none
 pub unnamed : (T : Classes) (name : Identifier) → has_name T name ≡ false → class_named T name ≡ None
@@ -39,7 +27,7 @@ unnamed T name h = ap (λ b. option_map (λ i. i + 1) (cond b (Some (prefix_len 
     whole : (U : Classes) → has_name U name ≡ false → prefix_len (λ (c : Class). not (bytes_eq c.name name)) U ≡ length U
     whole [] q = refl
     whole (c ∷ U) q =
-        let p = neither (bytes_eq c.name name) (has_name U name) q in
+        let p = or_parts (bytes_eq c.name name) (has_name U name) q in
         let rest = whole U p.1 in
         let more : 1 + prefix_len (λ (d : Class). not (bytes_eq d.name name)) U ≡ suc (length U) = omega arith in
         ap (λ b. cond (not b) (1 + prefix_len (λ (d : Class). not (bytes_eq d.name name)) U) 0) p.0 ∙ more
@@ -48,24 +36,24 @@ unnamed T name h = ap (λ b. option_map (λ i. i + 1) (cond b (Some (prefix_len 
 other_name : (U : Classes) (c : Class) (R : Classes) → names_differ (U ++ c ∷ R) ≡ true → has_name U c.name ≡ false
 other_name [] c R h = refl
 other_name (u ∷ U) c R h =
-    let p = both (not (has_name (U ++ c ∷ R) u.name)) (names_differ (U ++ c ∷ R)) h in
-    let q = among U (was_false (has_name (U ++ c ∷ R) u.name) p.0) in
+    let p = and_parts (not (has_name (U ++ c ∷ R) u.name)) (names_differ (U ++ c ∷ R)) h in
+    let q = among U (not-true (has_name (U ++ c ∷ R) u.name) p.0) in
     ap (λ b. b || has_name U c.name) (same_bytes u.name c.name ∙ q) ∙ other_name U c R p.1
   where
     among : (V : Classes) → has_name (V ++ c ∷ R) u.name ≡ false → bytes_eq c.name u.name ≡ false
-    among [] e = (neither (bytes_eq c.name u.name) (has_name R u.name) e).0
-    among (v ∷ V) e = among V ((neither (bytes_eq v.name u.name) (has_name (V ++ c ∷ R) u.name) e).1)
+    among [] e = (or_parts (bytes_eq c.name u.name) (has_name R u.name) e).0
+    among (v ∷ V) e = among V ((or_parts (bytes_eq v.name u.name) (has_name (V ++ c ∷ R) u.name) e).1)
 
 pub differ-front : (U R : Classes) → names_differ (U ++ R) ≡ true → names_differ U ≡ true
 differ-front [] R h = refl
 differ-front (u ∷ U) R h =
-    let p = both (not (has_name (U ++ R) u.name)) (names_differ (U ++ R)) h in
-    let q = front U (was_false (has_name (U ++ R) u.name) p.0) in
+    let p = and_parts (not (has_name (U ++ R) u.name)) (names_differ (U ++ R)) h in
+    let q = front U (not-true (has_name (U ++ R) u.name) p.0) in
     ap (λ b. not b && names_differ U) q ∙ differ-front U R p.1
   where
     front : (V : Classes) → has_name (V ++ R) u.name ≡ false → has_name V u.name ≡ false
     front [] e = refl
-    front (v ∷ V) e = let p = neither (bytes_eq v.name u.name) (has_name (V ++ R) u.name) e in ap (λ b. b || has_name V u.name) p.0 ∙ front V p.1
+    front (v ∷ V) e = let p = or_parts (bytes_eq v.name u.name) (has_name (V ++ R) u.name) e in ap (λ b. b || has_name V u.name) p.0 ∙ front V p.1
 
 parts : (L : Classes) (i : ℕ) (c : Class) → slice_get L i ≡ Some c → L ≡ take i L ++ c ∷ drop (suc i) L
 parts [] i c at = absurd (cc)
@@ -124,10 +112,10 @@ all-arrays n (suc i) (x ∷ P) h = ap (λ l. object_array_class (n, x) ∷ l) (a
 pub differ-more : (T : Classes) (c : Class) → names_differ T ≡ true → has_name T c.name ≡ false → names_differ (T ++ c ∷ []) ≡ true
 differ-more [] c h new = refl
 differ-more (d ∷ T) c h new =
-    let p = both (not (has_name T d.name)) (names_differ T) h in
-    let q = neither (bytes_eq d.name c.name) (has_name T c.name) new in
-    (λ i. not (absent T (was_false (has_name T d.name) p.0) i) && names_differ (T ++ c ∷ [])) ∙ differ-more T c p.1 q.1
+    let p = and_parts (not (has_name T d.name)) (names_differ T) h in
+    let q = or_parts (bytes_eq d.name c.name) (has_name T c.name) new in
+    (λ i. not (absent T (not-true (has_name T d.name) p.0) i) && names_differ (T ++ c ∷ [])) ∙ differ-more T c p.1 q.1
   where
     absent : (U : Classes) → has_name U d.name ≡ false → has_name (U ++ c ∷ []) d.name ≡ false
-    absent [] e = ap (λ b. b || false) (same_bytes c.name d.name ∙ (neither (bytes_eq d.name c.name) (has_name T c.name) new).0)
-    absent (u ∷ U) e = let r = neither (bytes_eq u.name d.name) (has_name U d.name) e in (λ i. r.0 i || has_name (U ++ c ∷ []) d.name) ∙ absent U r.1
+    absent [] e = ap (λ b. b || false) (same_bytes c.name d.name ∙ (or_parts (bytes_eq d.name c.name) (has_name T c.name) new).0)
+    absent (u ∷ U) e = let r = or_parts (bytes_eq u.name d.name) (has_name U d.name) e in (λ i. r.0 i || has_name (U ++ c ∷ []) d.name) ∙ absent U r.1

@@ -9,6 +9,7 @@ use Rattle.std.proofs.lemmas.Cmp.{nat_list_eq_equiv}
 use Rattle.std.proofs.lemmas.List.{length-map}
 use Rattle.std.proofs.lemmas.List.Folds.{prefix_len-append}
 use Rattle.std.proofs.lemmas.Option.{slice_get_within}
+use Rattle.std.proofs.lemmas.Bool.{and_parts, or_parts, not-true}
 use Rattle.base.specs.Bytes.{Identifier}
 use Rattle.class_rules.specs.Class.{Field, Class, Classes, class_at, superclass, above, ancestry_within, is_subclass}
 use Rattle.class_rules.specs.Fields.{FieldId, own_fields, own_statics, layout, same_field}
@@ -17,7 +18,6 @@ use Rattle.classes.specs.declared.class.FieldHandle.{FieldHandle}
 use Rattle.classes.specs.FieldViews.{declared_as, field_of, place_among}
 use Rattle.classes.specs.Tables.{field_names_differ, declares_once, has_few_fields}
 use Rattle.classes.proofs.Ancestry.{is_among}
-use Rattle.classes.proofs.DistinctNames.{both, neither, was_false}
 use Rattle.classes.proofs.FoundFields.{identified}
 use Rattle.classes.proofs.HandledFields.{of_declared}
 use Rattle.classes.proofs.NamedFields.{has_field}
@@ -38,8 +38,8 @@ other_number n m h = grind (arith, nat_tests)
 -- a field of another name
 other_name : (fields : List Field) (i : ℕ) (d : Field) (name : Identifier) → has_field fields name ≡ false → slice_get fields i ≡ Some d → bytes_eq d.name name ≡ false
 other_name [] i d name h at = absurd (cc)
-other_name (x ∷ fields) zero d name h at = let is : x ≡ d = cc in ap (λ (y : Field). bytes_eq y.name name) (sym is) ∙ (neither (bytes_eq x.name name) (has_field fields name) h).0
-other_name (x ∷ fields) (suc i) d name h at = other_name fields i d name (neither (bytes_eq x.name name) (has_field fields name) h).1 at
+other_name (x ∷ fields) zero d name h at = let is : x ≡ d = cc in ap (λ (y : Field). bytes_eq y.name name) (sym is) ∙ (or_parts (bytes_eq x.name name) (has_field fields name) h).0
+other_name (x ∷ fields) (suc i) d name h at = other_name fields i d name (or_parts (bytes_eq x.name name) (has_field fields name) h).1 at
 
 module _ (s : Bool) (c : ℕ) (d : Field) where
   -- as many come before a field as its place says
@@ -50,8 +50,8 @@ module _ (s : Bool) (c : ℕ) (d : Field) where
       let same : same_field (identified s c d) (identified s c x) ≡ true = (λ k. same_number c k && bytes_eq d.name (is k).name) ∙ nat_list_eq_equiv.refl d.name in
       ap (λ b. cond (not b) (1 + before (identified s c d) (map (identified s c) fields)) 0) same
   own_place (x ∷ fields) (suc i) h at =
-      let p = both (not (has_field fields x.name)) (field_names_differ fields) h in
-      let other : same_field (identified s c d) (identified s c x) ≡ false = (λ k. same_number c k && bytes_eq d.name x.name) ∙ other_name fields i d x.name (was_false (has_field fields x.name) p.0) at in
+      let p = and_parts (not (has_field fields x.name)) (field_names_differ fields) h in
+      let other : same_field (identified s c d) (identified s c x) ≡ false = (λ k. same_number c k && bytes_eq d.name x.name) ∙ other_name fields i d x.name (not-true (has_field fields x.name) p.0) at in
       let rest = own_place fields i p.1 at in
       let more : 1 + before (identified s c d) (map (identified s c) fields) ≡ suc i = omega (arith, rest) in
       ap (λ b. cond (not b) (1 + before (identified s c d) (map (identified s c) fields)) 0) other ∙ more
@@ -121,7 +121,7 @@ module _ (T : Classes) (o : IsOrdered T) where
     misses (suc n) d h = by_super (superclass T d) refl (misses n)
       where
         first : (d == c) ≡ false
-        first = (neither (d == c) (list_any (λ y. y == c) (above (ancestry_within n T) (superclass T d))) h).0
+        first = (or_parts (d == c) (list_any (λ y. y == c) (above (ancestry_within n T) (superclass T d))) h).0
 
         own : before f (own_fields T d) ≡ length (own_fields T d)
         own = misses_own false c x d (declared_as T d false) (λ e. absurd (let t : (d == c) ≡ true = grind (arith, nat_tests) in cc))
@@ -129,7 +129,7 @@ module _ (T : Classes) (o : IsOrdered T) where
         by_super : (k : Option ℕ) → superclass T d ≡ k → ((s : ℕ) → is_among n T s c ≡ false → before f (layout_within n T s) ≡ length (layout_within n T s)) → before f (layout_within (suc n) T d) ≡ length (layout_within (suc n) T d)
         by_super None e later = rw (layout-top T d (suc n) n (omega arith) e) own
         by_super (Some s) e later =
-            let further = (neither (d == c) (list_any (λ y. y == c) (above (ancestry_within n T) (superclass T d))) h).1 in
+            let further = (or_parts (d == c) (list_any (λ y. y == c) (above (ancestry_within n T) (superclass T d))) h).1 in
             let up : is_among n T s c ≡ false = sym (ap (λ k. list_any (λ y. y == c) (above (ancestry_within n T) k)) e) ∙ further in
             let front = later s up in
             let whole = layout-above T d (suc n) n s (omega arith) e in
@@ -210,8 +210,8 @@ is_declared T h s f there kind = by_field (slice_get (declared_as T h.class.numb
 once_at : (T : Classes) (c : ℕ) → list_all declares_once T ≡ true → (field_names_differ (declared_as T c false) ≡ true) × (field_names_differ (declared_as T c true) ≡ true)
 once_at T zero h = (refl, refl)
 once_at [] (suc i) h = (refl, refl)
-once_at (d ∷ T) (suc zero) h = both (field_names_differ d.fields) (field_names_differ d.statics) (both (declares_once d) (list_all declares_once T) h).0
-once_at (d ∷ T) (suc (suc i)) h = once_at T (suc i) (both (declares_once d) (list_all declares_once T) h).1
+once_at (d ∷ T) (suc zero) h = and_parts (field_names_differ d.fields) (field_names_differ d.statics) (and_parts (declares_once d) (list_all declares_once T) h).0
+once_at (d ∷ T) (suc (suc i)) h = once_at T (suc i) (and_parts (declares_once d) (list_all declares_once T) h).1
 
 pub static_placed : (T : Classes) (h : FieldHandle) (f : FieldId) → list_all declares_once T ≡ true → field_of T h ≡ Some f → h.is_static ≡ true → h.place ≡ place_among f (own_statics T f.class)
 static_placed T h f once there kind =

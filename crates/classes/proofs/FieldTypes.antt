@@ -7,12 +7,13 @@ use Rattle.std.specs.Str.{bytes_eq}
 use Rattle.std.proofs.lemmas.Bool.Decides.{nat_tests}
 use Rattle.std.proofs.lemmas.Iterator.Adapters.{position_from-zero}
 use Rattle.std.proofs.lemmas.Slice.Eq.{bytes_eq-Decides}
+use Rattle.std.proofs.lemmas.Bool.{and_parts, or_parts, not-true}
 use Rattle.base.specs.Bytes.{Identifier, first_passes}
 use Rattle.base.specs.Options.{option_filter}
 use Rattle.class_rules.specs.Class.{FieldType, ReferenceField, ClassKind, Plain, ArrayOfNumbers, ArrayOfObjects, Class, Classes, class_at, class_kind, class_named, is_plain}
 use Rattle.class_rules.specs.Fields.{reference_signature, signature}
 use Rattle.classes.specs.Tables.{names_differ, is_named_by_kind, IsTable}
-use Rattle.classes.proofs.DistinctNames.{has_name, both, neither, was_false}
+use Rattle.classes.proofs.DistinctNames.{has_name}
 use Rattle.classes.proofs.Signatures.{same_last}
 
 abbrev pub has_text : Classes → List ℕ → FieldType → Bool
@@ -71,7 +72,7 @@ first-reference T text n (d ∷ U) rest =
 same-first : (p q : Class → Bool) (n : ℕ) (U : Classes) → ((d : Class) → is_named_by_kind d ≡ true → p d ≡ q d) → list_all is_named_by_kind U ≡ true → position_from p n U ≡ position_from q n U
 same-first p q n [] same h = refl
 same-first p q n (d ∷ U) same h =
-    let b = both (is_named_by_kind d) (list_all is_named_by_kind U) h in
+    let b = and_parts (is_named_by_kind d) (list_all is_named_by_kind U) h in
     λ i. cond (same d b.0 i) (Some n) (same-first p q (n + 1) U same b.1 i)
 
 -- of one name there is one class, of the wanted kind or not
@@ -82,7 +83,7 @@ module _ (kind : ClassKind → Bool) (name : Identifier) where
   nobody : (n : ℕ) (U : Classes) → has_name U name ≡ false → position_from wanted n U ≡ None
   nobody n [] h = refl
   nobody n (d ∷ U) h =
-      let p = neither (bytes_eq d.name name) (has_name U name) h in
+      let p = or_parts (bytes_eq d.name name) (has_name U name) h in
       (λ i. cond (kind d.kind && p.0 i) (Some n) (position_from wanted (n + 1) U)) ∙ ap (λ b. cond b (Some n) (position_from wanted (n + 1) U)) (no (kind d.kind)) ∙ nobody (n + 1) U p.1
     where
       no : (b : Bool) → (b && false) ≡ false
@@ -92,8 +93,8 @@ module _ (kind : ClassKind → Bool) (name : Identifier) where
   only : (T : Classes) (n : ℕ) (U : Classes) → IsRest T n U → names_differ U ≡ true → position_from wanted n U ≡ option_filter (λ c. kind (class_kind T c)) (position_from (λ (d : Class). bytes_eq d.name name) n U)
   only T n [] rest h = refl
   only T n (d ∷ U) rest h =
-      let p = both (not (has_name U d.name)) (names_differ U) h in
-      by_name (bytes_eq d.name name) refl (was_false (has_name U d.name) p.0) (only T (n + 1) U (further T n d U rest) p.1)
+      let p = and_parts (not (has_name U d.name)) (names_differ U) h in
+      by_name (bytes_eq d.name name) refl (not-true (has_name U d.name) p.0) (only T (n + 1) U (further T n d U rest) p.1)
     where
       others : bytes_eq d.name name ≡ true → has_name U d.name ≡ false → has_name U name ≡ false
       others e h = ap (has_name U) (sym ((bytes_eq-Decides d.name name).0 e)) ∙ h

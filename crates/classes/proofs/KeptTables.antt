@@ -3,7 +3,7 @@ use Rattle.std.proofs.Common.{not, map, append_assoc, unwrap_or, ◌≡◌, ℕ,
 use Rattle.std.specs.Prelude.{◌==◌, ◌&&◌, ◌||◌}
 use Rattle.std.specs.Option.{option_map, option_map_or}
 use Rattle.std.specs.List.{list_all, enumerate_from, prefix_len}
-use Rattle.std.proofs.lemmas.Bool.{ltb-true, ltb-false, lt-ltb, eqb-true}
+use Rattle.std.proofs.lemmas.Bool.{ltb-true, ltb-false, lt-ltb, eqb-true, and_parts, or_parts, not-true, false_from_ne_true}
 use Rattle.std.proofs.lemmas.List.Folds.{list_all-append}
 use Rattle.base.specs.Bytes.{Identifier, first_passes}
 use Rattle.classes.specs.declared.built_ins.BuiltIn.{BuiltIn}
@@ -21,7 +21,7 @@ use Rattle.classes.specs.Tables.{names_differ, is_named_by_kind, has_few_fields,
 use Rattle.classes.proofs.AddedClasses.{named, no-array, added-elements}
 use Rattle.classes.proofs.ArrayNames.{no_array, either-append, listed-elements}
 use Rattle.classes.proofs.ChangedClasses.{from, names-kept, declared-elements}
-use Rattle.classes.proofs.DistinctNames.{has_name, both, neither, was_false, unnamed, differ-more}
+use Rattle.classes.proofs.DistinctNames.{has_name, unnamed, differ-more}
 use Rattle.classes.proofs.NamedFields.{has_field}
 use Rattle.classes.proofs.Places.{same_bytes}
 
@@ -52,17 +52,17 @@ few_declared T c name text h =
 
 pub all-differ : (list : List BuiltIn) → is_class_list list ≡ true → names_differ (listed_classes list) ≡ true
 all-differ list h =
-    let o = both _ (list_all declares_once (listed_classes list)) h in
-    let p = both _ (list_all has_few_fields (listed_classes list)) o.0 in
-    let q = both _ (nat_lt (length (listed_classes list)) 257) p.0 in
-    (both (list_all (λ b. is_class_name b.name.now) list) (names_differ (listed_classes list)) q.0).1
+    let o = and_parts _ (list_all declares_once (listed_classes list)) h in
+    let p = and_parts _ (list_all has_few_fields (listed_classes list)) o.0 in
+    let q = and_parts _ (nat_lt (length (listed_classes list)) 257) p.0 in
+    (and_parts (list_all (λ b. is_class_name b.name.now) list) (names_differ (listed_classes list)) q.0).1
 
 pub all-once : (list : List BuiltIn) → is_class_list list ≡ true → list_all declares_once (map listed_class list) ≡ true
 all-once list h =
     let P = map listed_class list in
-    let once = (both _ (list_all declares_once (listed_classes list)) h).1 in
-    let front = both (list_all declares_once (P ++ number_array_classes)) (list_all declares_once (array_classes P)) (sym (list_all-append declares_once (P ++ number_array_classes) (array_classes P)) ∙ once) in
-    (both (list_all declares_once P) (list_all declares_once number_array_classes) (sym (list_all-append declares_once P number_array_classes) ∙ front.0)).0
+    let once = (and_parts _ (list_all declares_once (listed_classes list)) h).1 in
+    let front = and_parts (list_all declares_once (P ++ number_array_classes)) (list_all declares_once (array_classes P)) (sym (list_all-append declares_once (P ++ number_array_classes) (array_classes P)) ∙ once) in
+    (and_parts (list_all declares_once P) (list_all declares_once number_array_classes) (sym (list_all-append declares_once P number_array_classes) ∙ front.0)).0
 
 plain-named : (list : List BuiltIn) → list_all is_named_by_kind (map listed_class list) ≡ true
 plain-named [] = refl
@@ -81,17 +81,13 @@ listed-named list =
 
 pub listed-table : (list : List BuiltIn) → is_class_list list ≡ true → IsTable (listed_classes list)
 listed-table list h =
-    let o = both _ (list_all declares_once (listed_classes list)) h in
-    let p = both _ (list_all has_few_fields (listed_classes list)) o.0 in
-    let q = both _ (nat_lt (length (listed_classes list)) 257) p.0 in
-    let r = both (list_all (λ b. is_class_name b.name.now) list) _ q.0 in
+    let o = and_parts _ (list_all declares_once (listed_classes list)) h in
+    let p = and_parts _ (list_all has_few_fields (listed_classes list)) o.0 in
+    let q = and_parts _ (nat_lt (length (listed_classes list)) 257) p.0 in
+    let r = and_parts (list_all (λ b. is_class_name b.name.now) list) _ q.0 in
     record { elements = listed-elements list r.0; differ = all-differ list h; named = listed-named list; few = omega (arith, ltb-true (length (listed_classes list)) 257 q.1); few_fields = p.1; declared_once = o.1 }
 
 -- ---- a class more
-
-another : (b : Bool) → (b ≡ true → ⊥) → b ≡ false
-another true h = absurd (h refl)
-another false h = refl
 
 pub added-table : (T : Classes) (name superclass : Identifier) (s : ℕ) → is_class_name name ≡ true → first_broken (λ rule. class_breaks rule T name superclass) ≡ None → IsTable T → IsTable (with_class T (new_class name (Some s)))
 added-table T name superclass s is h t =
@@ -101,7 +97,7 @@ added-table T name superclass s is h t =
     let free : has_name T name ≡ false = sym (named name T) ∙ q in
     let free_array : has_name (T ++ new ∷ []) (array_name name) ≡ false =
     either-append T (new ∷ []) (array_name name)
-    ∙ (λ i. no-array T name (unnamed T name free) t.elements i || (another (bytes_eq name (array_name name)) (λ e. no_array name name is e) i || false)) in
+    ∙ (λ i. no-array T name (unnamed T name free) t.elements i || (false_from_ne_true (bytes_eq name (array_name name)) (λ e. no_array name name is e) i || false)) in
     record {
       elements = added-elements T name s is t.elements;
       differ = ap names_differ (sym (append_assoc T (new ∷ []) (object_array_class (length T + 1, new) ∷ []))) ∙ differ-more (T ++ new ∷ []) (object_array_class (length T + 1, new)) (differ-more T new t.differ free) free_array;
@@ -139,7 +135,7 @@ module _ (change : Class → Class) where
   all_kept : (holds : Class → Bool) (c n : ℕ) (T : Classes) → ((i : ℕ) (d : Class) → slice_get T i ≡ Some d → n + i ≡ c → holds d ≡ true → holds (change d) ≡ true) → list_all holds T ≡ true → list_all holds (from change c n T) ≡ true
   all_kept holds c n [] own h = refl
   all_kept holds c n (d ∷ T) own h =
-      let p = both (holds d) (list_all holds T) h in
+      let p = and_parts (holds d) (list_all holds T) h in
       step (n == c) refl p.0 (all_kept holds c (n + 1) T (λ i e at place. own (suc i) e at (omega (arith, place))) p.1) (own zero d refl)
     where
       step : (b : Bool) → (n == c) ≡ b → holds d ≡ true → list_all holds (from change c (n + 1) T) ≡ true → (n + 0 ≡ c → holds d ≡ true → holds (change d) ≡ true)
@@ -147,22 +143,22 @@ module _ (change : Class → Class) where
       step true e here rest mine = let is : n + 0 ≡ c = omega (arith, eqb-true n c e) in ap (λ b. b && list_all holds (from change c (n + 1) T)) (mine is here) ∙ rest
       step false e here rest mine = ap (λ b. b && list_all holds (from change c (n + 1) T)) here ∙ rest
 
--- with a field of another name more
+-- with a field of false_from_ne_true name more
 fields_differ_more : (fields : List Field) (f : Field) → field_names_differ fields ≡ true → has_field fields f.name ≡ false → field_names_differ (fields ++ f ∷ []) ≡ true
 fields_differ_more [] f h new = refl
 fields_differ_more (g ∷ fields) f h new =
-    let p = both (not (has_field fields g.name)) (field_names_differ fields) h in
-    let q = neither (bytes_eq g.name f.name) (has_field fields f.name) new in
-    (λ i. not (absent fields (was_false (has_field fields g.name) p.0) i) && field_names_differ (fields ++ f ∷ [])) ∙ fields_differ_more fields f p.1 q.1
+    let p = and_parts (not (has_field fields g.name)) (field_names_differ fields) h in
+    let q = or_parts (bytes_eq g.name f.name) (has_field fields f.name) new in
+    (λ i. not (absent fields (not-true (has_field fields g.name) p.0) i) && field_names_differ (fields ++ f ∷ [])) ∙ fields_differ_more fields f p.1 q.1
   where
     absent : (others : List Field) → has_field others g.name ≡ false → has_field (others ++ f ∷ []) g.name ≡ false
-    absent [] e = ap (λ b. b || false) (same_bytes f.name g.name ∙ (neither (bytes_eq g.name f.name) (has_field fields f.name) new).0)
-    absent (x ∷ others) e = let r = neither (bytes_eq x.name g.name) (has_field others g.name) e in (λ i. r.0 i || has_field (others ++ f ∷ []) g.name) ∙ absent others r.1
+    absent [] e = ap (λ b. b || false) (same_bytes f.name g.name ∙ (or_parts (bytes_eq g.name f.name) (has_field fields f.name) new).0)
+    absent (x ∷ others) e = let r = or_parts (bytes_eq x.name g.name) (has_field others g.name) e in (λ i. r.0 i || has_field (others ++ f ∷ []) g.name) ∙ absent others r.1
 
 in_neither : (fields statics : List Field) (name : Identifier) → has_field (fields ++ statics) name ≡ false → (has_field fields name ≡ false) × (has_field statics name ≡ false)
 in_neither [] statics name h = (refl, h)
 in_neither (f ∷ fields) statics name h =
-    let p = neither (bytes_eq f.name name) (has_field (fields ++ statics) name) h in
+    let p = or_parts (bytes_eq f.name name) (has_field (fields ++ statics) name) h in
     let q = in_neither fields statics name p.1 in
     ((λ i. p.0 i || has_field fields name) ∙ q.0, q.1)
 
@@ -199,7 +195,7 @@ declared-table T c field name text true low named h t =
   where
     once_more : (i : ℕ) (d : Class) → slice_get T i ≡ Some d → 1 + i ≡ c → declares_once d ≡ true → (field_names_differ d.fields && field_names_differ (d.statics ++ field ∷ [])) ≡ true
     once_more i d at place once =
-        let p = both (field_names_differ d.fields) (field_names_differ d.statics) once in
+        let p = and_parts (field_names_differ d.fields) (field_names_differ d.statics) once in
         let new = ap (has_field d.statics) named ∙ (is_new T c name text h i d at place).1 in
         ap (λ b. b && field_names_differ (d.statics ++ field ∷ [])) p.0 ∙ fields_differ_more d.statics field p.1 new
 declared-table T c field name text false low named h t =
@@ -215,7 +211,7 @@ declared-table T c field name text false low named h t =
   where
     once_more : (i : ℕ) (d : Class) → slice_get T i ≡ Some d → 1 + i ≡ c → declares_once d ≡ true → (field_names_differ (d.fields ++ field ∷ []) && field_names_differ d.statics) ≡ true
     once_more i d at place once =
-        let p = both (field_names_differ d.fields) (field_names_differ d.statics) once in
+        let p = and_parts (field_names_differ d.fields) (field_names_differ d.statics) once in
         let new = ap (has_field d.fields) named ∙ (is_new T c name text h i d at place).0 in
         ap (λ b. b && field_names_differ d.statics) (fields_differ_more d.fields field p.0 new) ∙ p.1
 

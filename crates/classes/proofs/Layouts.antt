@@ -6,11 +6,11 @@ use Rattle.std.proofs.lemmas.Bool.Decides.{nat_tests}
 use Rattle.std.proofs.lemmas.Option.{slice_get-map}
 use Rattle.std.proofs.lemmas.Grind.{flat_map-append}
 use Rattle.std.proofs.lemmas.List.{append-nil, reverse-append, length-map}
+use Rattle.std.proofs.lemmas.Bool.{and_parts}
 use Rattle.class_rules.specs.Class.{Field, Class, Classes, class_at, superclass, above, ancestry_within}
 use Rattle.class_rules.specs.Fields.{FieldId, own_fields, layout}
 use Rattle.classes.specs.FieldViews.{declared_as}
 use Rattle.classes.specs.Tables.{has_few_fields, IsTable}
-use Rattle.classes.proofs.DistinctNames.{both}
 use Rattle.classes.proofs.FoundFields.{identified}
 
 -- the layout by at most this many ancestors
@@ -43,8 +43,8 @@ module _ (T : Classes) (c : ℕ) where
 few_at : (T : Classes) (c : ℕ) → list_all has_few_fields T ≡ true → length (option_map_or (λ (d : Class). d.fields) (class_at T c) []) ≤ 64
 few_at T zero h = omega arith
 few_at [] (suc i) h = omega arith
-few_at (d ∷ T) (suc zero) h = let p = (both (has_few_fields d) (list_all has_few_fields T) h).0 in grind (arith, nat_tests)
-few_at (d ∷ T) (suc (suc i)) h = few_at T (suc i) (both (has_few_fields d) (list_all has_few_fields T) h).1
+few_at (d ∷ T) (suc zero) h = let p = (and_parts (has_few_fields d) (list_all has_few_fields T) h).0 in grind (arith, nat_tests)
+few_at (d ∷ T) (suc (suc i)) h = few_at T (suc i) (and_parts (has_few_fields d) (list_all has_few_fields T) h).1
 
 pub own-few : (T : Classes) (c : ℕ) → list_all has_few_fields T ≡ true → length (own_fields T c) ≤ 64
 own-few T c h = omega (arith, few_at T c h, length-map (option_map_or (λ (d : Class). d.fields) (class_at T c) []) (identified false c))

@@ -8,6 +8,7 @@ use Rattle.std.specs.Global.{Vec}
 use Rattle.std.specs.Str.{bytes_eq}
 use Rattle.std.proofs.lemmas.Cmp.{nat_list_eq_equiv}
 use Rattle.std.proofs.lemmas.Slice.Eq.{bytes_eq-Decides}
+use Rattle.std.proofs.lemmas.Bool.{and_parts, or_parts, not-true}
 use Rattle.base.specs.Bytes.{Identifier}
 use Rattle.classes.specs.declared.class.FieldType.{FieldType as FieldTypeInMemory}
 use Rattle.class_rules.specs.Class.{Field, Class, Classes}
@@ -15,7 +16,6 @@ use Rattle.class_rules.specs.Fields.{signature}
 use Rattle.classes.specs.FieldViews.{declared_as}
 use Rattle.classes.specs.Tables.{field_names_differ, declares_once}
 use Rattle.classes.specs.HeldFields.{own_field, own_view}
-use Rattle.classes.proofs.DistinctNames.{both, neither, was_false}
 use Rattle.classes.proofs.FoundFields.{fits}
 use Rattle.classes.proofs.Places.{same_bytes}
 
@@ -62,7 +62,7 @@ module _ (name : Identifier) where
   pub unkeyed : (es : List (Vec ℕ × FieldTypeInMemory)) → has_field (own_view es) name ≡ false → lookup (is_key name) es ≡ None
   unkeyed [] h = refl
   unkeyed (e ∷ es) h =
-      let p = neither (bytes_eq e.0.items name) (has_field (own_view es) name) h in
+      let p = or_parts (bytes_eq e.0.items name) (has_field (own_view es) name) h in
       ap (λ b. cond b (Some e.1) (lookup (is_key name) es)) (same_bytes name e.0.items ∙ p.0) ∙ unkeyed es p.1
 
   -- a field at a place is one of them
@@ -81,7 +81,7 @@ module _ (T : Classes) (name : Identifier) (text : List ℕ) where
   pub found_nowhere : (fs : List Field) → has_field fs name ≡ false → find (fits T name text) fs ≡ None
   found_nowhere [] h = refl
   found_nowhere (x ∷ fs) h =
-      let p = neither (bytes_eq x.name name) (has_field fs name) h in
+      let p = or_parts (bytes_eq x.name name) (has_field fs name) h in
       ap (λ b. cond (b && bytes_eq (signature T x.type) text) (Some x) (find (fits T name text) fs)) p.0 ∙ found_nowhere fs p.1
 
   -- where no two have one name, it is that of the name, if it has the signature
@@ -89,14 +89,14 @@ module _ (T : Classes) (name : Identifier) (text : List ℕ) where
   found_there [] i f at named differ = absurd (cc)
   found_there (x ∷ fs) zero f at named differ =
       let is : x ≡ f = cc in
-      let p = both (not (has_field fs x.name)) (field_names_differ fs) differ in
-      let none = found_nowhere fs (ap (has_field fs) (sym named ∙ ap (λ (y : Field). y.name) (sym is)) ∙ was_false (has_field fs x.name) p.0) in
+      let p = and_parts (not (has_field fs x.name)) (field_names_differ fs) differ in
+      let none = found_nowhere fs (ap (has_field fs) (sym named ∙ ap (λ (y : Field). y.name) (sym is)) ∙ not-true (has_field fs x.name) p.0) in
       ap (λ (y : Field). cond (fits T name text y) (Some y) (find (fits T name text) fs)) is
       ∙ ap (λ b. cond (b && bytes_eq (signature T f.type) text) (Some f) (find (fits T name text) fs)) (ap (λ n. bytes_eq n name) named ∙ itself name)
       ∙ ap (λ o. cond (bytes_eq (signature T f.type) text) (Some f) o) none
   found_there (x ∷ fs) (suc i) f at named differ =
-      let p = both (not (has_field fs x.name)) (field_names_differ fs) differ in
-      let other = by_test (bytes_eq x.name name) refl (was_false (has_field fs x.name) p.0) in
+      let p = and_parts (not (has_field fs x.name)) (field_names_differ fs) differ in
+      let other = by_test (bytes_eq x.name name) refl (not-true (has_field fs x.name) p.0) in
       ap (λ b. cond (b && bytes_eq (signature T x.type) text) (Some x) (find (fits T name text) fs)) other ∙ found_there fs i f at named p.1
     where
       by_test : (b : Bool) → bytes_eq x.name name ≡ b → has_field fs x.name ≡ false → b ≡ false
@@ -111,16 +111,16 @@ module _ (T : Classes) (name : Identifier) (text : List ℕ) where
 -- what holds of all holds of one
 pub all_at : {A : Type 0} (holds : A → Bool) (xs : List A) (i : ℕ) (x : A) → list_all holds xs ≡ true → slice_get xs i ≡ Some x → holds x ≡ true
 all_at holds [] i x h at = absurd (cc)
-all_at holds (y ∷ xs) zero x h at = let is : y ≡ x = cc in ap holds (sym is) ∙ (both (holds y) (list_all holds xs) h).0
-all_at holds (y ∷ xs) (suc i) x h at = all_at holds xs i x (both (holds y) (list_all holds xs) h).1 at
+all_at holds (y ∷ xs) zero x h at = let is : y ≡ x = cc in ap holds (sym is) ∙ (and_parts (holds y) (list_all holds xs) h).0
+all_at holds (y ∷ xs) (suc i) x h at = all_at holds xs i x (and_parts (holds y) (list_all holds xs) h).1 at
 
 pub declared_differ : (T : Classes) (c : ℕ) (s : Bool) → list_all declares_once T ≡ true → field_names_differ (declared_as T c s) ≡ true
 declared_differ T zero s h = refl
 declared_differ T (suc i) s h = by_class (slice_get T i) refl
   where
     by_kind : (d : Class) (k : Bool) → declares_once d ≡ true → field_names_differ (cond k d.statics d.fields) ≡ true
-    by_kind d true once = (both (field_names_differ d.fields) (field_names_differ d.statics) once).1
-    by_kind d false once = (both (field_names_differ d.fields) (field_names_differ d.statics) once).0
+    by_kind d true once = (and_parts (field_names_differ d.fields) (field_names_differ d.statics) once).1
+    by_kind d false once = (and_parts (field_names_differ d.fields) (field_names_differ d.statics) once).0
 
     by_class : (o : Option Class) → slice_get T i ≡ o → field_names_differ (option_map_or (λ (d : Class). cond s d.statics d.fields) o []) ≡ true
     by_class None e = refl
@@ -137,13 +137,13 @@ parts (x ∷ L) (suc i) d below = ap (λ l. x ∷ l) (parts L i d (omega (arith,
 other_field : (U : List Field) (f : Field) (R : List Field) → field_names_differ (U ++ f ∷ R) ≡ true → has_field U f.name ≡ false
 other_field [] f R h = refl
 other_field (u ∷ U) f R h =
-    let p = both (not (has_field (U ++ f ∷ R) u.name)) (field_names_differ (U ++ f ∷ R)) h in
-    let q = among U (was_false (has_field (U ++ f ∷ R) u.name) p.0) in
+    let p = and_parts (not (has_field (U ++ f ∷ R) u.name)) (field_names_differ (U ++ f ∷ R)) h in
+    let q = among U (not-true (has_field (U ++ f ∷ R) u.name) p.0) in
     ap (λ b. b || has_field U f.name) (same_bytes u.name f.name ∙ q) ∙ other_field U f R p.1
   where
     among : (V : List Field) → has_field (V ++ f ∷ R) u.name ≡ false → bytes_eq f.name u.name ≡ false
-    among [] e = (neither (bytes_eq f.name u.name) (has_field R u.name) e).0
-    among (v ∷ V) e = among V ((neither (bytes_eq v.name u.name) (has_field (V ++ f ∷ R) u.name) e).1)
+    among [] e = (or_parts (bytes_eq f.name u.name) (has_field R u.name) e).0
+    among (v ∷ V) e = among V ((or_parts (bytes_eq v.name u.name) (has_field (V ++ f ∷ R) u.name) e).1)
 
 -- the next of the list has a name that none before it has
 pub next_field : (L : List Field) (i : ℕ) (d : Field) → i < length L → field_names_differ L ≡ true → has_field (take i L) (get_or L i d).name ≡ false

@@ -1,7 +1,8 @@
 use Rattle.std.proofs.Common.{map, true}
+use Rattle.std.proofs.lemmas.Bool.{and_parts}
 use Rattle.classes.specs.BuiltInList.{listed_class}
 use Rattle.classes.specs.Tables.{declares_once}
-use Rattle.classes.proofs.DistinctNames.{both, next_is_new, next_is_put, at-map}
+use Rattle.classes.proofs.DistinctNames.{next_is_new, next_is_put, at-map}
 use Rattle.classes.proofs.NamedFields.{all_at}
 use Rattle.classes.proofs.built_ins.put_built_ins.Goals as goal
 
@@ -16,7 +17,7 @@ pub put_built_in-requires-clause-differ : goal.put_built_in-requires-clause-diff
 put_built_in-requires-clause-differ c =
     let L = map listed_class c.args.built_ins.now in
     let at = at-map listed_class c.args.built_ins.now c.loop-built_in.built_in-index _ c.loop-built_in-test.true in
-    (both _ true (all_at declares_once L c.loop-built_in.built_in-index _ c.requires.once at)).0
+    (and_parts _ true (all_at declares_once L c.loop-built_in.built_in-index _ c.requires.once at)).0
 
 pub loop-built_in-preserved : goal.loop-built_in-preserved
 loop-built_in-preserved c =
