@@ -2,7 +2,7 @@
 use Rattle.std.proofs.Common.{◌≡◌, ℕ, ◌+◌, ◌<◌, ◌≤◌, Bool, true, false, ◌&&◌, cond, List, [], ◌∷◌, ◌++◌, length, take, drop, replicate, Option, Some, None, Result, Ok, Err, refl, arith, length-append}
 use Rattle.std.specs.Prelude.{slice_get, slice_set, nat_lt, nat_le, IsSome, ◌==◌}
 use Rattle.std.specs.Option.{option_map}
-use Rattle.std.proofs.lemmas.Bool.{ltb-true, leb-true, lt-ltb, le-leb}
+use Rattle.std.proofs.lemmas.Bool.{ltb-true, leb-true, lt-ltb, le-leb, and_parts}
 use Rattle.std.proofs.lemmas.List.{length-set, length-take, length-drop, length-replicate}
 use Rattle.std.proofs.lemmas.Option.{slice_get-get_or}
 use Rattle.code.specs.declared.instr.Instr.{Instr}
@@ -98,12 +98,8 @@ plain_keeps (instr.ReturnReference operand) stack numbers = tt
 
 -- ---- an effect is there
 
-pub both : (a b : Bool) → (a && b) ≡ true → (a ≡ true) × (b ≡ true)
-both true b h = (refl, h)
-both false b h = absurd (cc)
-
 array_inside : (numbers : ℕ) (array : LocalArray) → array_within numbers array ≡ true → array.start + array.len ≤ numbers
-array_inside numbers array h = leb-true (array.start + array.len) numbers ((both (nat_lt 0 array.len && nat_le array.len 1024) (nat_le (array.start + array.len) numbers) h).1)
+array_inside numbers array h = leb-true (array.start + array.len) numbers ((and_parts (nat_lt 0 array.len && nat_le array.len 1024) (nat_le (array.start + array.len) numbers) h).1)
 
 load_there : (slot : ℕ) (stack numbers : List ℕ) → slot < length numbers → IsSome (option_map {U = Effect} (λ (n : ℕ). (way.Next, n ∷ stack, numbers)) (slice_get numbers slot))
 load_there slot stack numbers h = rw (slice_get-get_or numbers slot 0 h) refl

@@ -4,7 +4,7 @@ use Rattle.std.specs.Prelude.{slice_get, slice_set, nat_lt, nat_le, IfSome, ◌=
 use Rattle.std.specs.List.{list_all}
 use Rattle.std.specs.Slice.{IsItemAt}
 use Rattle.std.specs.Option.{option_map, option_and_then, option_copied, is_some}
-use Rattle.std.proofs.lemmas.Bool.{ltb-true, ltb-false}
+use Rattle.std.proofs.lemmas.Bool.{ltb-true, ltb-false, and_parts}
 use Rattle.std.proofs.lemmas.Option.{slice_get_within, slice_get_past, slice_get_read}
 use Rattle.code.specs.declared.instr.Instr.{Instr}
 use Rattle.code.specs.declared.instr.Instr.TheVariants as instr
@@ -14,13 +14,13 @@ use Rattle.code.specs.Depth.{Listing, IsValid, HasDepth, LeadsInside, Lands, Lea
 use Rattle.code.specs.Effect.{Effect, operate_or_trap, operated, number_stored, element_word, cleared, plain_of}
 use Rattle.code.specs.Running.{RunsAt}
 use Rattle.code.proofs.Depths.{depth_at-next, depth_known}
-use Rattle.code.proofs.Effects.{KeepsSlots, plain_keeps, both, plain_there}
+use Rattle.code.proofs.Effects.{KeepsSlots, plain_keeps, plain_there}
 
 -- each of a list that all pass
 passes : (test : Instr → Bool) (code : List Instr) (place : ℕ) (i : Instr) → list_all test code ≡ true → slice_get code place ≡ Some i → test i ≡ true
 passes test [] place i h at = absurd (cc)
-passes test (x ∷ code) zero i h at = let same : x ≡ i = cc in ap test (sym same) ∙ (both (test x) (list_all test code) h).0
-passes test (x ∷ code) (suc place) i h at = passes test code place i ((both (test x) (list_all test code) h).1) at
+passes test (x ∷ code) zero i h at = let same : x ≡ i = cc in ap test (sym same) ∙ (and_parts (test x) (list_all test code) h).0
+passes test (x ∷ code) (suc place) i h at = passes test code place i ((and_parts (test x) (list_all test code) h).1) at
 
 guarded : (b : Bool) (d after : ℕ) → cond b (Some d) None ≡ Some after → after ≡ d
 guarded true d after h = cc
