@@ -3,6 +3,7 @@ use Rattle.std.proofs.Common.{◌≡◌, ℕ, zero, suc, ◌<◌, Bool, true, Li
 use Rattle.std.specs.Prelude.{slice_get, Result, Ok, Err, OnOk, OnErr}
 use Rattle.std.specs.List.{Contains}
 use Rattle.std.proofs.lemmas.List.Elements.{Contains-push, Contains-append_left, Contains-push_cases}
+use Rattle.std.proofs.lemmas.Option.{slice_get-get_or}
 use Rattle.reachability.specs.Reach.{IsReached, IsClosed}
 use Rattle.reachability.specs.Reach.IsReached.{Root, Referred}
 use Rattle.reachability.specs.Marks.{is_marked, Adds, IsFollowed, WaitsFor, AreReached}
@@ -107,16 +108,11 @@ get_or_get [] k x e = absurd (cc)
 get_or_get (y ∷ xs) zero x e = cc
 get_or_get (y ∷ xs) (suc k) x e = get_or_get xs k x e
 
-get_there : {X : Type 0} (xs : List X) (k : ℕ) (x : X) → k < length xs → slice_get xs k ≡ Some (get_or xs k x)
-get_there [] k x l = absurd (omega arith)
-get_there (y ∷ xs) zero x l = refl
-get_there (y ∷ xs) (suc k) x l = get_there xs k x (omega arith)
-
 pub contains-get : {X : Type 0} (xs : List X) (k : ℕ) (x : X) → slice_get xs k ≡ Some x → Contains xs x
 contains-get xs k x e = (k, get_within xs k x e, get_or_get xs k x e)
 
 pub get-contains : {X : Type 0} (xs : List X) (x : X) (c : Contains xs x) → slice_get xs c.0 ≡ Some x
-get-contains {X = X} xs x c = get_there xs c.0 x c.1 ∙ ap (λ (y : X). Some y) c.2
+get-contains {X = X} xs x c = slice_get-get_or xs c.0 x c.1 ∙ ap (λ (y : X). Some y) c.2
 
 pub one_target : (x y : ℕ) (xs : List (Option ℕ)) (k : ℕ) → slice_get xs k ≡ Some (Some x) → slice_get xs k ≡ Some (Some y) → x ≡ y
 one_target x y xs k e f = cc
