@@ -130,7 +130,7 @@ class Growth:
         least, most = (self.instructions(self.run(RETURNS, world, "")) / len(world) for world in worlds)
         return "a byte of fields' names that begin alike, by fields of a class: 1 and 64", [least, most, most * len(worlds[1]) / MB]
 
-    def searches(self, what, steps, least, most, taken=4_000):
+    def searches(self, what, steps, least, most, taken=400):
         """A loop of so many steps with one call, beside a turn of three steps without it, which is little."""
         def one(program, world):
             many, none = (self.instructions(self.run(program, world, words)) for words in (f"1*{taken + 1}\n", "1\n"))
