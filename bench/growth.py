@@ -59,7 +59,8 @@ class Growth:
         def counted(command, program, world, words=""):
             return self.instructions(command(program, world, words))
 
-        yield "load with no object, a cell of the heap", [(counted(self.run, RETURNS, f"heap {cells}\nclass A\nthread Java_A_f\n") - begun) / cells for cells in HEAPS]
+        empty = [counted(self.run, RETURNS, f"heap {cells}\nclass A\nthread Java_A_f\n") for cells in HEAPS]
+        yield "load with no object, a cell of the heap", [(loaded - begun) / cells for loaded, cells in zip(empty, HEAPS)]
         run, replayed, collected, sliced, made = [], [], [], [], []
         for cells in HEAPS:
             world, count = lists(cells)
@@ -87,9 +88,11 @@ class Growth:
         yield self.passed()
         yield self.fields()
         yield self.searches("a `GetFieldID`, by the classes above: 1 and 100", 4, sizes.searched_field(1), sizes.searched_field(100))
-        yield self.searches("a `GetStaticMethodID`, by functions and by the classes above: 3 and 1, 256 and 100", 4, sizes.searched_method(1, 3), sizes.searched_method(100, 256))
-        yield self.searches("the same with names of 15,000 bytes, 256 functions and 50 classes, beside 3 and 1", 4,
-                            sizes.searched_method(1, 3, 15_000), sizes.searched_method(50, 256, 15_000), 4)
+        yield self.searches("a `GetStaticMethodID`, by functions and by the classes above: 3 and 1, 256 and 100", 4,
+                            sizes.searched_method(1, 3), sizes.searched_method(100, 256))
+        what, numbers = self.searches("the same with names of 1,500 bytes: 3 and 1, 256 and 50; in all with those of 15,000 bytes that fit", 4,
+                                      sizes.searched_method(1, 3, 1_500), sizes.searched_method(50, 256, 1_500), 4)
+        yield what, [*numbers[:2], 10 * numbers[2]]
         yield self.monitors("a `MonitorEnter`, by the monitors that are entered: 100 and 10,000", self.run)
         yield self.monitors("the same in a replay", self.replay)
         yield self.deleted()
@@ -109,7 +112,7 @@ class Growth:
     def alike(self):
         texts = sizes.begun_alike(2), sizes.begun_alike(256)
         least, most = (self.instructions(self.check(text)) / len(text) for text in texts)
-        return "a byte of functions' names that begin alike, by functions: 2 and 256", [least, most, most * len(texts[1]) / MB]
+        return "a byte of functions' names that begin alike, by functions: 2 and 256", [least, most, most * sizes.MOST_BYTES / MB]
 
     def statics(self):
         texts = sizes.with_statics(1), sizes.with_statics(256)

@@ -1,10 +1,9 @@
 """How much memory whole runs take at most."""
-import os
 import subprocess
 
 import sizes
 from program import ENTRIES
-from texts import ARRAY, CHAIN, EIGHT, FIELD, FIELDS, IN_COPY, IN_LOCAL, IN_VIEW, LOOP, MONITORS, NODES, REFERENCES, TAKES, WORLD, native, objects, wide
+from texts import ARRAY, CHAIN, EIGHT, FIELD, FIELDS, IN_COPY, IN_LOCAL, IN_VIEW, LOOP, MONITORS, NODES, REFERENCES, TAKES, WORLD, moves, native, objects, wide
 
 SMALL = "heap 512\nclass A\nfield A next LA;\nfield A n I\nthread Java_A_f\n"
 SHIFTS = native("""    uint32_t word = 1u;
@@ -87,11 +86,11 @@ class Memory:
     measured; and the ratio of both."""
 
     def most(self, command):
-        """The most memory of a run of a command, in MB. GNU time counts it, since the number that the system tells of a child begins with that of its parent."""
+        """The most memory of a run of a command, in MB of 1,024 KB. GNU time counts it: what the system tells of a child begins with what its parent has."""
         told = f"{self.folder}/memory"
         subprocess.run(["/usr/bin/time", "-f", "%M", "-o", told, *command], check=True, stdin=subprocess.DEVNULL, stdout=subprocess.DEVNULL)
         with open(told, encoding="utf-8") as file:
-            return int(file.read()) / 1000
+            return int(file.read()) / 1024
 
     def memory(self):
         for what, command, beside in self.whole_runs():
@@ -115,10 +114,10 @@ class Memory:
         yield "run of 1,000,000 steps: monitors, eight threads by turns", self.run(MONITORS, EIGHT, "1 2 3 4 5 6 7 8\n" * (ENTRIES // 8)), None
         yield "collection: a chain of 500,005 cells", self.run(CHAIN, NODES, "1*800005 c\n"), None
         yield "collection: 30,000 objects with arrays of 9", self.run(*arrays(30_000), "1*570000 c\n"), None
-        numbers = native("    jintArray unused = (*env)->NewIntArray(env, 9);\n    jintArray array = (*env)->NewIntArray(env, 1000000);\n    (*env)->DeleteLocalRef(env, unused);")
-        yield "collection: an array of 1,000,000 numbers", self.run(numbers, NODES, "1*6 c\n"), None
-        for what, program, world, beside in (("the first loop", LOOP, WORLD, 7.7), ("a field", FIELD, FIELDS, None), ("exceptions", THROWS, WORLD, 7.8),
-                                             ("objects that die", DIES, SMALL, None)):
+        yield "collection: an array of 1,000,000 numbers", self.run(moves(1_000_000), NODES, "1*6 c\n"), None
+        for what, program, world, beside in (
+            ("the first loop", LOOP, WORLD, 7.7), ("a field", FIELD, FIELDS, None), ("exceptions", THROWS, WORLD, 7.8), ("objects that die", DIES, SMALL, None),
+        ):
             yield f"replay of 1,000,000 entries: {what}", self.replay(program, world, self.journal(self.run(program, world, whole))), beside
         dies = sizes.array_of(100_000)
         yield "replay: 100 arrays of 100,000 numbers that die", self.replay(dies, NODES, self.journal(self.run(dies, NODES, "1*501\n"))), None

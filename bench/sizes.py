@@ -109,14 +109,14 @@ def branching(references, branches):
 
 
 def begun_alike(functions):
-    """Functions whose long names differ in their ends alone."""
-    name = "x" * (4_100_000 // functions)
+    """Functions whose long names, of 410 KB together, differ in their ends alone."""
+    name = "x" * (410_000 // functions)
     return "".join(f"JNIEXPORT void JNICALL Java_A_{name}{f:03}(JNIEnv*env,jclass c){{return;}}\n" for f in range(functions))
 
 
 def with_statics(functions):
-    """256 statics with long names, of a tenth of what a text may have, and functions with none."""
-    name = "x" * 1_600
+    """256 statics with long names, which are some 100 KB, and functions with none."""
+    name = "x" * 400
     return "".join(f"static jobject {name}{s:03}=NULL;\n" for s in range(256)) + methods(functions, "")
 
 
