@@ -16,10 +16,8 @@ use Rattle.cli_commands.specs.declared.command.Trace.TheVariants.{Steps, Calls}
 use Rattle.cli_explanations.specs.Titles.{fault_title, trap_title}
 use Rattle.cli_explanations.specs.declared.Explanation.{Explanation}
 use Rattle.cli_words.specs.CommandLine.{command_line}
-use Rattle.cli_words.specs.declared.request.Faults.{Faults}
-use Rattle.cli_words.specs.declared.request.Faults.TheVariants.{First, All}
 use Rattle.cli_words.specs.declared.request.Request.{Request}
-use Rattle.cli_words.specs.declared.request.Request.TheVariants.{Serve, Trace, CheckEach, CheckAll, WriteLog, Explain, Show, Misuse, LacksOrder, LacksMemory}
+use Rattle.cli_words.specs.declared.request.Request.TheVariants.{Serve, Trace, CheckEach, WriteLog, Explain, Show, Misuse, LacksOrder, LacksMemory}
 
 -- ---- words that `clap` takes
 
@@ -42,7 +40,7 @@ IsGiven rows name = HasValue rows name (codes "true")
 -- the command on files that the words name, each file by the word of its name; a run goes by a schedule or by workers, and not by both
 abbrev pub Names : (command : List ℕ) → List Row → Command → Type 0
 Names name rows (Check program) =
-    (name ≡ codes "check") × HasValues rows (codes "PROG") (program.now ∷ []) × (IsGiven rows (codes "ALL") → ⊥) × (IsGiven rows (codes "SARIF") → ⊥)
+    (name ≡ codes "check") × HasValues rows (codes "PROG") (program.now ∷ []) × (IsGiven rows (codes "SARIF") → ⊥)
 Names name rows (Run program world schedule) =
     (name ≡ codes "run") × HasValue rows (codes "PROG") program.now × HasValue rows (codes "WORLD") world.now × HasValue rows (codes "FILE") schedule.now
     × (IsGiven rows (codes "WORKERS") → ⊥)
@@ -60,24 +58,11 @@ AreNamed name rows None = (command : Command) → Names name rows command → �
 -- the words name programs to check, two or more
 abbrev pub NamesSeveral : (command : List ℕ) → List Row → (programs : List (List ℕ)) → Type 0
 NamesSeveral name rows programs =
-    (name ≡ codes "check") × HasValues rows (codes "PROG") programs × (1 < length programs) × (IsGiven rows (codes "ALL") → ⊥)
-    × (IsGiven rows (codes "SARIF") → ⊥)
-
--- the words name programs of which every fault is told
-abbrev pub NamesAll : (command : List ℕ) → List Row → (programs : List (List ℕ)) → Type 0
-NamesAll name rows programs =
-    (name ≡ codes "check") × HasValues rows (codes "PROG") programs × (0 < length programs) × IsGiven rows (codes "ALL")
-    × (IsGiven rows (codes "SARIF") → ⊥)
-
--- which faults are told is as the words say: every one, or the first
-abbrev pub AreMeant : List Row → Faults → Type 0
-AreMeant rows All = IsGiven rows (codes "ALL")
-AreMeant rows First = IsGiven rows (codes "ALL") → ⊥
+    (name ≡ codes "check") × HasValues rows (codes "PROG") programs × (1 < length programs) × (IsGiven rows (codes "SARIF") → ⊥)
 
 -- the words name programs of whose faults a log is written
-abbrev pub NamesLog : (command : List ℕ) → List Row → (programs : List (List ℕ)) → Faults → Type 0
-NamesLog name rows programs faults =
-    (name ≡ codes "check") × HasValues rows (codes "PROG") programs × (0 < length programs) × IsGiven rows (codes "SARIF") × AreMeant rows faults
+abbrev pub NamesLog : (command : List ℕ) → List Row → (programs : List (List ℕ)) → Type 0
+NamesLog name rows programs = (name ≡ codes "check") × HasValues rows (codes "PROG") programs × (0 < length programs) × IsGiven rows (codes "SARIF")
 
 -- what is traced is as the words say: of words for both the calls alone
 abbrev pub IsTraced : List Row → Traced → Type 0
@@ -87,6 +72,11 @@ IsTraced rows Steps = IsGiven rows (codes "TRACE") × (IsGiven rows (codes "TRAC
 -- nothing is traced
 abbrev pub IsUntraced : List Row → Type 0
 IsUntraced rows = (IsGiven rows (codes "TRACE") → ⊥) × (IsGiven rows (codes "TRACE_CALLS") → ⊥)
+
+-- what is traced, and nothing where the words don't say it
+abbrev pub AreTraced : List Row → Option Traced → Type 0
+AreTraced rows (Some trace) = IsTraced rows trace
+AreTraced rows None = IsUntraced rows
 
 -- the number that a text spells in decimal digits, before which a plus may be
 abbrev pub Spells : (text : List ℕ) → (number : ℕ) → Type 0
@@ -111,17 +101,14 @@ IsSaid rows None = (number : ℕ) → (AsksFault rows number → fault_title num
 
 -- the words name no programs to check but one
 abbrev pub NoneChecked : (command : List ℕ) → List Row → Type 0
-NoneChecked name rows =
-    (programs : List (List ℕ)) → (NamesSeveral name rows programs → ⊥) × (NamesAll name rows programs → ⊥)
-    × ((faults : Faults) → NamesLog name rows programs faults → ⊥)
+NoneChecked name rows = (programs : List (List ℕ)) → (NamesSeveral name rows programs → ⊥) × (NamesLog name rows programs → ⊥)
 
 -- what is asked for: something with the files that are named, an explanation, or something of which a file isn't named, or that goes by no order or by two
 abbrev pub AsksFor : Found → Request → Type 0
 AsksFor (Some (name, rows)) (Serve command) = Names name rows command × (name ≢ codes "check" → IsUntraced rows)
 AsksFor (Some (name, rows)) (Trace command trace) = Names name rows command × (name ≢ codes "check") × IsTraced rows trace
 AsksFor (Some (name, rows)) (CheckEach programs) = NamesSeveral name rows (map (λ p. p.now) programs.items)
-AsksFor (Some (name, rows)) (CheckAll programs) = NamesAll name rows (map (λ p. p.now) programs.items)
-AsksFor (Some (name, rows)) (WriteLog programs faults) = NamesLog name rows (map (λ p. p.now) programs.items) faults
+AsksFor (Some (name, rows)) (WriteLog programs) = NamesLog name rows (map (λ p. p.now) programs.items)
 AsksFor (Some (name, rows)) (Explain explanation) = (name ≡ codes "explain") × IsSaid rows explanation
 AsksFor (Some (name, rows)) LacksOrder = (name ≢ codes "explain") × AreNamed name rows None × NoneChecked name rows
 AsksFor None LacksOrder = Unit {0}
@@ -140,8 +127,7 @@ IsTold error (Misuse text) = (IsHelp (kind_of error) → ⊥) × (kind_of error 
 IsTold error LacksMemory = Unit {0}
 IsTold error (Serve command) = ⊥
 IsTold error (CheckEach programs) = ⊥
-IsTold error (CheckAll programs) = ⊥
-IsTold error (WriteLog programs faults) = ⊥
+IsTold error (WriteLog programs) = ⊥
 IsTold error (Trace command trace) = ⊥
 IsTold error (Explain explanation) = ⊥
 IsTold error LacksOrder = ⊥

@@ -109,19 +109,6 @@ fn journal<'a>(alloc: Global) -> Arg<'a>
     )
 }
 
-/// That every fault is told.
-fn all<'a>(alloc: Global) -> Arg<'a>
-    ensures rule { rule_of result ≡ flag (codes "all") (codes "ALL") }
-    ensures local { result.global ≡ false }
-{
-    flag(
-        alloc,
-        "all",
-        "ALL",
-        "Tells every fault, and not the first alone",
-    )
-}
-
 /// That a log is written.
 fn sarif<'a>(alloc: Global) -> Arg<'a>
     ensures rule { rule_of result ≡ flag (codes "sarif") (codes "SARIF") }
@@ -131,7 +118,7 @@ fn sarif<'a>(alloc: Global) -> Arg<'a>
         alloc,
         "sarif",
         "SARIF",
-        "Prints the faults as a log in SARIF 2.1.0",
+        "Prints a log of the faults in SARIF 2.1.0",
     )
 }
 
@@ -146,7 +133,6 @@ fn check_command<'a>(alloc: Global) -> Result<Command<'a>, AllocError>
             "PROG",
             "The text of the native methods; of several, each line begins with the name",
         ))?
-        .arg(all(alloc))?
         .arg(sarif(alloc))
 }
 

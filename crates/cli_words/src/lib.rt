@@ -6,4 +6,4 @@ mod parsing;
 mod request;
 
 pub use parsing::read;
-pub use request::{Faults, Request};
+pub use request::Request;

@@ -1,16 +1,16 @@
 //! From words to what they ask for.
 
-ghost use Rattle.std.specs.Prelude.{◌≡◌, ◌≢◌, IfOk, ℕ, List, Some, codes, map, option_map};
+ghost use Rattle.std.specs.Prelude.{◌≡◌, ◌≢◌, IfOk, List, Some, codes, map, option_map};
 ghost use Rattle.clap.specs.Faults.{fault_of};
 ghost use Rattle.clap.specs.Kinds.{FailsBy};
 ghost use Rattle.clap.specs.Matches.{found_of};
 ghost use Rattle.clap.specs.Simple.{subcommand_of, subcommand_rows_of};
 ghost use Rattle.clap.specs.Walk.{Row, first_of, rows_of};
 ghost use Rattle.cli_words.specs.CommandLine.{command_line};
-ghost use Rattle.cli_words.specs.Requests.{HasValue, HasValues, IsSaid, Names, AreNamed, AsksFor, IsTold, AreParsed, AreRead};
+ghost use Rattle.cli_words.specs.Requests.{HasValue, HasValues, IsSaid, AreNamed, AreTraced, AsksFor, IsTold, AreParsed, AreRead};
 
 use crate::command_line::command_line;
-use crate::request::{Faults, Request};
+use crate::request::Request;
 use clap::error::ErrorKind;
 use clap::{ArgMatches, Error};
 use cli_commands::{Command, Trace};
@@ -43,29 +43,21 @@ fn run_of<'a>(
     }
 }
 
-/// The check of these programs, of one or of more.
+/// The check of these programs, of one or of more, or the log of their faults.
 fn check_of<'a>(
     alloc: Global,
     programs: &[&'a str],
-    all: Option<&'a str>,
     sarif: Option<&'a str>,
 ) -> Result<Request<'a>, AllocError>
     ensures { (rows : List Row) → HasValues rows (codes "PROG") (map (λ p. p.now) programs.now)
-        → option_map (λ w. w.now) all.entry ≡ first_of (codes "ALL") rows
         → option_map (λ w. w.now) sarif.entry ≡ first_of (codes "SARIF") rows
         → IfOk result (AsksFor (Some (codes "check", rows))) }
 {
-    match (programs, all, sarif) {
-        ([], _, _) => Ok(Request::LacksOrder),
-        ([_, ..], Some("true"), Some("true")) => {
-            Ok(Request::WriteLog(programs.to_vec(alloc)?, Faults::All))
-        }
-        ([_, ..], _, Some("true")) => {
-            Ok(Request::WriteLog(programs.to_vec(alloc)?, Faults::First))
-        }
-        ([_, ..], Some("true"), _) => Ok(Request::CheckAll(programs.to_vec(alloc)?)),
-        ([program], _, _) => Ok(Request::Serve(Command::Check { program: *program })),
-        ([_, _, ..], _, _) => Ok(Request::CheckEach(programs.to_vec(alloc)?)),
+    match (programs, sarif) {
+        ([], _) => Ok(Request::LacksOrder),
+        ([_, ..], Some("true")) => Ok(Request::WriteLog(programs.to_vec(alloc)?)),
+        ([program], _) => Ok(Request::Serve(Command::Check { program: *program })),
+        ([_, _, ..], _) => Ok(Request::CheckEach(programs.to_vec(alloc)?)),
     }
 }
 
@@ -74,12 +66,7 @@ fn checked<'a>(alloc: Global, given: &ArgMatches<'a>) -> Result<Request<'a>, All
     ensures { IfOk result (AsksFor (Some (codes "check", rows_of (found_of given.now)))) }
 {
     match given.get_raw("PROG") {
-        Some(programs) => check_of(
-            alloc,
-            programs,
-            given.get_str("ALL"),
-            given.get_str("SARIF"),
-        ),
+        Some(programs) => check_of(alloc, programs, given.get_str("SARIF")),
         None => Ok(Request::LacksOrder),
     }
 }
@@ -126,34 +113,23 @@ fn served<'a>(name: &str, given: &ArgMatches<'a>) -> Option<Command<'a>>
     )
 }
 
-/// A run or a replay, and what is traced of it.
-fn traced_of<'a>(
-    command: Command<'a>,
-    steps: Option<&'a str>,
-    calls: Option<&'a str>,
-) -> Request<'a>
-    ensures { (name : List ℕ) → (rows : List Row) → name ≢ codes "check" → Names name rows command.entry
-        → option_map (λ w. w.now) steps.entry ≡ first_of (codes "TRACE") rows
-        → option_map (λ w. w.now) calls.entry ≡ first_of (codes "TRACE_CALLS") rows
-        → AsksFor (Some (name, rows)) result }
+/// What is traced: of words for both the calls alone.
+fn traced_of(steps: Option<&str>, calls: Option<&str>) -> Option<Trace>
+    ensures { (rows : List Row) → option_map (λ w. w.now) steps.entry ≡ first_of (codes "TRACE") rows
+        → option_map (λ w. w.now) calls.entry ≡ first_of (codes "TRACE_CALLS") rows → AreTraced rows result }
 {
     match (steps, calls) {
-        (_, Some("true")) => Request::Trace(command, Trace::Calls),
-        (Some("true"), _) => Request::Trace(command, Trace::Steps),
-        _ => Request::Serve(command),
+        (_, Some("true")) => Some(Trace::Calls),
+        (Some("true"), _) => Some(Trace::Steps),
+        _ => None,
     }
 }
 
-/// The run or the replay, and what the words after the command's name say that is traced of it.
-fn traced<'a>(command: Command<'a>, given: &ArgMatches<'a>) -> Request<'a>
-    ensures { (name : List ℕ) → name ≢ codes "check" → Names name (rows_of (found_of given.now)) command.entry
-        → AsksFor (Some (name, rows_of (found_of given.now))) result }
+/// What is traced of a run or a replay, as the words after the command's name say.
+fn traced(given: &ArgMatches<'_>) -> Option<Trace>
+    ensures { AreTraced (rows_of (found_of given.now)) result }
 {
-    traced_of(
-        command,
-        given.get_str("TRACE"),
-        given.get_str("TRACE_CALLS"),
-    )
+    traced_of(given.get_str("TRACE"), given.get_str("TRACE_CALLS"))
 }
 
 /// What the words after `explain` ask for: a fault by its number, or a trap by `trap` and its number.
@@ -184,7 +160,10 @@ fn asked_of<'a>(alloc: Global, matches: &ArgMatches<'a>) -> Result<Request<'a>, 
         Some(("explain", given)) => Ok(Request::Explain(explained(given))),
         Some(("check", given)) => checked(alloc, given),
         Some((name, given)) => match served(name, given) {
-            Some(command) => Ok(traced(command, given)),
+            Some(command) => match traced(given) {
+                Some(trace) => Ok(Request::Trace(command, trace)),
+                None => Ok(Request::Serve(command)),
+            },
             None => Ok(Request::LacksOrder),
         },
         None => Ok(Request::LacksOrder),

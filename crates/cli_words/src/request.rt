@@ -3,15 +3,6 @@
 use cli_commands::{Command, Trace};
 use cli_explanations::Explanation;
 
-/// Which faults of a program are told.
-#[derive(Clone, Copy)]
-pub enum Faults {
-    /// The first.
-    First,
-    /// Every one.
-    All,
-}
-
 /// What words ask for.
 #[derive(Drop)]
 pub enum Request<'a> {
@@ -19,10 +10,8 @@ pub enum Request<'a> {
     Serve(Command<'a>),
     /// The programs of these names are checked, two or more.
     CheckEach(Vec<&'a str>),
-    /// Every fault is told of the programs of these names, one or more.
-    CheckAll(Vec<&'a str>),
     /// A log is written of the faults of the programs of these names, one or more.
-    WriteLog(Vec<&'a str>, Faults),
+    WriteLog(Vec<&'a str>),
     /// A run or a replay is traced.
     Trace(Command<'a>, Trace),
     /// A fault or a trap is explained, where there is one of the number.
