@@ -2,6 +2,7 @@
 use Rattle.std.specs.Prelude.{◌≡◌, ℕ, Bool, true, false, List, map, Option, Some, None, codes, string_bytes}
 use Rattle.sinks.specs.Sink.{Written}
 use Rattle.jnirun.specs.Runs.{AppendsRun, StopsRun}
+use Rattle.cli_commands.specs.declared.command.Command.{Command}
 use Rattle.cli_commands.specs.Commands.{runs_workers}
 use Rattle.cli_commands.specs.Saying.{Tells}
 use Rattle.jnirun.specs.Serve.{Serves}
@@ -9,7 +10,7 @@ use Rattle.jnirun.specs.ServeEach.{ServesEach}
 use Rattle.jnirun.specs.Traces.{ServesTraced}
 use Rattle.cli_explanations.specs.declared.Explanation.{Explanation}
 use Rattle.cli_words.specs.declared.request.Request.{Request}
-use Rattle.cli_words.specs.declared.request.Request.TheVariants.{Serve, Trace, CheckEach, CheckAll, WriteLog, Explain, Show, Misuse, LacksOrder, LacksMemory}
+use Rattle.cli_words.specs.declared.request.Request.TheVariants.{Serve, Trace, CheckEach, WriteLog, Explain, Show, Misuse, LacksOrder, LacksMemory}
 
 -- ---- texts for a reader
 
@@ -35,6 +36,12 @@ abbrev pub needs_order : List ℕ
 needs_order =
     codes "error: run needs one of --schedule FILE and --workers\n\nUsage: jnirun run <PROG> <WORLD> --schedule <FILE>\n       jnirun run <PROG> <WORLD> --workers\n"
 
+-- the command that is asked for, traced or not
+abbrev pub IsAskedFor : Request → Command → Type 0
+IsAskedFor (Serve c) command = c ≡ command
+IsAskedFor (Trace c trace) command = c ≡ command
+IsAskedFor request command = ⊥
+
 -- a run by workers is asked for
 abbrev pub asks_for_workers : Request → Bool
 asks_for_workers (Serve command) = runs_workers command
@@ -46,16 +53,13 @@ abbrev pub asks_for_trace : Request → Bool
 asks_for_trace (Trace command trace) = true
 asks_for_trace request = false
 
--- what the program answers
+-- what the program answers; of logs nothing is said here
 abbrev pub Answers : (gives : List ℕ → List ℕ → Type 0) → (lacks : List ℕ → Type 0) → Request → (out out_after err err_after : Written) → (status : ℕ) → Type 0
 Answers gives lacks (Serve command) out out_after err err_after status = Serves gives lacks command out out_after err err_after status
 Answers gives lacks (CheckEach programs) out out_after err err_after status =
     ServesEach gives lacks (map (λ p. p.now) programs.items) out out_after err err_after status
 Answers gives lacks (Trace command trace) out out_after err err_after status = ServesTraced gives lacks command out out_after err err_after status
-Answers gives lacks (CheckAll programs) out out_after err err_after status =
-    ServesEach gives lacks (map (λ p. p.now) programs.items) out out_after err err_after status
-Answers gives lacks (WriteLog programs faults) out out_after err err_after status =
-    ServesEach gives lacks (map (λ p. p.now) programs.items) out out_after err err_after status
+Answers gives lacks (WriteLog programs) out out_after err err_after status = Unit {0}
 Answers gives lacks (Explain explanation) out out_after err err_after status = Shows (IsTextOf explanation) out out_after err err_after status
 Answers gives lacks (Show text) out out_after err err_after status = Shows (λ t. t ≡ string_bytes text) out out_after err err_after status
 Answers gives lacks (Misuse text) out out_after err err_after status = (out_after ≡ out) × Declines (string_bytes text) err err_after status

@@ -3,9 +3,10 @@
 ghost use Rattle.std.specs.Prelude.{◌≡◌, ◌≢◌, ◌<◌, ◌^◌, false, codes, IfSome, IfNone};
 ghost use Rattle.sinks.specs.Sink.{CanFail};
 ghost use Rattle.cli_commands.specs.Saying.{Tells};
-ghost use Rattle.cli.specs.Answers.{IsTextOf, Shows, Declines, asks_for_trace, asks_for_workers, Answers};
+ghost use Rattle.cli.specs.Answers.{IsTextOf, Shows, Declines, IsAskedFor, asks_for_trace, asks_for_workers, Answers};
 
 use cli_explanations::Explanation;
+use cli_logs::write_log;
 use cli_words::Request;
 use jnirun::{COMMAND_LINE, Command, DONE, Files, Trace, check_each, fail, say, serve_sequential};
 use sinks::Sink;
@@ -69,7 +70,7 @@ fn explain<O: Sink, E: Sink>(explanation: Option<Explanation>, out: &mut O, err:
 
 /// The command of a run by workers, where one is asked for.
 pub fn run_by_workers<'a>(request: &Request<'a>) -> Option<Command<'a>>
-    ensures some { IfSome result (λ command. request.now ≡ Request.Serve command) }
+    ensures some { IfSome result (IsAskedFor request.now) }
     ensures none { IfNone result (asks_for_workers request.now ≡ false) }
 {
     match request {
@@ -81,8 +82,7 @@ pub fn run_by_workers<'a>(request: &Request<'a>) -> Option<Command<'a>>
             }
         }
         Request::CheckEach(_)
-        | Request::CheckAll(_)
-        | Request::WriteLog(_, _)
+        | Request::WriteLog(_)
         | Request::Explain(_)
         | Request::Show(_)
         | Request::Misuse(_)
@@ -100,8 +100,7 @@ pub fn traced<'a>(request: &Request<'a>) -> Option<(Command<'a>, Trace)>
         Request::Trace(command, which) => Some((*command, *which)),
         Request::Serve(_)
         | Request::CheckEach(_)
-        | Request::CheckAll(_)
-        | Request::WriteLog(_, _)
+        | Request::WriteLog(_)
         | Request::Explain(_)
         | Request::Show(_)
         | Request::Misuse(_)
@@ -132,8 +131,7 @@ pub fn answer<F: Files, O: Sink, E: Sink>(
         Request::Serve(command) => serve_sequential(alloc, *command, files, out, err),
         Request::Trace(_, _) => unreachable!(),
         Request::CheckEach(programs) => check_each(alloc, programs, files, out, err),
-        Request::CheckAll(programs) => check_each(alloc, programs, files, out, err),
-        Request::WriteLog(programs, _) => check_each(alloc, programs, files, out, err),
+        Request::WriteLog(programs) => write_log(alloc, programs, files, out, err),
         Request::Explain(explanation) => explain(*explanation, out, err),
         Request::Show(text) => show(text.as_bytes(), out, err),
         Request::Misuse(text) => decline(text.as_bytes(), err),

@@ -4,6 +4,9 @@ use Rattle.cli.proofs.answering.answer.Goals as goal
 pub returns-in-Serve : goal.returns-in-Serve
 returns-in-Serve g c = rw c.in-Serve.is c.serve_sequential.ensures
 
+pub returns-in-WriteLog : goal.returns-in-WriteLog
+returns-in-WriteLog g c = rw c.in-WriteLog.is tt
+
 pub returns-in-Explain : goal.returns-in-Explain
 returns-in-Explain g c = rw c.in-Explain.is c.explain.ensures
 
