@@ -44,7 +44,7 @@ use Rattle.machine_calls.proofs.AnswerCases.{gives_it, makes_it, throws_it, writ
 use Rattle.machine_threads.specs.SlotsHold.{IsSmallCopy}
 use Rattle.machine_steps.proofs.Acquisitions.{assigned_nothing, taken_by}
 use Rattle.machine_steps.proofs.Changes.{lookup_other, lookup_same}
-use Rattle.machine_steps.proofs.Invocations.{plain_result}
+use Rattle.machine_steps.proofs.GivenResults.{plain_result}
 use Rattle.machine_steps.proofs.Receives.{IsNoBuffer}
 use Rattle.semantics.specs.EventViews.{trap_view}
 

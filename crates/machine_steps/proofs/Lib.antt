@@ -35,6 +35,7 @@ pub mod AnsweredCalls
 pub mod MethodCalls
 pub mod CalledMethods
 pub mod GivenBuffers
+pub mod GivenResults
 pub mod CallInstructions
 pub mod MonitorCalls
 pub mod EntryKeys

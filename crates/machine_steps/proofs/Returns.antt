@@ -64,7 +64,8 @@ use Rattle.machine_steps.proofs.Arguments.{none_left_by}
 use Rattle.machine_steps.proofs.AskedCalls.{room_by, target_there}
 use Rattle.machine_steps.proofs.Calls.{Ready}
 use Rattle.machine_steps.proofs.CallersCalls.{caller_calls, caller_ready}
-use Rattle.machine_steps.proofs.Invocations.{Finishes, finishes, going, nothing_with, plain_result, resumption}
+use Rattle.machine_steps.proofs.GivenResults.{nothing_with, plain_result}
+use Rattle.machine_steps.proofs.Invocations.{Finishes, finishes, going, resumption}
 use Rattle.machine_steps.proofs.KeptCallers.{callers_stay, others_below}
 use Rattle.machine_steps.proofs.Receives.{IsNoBuffer, frames_received, nothing_told, received_is}
 use Rattle.machine_steps.proofs.SlotBuffers.{elements_fit}
