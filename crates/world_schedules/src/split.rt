@@ -26,11 +26,14 @@ impl<'a> Split<'a> {
     }
 }
 
-/// Where the byte first occurs.
+/// Where the byte first occurs. A part of one byte, as most words of a schedule are, is told without a search.
 fn place_of(text: &[u8], byte: u8) -> Option<usize>
     ensures { result ≡ position (λ b. b == byte) text.now }
 {
-    text.iter().position(|b| *b == byte)
+    match text {
+        [first, second, ..] if *first != byte && *second == byte => Some(1),
+        _ => text.iter().position(|b| *b == byte),
+    }
 }
 
 impl<'a> Iterator for Split<'a> {

@@ -1,6 +1,6 @@
 //! Texts that are words, separated by spaces and line feeds.
 
-ghost use Rattle.std.specs.Prelude.{◌≡◌, ℕ, [], ◌+◌, ◌-◌, ◌^◌, ◌<◌, ◌≤◌, List, Option, Bool, IfOk, min, sum_by};
+ghost use Rattle.std.specs.Prelude.{◌≡◌, ℕ, [], ◌+◌, ◌-◌, ◌^◌, ◌<◌, ◌≤◌, List, Option, Bool, IfOk, OnOk, IfSome, is_some, min, sum_by};
 ghost use Rattle.std.specs.Option.{option_map};
 ghost use Rattle.std.specs.List.{list_all};
 ghost use Rattle.base.specs.Limits.{most_entries};
@@ -57,35 +57,6 @@ fn formed<W: Word>(alloc: Global, empty: Vec<W>, line: &[u8]) -> Result<Option<V
     Ok(Some(words))
 }
 
-/// How many words these stand for, at most `u64::MAX`.
-fn total<W: Word>(words: &[W]) -> u64
-    ensures { result ≡ min (sum_by W.times words.now) (2 ^ 64 - 1) }
-{
-    let mut total = 0u64;
-    for word in words {
-        total = total.saturating_add(u64::from(word.times()));
-    }
-    total
-}
-
-/// How many of those that are counted apart these stand for, at most `u64::MAX`.
-fn total_apart<W: Word>(words: &[W]) -> u64
-    ensures { result ≡ min (sum_by W.apart words.now) (2 ^ 64 - 1) }
-{
-    let mut total = 0u64;
-    for word in words {
-        total = total.saturating_add(u64::from(word.apart()));
-    }
-    total
-}
-
-/// Whether all words name only what is there.
-fn all_known<W: Word>(words: &[W], threads: u8) -> bool
-    ensures { result ≡ list_all (W.known threads) words.now }
-{
-    words.iter().all(|word| word.is_known(threads))
-}
-
 /// How many words there are so far, and how many of those that are counted apart.
 #[derive(Clone, Copy)]
 struct Counts {
@@ -93,39 +64,61 @@ struct Counts {
     apart: u64,
 }
 
-/// The words of a line, put into an empty list, after those so far.
+/// How many words these stand for, and how many of those that are counted apart, each at most `u64::MAX`; or `None` where
+/// one of them names what isn't there.
+fn counts_of<W: Word>(words: &[W], threads: u8) -> Option<Counts>
+    ensures known { is_some result ≡ list_all (W.known threads) words.now }
+    ensures words { IfSome result (λ counts. counts.words ≡ min (sum_by W.times words.now) (2 ^ 64 - 1)) }
+    ensures apart { IfSome result (λ counts. counts.apart ≡ min (sum_by W.apart words.now) (2 ^ 64 - 1)) }
+{
+    let mut counts = Counts { words: 0, apart: 0 };
+    for word in words {
+        if !word.is_known(threads) {
+            return None;
+        }
+        counts.words = counts.words.saturating_add(u64::from(word.times()));
+        counts.apart = counts.apart.saturating_add(u64::from(word.apart()));
+    }
+    Some(counts)
+}
+
+/// The words of a line, put into an empty list, after those so far, with which they are counted then.
 fn read_line<W: Word>(
     alloc: Global,
     empty: Vec<W>,
     line: &[u8],
     number: usize,
     threads: u8,
-    so_far: Counts,
+    so_far: &mut Counts,
 ) -> Result<Vec<W>, ReadError>
     requires empty { empty.items ≡ [] }
-    requires words { so_far.words ≤ most_entries }
-    requires apart { so_far.apart ≤ most_entries }
+    requires words { so_far.old.words ≤ most_entries }
+    requires apart { so_far.old.apart ≤ most_entries }
     ensures words { Gives (λ v. v.items) result
-        (line_words W.spelled (W.known threads) W.times W.apart number so_far.words so_far.apart line.now) }
-    ensures within { IfOk result (λ v. so_far.words + sum_by W.times v.items ≤ most_entries) }
-    ensures within_apart { IfOk result (λ v. so_far.apart + sum_by W.apart v.items ≤ most_entries) }
+        (line_words W.spelled (W.known threads) W.times W.apart number so_far.old.words so_far.old.apart line.now) }
+    ensures counted { IfOk result (λ v. so_far.new.words ≡ so_far.old.words + sum_by W.times v.items) }
+    ensures counted_apart { IfOk result (λ v. so_far.new.apart ≡ so_far.old.apart + sum_by W.apart v.items) }
+    ensures within { OnOk result (so_far.new.words ≤ most_entries) }
+    ensures within_apart { OnOk result (so_far.new.apart ≤ most_entries) }
 {
     let Some(words) = formed::<W>(alloc, empty, line)? else {
         let rule = Rule::Form;
         return Err(ReadError::Fault(TextFault { rule, line: number }));
     };
-    if !all_known(&words, threads) {
+    let Some(more) = counts_of(&words, threads) else {
         let rule = Rule::Name;
         return Err(ReadError::Fault(TextFault { rule, line: number }));
-    }
-    if total(&words) > MOST_WORDS - so_far.words {
+    };
+    if more.words > MOST_WORDS - so_far.words {
         let rule = Rule::Limit;
         return Err(ReadError::Fault(TextFault { rule, line: number }));
     }
-    if total_apart(&words) > MOST_WORDS - so_far.apart {
+    if more.apart > MOST_WORDS - so_far.apart {
         let rule = Rule::Limit;
         return Err(ReadError::Fault(TextFault { rule, line: number }));
     }
+    so_far.words += more.words;
+    so_far.apart += more.apart;
     Ok(words)
 }
 
@@ -139,9 +132,7 @@ pub fn read_words<W: Word>(alloc: Global, text: &[u8], threads: u8) -> Result<Ve
     let mut number = 0;
     for line in Split::new(text, b'\n') {
         number += 1;
-        let mut more = read_line::<W>(alloc, empty, line, number, threads, so_far)?;
-        so_far.words += total(&more);
-        so_far.apart += total_apart(&more);
+        let mut more = read_line::<W>(alloc, empty, line, number, threads, &mut so_far)?;
         words.append(&mut more)?;
         empty = more;
     }

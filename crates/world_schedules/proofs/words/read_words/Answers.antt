@@ -1,4 +1,4 @@
-use Rattle.std.proofs.Common.{◌≡◌, ◌+◌, sum_by, length, arith, ap}
+use Rattle.std.proofs.Common.{◌+◌, length, arith, ap}
 use Rattle.std.proofs.lemmas.Result.{err_from_is_err_and}
 use Rattle.world_schedules.specs.Split.{parts_left}
 use Rattle.world_schedules.specs.ReadingWords.{text_words}
@@ -20,14 +20,12 @@ pub loop-line-preserved : goal.loop-line-preserved
 loop-line-preserved g c =
     let w = g.W.Word in
     let first = c.in_ok-more.more.items in
-    let sum : c.total.result ≡ sum_by w.times first = omega (arith, c.total.ensures, ap (sum_by w.times) c.deref.ensures.value, c.in_ok-more.ensures.within) in
-    let apart : c.total_apart.result ≡ sum_by w.apart first = omega (arith, c.total_apart.ensures, ap (sum_by w.apart) c.deref-in-loop-line.ensures.value, c.in_ok-more.ensures.within_apart) in
     record {
-      words = rw (c.in_ok-append.ensures.items, sum, apart) (goes_on w.spelled (w.known c.args.threads) w.times w.apart (c.loop-line.number + 1) c.loop-line.so_far.words c.loop-line.so_far.apart c.in-Some.line.now (parts_left c.loop-line.line-iterator) (parts_left c.next.new.self) c.loop-line.words.items
+      words = rw (c.in_ok-append.ensures.items, c.in_ok-more.ensures.counted, c.in_ok-more.ensures.counted_apart) (goes_on w.spelled (w.known c.args.threads) w.times w.apart (c.loop-line.number + 1) c.loop-line.so_far.words c.loop-line.so_far.apart c.in-Some.line.now (parts_left c.loop-line.line-iterator) (parts_left c.next.new.self) c.loop-line.words.items
           (text_words w.spelled (w.known c.args.threads) w.times w.apart c.args.text.now) c.in-Some.ensures.steps c.loop-line.invariant.words first c.in_ok-more.ensures.words);
       empty = c.in_ok-append.ensures.other_items;
-      few = rw sum c.in_ok-more.ensures.within;
-      few_apart = rw apart c.in_ok-more.ensures.within_apart;
+      few = c.in_ok-more.ensures.within;
+      few_apart = c.in_ok-more.ensures.within_apart;
       number = omega (arith, c.loop-line.invariant.number, ap length c.in-Some.ensures.steps);
     }
 

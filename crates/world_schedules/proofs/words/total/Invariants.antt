@@ -1,6 +1,0 @@
-use Rattle.std.proofs.Common.{◌≡◌, ◌-◌, ◌^◌, min, take, sum_by}
-use Rattle.world_schedules.proofs.words.total.Given as goal
-
-abbrev pub invariant-loop-word : goal.invariant-loop-word
-invariant-loop-word g l =
-    l.total ≡ min (sum_by g.W.Word.times (take l.word-index l.words)) (2 ^ 64 - 1)
