@@ -59,7 +59,7 @@ impl Marking {
         let index = addr.cell() as usize;
         if !self.kept[index] {
             self.kept[index] = true;
-            self.list.push(addr).unwrap();
+            self.list.push_reserved(addr);
         }
     }
 
