@@ -2,21 +2,34 @@
 use Rattle.std.proofs.Common.{ℕ, List, [], ◌++◌, Result, Ok, Err, refl, sym, append-nil}
 use Rattle.std.specs.Io.KnownBytes.{Keeps}
 use Rattle.std.proofs.KnownBytes.{Appends-nil, Appends-kept}
-use Rattle.sinks.specs.Sink.{Written, AppendsText, StopsWithin, Writes}
-use Rattle.sinks.proofs.Puts.{PutSoFar, AppendsText-nil, AppendsText-then, stops}
+use Rattle.sinks.specs.Sink.{Written, AppendsText, Writes}
+use Rattle.sinks.proofs.Puts.{AppendsText-nil, AppendsText-then, stops}
 use Rattle.replay_trace.specs.Traces.{GoesOn, WritesSome}
 
 -- some text was written
-abbrev pub HasWritten : Written → Written → Type 0
-HasWritten old now = (text : List ℕ) × AppendsText old now text
+pub record HasWritten (old now : Written) : Type 0 where
+  pub text : List ℕ
+  pub put : AppendsText old now text
 
 pub starts : (w : Written) → HasWritten w w
-starts w = ([], AppendsText-nil w)
+starts w = record { text = []; put = AppendsText-nil w }
+
+-- what is written of a text is something
+pub some : {T E : Type 0} (old new : Written) (r : Result T E) (text : List ℕ) → Writes old new r text → WritesSome old new r
+some old new r text h = (text, h)
 
 -- what is written behind it is some text too
 pub behind : {T E : Type 0} (a b c : Written) (r : Result T E) → HasWritten a b → WritesSome b c r → WritesSome a c r
-behind a b c (Ok _) (x, p) (y, q) = (x ++ y, AppendsText-then a b c x y p q)
-behind a b c (Err _) (x, p) (y, q) = (x ++ y, stops a b c (x ++ y) y y [] (record { part = x; whole = refl; put = p }) (sym (append-nil y)) q)
+behind a b c (Ok _) p (y, q) = (p.text ++ y, AppendsText-then a b c p.text y p.put q)
+behind a b c (Err _) p (y, q) = (p.text ++ y, stops a b c (p.text ++ y) y y [] (record { part = p.text; whole = refl; put = p.put }) (sym (append-nil y)) q)
+
+-- all was written, and more behind it
+pub written : {T E : Type 0} (a b c : Written) (x : T) → HasWritten a b → WritesSome {T} {E} b c (Ok x) → HasWritten a c
+written a b c x p (y, q) = record { text = p.text ++ y; put = AppendsText-then a b c p.text y p.put q }
+
+-- all was written
+pub ends : {T E : Type 0} (a b : Written) (x : T) → HasWritten a b → WritesSome {T} {E} a b (Ok x)
+ends a b x p = (p.text, p.put)
 
 -- nothing more is said
 pub stays : (w : Written) → GoesOn w w

@@ -3,7 +3,7 @@
 ghost use Rattle.sinks.specs.Sink.{CanFail};
 ghost use Rattle.replay_trace.specs.Traces.{GoesOn, WritesSome};
 
-use crate::trace::{Told, put_some, trace};
+use crate::entries::{Told, put_some, trace};
 use region_rules::Checked;
 use sinks::{Sink, SinkFailed};
 use std::alloc::Global;
@@ -50,6 +50,7 @@ fn trace_kept<W: Sink>(
 
 /// Tells the entries of the journal that a run has written, of which this is the line: that of the report, or a text of entries. Without
 /// the line, and where memory is refused, the last line that it tells is `memory`.
+#[tactic(auto, using(crate::proofs::TraceLemmas::goes_on, crate::proofs::TraceLemmas::goes_on_kept))]
 pub fn trace_line<W: Sink>(
     alloc: Global,
     checked: &Checked,
@@ -70,6 +71,7 @@ pub fn trace_line<W: Sink>(
 }
 
 /// Tells that memory was refused.
+#[tactic(auto, using(crate::proofs::TraceLemmas::goes_on, crate::proofs::TraceLemmas::goes_on_kept))]
 pub fn tell_lack<W: Sink>(out: &mut W)
     requires { CanFail (W.written out.old) }
     ensures { GoesOn (W.written out.old) (W.written out.new) }
@@ -83,6 +85,7 @@ pub fn tell_lack<W: Sink>(out: &mut W)
 }
 
 /// Tells nothing.
+#[tactic(auto, using(crate::proofs::TraceLemmas::stays))]
 pub fn tell_nothing<W: Sink>(out: &mut W)
     ensures { GoesOn (W.written out.old) (W.written out.new) }
 {

@@ -3,15 +3,15 @@
 #![tactic(auto)]
 
 mod calls;
+mod entries;
 mod held;
 mod journal;
 mod keeping;
 mod line;
 mod step;
 mod terms;
-mod trace;
 mod tracker;
 
+pub use entries::{Told, trace};
 pub use journal::{tell_lack, tell_nothing, trace_line};
 pub use keeping::Keeping;
-pub use trace::{Told, trace};

@@ -201,6 +201,7 @@ fn tell_entry<'a>(
 }
 
 /// Writes a text.
+#[tactic(auto, using(crate::proofs::TraceLemmas::some))]
 pub(crate) fn put_some<W: Sink>(out: &mut W, text: &[u8]) -> Result<(), SinkFailed>
     requires { CanFail (W.written out.old) }
     ensures { WritesSome (W.written out.old) (W.written out.new) result }
@@ -220,6 +221,7 @@ fn put_taken<W: Sink>(out: &mut W, line: &Line, taken: Taken) -> Result<(), Sink
 }
 
 /// Takes the entries, and writes their lines.
+#[tactic(auto, using(crate::proofs::TraceLemmas::starts, crate::proofs::TraceLemmas::behind, crate::proofs::TraceLemmas::written, crate::proofs::TraceLemmas::ends))]
 fn tell_entries<'a, W: Sink>(
     alloc: Global,
     functions: &Functions<'a>,
