@@ -26,7 +26,7 @@ references_after (None ∷ xs) ys = references_after xs ys
 references_after (Some a ∷ xs) ys = ap (λ (l : List ℕ). a ∷ l) (references_after xs ys)
 
 -- the key of a further address
-keys_after : (place : ℕ) (xs : List (Option ℕ)) (o : Option ℕ) → keys_from place (xs ++ o ∷ []) ≡ keys_from place xs ++ keys_from (place + length (references_in xs)) (o ∷ [])
+pub keys_after : (place : ℕ) (xs : List (Option ℕ)) (o : Option ℕ) → keys_from place (xs ++ o ∷ []) ≡ keys_from place xs ++ keys_from (place + length (references_in xs)) (o ∷ [])
 keys_after place [] o = let same : place + 0 ≡ place = omega arith in ap (λ (n : ℕ). keys_from n (o ∷ [])) (sym same)
 keys_after place (None ∷ xs) o = ap (λ (l : List (Option ℕ)). None ∷ l) (keys_after place xs o)
 keys_after place (Some a ∷ xs) o =
@@ -127,7 +127,7 @@ nulls_few : (n : ℕ) → length (references_in (replicate n None)) ≡ 0
 nulls_few zero = refl
 nulls_few (suc n) = nulls_few n
 
-arguments_few : (ws : List Value) → length (references_in (filter_map given_address ws)) ≤ length ws
+pub arguments_few : (ws : List Value) → length (references_in (filter_map given_address ws)) ≤ length ws
 arguments_few [] = omega arith
 arguments_few (Word n ∷ ws) = let less = arguments_few ws in omega (arith, less)
 arguments_few (Null ∷ ws) = let less = arguments_few ws in omega (arith, less)

@@ -8,3 +8,4 @@ pub mod WaitingThreads
 pub mod ThreadLoads
 pub mod Reversed
 pub mod SameViews
+pub mod FirstReferences

@@ -66,6 +66,18 @@ keys_from place [] = []
 keys_from place (None ∷ rest) = None ∷ keys_from place rest
 keys_from place (Some a ∷ rest) = Some place ∷ keys_from (suc place) rest
 
+-- a table of one frame with room for this many references, and none yet
+abbrev pub first_frame : ℕ → LocalTable
+first_frame capacity = record { frames = record { capacity = capacity; first = 0 } ∷ []; slots = [] }
+
+-- the references of a call before its first instruction: their table, and this number of slots, of which the first hold their keys
+pub record AreEntryReferences (count : ℕ) (loaded : List ℕ) (class : ℕ) (arguments : List Value) (locals : LocalTable)
+    (keys : List (Option ℕ)) : Type 0 where
+  pub addresses : List (Option ℕ)
+  pub given : IsReferencesOf count loaded class arguments addresses
+  pub made : locals ≡ entry_locals addresses
+  pub held : keys ≡ keys_from 0 addresses
+
 -- a call with this code before its first instruction
 pub record BeginsIn (code : Listing) (loaded : List ℕ) (next : Entering) (activation : Activation) : Type 0 where
   pub function : activation.function ≡ next.function

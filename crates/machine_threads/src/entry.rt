@@ -1,13 +1,13 @@
 //! What a call is given, and its slots at its entry.
 
-ghost use Rattle.std.specs.Prelude.{◌≡◌, ℕ, ◌-◌, ◌<◌, ◌≤◌, [], length, map, filter_map, slice_get, IfOk, OnOk, IsTrue, ◌+◌};
+ghost use Rattle.std.specs.Prelude.{◌≡◌, ℕ, ◌-◌, ◌<◌, ◌≤◌, [], length, map, filter_map, slice_get, IfOk, OnOk, OnErr, IsTrue, ◌+◌, vec_capacity};
 ghost use Rattle.std.specs.List.{list_all};
 ghost use Rattle.base.specs.Limits.{most_names, most_references};
 ghost use Rattle.world_values.specs.Views.{object_value_view};
 ghost use Rattle.world_values.specs.CallArguments.{is_argument};
 ghost use Rattle.tables.specs.Locals.{pushed};
 ghost use Rattle.tables.specs.References.{references_in};
-ghost use Rattle.machine_threads.specs.Entry.{entry_locals, given_address, given_word, keys_from, HasRoomFor, IsEnteringOf, IsNumbersOf, IsReferencesOf, BeginsIn};
+ghost use Rattle.machine_threads.specs.Entry.{first_frame, given_address, given_word, AreEntryReferences, BeginsIn, HasRoomFor, IsEnteringOf, IsNumbersOf};
 ghost use Rattle.machine_threads.specs.Held.{held_value};
 
 use crate::objects::held;
@@ -76,21 +76,26 @@ pub fn begin(
     fields.resize(slots.field_ids as usize, None)?;
     let mut buffers = Vec::new(alloc);
     buffers.resize(slots.buffers as usize, Buffer::Null)?;
-    let addresses = addresses_given(
-        alloc,
+    let mut numbers = Vec::with_capacity(alloc, slots.numbers as usize)?;
+    fill_numbers(&mut numbers, &next.arguments, slots.numbers as usize);
+    let mut references = Vec::with_capacity(alloc, slots.references as usize)?;
+    let mut locals = Locals::new(alloc)?;
+    let given = 1 + count_references(&next.arguments);
+    push_first(&mut locals, given + MORE_LOCALS)?;
+    fill_references(
+        &mut locals,
+        &mut references,
         loaded,
         next.class,
         &next.arguments,
         slots.references as usize,
-    )?;
-    let mut locals = Locals::new(alloc)?;
-    let references = make_locals(alloc, &mut locals, &addresses)?;
+    );
     Ok(Activation {
         function: next.function,
         place: 0,
         stack: Stack::new(),
         slots: Slots {
-            numbers: number_slots(alloc, &next.arguments, slots.numbers as usize)?,
+            numbers,
             references,
             fields,
             buffers,
@@ -100,92 +105,78 @@ pub fn begin(
 }
 
 /// `count` number slots, of which the first hold the numbers that the call is given.
-fn number_slots(alloc: Global, arguments: &[Value], count: usize) -> Result<Vec<u32>, AllocError>
-    requires { length (filter_map given_word arguments.now) ≤ count }
-    ensures { IfOk result (λ v. IsNumbersOf count arguments.now v.items) }
+fn fill_numbers(slots: &mut Vec<u32>, arguments: &[Value], count: usize)
+    requires given { length (filter_map given_word arguments.now) ≤ count }
+    requires room { count ≤ vec_capacity slots.old }
+    ensures { IsNumbersOf count arguments.now slots.new.items }
 {
-    let mut slots = Vec::new(alloc);
+    slots.clear();
     for argument in arguments {
         match argument {
-            Value::Number(number) => slots.push(*number)?,
+            Value::Number(number) => slots.push_reserved(*number),
             Value::Null => {}
             Value::Block(_) => {}
         }
     }
-    slots.resize(count, 0)?;
-    Ok(slots)
+    slots.resize(count, 0).unwrap();
 }
 
-/// `count` addresses, of which the first are those of the class and of the references that the call is given.
-fn addresses_given(
-    alloc: Global,
+/// How many of the arguments are references but NULL.
+fn count_references(arguments: &[Value]) -> u32
+    requires { length arguments.now ≤ most_names }
+    ensures count { result ≡ length (references_in (filter_map given_address arguments.now)) }
+    ensures few { result ≤ most_names }
+{
+    let mut count = 0;
+    for argument in arguments {
+        match argument {
+            Value::Number(_) => {}
+            Value::Null => {}
+            Value::Block(_) => count += 1,
+        }
+    }
+    count
+}
+
+/// Makes references to the class and to what the call is given but NULL, in the first frame, which has none yet. The first of
+/// `count` slots have their keys, in order.
+fn fill_references(
+    locals: &mut Locals,
+    keys: &mut Vec<Option<Local>>,
     loaded: &[Addr],
     class: ClassId,
     arguments: &[Value],
     count: usize,
-) -> Result<Vec<Option<Addr>>, AllocError>
-    requires class { 0 < class.number }
-    requires room { length (filter_map given_address arguments.now) < count }
-    ensures { IfOk result (λ v. IsReferencesOf count loaded.now class.number arguments.now v.items) }
+)
+    requires frame { locals.old ≡ first_frame (length (references_in (filter_map given_address arguments.now)) + 17) }
+    requires class { (0 < class.number) × (class.number ≤ length loaded.now) }
+    requires given { length (filter_map given_address arguments.now) < count }
+    requires room { count ≤ vec_capacity keys.old }
+    ensures { AreEntryReferences count loaded.now class.number arguments.now locals.new keys.new.items }
 {
-    let mut slots = Vec::new(alloc);
-    slots.push(object_of(loaded, ObjectId::of_class(class)))?;
+    keys.clear();
+    let object = object_of(loaded, ObjectId::of_class(class)).unwrap();
+    let key = locals.make_in_room(object);
+    keys.push_reserved(Some(key));
     for argument in arguments {
         match argument {
             Value::Number(_) => {}
-            Value::Null => slots.push(None)?,
-            Value::Block(addr) => slots.push(Some(*addr))?,
-        }
-    }
-    slots.resize(count, None)?;
-    Ok(slots)
-}
-
-/// Makes the first frame of a call, with references to the objects at these addresses but NULL, and room for 16 more.
-/// The keys are in the order of the addresses.
-fn make_locals(
-    alloc: Global,
-    locals: &mut Locals,
-    addresses: &[Option<Addr>],
-) -> Result<Vec<Option<Local>>, AllocError>
-    requires none { locals.old ≡ record { frames = []; slots = [] } }
-    requires few { length (references_in addresses.now) ≤ most_names + 1 }
-    ensures locals { OnOk result (locals.new ≡ entry_locals addresses.now) }
-    ensures keys { IfOk result (λ keys. keys.items ≡ keys_from 0 addresses.now) }
-{
-    push_first(locals, count_given(addresses) + MORE_LOCALS)?;
-    let mut keys = Vec::new(alloc);
-    for address in addresses {
-        match address {
-            None => keys.push(None)?,
-            Some(addr) => {
-                let key = locals.make(*addr).unwrap();
-                keys.push(Some(key))?;
+            Value::Null => keys.push_reserved(None),
+            Value::Block(addr) => {
+                let key = locals.make_in_room(*addr);
+                keys.push_reserved(Some(key));
             }
         }
     }
-    Ok(keys)
-}
-
-/// The number of addresses but NULL.
-fn count_given(addresses: &[Option<Addr>]) -> u32
-    requires { length (references_in addresses.now) ≤ most_names + 1 }
-    ensures { result ≡ length (references_in addresses.now) }
-{
-    let mut count = 0;
-    for address in addresses {
-        if address.is_some() {
-            count += 1;
-        }
-    }
-    count
+    keys.resize(count, None).unwrap();
 }
 
 /// Makes the first frame, of this capacity.
 fn push_first(locals: &mut Locals, capacity: u32) -> Result<(), AllocError>
     requires none { locals.old ≡ record { frames = []; slots = [] } }
     requires few { capacity ≤ most_references }
-    ensures { OnOk result (locals.new ≡ pushed locals.old capacity) }
+    ensures pushed { OnOk result (locals.new ≡ pushed locals.old capacity) }
+    ensures err { OnErr result (locals.new ≡ locals.old) }
 {
     match locals.push(capacity) {
         Ok(()) => Ok(()),
