@@ -8,6 +8,7 @@ use Rattle.cli_commands.specs.Saying.{Tells}
 use Rattle.jnirun.specs.Serve.{Serves}
 use Rattle.jnirun.specs.ServeEach.{ServesEach}
 use Rattle.jnirun.specs.Traces.{ServesTraced}
+use Rattle.cli_logs.specs.Logs.{PassAll}
 use Rattle.cli_explanations.specs.declared.Explanation.{Explanation}
 use Rattle.cli_words.specs.declared.request.Request.{Request}
 use Rattle.cli_words.specs.declared.request.Request.TheVariants.{Serve, Trace, CheckEach, WriteLog, Explain, Show, Misuse, LacksOrder, LacksMemory}
@@ -53,13 +54,13 @@ abbrev pub asks_for_trace : Request → Bool
 asks_for_trace (Trace command trace) = true
 asks_for_trace request = false
 
--- what the program answers; of logs nothing is said here
+-- what the program answers; of a log its status alone is said here
 abbrev pub Answers : (gives : List ℕ → List ℕ → Type 0) → (lacks : List ℕ → Type 0) → Request → (out out_after err err_after : Written) → (status : ℕ) → Type 0
 Answers gives lacks (Serve command) out out_after err err_after status = Serves gives lacks command out out_after err err_after status
 Answers gives lacks (CheckEach programs) out out_after err err_after status =
     ServesEach gives lacks (map (λ p. p.now) programs.items) out out_after err err_after status
 Answers gives lacks (Trace command trace) out out_after err err_after status = ServesTraced gives lacks command out out_after err err_after status
-Answers gives lacks (WriteLog programs) out out_after err err_after status = Unit {0}
+Answers gives lacks (WriteLog programs) out out_after err err_after status = PassAll gives (map (λ p. p.now) programs.items) status
 Answers gives lacks (Explain explanation) out out_after err err_after status = Shows (IsTextOf explanation) out out_after err err_after status
 Answers gives lacks (Show text) out out_after err err_after status = Shows (λ t. t ≡ string_bytes text) out out_after err err_after status
 Answers gives lacks (Misuse text) out out_after err err_after status = (out_after ≡ out) × Declines (string_bytes text) err err_after status

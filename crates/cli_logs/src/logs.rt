@@ -1,6 +1,8 @@
 //! Logs of the faults of several programs.
 
+ghost use Rattle.std.specs.Prelude.{◌≡◌, ℕ, List, IfOk, map};
 ghost use Rattle.sinks.specs.Sink.{CanFail};
+ghost use Rattle.cli_logs.specs.Logs.{MayPass, PassAll};
 
 use cli_commands::{DONE, FAILED, FileFault, Files, REFUSED, fail};
 use cli_sarif::Log;
@@ -25,7 +27,9 @@ fn put_fault(
     program: &[u8],
     number: u32,
     place: Place,
-) -> Result<u8, RunError> {
+) -> Result<u8, RunError>
+    ensures { IfOk result (λ status. status ≡ 1) }
+{
     let detail = detail_of(alloc, program);
     match log.put_fault(alloc, name, number, line_of(place), detail.as_bytes()) {
         Ok(()) => Ok(REFUSED),
@@ -34,7 +38,9 @@ fn put_fault(
 }
 
 /// Puts a file that can't be read into a log, and answers its status.
-fn put_unread(alloc: Global, log: &mut Log, name: &str) -> Result<u8, RunError> {
+fn put_unread(alloc: Global, log: &mut Log, name: &str) -> Result<u8, RunError>
+    ensures { IfOk result (λ status. status ≡ 3) }
+{
     match log.put_unread(alloc, name) {
         Ok(()) => Ok(FAILED),
         Err(_) => Err(RunError::Memory),
@@ -47,7 +53,10 @@ fn put_program<F: Files>(
     log: &mut Log,
     name: &str,
     files: &mut F,
-) -> Result<u8, RunError> {
+) -> Result<u8, RunError>
+    ensures passes { IfOk result (λ status. status ≡ 0 → MayPass (F.gives files.old) name.now) }
+    ensures kept { (other bytes : List ℕ) → F.gives files.new other bytes → F.gives files.old other bytes }
+{
     let program = match files.read(alloc, name) {
         Ok(program) => program,
         Err(FileFault::Memory) => return Err(RunError::Memory),
@@ -63,11 +72,9 @@ fn put_program<F: Files>(
 }
 
 /// The text of the log of programs, and the greatest of their statuses.
-fn log_of<F: Files>(
-    alloc: Global,
-    names: &[&str],
-    files: &mut F,
-) -> Result<(String, u8), RunError> {
+fn log_of<F: Files>(alloc: Global, names: &[&str], files: &mut F) -> Result<(String, u8), RunError>
+    ensures { IfOk result (λ log. PassAll (F.gives files.old) (map (λ name. name.now) names.now) log.1) }
+{
     let mut log = Log::new(alloc);
     let mut status = DONE;
     for name in names {
@@ -102,6 +109,7 @@ pub fn write_log<F: Files, O: Sink, E: Sink>(
 ) -> u8
     requires out { CanFail (O.written out.old) }
     requires err { CanFail (E.written err.old) }
+    ensures { PassAll (F.gives files.old) (map (λ name. name.now) names.now) result }
 {
     match log_of(alloc, names, files) {
         Ok((text, status)) => match say_line(out, text.as_bytes()) {

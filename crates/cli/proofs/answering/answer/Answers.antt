@@ -5,7 +5,7 @@ pub returns-in-Serve : goal.returns-in-Serve
 returns-in-Serve g c = rw c.in-Serve.is c.serve_sequential.ensures
 
 pub returns-in-WriteLog : goal.returns-in-WriteLog
-returns-in-WriteLog g c = rw c.in-WriteLog.is tt
+returns-in-WriteLog g c = rw c.in-WriteLog.is (rw c.deref-in-WriteLog.ensures.value at c.write_log.ensures)
 
 pub returns-in-Explain : goal.returns-in-Explain
 returns-in-Explain g c = rw c.in-Explain.is c.explain.ensures
