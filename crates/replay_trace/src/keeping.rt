@@ -1,5 +1,7 @@
 //! A sink that keeps the last line that it took.
 
+ghost use Rattle.std.specs.Prelude.{◌≡◌};
+
 use sinks::{Sink, SinkFailed};
 use std::alloc::Global;
 
