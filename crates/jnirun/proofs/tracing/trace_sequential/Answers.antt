@@ -1,4 +1,4 @@
-use Rattle.jnirun.specs.Serve.{Serves, on_texts}
+use Rattle.jnirun.specs.Serve.{on_texts}
 use Rattle.jnirun.proofs.TraceLemmas.{untold}
 use Rattle.jnirun.proofs.tracing.trace_sequential.Goals as goal
 
