@@ -15,7 +15,8 @@ use Rattle.syntax.specs.Views.{form_tree, stmt_tree}
 use Rattle.syntax.proofs.Blocks.{statements_tree}
 use Rattle.type_rules.specs.declared.sort.Sort.{Sort as SortInMemory}
 use Rattle.type_rules.specs.Sorts.{Scope}
-use Rattle.type_rules.specs.SortRules.{broken_at, places_of, with_declared}
+use Rattle.type_rules.specs.SortRules.{places_of, with_declared}
+use Rattle.types.specs.AllFaults.{told_at}
 use Rattle.types.specs.Faults.{IsAbove, found, statement_place, places_inside}
 use Rattle.types.proofs.PlaceLemmas.{found-none, found-statement}
 
@@ -25,7 +26,7 @@ stmt_next items i s h e = rw add-one (drop-cons items i s h ∙ ap (λ x. x ∷ 
 -- what is refused at a statement and after it
 pub found-rest : (returns : ResultType) (known : Scope) (taken : List Identifier) (items : List StmtInMemory) (i : ℕ) (s : StmtInMemory) (end_line : ℕ) → i < length items → s ≡ get_or items i s
     → found (places_of returns known taken (statements_tree (drop i items) end_line))
-    ≡ (broken_at (statement_place returns known taken (stmt_tree s)) ++ found (places_inside returns known taken (stmt_tree s)))
+    ≡ (told_at (statement_place returns known taken (stmt_tree s)) ++ found (places_inside returns known taken (stmt_tree s)))
     ++ found (places_of returns (with_declared known (stmt_tree s)) (taken ++ names_declared (statements_within (stmt_tree s))) (statements_tree (drop (i + 1) items) end_line))
 found-rest returns known taken items i s end_line h e =
     ap (λ rest. found (places_of returns known taken (statements_tree rest end_line))) (stmt_next items i s h e) ∙ found-statement returns known taken (stmt_tree s) _

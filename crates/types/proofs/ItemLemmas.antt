@@ -1,5 +1,5 @@
 -- What is refused at an item, and at the items after it.
-use Rattle.std.proofs.Common.{◌≡◌, ℕ, suc, ◌+◌, ◌<◌, not, ◌||◌, List, [], ◌∷◌, ◌++◌, Option, Some, None, map, drop, length, get_or, refl, sym, ap, ap₂, ◌∙◌, add-one, append-nil, drop-cons}
+use Rattle.std.proofs.Common.{◌≡◌, ℕ, suc, ◌+◌, ◌<◌, not, ◌||◌, List, [], ◌∷◌, ◌++◌, Option, Some, None, map, drop, take, length, get_or, refl, sym, ap, ap₂, ◌∙◌, add-one, append-nil, drop-cons}
 use Rattle.std.specs.Option.{is_some, is_none}
 use Rattle.base.specs.Bytes.{Identifier, ByName}
 use Rattle.class_rules.specs.Mangling.{unmangle}
@@ -13,6 +13,7 @@ use Rattle.syntax.specs.Views.{parameter_type_tree, parameter_tree, function_tre
 use Rattle.type_rules.specs.declared.sort.Sort.{Sort as SortInMemory}
 use Rattle.type_rules.specs.Sorts.{Sort, Ref, Scope}
 use Rattle.type_rules.specs.SortRules.{Place, StaticForm, HeadForm, UnknownName, DeclaredTwice, has_name, has_repeated, breaks, broken_at, parameter_sort, places_of, function_places, item_places}
+use Rattle.types.specs.AllFaults.{told_at}
 use Rattle.types.specs.Faults.{broken_if, found, scope_of, entry_scope, head_faults, own_places, with_static}
 use Rattle.types.proofs.RuleLemmas.{listed}
 use Rattle.types.proofs.PlaceLemmas.{found-none, found-append, found-next}
@@ -54,12 +55,12 @@ head taken statics f entry e =
 
 -- what is refused in a function where these names are known at its beginning
 pub found-function : (taken : List Identifier) (statics : Scope) (f : FunctionInMemory) (known : ByName SortInMemory) → scope_of known ≡ entry_scope statics f
-    → found (function_places taken statics (function_tree f)) ≡ head_faults taken (map {B = Identifier} (λ k. k.0) known) f ++ found (places_of (result_tree f.result) (scope_of known) (map {B = Identifier} (λ k. k.0) known) (block_tree f.body))
+    → found (function_places taken statics (function_tree f)) ≡ take 1 (head_faults taken (map {B = Identifier} (λ k. k.0) known) f) ++ found (places_of (result_tree f.result) (scope_of known) (map {B = Identifier} (λ k. k.0) known) (block_tree f.body))
 unfolding head_place
 found-function taken statics f known e =
     let names = taken_names statics f known e in
     found-next (head_place taken statics f) _
-    ∙ ap₂ (λ xs ys. xs ++ ys) (head taken statics f (map {B = Identifier} (λ k. k.0) known) names)
+    ∙ ap₂ (λ xs ys. xs ++ ys) (ap (take 1) (head taken statics f (map {B = Identifier} (λ k. k.0) known) names))
     (ap₂ (λ scope all. found (places_of (result_tree f.result) scope all (block_tree f.body))) (ap (λ xs. (f.class_name, Ref) ∷ xs ++ statics) (entry_sorts f.parameters.items) ∙ sym e) names)
 
 -- ---- statics
@@ -67,11 +68,11 @@ found-function taken statics f known e =
 static_place : List Identifier → Scope → StaticInMemory → Place
 static_place taken statics s = record { line = s.line; known = statics; taken = taken; returns = Void; form = StaticForm (static_tree s) }
 
-pub found-static : (taken : List Identifier) (statics : Scope) (s : StaticInMemory) → found (own_places taken statics (StaticItem (static_tree s))) ≡ broken_if (has_name taken s.name) DeclaredTwice s.line
+pub found-static : (taken : List Identifier) (statics : Scope) (s : StaticInMemory) → found (own_places taken statics (StaticItem (static_tree s))) ≡ take 1 (broken_if (has_name taken s.name) DeclaredTwice s.line)
 unfolding static_place
 found-static taken statics s =
-    found-next (static_place taken statics s) [] ∙ ap (λ xs. broken_at (static_place taken statics s) ++ xs) found-none ∙ append-nil (broken_at (static_place taken statics s))
-    ∙ listed (λ rule. breaks rule (static_place taken statics s) (StaticForm (static_tree s))) s.line ∙ append-nil (broken_if (has_name taken s.name) DeclaredTwice s.line)
+    found-next (static_place taken statics s) [] ∙ ap (λ xs. told_at (static_place taken statics s) ++ xs) found-none ∙ append-nil (told_at (static_place taken statics s))
+    ∙ ap (take 1) (listed (λ rule. breaks rule (static_place taken statics s) (StaticForm (static_tree s))) s.line ∙ append-nil (broken_if (has_name taken s.name) DeclaredTwice s.line))
 
 -- ---- items
 

@@ -1,4 +1,5 @@
 pub mod FindsLemmas
+pub mod KeptLemmas
 pub mod RuleLemmas
 pub mod SortLemmas
 pub mod StatementLemmas

@@ -5,7 +5,8 @@ use Rattle.base.specs.Bytes.{Identifier}
 use Rattle.syntax.specs.Parts.{statements_within, names_declared}
 use Rattle.syntax.specs.Tree.{ResultType, Stmt, If, IfElse, While, Block, Next}
 use Rattle.type_rules.specs.Sorts.{Scope}
-use Rattle.type_rules.specs.SortRules.{Place, broken_at, places_of, places_within, with_declared}
+use Rattle.type_rules.specs.SortRules.{Place, places_of, places_within, with_declared}
+use Rattle.types.specs.AllFaults.{told_at}
 use Rattle.types.specs.Faults.{found, statement_place, places_inside}
 
 pub found-none : found [] ≡ []
@@ -14,14 +15,14 @@ found-none = refl
 
 pub found-append : (xs ys : List Place) → found (xs ++ ys) ≡ found xs ++ found ys
 unfolding found
-found-append xs ys = flat_map-append broken_at xs ys
+found-append xs ys = flat_map-append told_at xs ys
 
-pub found-next : (p : Place) (ps : List Place) → found (p ∷ ps) ≡ broken_at p ++ found ps
+pub found-next : (p : Place) (ps : List Place) → found (p ∷ ps) ≡ told_at p ++ found ps
 unfolding found
 found-next p ps = refl
 
 -- a statement's own place is before those inside it
-own_first : (returns : ResultType) (known : Scope) (taken : List Identifier) (s : Stmt) → found (places_within returns known taken s) ≡ broken_at (statement_place returns known taken s) ++ found (places_inside returns known taken s)
+own_first : (returns : ResultType) (known : Scope) (taken : List Identifier) (s : Stmt) → found (places_within returns known taken s) ≡ told_at (statement_place returns known taken s) ++ found (places_inside returns known taken s)
 own_first returns known taken (If line test then') = found-next _ _
 own_first returns known taken (IfElse line test then' else') = found-next _ _
 own_first returns known taken (While line test body) = found-next _ _
@@ -29,13 +30,13 @@ own_first returns known taken s = found-next _ _
 
 -- a statement before others
 pub found-statement : (returns : ResultType) (known : Scope) (taken : List Identifier) (s : Stmt) (rest : Block)
-    → found (places_of returns known taken (Next s rest)) ≡ (broken_at (statement_place returns known taken s) ++ found (places_inside returns known taken s)) ++ found (places_of returns (with_declared known s) (taken ++ names_declared (statements_within s)) rest)
+    → found (places_of returns known taken (Next s rest)) ≡ (told_at (statement_place returns known taken s) ++ found (places_inside returns known taken s)) ++ found (places_of returns (with_declared known s) (taken ++ names_declared (statements_within s)) rest)
 found-statement returns known taken s rest =
     found-append (places_within returns known taken s) _ ∙ ap (λ xs. xs ++ found (places_of returns (with_declared known s) (taken ++ names_declared (statements_within s)) rest)) (own_first returns known taken s)
 
 pub ruleset place_rules = (found-none, found-append)
 
-pub found-is : (ps : List Place) → found ps ≡ flat_map broken_at ps
+pub found-is : (ps : List Place) → found ps ≡ flat_map told_at ps
 unfolding found
 found-is ps = refl
 

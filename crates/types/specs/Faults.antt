@@ -1,5 +1,5 @@
 -- What a check of some rules finds: the first that is broken.
-use Rattle.std.specs.Prelude.{◌≡◌, ℕ, Bool, true, false, not, ◌||◌, List, [], ◌∷◌, ◌++◌, map, flat_map, Option, Some, None, Result, Ok, Err}
+use Rattle.std.specs.Prelude.{◌≡◌, ℕ, Bool, true, false, not, ◌||◌, List, [], ◌∷◌, ◌++◌, map, take, flat_map, Option, Some, None, Result, Ok, Err}
 use Rattle.std.specs.Option.{is_some}
 use Rattle.base.specs.Bytes.{Identifier, ByName}
 use Rattle.class_rules.specs.Mangling.{unmangle}
@@ -8,6 +8,7 @@ use Rattle.syntax.specs.declared.unit.Function.{Function as FunctionInMemory}
 use Rattle.syntax.specs.Parts.{line_of, statements_of, names_declared}
 use Rattle.syntax.specs.Tree.{ResultType, Void, Stmt, If, IfElse, While, Item, StaticItem, FunctionItem}
 use Rattle.syntax.specs.Views.{parameter_type_tree}
+use Rattle.types.specs.AllFaults.{told_at}
 use Rattle.types.specs.declared.fault.SortRule.{SortRule as RuleInMemory}
 use Rattle.types.specs.declared.fault.SortRule.TheVariants as rules
 use Rattle.types.specs.declared.fault.TypeError.{TypeError}
@@ -15,7 +16,7 @@ use Rattle.types.specs.declared.fault.TypeError.TheVariants.{Memory, Fault}
 use Rattle.type_rules.specs.declared.sort.Sort.{Sort as SortInMemory}
 use Rattle.type_rules.specs.Sorts.{Ref, Scope}
 use Rattle.type_rules.specs.SortViews.{sort_value}
-use Rattle.type_rules.specs.SortRules.{SortRule, UnknownName, DeclaredTwice, SortMisfit, UnknownFunction, ArgumentCount, ReferenceCopied, BadMode, ReadOnlyWrite, Place, StaticForm, StatementForm, breaks_sort_rule, broken_at, places_of, function_places, has_name, has_repeated, parameter_sort, static_sort}
+use Rattle.type_rules.specs.SortRules.{SortRule, UnknownName, DeclaredTwice, SortMisfit, UnknownFunction, ArgumentCount, ReferenceCopied, BadMode, ReadOnlyWrite, Place, StaticForm, StatementForm, breaks_sort_rule, places_of, function_places, has_name, has_repeated, parameter_sort, static_sort}
 
 -- the rule of the definitions
 abbrev pub rule_of : RuleInMemory → SortRule
@@ -73,9 +74,20 @@ abbrev pub broken_if : Bool → SortRule → ℕ → Faults
 broken_if true rule line = (line, rule) ∷ []
 broken_if false rule line = []
 
--- what is refused at places, in their order
+-- what is told of places, in their order
 unfoldable pub found : List Place → Faults
-found places = flat_map broken_at places
+found places = flat_map told_at places
+
+-- ---- what is kept of what is found
+
+-- all of it, or the first alone
+abbrev pub kept : (all : Bool) → Faults → Faults
+kept true faults = faults
+kept false faults = take 1 faults
+
+-- of what was told before and what is told now the same is kept as of what was told before and what was found
+abbrev pub Tells : (all : Bool) → (old new : List TypeFault) → (found : Faults) → Type 0
+Tells all old new found = kept all (map fault_of new) ≡ kept all (map fault_of old ++ found)
 
 -- the place of a statement of a function with this result, where these names are known and these are taken
 abbrev pub statement_place : ResultType → Scope → List Identifier → Stmt → Place

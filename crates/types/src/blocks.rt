@@ -4,11 +4,12 @@ ghost use Rattle.std.specs.Prelude.{◌≡◌, ℕ, [], ◌∷◌, ◌++◌, OnO
 ghost use Rattle.syntax.specs.Parts.{statements_of, statements_within, names_declared};
 ghost use Rattle.syntax.specs.Views.{form_tree, block_tree, result_tree};
 ghost use Rattle.type_rules.specs.SortRules.{places_of, with_declared};
-ghost use Rattle.types.specs.Faults.{Finds, IsAbove, scope_of, found, places_inside};
+ghost use Rattle.types.specs.Faults.{Tells, IsAbove, scope_of, found, places_inside};
 
-use crate::fault::TypeError;
+use crate::fault::{TypeFault, keep};
 use crate::statements::{check_statement, declared};
 use crate::taken::Taken;
+use std::alloc::AllocError;
 use syntax::{Block, Form, ResultType};
 use type_rules::{Known, Sort};
 
@@ -17,8 +18,7 @@ fn declare<'a: 'n, 'n>(
     known: &mut Known<'a, Sort>,
     taken: &mut Taken<'n>,
     form: &'a Form,
-) -> Result<(), TypeError>
-    ensures finds { Finds result [] }
+) -> Result<(), AllocError>
     ensures scope { OnOk result ((line : ℕ) → scope_of known.new
         ≡ with_declared (scope_of known.old) (form_tree line form.now)) }
     ensures above { OnOk result (IsAbove known.new known.old) }
@@ -43,9 +43,11 @@ fn check_inside<'a: 'n, 'n>(
     taken: &mut Taken<'n>,
     returns: ResultType,
     form: &'a Form,
-) -> Result<(), TypeError>
-    ensures finds { (line : ℕ) → Finds result
-        (found (places_inside (result_tree returns) (scope_of known.old) taken.old (form_tree line form.now))) }
+    all: bool,
+    faults: &mut Vec<TypeFault>,
+) -> Result<(), AllocError>
+    ensures tells { OnOk result ((line : ℕ) → Tells all faults.old.items faults.new.items
+        (found (places_inside (result_tree returns) (scope_of known.old) taken.old (form_tree line form.now)))) }
     ensures scope { OnOk result ((line : ℕ) → scope_of known.new
         ≡ with_declared (scope_of known.old) (form_tree line form.now)) }
     ensures above { OnOk result (IsAbove known.new known.old) }
@@ -53,35 +55,39 @@ fn check_inside<'a: 'n, 'n>(
         ≡ taken.old ++ names_declared (statements_within (form_tree line form.now))) }
 {
     match form {
-        Form::If(_, b) => check_block(known, taken, returns, b),
+        Form::If(_, b) => check_block(known, taken, returns, b, all, faults),
         Form::IfElse(_, b, d) => {
-            check_block(known, taken, returns, b)?;
-            check_block(known, taken, returns, d)
+            check_block(known, taken, returns, b, all, faults)?;
+            check_block(known, taken, returns, d, all, faults)
         }
-        Form::While(_, b) => check_block(known, taken, returns, b),
+        Form::While(_, b) => check_block(known, taken, returns, b, all, faults),
         _ => declare(known, taken, form),
     }
 }
 
 /// A block of a function with this result, where these names are known and these are taken. After it the names that it
-/// declares are known no more, and stay taken.
+/// declares are known no more, and stay taken. Of each statement that breaks a rule the fault is kept behind those before it,
+/// or of all the first alone; what a statement declares is known after it, whether or not it keeps the rules.
 #[cycle(blocks)]
 pub(crate) fn check_block<'a: 'n, 'n>(
     known: &mut Known<'a, Sort>,
     taken: &mut Taken<'n>,
     returns: ResultType,
     block: &'a Block,
-) -> Result<(), TypeError>
-    ensures finds { Finds result (found (places_of (result_tree returns) (scope_of known.old) taken.old
-        (block_tree block.now))) }
+    all: bool,
+    faults: &mut Vec<TypeFault>,
+) -> Result<(), AllocError>
+    ensures tells { OnOk result (Tells all faults.old.items faults.new.items
+        (found (places_of (result_tree returns) (scope_of known.old) taken.old (block_tree block.now)))) }
     ensures restored { OnOk result (known.new ≡ known.old) }
     ensures taken { OnOk result (taken.new
         ≡ taken.old ++ names_declared (statements_of (block_tree block.now))) }
 {
     let outside = known.len();
     for stmt in &block.statements {
-        check_statement(known, taken, returns, stmt)?;
-        check_inside(known, taken, returns, &stmt.form)?;
+        let found = check_statement(known, taken, returns, stmt);
+        keep(all, faults, found)?;
+        check_inside(known, taken, returns, &stmt.form, all, faults)?;
     }
     known.leave(outside);
     Ok(())

@@ -1,9 +1,9 @@
 //! Why a unit is not sorted.
 
-ghost use Rattle.std.specs.Prelude.{◌≡◌};
+ghost use Rattle.std.specs.Prelude.{◌≡◌, OnOk, take};
 ghost use Rattle.types.specs.declared.fault.TypeError.TheVariants.{Memory};
 ghost use Rattle.type_rules.specs.SortRules.{sort_rule_number};
-ghost use Rattle.types.specs.Faults.{Faults, Refuses, rule_of, Finds, broken_if};
+ghost use Rattle.types.specs.Faults.{Faults, Refuses, rule_of, Finds, Tells, broken_if};
 
 use details::{Detail, Fault, Line};
 use std::alloc::{AllocError, AllocFailed};
@@ -119,4 +119,24 @@ pub(crate) fn told(fault: TypeFault, detail: Detail) -> TypeError
         rule: fault.rule,
         line: Line::told(fault.line.number(), detail),
     })
+}
+
+/// Keeps what was found at a place behind what was found before it: of all places, or of the first one alone.
+pub(crate) fn keep(
+    all: bool,
+    faults: &mut Vec<TypeFault>,
+    found: Result<(), TypeError>,
+) -> Result<(), AllocError>
+    ensures { (broken : Faults) → Finds found broken → OnOk result (Tells all faults.old.items faults.new.items (take 1 broken)) }
+{
+    match found {
+        Ok(()) => Ok(()),
+        Err(TypeError::Memory) => Err(AllocError),
+        Err(TypeError::Fault(fault)) => {
+            if all || faults.is_empty() {
+                faults.push(fault)?;
+            }
+            Ok(())
+        }
+    }
 }

@@ -1,14 +1,14 @@
 //! The check of a unit's items.
 
-ghost use Rattle.std.specs.Prelude.{◌≡◌, List, ◌∷◌, ◌++◌, OnOk, map};
+ghost use Rattle.std.specs.Prelude.{◌≡◌, List, ◌∷◌, ◌++◌, OnOk, map, take};
 ghost use Rattle.base.specs.Bytes.{Identifier};
 ghost use Rattle.syntax.specs.Parts.{item_name};
 ghost use Rattle.syntax.specs.Views.{block_tree, function_tree, item_tree, result_tree, static_type_tree};
 ghost use Rattle.type_rules.specs.SortRules.{DeclaredTwice, has_name, has_repeated, static_sort, places_of, function_places, item_places};
-ghost use Rattle.types.specs.Faults.{Faults, Refuses, Finds, broken_if, scope_of, found, head_faults, own_places, with_static};
+ghost use Rattle.types.specs.Faults.{Faults, Refuses, Finds, Tells, broken_if, scope_of, found, head_faults, own_places, with_static};
 
 use crate::blocks::check_block;
-use crate::fault::{SortRule, TypeError, refuse_if, refuse_name_if, told};
+use crate::fault::{SortRule, TypeError, TypeFault, keep, refuse_if, refuse_name_if, told};
 use crate::scope::{enter, has_name};
 use crate::taken::Taken;
 use crate::telling::head_detail;
@@ -66,15 +66,18 @@ fn check_body<'a>(
     known: &mut Known<'a, Sort>,
     entry: &[Name],
     f: &'a Function,
-) -> Result<(), TypeError>
-    ensures finds { Finds result (head_faults names.now entry.now f.now
-        ++ found (places_of (result_tree f.now.result) (scope_of known.old) entry.now (block_tree f.now.body))) }
+    all: bool,
+    faults: &mut Vec<TypeFault>,
+) -> Result<(), AllocError>
+    ensures tells { OnOk result (Tells all faults.old.items faults.new.items (take 1 (head_faults names.now entry.now f.now)
+        ++ found (places_of (result_tree f.now.result) (scope_of known.old) entry.now (block_tree f.now.body)))) }
     ensures restored { OnOk result (known.new ≡ known.old) }
 {
     let mut taken = Taken::new(alloc);
     let repeated = taken.enter(entry)?;
-    check_head(names, entry, repeated, f)?;
-    check_block(known, &mut taken, f.result, &f.body)
+    let head = check_head(names, entry, repeated, f);
+    keep(all, faults, head)?;
+    check_block(known, &mut taken, f.result, &f.body, all, faults)
 }
 
 /// Checks a function after items of these names. What is known are the statics, before it and again after it.
@@ -83,14 +86,17 @@ fn check_function<'a>(
     names: &[Name],
     known: &mut Known<'a, Sort>,
     f: &'a Function,
-) -> Result<(), TypeError>
-    ensures finds { Finds result (found (function_places names.now (scope_of known.old) (function_tree f.now))) }
+    all: bool,
+    faults: &mut Vec<TypeFault>,
+) -> Result<(), AllocError>
+    ensures tells { OnOk result (Tells all faults.old.items faults.new.items
+        (found (function_places names.now (scope_of known.old) (function_tree f.now)))) }
     ensures restored { OnOk result (known.new ≡ known.old) }
 {
     let outside = known.len();
     enter(known, f)?;
     let entry = known.names(alloc)?;
-    let checked: Result<(), TypeError> = check_body(alloc, names, known, &entry, f);
+    let checked: Result<(), AllocError> = check_body(alloc, names, known, &entry, f, all, faults);
     known.leave(outside);
     checked
 }
@@ -109,17 +115,21 @@ fn check_static<'a>(
     names: &mut Vec<Name>,
     statics: &mut Known<'a, Sort>,
     s: &'a Static,
-) -> Result<(), TypeError>
-    ensures finds { Finds result (broken_if (has_name names.old.items s.now.name) DeclaredTwice s.now.line) }
+    all: bool,
+    faults: &mut Vec<TypeFault>,
+) -> Result<(), AllocError>
+    ensures tells { OnOk result (Tells all faults.old.items faults.new.items
+        (take 1 (broken_if (has_name names.old.items s.now.name) DeclaredTwice s.now.line))) }
     ensures names { OnOk result (names.new.items ≡ s.now.name ∷ names.old.items) }
     ensures statics { OnOk result (scope_of statics.new ≡ (s.now.name, static_sort (static_type_tree s.now.kind)) ∷ scope_of statics.old) }
 {
-    refuse_name_if(
+    let name = refuse_name_if(
         has_name(names, &s.name),
         SortRule::DeclaredTwice,
         s.line,
         &s.name,
-    )?;
+    );
+    keep(all, faults, name)?;
     statics.declare(&s.name, static_sort(s.kind))?;
     put_first(names, &s.name)?;
     Ok(())
@@ -130,13 +140,15 @@ fn check_named<'a>(
     names: &mut Vec<Name>,
     statics: &mut Known<'a, Sort>,
     f: &'a Function,
-) -> Result<(), TypeError>
-    ensures finds { Finds result (found (function_places names.old.items (scope_of statics.old)
-        (function_tree f.now))) }
+    all: bool,
+    faults: &mut Vec<TypeFault>,
+) -> Result<(), AllocError>
+    ensures tells { OnOk result (Tells all faults.old.items faults.new.items
+        (found (function_places names.old.items (scope_of statics.old) (function_tree f.now)))) }
     ensures names { OnOk result (names.new.items ≡ f.now.name ∷ names.old.items) }
     ensures statics { OnOk result (statics.new ≡ statics.old) }
 {
-    check_function(*names.allocator(), names, statics, f)?;
+    check_function(*names.allocator(), names, statics, f, all, faults)?;
     put_first(names, &f.name)?;
     Ok(())
 }
@@ -146,14 +158,17 @@ fn check_item<'a>(
     names: &mut Vec<Name>,
     statics: &mut Known<'a, Sort>,
     item: &'a Item,
-) -> Result<(), TypeError>
-    ensures finds { Finds result (found (own_places names.old.items (scope_of statics.old) (item_tree item.now))) }
+    all: bool,
+    faults: &mut Vec<TypeFault>,
+) -> Result<(), AllocError>
+    ensures tells { OnOk result (Tells all faults.old.items faults.new.items
+        (found (own_places names.old.items (scope_of statics.old) (item_tree item.now)))) }
     ensures names { OnOk result (names.new.items ≡ item_name (item_tree item.now) ∷ names.old.items) }
     ensures statics { OnOk result (scope_of statics.new ≡ with_static (scope_of statics.old) (item_tree item.now)) }
 {
     match item {
-        Item::Static(s) => check_static(names, statics, s),
-        Item::Function(f) => check_named(names, statics, f),
+        Item::Static(s) => check_static(names, statics, s, all, faults),
+        Item::Function(f) => check_named(names, statics, f, all, faults),
     }
 }
 
@@ -163,11 +178,14 @@ pub(crate) fn check_items<'a>(
     names: &mut Vec<Name>,
     statics: &mut Known<'a, Sort>,
     items: &'a [Item],
-) -> Result<(), TypeError>
-    ensures { Finds result (found (item_places names.old.items (scope_of statics.old) (map item_tree items.now))) }
+    all: bool,
+    faults: &mut Vec<TypeFault>,
+) -> Result<(), AllocError>
+    ensures { OnOk result (Tells all faults.old.items faults.new.items
+        (found (item_places names.old.items (scope_of statics.old) (map item_tree items.now)))) }
 {
     for item in items {
-        check_item(names, statics, item)?;
+        check_item(names, statics, item, all, faults)?;
     }
     Ok(())
 }

@@ -15,4 +15,4 @@ mod typed;
 
 pub use fault::{SortRule, TypeError, TypeFault};
 pub use type_rules::Typed;
-pub use typed::type_unit;
+pub use typed::{type_faults, type_unit};

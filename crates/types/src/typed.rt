@@ -1,20 +1,31 @@
 //! Whether a unit keeps the rules on names and sorts.
 
-ghost use Rattle.std.specs.Prelude.{◌≡◌, IfOk, IfErr, IsOkUnless, Some};
+ghost use Rattle.std.specs.Prelude.{◌≡◌, [], IfOk, IfErr, IsOkUnless, Some, map, slice_get};
+ghost use Rattle.std.specs.List.{All};
 ghost use Rattle.syntax.specs.Views.{unit_tree};
-ghost use Rattle.type_rules.specs.SortRules.{IsSorted, BreaksSortRule, broken, first_broken};
-ghost use Rattle.types.specs.Faults.{Finds, IfBroken, fault_of, rule_of};
+ghost use Rattle.type_rules.specs.SortRules.{IsSorted, BreaksSortRule, first_broken};
+ghost use Rattle.types.specs.AllFaults.{sort_faults};
+ghost use Rattle.types.specs.Faults.{Tells, IfBroken, fault_of, rule_of};
 
-use crate::fault::TypeError;
+use crate::fault::{TypeError, TypeFault};
 use crate::items::check_items;
-use std::alloc::Global;
+use std::alloc::{AllocError, Global};
 use syntax::Unit;
 use type_rules::{Known, Typed};
 
-fn check_unit(alloc: Global, unit: &Unit) -> Result<(), TypeError>
-    ensures { Finds result (broken (unit_tree unit.now)) }
+/// The faults of a unit: all of them, or the first alone.
+fn check_unit(alloc: Global, unit: &Unit, all: bool) -> Result<Vec<TypeFault>, AllocError>
+    ensures { IfOk result (λ faults. Tells all [] faults.items (sort_faults (unit_tree unit.now))) }
 {
-    check_items(&mut Vec::new(alloc), &mut Known::new(alloc), unit.items())
+    let mut faults: Vec<TypeFault> = Vec::new(alloc);
+    check_items(
+        &mut Vec::new(alloc),
+        &mut Known::new(alloc),
+        unit.items(),
+        all,
+        &mut faults,
+    )?;
+    Ok(faults)
 }
 
 /// The unit, where it keeps the rules on names and sorts. A statement's expressions are read once for each rule; a name
@@ -32,6 +43,25 @@ pub fn type_unit(alloc: Global, unit: Unit) -> Result<Typed, TypeError>
     // Its rule is broken on its line.
     ensures earned { IfErr result (λ e. IfBroken e (λ f. BreaksSortRule (rule_of f.rule) f.line (unit_tree unit))) }
 {
-    check_unit(alloc, &unit)?;
-    Ok(Typed::of(unit))
+    let mut faults = check_unit(alloc, &unit, false)?;
+    if faults.is_empty() {
+        return Ok(Typed::of(unit));
+    }
+    Err(TypeError::Fault(faults.swap_remove(0)))
+}
+
+/// The faults of a unit in text order, one of each place at which a rule is broken: of a static, of a function's head, or of a
+/// statement, there the one of the least number. The names that a statement declares are known after it, whether or not it
+/// keeps the rules.
+pub fn type_faults(alloc: Global, unit: &Unit) -> Result<Vec<TypeFault>, AllocError>
+    ensures all { IfOk result (λ faults. map fault_of faults.items ≡ sort_faults (unit_tree unit.now)) }
+    // There are none where the unit is sorted, and only there.
+    ensures none { IsSorted (unit_tree unit.now) → IfOk result (λ faults. faults.items ≡ []) }
+    ensures sorted { IfOk result (λ faults. faults.items ≡ [] → IsSorted (unit_tree unit.now)) }
+    // The first is the one that `type_unit` answers.
+    ensures first { IfOk result (λ faults. slice_get (map fault_of faults.items) 0 ≡ first_broken (unit_tree unit.now)) }
+    // The rule of each is broken on its line.
+    ensures earned { IfOk result (λ faults. All (λ f. BreaksSortRule (rule_of f.rule) f.line (unit_tree unit.now)) faults.items) }
+{
+    check_unit(alloc, unit, true)
 }

@@ -1,22 +1,25 @@
-use Rattle.std.proofs.Common.{◌-◌, ◌++◌, drop, length, sym, ap, subst, ◌∙◌}
+use Rattle.std.proofs.Common.{◌-◌, ◌++◌, drop, take, length, sym, ap, subst, ◌∙◌}
 use Rattle.syntax.specs.Views.{block_tree, result_tree}
 use Rattle.type_rules.specs.declared.sort.Sort.{Sort as SortInMemory}
 use Rattle.std.proofs.lemmas.Result.{on_ok_weaker}
 use Rattle.base.specs.Bytes.{ByName}
 use Rattle.type_rules.specs.SortRules.{places_of}
-use Rattle.types.specs.Faults.{Finds, scope_of, found, head_faults}
+use Rattle.types.specs.Faults.{Tells, scope_of, found, head_faults}
 use Rattle.types.proofs.BlockLemmas.{forgotten}
 use Rattle.types.proofs.ItemLemmas.{found-function}
 use Rattle.types.proofs.items.check_function.Goals as goal
 
-pub returns-clause-finds : goal.returns-clause-finds
-returns-clause-finds c =
+pub returns-clause-tells : goal.returns-clause-tells
+returns-clause-tells c =
     let f = c.args.f.now in
     let known = c.enter.new.known in
-    subst (λ xs. Finds c.check_body-checked.result xs)
-    (ap (λ names. head_faults c.args.names.now names f ++ found (places_of (result_tree f.result) (scope_of known) names (block_tree f.body))) (c.deref.ensures.value ∙ c.in_ok-entry.ensures)
+    on_ok_weaker c.check_body-checked.result
+    (λ e.
+    subst (Tells c.args.all c.args.faults.now.items c.check_body-checked.new.faults.items)
+    (ap (λ names. take 1 (head_faults c.args.names.now names f) ++ found (places_of (result_tree f.result) (scope_of known) names (block_tree f.body))) (c.deref.ensures.value ∙ c.in_ok-entry.ensures)
     ∙ sym (found-function c.args.names.now (scope_of c.args.known.now) f known c.in_ok-enter.ensures.scope))
-    c.check_body-checked.ensures.finds
+    e)
+    c.check_body-checked.ensures.tells
 
 pub returns-clause-restored : goal.returns-clause-restored
 returns-clause-restored c =

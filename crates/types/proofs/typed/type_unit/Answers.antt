@@ -1,17 +1,24 @@
-use Rattle.std.proofs.Common.{refl}
-use Rattle.std.proofs.lemmas.Result.{err_from_is_err_and}
+use Rattle.std.proofs.Common.{rules}
 use Rattle.syntax.specs.Views.{unit_tree}
-use Rattle.types.proofs.UnitLemmas.{sorted-memory, earned-unit}
+use Rattle.types.specs.declared.fault.TypeError.TheVariants.{Fault}
+use Rattle.types.proofs.UnitLemmas.{sorted-none, refused-first, sorted-memory, broken-first, earned-unit}
 use Rattle.types.proofs.typed.type_unit.Goals as goal
 
-pub returns-in_err-check_unit-clause-only : goal.returns-in_err-check_unit-clause-only
-returns-in_err-check_unit-clause-only c =
-    λ sorted.
-    let memory = sorted-memory (unit_tree c.args.unit) c.in_err-check_unit.field-0.0 c.in_err-check_unit.ensures sorted in
-    let p = err_from_is_err_and c.from_residual.result c.from_residual.ensures.1 in
-    rw (p.1, p.2, memory) refl
+pub of-requires : goal.of-requires
+of-requires c = sorted-none (unit_tree c.args.unit) c.in_ok-faults.faults.items c.in_ok-faults.ensures (search rules)
 
-pub returns-in_err-check_unit-clause-earned : goal.returns-in_err-check_unit-clause-earned
-returns-in_err-check_unit-clause-earned c =
-    let p = err_from_is_err_and c.from_residual.result c.from_residual.ensures.1 in
-    rw (p.1, p.2) (earned-unit (unit_tree c.args.unit) c.in_err-check_unit.field-0.0 c.in_err-check_unit.ensures)
+pub returns-clause-only : goal.returns-clause-only
+returns-clause-only c =
+    λ sorted.
+    sorted-memory (unit_tree c.args.unit) (Fault c.swap_remove.result)
+    (refused-first (unit_tree c.args.unit) c.in_ok-faults.faults.items c.swap_remove.result c.in_ok-faults.ensures (search rules) c.swap_remove.ensures.value) sorted
+
+pub returns-clause-first : goal.returns-clause-first
+returns-clause-first c =
+    broken-first (unit_tree c.args.unit) (Fault c.swap_remove.result)
+    (refused-first (unit_tree c.args.unit) c.in_ok-faults.faults.items c.swap_remove.result c.in_ok-faults.ensures (search rules) c.swap_remove.ensures.value)
+
+pub returns-clause-earned : goal.returns-clause-earned
+returns-clause-earned c =
+    earned-unit (unit_tree c.args.unit) (Fault c.swap_remove.result)
+    (refused-first (unit_tree c.args.unit) c.in_ok-faults.faults.items c.swap_remove.result c.in_ok-faults.ensures (search rules) c.swap_remove.ensures.value)
