@@ -1,5 +1,5 @@
 -- The steps of the loops over the lines and the bytes of a text.
-use Rattle.std.proofs.Common.{◌≡◌, ◌≢◌, ℕ, zero, suc, ◌+◌, ◌-◌, ◌<◌, ◌≤◌, List, [], ◌∷◌, ◌++◌, length, refl, sym, ap, ◌∙◌, arith, append_assoc, length-append}
+use Rattle.std.proofs.Common.{◌≡◌, ◌≢◌, Bool, true, false, ◌==◌, if◌then◌else◌, ℕ, zero, suc, ◌+◌, ◌-◌, ◌<◌, ◌≤◌, List, [], ◌∷◌, ◌++◌, length, refl, sym, ap, ◌∙◌, arith, append_assoc, length-append}
 use Rattle.std.proofs.lemmas.Bool.{ne_eqb, cond-false}
 use Rattle.std.proofs.lemmas.List.{append-nil}
 use Rattle.cli_commands.specs.Telling.{from_line, shown_byte, shown_line}
@@ -24,6 +24,27 @@ line_feed m n text rest byte e is feed = rw (e, is, feed) refl
 pub line_other : (m n : ℕ) (text rest : List ℕ) (byte : ℕ) → n ≡ suc m → text ≡ byte ∷ rest → byte ≢ 10 → from_line n rest ≡ from_line n text
 unfolding from_line
 line_other m n text rest byte e is other = rw (e, is) (sym (cond-false _ (from_line m rest) (from_line (suc m) rest) (ne_eqb byte 10 other)))
+
+past_end : (n : ℕ) → from_line n [] ≡ []
+unfolding from_line
+past_end zero = refl
+past_end (suc n) = refl
+
+-- some lines, and then some more
+line_more : (m n k : ℕ) (text : List ℕ) → k ≡ m + n → from_line n (from_line m text) ≡ from_line k text
+unfolding from_line
+line_more zero n k text e = let same : n ≡ k = omega (arith, e) in ap (λ i. from_line i text) same
+line_more (suc m) n zero text e = absurd (omega (arith, e))
+line_more (suc m) n (suc k) [] e = past_end n
+line_more (suc m) n (suc k) (byte ∷ text) e = by (byte == 10) (line_more m n k text (omega (arith, e))) (line_more (suc m) n (suc k) text e)
+  where
+    by : (b : Bool) → from_line n (from_line m text) ≡ from_line k text → from_line n (from_line (suc m) text) ≡ from_line (suc k) text
+        → from_line n (if b then from_line m text else from_line (suc m) text) ≡ (if b then from_line k text else from_line (suc k) text)
+    by true h l = h
+    by false h l = l
+
+pub line_from : (m n : ℕ) (text rest : List ℕ) → rest ≡ from_line m text → m ≤ n → from_line (n - m) rest ≡ from_line n text
+line_from m n text rest h le = ap (from_line (n - m)) h ∙ line_more m (n - m) n text (omega arith)
 
 -- ---- the bytes of a line
 

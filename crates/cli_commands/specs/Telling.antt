@@ -11,6 +11,11 @@ from_line zero text = text
 from_line (suc line) [] = []
 from_line (suc line) (byte ∷ text) = if byte == 10 then from_line line text else from_line (suc line) text
 
+-- the text from the line of a place on, where it has one
+abbrev pub text_from : (text : List ℕ) → Place → List ℕ
+text_from text (Line which line) = from_line (line - 1) text
+text_from text (Entry entry) = text
+
 -- a byte as it is shown: a tab as a space, and any other byte that isn't printable ASCII as a question mark
 abbrev pub shown_byte : ℕ → ℕ
 shown_byte byte = if nat_le 32 byte && nat_le byte 126 then byte else (if byte == 9 then 32 else 63)

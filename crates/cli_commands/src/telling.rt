@@ -2,8 +2,9 @@
 
 ghost use Rattle.std.specs.Prelude.{◌≡◌, ◌-◌, ◌==◌, OnOk};
 ghost use Rattle.sinks.specs.Sink.{CanFail, Writes};
-ghost use Rattle.cli_commands.specs.Telling.{from_line, shown_byte, shown_line, most_shown, excerpt, place_text, detail_text, reason_text, told};
+ghost use Rattle.cli_commands.specs.Telling.{from_line, text_from, shown_byte, shown_line, most_shown, excerpt, place_text, detail_text, reason_text, told};
 
+use crate::lines::Lines;
 use arrayvec::ArrayVec;
 use itoa::Buffer;
 use places::Place;
@@ -13,7 +14,7 @@ use sinks::{Sink, SinkFailed, put_all, put_pieces};
 const MOST_SHOWN: usize = 160;
 
 /// The text from a line on, where lines are counted from 0.
-fn from_line(text: &[u8], line: usize) -> &[u8]
+pub(crate) fn from_line(text: &[u8], line: usize) -> &[u8]
     ensures { result.now ≡ from_line line text.now }
 {
     let mut rest = text;
@@ -60,10 +61,16 @@ fn shown_line(text: &[u8]) -> ArrayVec<u8, MOST_SHOWN>
     shown
 }
 
-/// Puts the line of a place, on a line of its own.
+/// Puts the line of a place, on a line of its own, where the text is `rest` from that line on.
 #[tactic(auto, unfolding(crate::specs::Telling::excerpt))]
-fn put_excerpt<E: Sink>(err: &mut E, text: &[u8], place: Place) -> Result<(), SinkFailed>
-    requires { CanFail (E.written err.old) }
+fn put_excerpt<E: Sink>(
+    err: &mut E,
+    text: &[u8],
+    rest: &[u8],
+    place: Place,
+) -> Result<(), SinkFailed>
+    requires can_fail { CanFail (E.written err.old) }
+    requires rest { rest.now ≡ text_from text.now place }
     ensures { Writes (E.written err.old) (E.written err.new) result (excerpt text.now place) }
 {
     match place {
@@ -71,7 +78,7 @@ fn put_excerpt<E: Sink>(err: &mut E, text: &[u8], place: Place) -> Result<(), Si
             if line == 0 {
                 return Ok(());
             }
-            let shown = shown_line(from_line(text, line - 1));
+            let shown = shown_line(rest);
             put_pieces(err, &[b"    ", shown.as_slice(), b"\n"])
         }
         Place::Entry(_entry) => Ok(()),
@@ -144,6 +151,28 @@ pub struct Reason<'a> {
     pub detail: &'a [u8],
 }
 
+/// Tells a fault or a trap as `tell` does, where the text is `rest` from the line of the place on.
+pub fn tell_from<E: Sink>(
+    err: &mut E,
+    source: Source<'_>,
+    rest: &[u8],
+    place: Place,
+    reason: Reason<'_>,
+) -> Result<(), SinkFailed>
+    requires can_fail { CanFail (E.written err.old) }
+    requires rest { rest.now ≡ text_from source.text.now place }
+    ensures text { Writes (E.written err.old) (E.written err.new) result
+        (told reason.entry.kind.now source.entry.name.now source.entry.text.now reason.entry.number place reason.entry.words.now reason.entry.detail.now) }
+    ensures none_waits { OnOk result ((E.written err.new).waiting ≡ 0) }
+{
+    put_all(err, source.name)?;
+    put_place(err, place)?;
+    put_reason(err, reason.kind, reason.number, reason.words)?;
+    put_detail(err, reason.detail)?;
+    put_excerpt(err, source.text, rest, place)?;
+    err.flush()
+}
+
 /// Tells a fault or a trap: the name of the file, the place, the kind and the number, the words, and what was found there, if
 /// that is told; and below them the line of the text.
 pub fn tell<E: Sink>(
@@ -157,10 +186,6 @@ pub fn tell<E: Sink>(
         (told reason.entry.kind.now source.entry.name.now source.entry.text.now reason.entry.number place reason.entry.words.now reason.entry.detail.now) }
     ensures none_waits { OnOk result ((E.written err.new).waiting ≡ 0) }
 {
-    put_all(err, source.name)?;
-    put_place(err, place)?;
-    put_reason(err, reason.kind, reason.number, reason.words)?;
-    put_detail(err, reason.detail)?;
-    put_excerpt(err, source.text, place)?;
-    err.flush()
+    let rest = Lines::of(source.text).at(place);
+    tell_from(err, source, rest, place, reason)
 }

@@ -2,7 +2,7 @@ use Rattle.std.proofs.Common.{◌++◌}
 use Rattle.std.proofs.lemmas.Result.{err_from_is_err_and}
 use Rattle.cli_commands.specs.Telling.{place_text, reason_text, detail_text, excerpt}
 use Rattle.sinks.proofs.Puts.{AppendsText-then, StopsWithin-more, StopsWithin-then, Writes-flushed}
-use Rattle.cli_commands.proofs.telling.tell.Goals as goal
+use Rattle.cli_commands.proofs.telling.tell_from.Goals as goal
 
 pub returns-in_err-put_all-clause-text : goal.returns-in_err-put_all-clause-text
 returns-in_err-put_all-clause-text g c =
