@@ -1,17 +1,19 @@
 -- A unit without fault is accepted, and the fault found is its first.
-use Rattle.std.proofs.Common.{◌≡◌, ℕ, suc, Bool, true, false, ◌&&◌, inl, inr, List, [], ◌∷◌, Option, Some, None, Result, Ok, Err, refl, sym, ap, ap₂, ◌∙◌, subst, arith}
+use Rattle.std.proofs.Common.{◌≡◌, ℕ, suc, Bool, true, false, ◌&&◌, inl, inr, List, [], ◌∷◌, Option, Some, None, Result, Ok, Err, refl, sym, ap, ap₂, ◌∙◌, subst, map, filter_map, slice_get, arith}
+use Rattle.std.proofs.lemmas.List.Elements.{All-from_recursion}
 use Rattle.std.specs.Prelude.{Contains}
-use Rattle.std.specs.List.{AllByRecursion}
+use Rattle.std.specs.List.{All, AllByRecursion, cons_option}
 use Rattle.std.specs.Option.{option_or}
 use Rattle.syntax.specs.Parts.{functions_of}
-use Rattle.syntax.specs.Tree.{Function, Item, StaticItem, FunctionItem}
+use Rattle.syntax.specs.Tree.{Function, Item, StaticItem, FunctionItem, SourceUnit}
 use Rattle.regions.specs.declared.fault.CheckError.{CheckError}
 use Rattle.regions.specs.declared.fault.CheckError.TheVariants.{Memory, Fault}
-use Rattle.regions.specs.Findings.{Finds, Refuses, IfBroken, rule_of, fault_of, end_line_of, fault_at_end, function_fault, items_fault, first_fault}
-use Rattle.region_rules.specs.FirstFaults.{FirstInFunction, FirstInFunctions}
+use Rattle.regions.specs.AllFaults.{AreFunctionFaults, for_none, for_accepted, for_refused, AreRegionFaults}
+use Rattle.regions.specs.Findings.{Finds, Refuses, IfBroken, RegionFault, rule_of, fault_of, end_line_of, fault_at_end, function_fault, items_fault, items_faults, first_fault}
+use Rattle.region_rules.specs.FirstFaults.{FirstInFunction, FirstInFunctions, IsFirstRegionFault}
 use Rattle.region_rules.specs.RegionRules.{RegionRule, NoReturn}
 use Rattle.region_rules.specs.RegionStates.{state_at_entry}
-use Rattle.region_rules.specs.Regions.{Way, On, Returned, AcceptedFunction, BreaksFunction, BreaksRegionRule}
+use Rattle.region_rules.specs.Regions.{Way, On, Returned, AcceptedFunction, BreaksFunction, BreaksRegionRule, HasRegions}
 use Rattle.regions.specs.Ways.{Found, way_of_block}
 use Rattle.regions.proofs.Ways.{keeps_block, answers_block}
 use Rattle.regions.proofs.BrokenWays.{function_broken}
@@ -138,3 +140,84 @@ fault-first items (Fault f) h = faulty-all (functions_of (record { items = items
 pub fault-broken : (items : List Item) (e : CheckError) → Refuses e (items_fault items) → IfBroken e (λ f. BreaksRegionRule (rule_of f.rule) f.line (record { items = items }))
 fault-broken items Memory h = tt
 fault-broken items (Fault f) h = first_broken_in (functions_of (record { items = items })) (rule_of f.rule) f.line (fault-first items (Fault f) h)
+
+-- ---- all faults
+
+-- the faults of functions are those that are told of them
+faults_are : (functions : List Function) → AreFunctionFaults functions (filter_map function_fault functions)
+faults_are [] = for_none
+faults_are (f ∷ functions) = by (function_fault f) refl (faults_are functions)
+  where
+    by : (o : Option Found) → function_fault f ≡ o → AreFunctionFaults functions (filter_map function_fault functions) → AreFunctionFaults (f ∷ functions) (cons_option o (filter_map function_fault functions))
+    by None is further = for_accepted f functions _ (accepted f (way_of_block (state_at_entry f) (state_at_entry f) f.body) refl is) further
+    by (Some e) is further = for_refused f functions e.1 e.0 _ (faulty f e (way_of_block (state_at_entry f) (state_at_entry f) f.body) refl is) further
+
+faults_of_items : (items : List Item) → items_faults items ≡ filter_map function_fault (functions_of (record { items = items }))
+faults_of_items [] = refl
+faults_of_items (StaticItem s ∷ items) = faults_of_items items
+faults_of_items (FunctionItem f ∷ items) = ap (λ faults. cons_option (function_fault f) faults) (faults_of_items items)
+
+pub told-all : (items : List Item) (faults : List RegionFault) → map fault_of faults ≡ items_faults items → AreRegionFaults (record { items = items }) (map fault_of faults)
+told-all items faults e =
+    subst (AreFunctionFaults (functions_of (record { items = items }))) (sym (e ∙ faults_of_items items)) (faults_are (functions_of (record { items = items })))
+
+-- none is told of functions that are accepted, and only of them
+pub none_of_accepted : (functions : List Function) (faults : List Found) → AreFunctionFaults functions faults → AllByRecursion AcceptedFunction functions → faults ≡ []
+none_of_accepted functions faults for_none a = refl
+none_of_accepted functions faults (for_accepted f further _ one rest) a = none_of_accepted further faults rest a.1
+none_of_accepted functions faults (for_refused f further rule line _ one rest) a = absurd (no_first_in (f ∷ []) rule line (inl one) (a.0, tt))
+
+pub accepted_of_none : (functions : List Function) (faults : List Found) → AreFunctionFaults functions faults → faults ≡ [] → AllByRecursion AcceptedFunction functions
+accepted_of_none functions faults for_none e = tt
+accepted_of_none functions faults (for_accepted f further _ one rest) e = (one, accepted_of_none further faults rest e)
+accepted_of_none functions faults (for_refused f further rule line _ one rest) e = absurd cc
+
+-- the first is the one that is answered
+pub first_of_all : (functions : List Function) (faults : List Found) (g : Found) → AreFunctionFaults functions faults → slice_get faults 0 ≡ Some g → FirstInFunctions g.1 g.0 functions
+first_of_all functions faults g for_none e = absurd cc
+first_of_all functions faults g (for_accepted f further _ one rest) e = inr (one, first_of_all further faults g rest e)
+first_of_all functions faults g (for_refused f further rule line _ one rest) e = subst (λ (x : Found). FirstInFunctions x.1 x.0 (f ∷ further)) (some_is (line, rule) g e) (inl one)
+
+-- each is of a rule that is broken
+IsBrokenIn : List Function → Found → Type 0
+IsBrokenIn all g = (f : Function) × Contains all f × BreaksFunction g.1 g.0 f
+
+broken_of_all : (all functions : List Function) (faults : List Found) → ((f : Function) → Contains functions f → Contains all f) → AreFunctionFaults functions faults → AllByRecursion (IsBrokenIn all) faults
+unfolding IsBrokenIn
+broken_of_all all functions faults within for_none = tt
+broken_of_all all functions faults within (for_accepted f further _ one rest) = broken_of_all all further faults (λ g c. within g (suc c.0, omega (arith, c.1), c.2)) rest
+broken_of_all all functions faults within (for_refused f further rule line later one rest) =
+    ((f, within f (0, omega arith, refl), function_broken f rule line one), broken_of_all all further later (λ g c. within g (suc c.0, omega (arith, c.1), c.2)) rest)
+
+-- each that is told of a unit
+pub broken-faults : (items : List Item) (faults : List Found) → AreRegionFaults (record { items = items }) faults → AllByRecursion (λ (g : Found). BreaksRegionRule g.1 g.0 (record { items = items })) faults
+unfolding IsBrokenIn
+broken-faults items faults h = broken_of_all (functions_of (record { items = items })) (functions_of (record { items = items })) faults (λ f c. c) h
+
+broken_in_memory : (items : List Item) (faults : List RegionFault) → AllByRecursion (λ (g : Found). BreaksRegionRule g.1 g.0 (record { items = items })) (map fault_of faults)
+    → AllByRecursion (λ f. BreaksRegionRule (rule_of f.rule) f.line (record { items = items })) faults
+broken_in_memory items [] h = tt
+broken_in_memory items (f ∷ faults) h = (h.0, broken_in_memory items faults h.1)
+
+-- ---- what is told of a unit
+
+none_in_memory : (faults : List RegionFault) → map fault_of faults ≡ [] → faults ≡ []
+none_in_memory [] e = refl
+none_in_memory (f ∷ faults) e = absurd cc
+
+pub none-told : (unit : SourceUnit) (faults : List RegionFault) → AreRegionFaults unit (map fault_of faults) → HasRegions unit → faults ≡ []
+none-told unit faults h accepted = none_in_memory faults (none_of_accepted (functions_of unit) (map fault_of faults) h accepted)
+
+pub accepted-told : (unit : SourceUnit) (faults : List RegionFault) → AreRegionFaults unit (map fault_of faults) → faults ≡ [] → HasRegions unit
+accepted-told unit faults h e = accepted_of_none (functions_of unit) (map fault_of faults) h (ap (map fault_of) e)
+
+get_in_memory : (faults : List RegionFault) (f : RegionFault) → slice_get faults 0 ≡ Some f → slice_get (map fault_of faults) 0 ≡ Some (fault_of f)
+get_in_memory [] f e = absurd cc
+get_in_memory (g ∷ faults) f e = let k : g ≡ f = cc in ap (λ (x : RegionFault). Some (fault_of x)) k
+
+pub first-told : (unit : SourceUnit) (faults : List RegionFault) → AreRegionFaults unit (map fault_of faults) → (f : RegionFault) → slice_get faults 0 ≡ Some f → IsFirstRegionFault (rule_of f.rule) f.line unit
+first-told unit faults h f e = first_of_all (functions_of unit) (map fault_of faults) (fault_of f) h (get_in_memory faults f e)
+
+pub broken-told : (items : List Item) (faults : List RegionFault) → AreRegionFaults (record { items = items }) (map fault_of faults) → All (λ f. BreaksRegionRule (rule_of f.rule) f.line (record { items = items })) faults
+broken-told items faults h =
+    All-from_recursion _ faults (broken_in_memory items faults (broken-faults items (map fault_of faults) h))

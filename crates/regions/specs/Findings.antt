@@ -1,5 +1,5 @@
 -- What a check finds: the first fault, or none.
-use Rattle.std.specs.Prelude.{◌≡◌, ℕ, List, [], ◌∷◌, Option, Some, None, Result, Ok, Err}
+use Rattle.std.specs.Prelude.{◌≡◌, ℕ, List, [], ◌∷◌, Option, Some, None, Result, Ok, Err, filter_map}
 use Rattle.std.specs.Option.{option_or}
 use Rattle.syntax.specs.Tree.{Block, End, Next, Function, Item, StaticItem, FunctionItem}
 use Rattle.regions.specs.declared.fault.RegionRule.{RegionRule as RuleInMemory}
@@ -76,6 +76,10 @@ item_fault (FunctionItem f) = function_fault f
 abbrev pub items_fault : List Item → Option Found
 items_fault [] = None
 items_fault (item ∷ items) = let further = items_fault items in option_or (item_fault item) further
+
+-- the fault of each item that has one
+abbrev pub items_faults : List Item → List Found
+items_faults items = filter_map item_fault items
 
 -- the first fault of functions
 abbrev pub first_fault : List Function → Option Found

@@ -1,15 +1,17 @@
 //! Whether a unit is accepted.
 
-ghost use Rattle.std.specs.Prelude.{◌≡◌, IfOk, IfErr, IsOkUnless};
+ghost use Rattle.std.specs.Prelude.{◌≡◌, [], IfOk, IfErr, IsOkUnless, Some, map, slice_get};
+ghost use Rattle.std.specs.List.{All};
 ghost use Rattle.syntax.specs.Views.{unit_tree};
 ghost use Rattle.region_rules.specs.Regions.{HasRegions, BreaksRegionRule};
 ghost use Rattle.region_rules.specs.FirstFaults.{IsFirstRegionFault};
-ghost use Rattle.regions.specs.Findings.{rule_of, IfBroken};
+ghost use Rattle.regions.specs.AllFaults.{AreRegionFaults};
+ghost use Rattle.regions.specs.Findings.{RegionFault as Found, rule_of, fault_of, IfBroken};
 
-use crate::fault::CheckError;
-use crate::walk::check_items;
+use crate::fault::{CheckError, RegionFault};
+use crate::walk::{check_items, faults_of_items};
 use region_rules::Checked;
-use std::alloc::Global;
+use std::alloc::{AllocError, Global};
 use type_rules::Typed;
 
 /// The unit, where each way through its functions keeps the rules. Each statement is read once, with the references and
@@ -28,4 +30,19 @@ pub fn check(alloc: Global, typed: Typed) -> Result<Checked, CheckError>
 {
     check_items(alloc, typed.items())?;
     Ok(Checked::of(typed))
+}
+
+/// The faults of a unit in text order: of each function that isn't accepted its first.
+pub fn region_faults(alloc: Global, typed: &Typed) -> Result<Vec<RegionFault>, AllocError>
+    ensures all { IfOk result (λ faults. AreRegionFaults (unit_tree typed.now) (map fault_of faults.items)) }
+    // There are none where the unit is accepted, and only there.
+    ensures none { HasRegions (unit_tree typed.now) → IfOk result (λ faults. faults.items ≡ []) }
+    ensures accepted { IfOk result (λ faults. faults.items ≡ [] → HasRegions (unit_tree typed.now)) }
+    // The first is the one that `check` answers.
+    ensures first { IfOk result (λ faults. (f : Found) → slice_get faults.items 0 ≡ Some f
+        → IsFirstRegionFault (rule_of f.rule) f.line (unit_tree typed.now)) }
+    // The rule of each is broken at its line.
+    ensures broken { IfOk result (λ faults. All (λ f. BreaksRegionRule (rule_of f.rule) f.line (unit_tree typed.now)) faults.items) }
+{
+    faults_of_items(alloc, typed.items())
 }

@@ -10,7 +10,7 @@ mod walk;
 
 ghost use Rattle.region_rules.specs.FirstFaults.{AcceptedBreaksNothing, AcceptedOrBroken, AcceptedOrFirst, FirstIsBroken, NotBoth, OneFirst, OneFirstOfUnit};
 
-pub use checked::check;
+pub use checked::{check, region_faults};
 pub use fault::{CheckError, RegionFault, RegionRule};
 pub use region_rules::Checked;
 

@@ -1,19 +1,20 @@
 //! The ways through a function.
 
-ghost use Rattle.std.specs.Prelude.{◌≡◌, ◌≤◌, ◌++◌, ℕ, List, map, length, OnOk, IfOk};
+ghost use Rattle.std.specs.Prelude.{◌≡◌, ◌≤◌, ◌++◌, ℕ, List, Option, map, length, OnOk, IfOk};
+ghost use Rattle.std.specs.Option.{option_to_list};
 ghost use Rattle.base.specs.Bytes.{Identifier};
 ghost use Rattle.std.specs.List.{AllByRecursion};
 ghost use Rattle.syntax.specs.Tree.{End};
 ghost use Rattle.syntax.specs.Views.{block_tree, stmt_tree, test_tree, form_tree, function_tree, item_tree};
 ghost use Rattle.region_rules.specs.RegionStates.{RegionState, state_at_entry};
 ghost use Rattle.region_rules.specs.Regions.{where_true, where_false};
-ghost use Rattle.regions.specs.Ways.{join_ways, way_of, way_of_block};
+ghost use Rattle.regions.specs.Ways.{Found, join_ways, way_of, way_of_block};
 ghost use Rattle.region_states.specs.StatesInMemory.{names_of, Grows};
 ghost use Rattle.region_states.specs.NewNames.{own_names, AreNew, DeclaresNew, DeclareNew, DeclaresOnce, ItemOnce};
-ghost use Rattle.regions.specs.Findings.{Finds, function_fault, item_fault, items_fault};
+ghost use Rattle.regions.specs.Findings.{Finds, fault_of, function_fault, item_fault, items_fault, items_faults};
 ghost use Rattle.regions.specs.Walks.{WayOrFault, way_value, Goes, Branches, Awaits, go_on, plain_way, inner_way};
 
-use crate::fault::{CheckError, RegionRule};
+use crate::fault::{CheckError, RegionFault, RegionRule};
 use crate::joins::{Branch, Way, join, no_turn, one_way, refuse, take_else, take_then};
 use crate::rules::{first_broken, is_return};
 use crate::telling::{end_detail, held_detail, statement_detail, unreached_detail};
@@ -250,4 +251,50 @@ pub(crate) fn check_items<'a>(alloc: Global, items: &'a [Item]) -> Result<(), Ch
 {
     let mut state = FlowState::new(alloc);
     check_each(alloc, &mut state, items)
+}
+
+/// Keeps what was found at an item behind what was found before it.
+fn keep(faults: &mut Vec<RegionFault>, found: Result<(), CheckError>) -> Result<(), AllocError>
+    ensures { (fault : Option Found) → Finds found fault
+        → OnOk result (map fault_of faults.new.items ≡ map fault_of faults.old.items ++ option_to_list fault) }
+{
+    match found {
+        Ok(()) => Ok(()),
+        Err(CheckError::Memory) => Err(AllocError),
+        Err(CheckError::Fault(fault)) => {
+            faults.push(fault)?;
+            Ok(())
+        }
+    }
+}
+
+/// The first fault of each function of a unit, behind those before it. The ways of all go through the same state.
+fn gather_each<'a>(
+    alloc: Global,
+    state: &mut FlowState<'a>,
+    items: &'a [Item],
+    faults: &mut Vec<RegionFault>,
+) -> Result<(), AllocError>
+    requires { AllByRecursion ItemOnce (map item_tree items.now) }
+    ensures { OnOk result (map fault_of faults.new.items ≡ map fault_of faults.old.items ++ items_faults (map item_tree items.now)) }
+{
+    for item in items {
+        let found: Result<(), CheckError> = check_item(alloc, state, item);
+        keep(faults, found)?;
+    }
+    Ok(())
+}
+
+/// The first fault of each function of a unit.
+pub(crate) fn faults_of_items<'a>(
+    alloc: Global,
+    items: &'a [Item],
+) -> Result<Vec<RegionFault>, AllocError>
+    requires { AllByRecursion ItemOnce (map item_tree items.now) }
+    ensures { IfOk result (λ faults. map fault_of faults.items ≡ items_faults (map item_tree items.now)) }
+{
+    let mut state = FlowState::new(alloc);
+    let mut faults: Vec<RegionFault> = Vec::new(alloc);
+    gather_each(alloc, &mut state, items, &mut faults)?;
+    Ok(faults)
 }
