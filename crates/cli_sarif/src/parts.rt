@@ -1,5 +1,7 @@
 //! The parts of a log, as JSON values.
 
+ghost use Rattle.std.specs.Prelude.{◌≤◌, length};
+
 use percent_encoding::{AsciiSet, NON_ALPHANUMERIC, percent_encode};
 use serde_json::{Value, json};
 use std::alloc::{AllocError, Global};
@@ -80,15 +82,38 @@ pub(crate) fn result_of(
     json!(in alloc; {"ruleId": rule, "level": "error", "message": message, "locations": [location]})
 }
 
-/// A rule that is broken: its title, and its explanation.
+/// How many bytes are before the first blank line of a text, or how many it has.
+fn before_blank(text: &[u8]) -> usize
+    ensures { result ≤ length text.now }
+{
+    for end in 1..text.len() {
+        if text[end - 1] == b'\n' && text[end] == b'\n' {
+            return end - 1;
+        }
+    }
+    text.len()
+}
+
+/// The second paragraph of an explanation, which states the rule.
+fn stated(text: &[u8]) -> &[u8] {
+    let title = before_blank(text);
+    let rest = match &text[title..] {
+        [_, _, rest @ ..] => rest,
+        rest => rest,
+    };
+    let end = before_blank(rest);
+    &rest[..end]
+}
+
+/// A rule that is broken: its title, the rule itself, and its whole explanation.
 pub(crate) fn rule_of(alloc: Global, number: u32) -> Result<Value, AllocError> {
     let id = rule_id(alloc, number)?;
     let title = title_of(number);
-    let help = match cli_explanations::fault(number) {
-        Some(explanation) => words(explanation.text),
-        None => title,
+    let (rule, help) = match cli_explanations::fault(number) {
+        Some(explanation) => (words(stated(explanation.text)), words(explanation.text)),
+        None => (title, title),
     };
-    json!(in alloc; {"id": id, "shortDescription": {"text": title}, "help": {"text": help}})
+    json!(in alloc; {"id": id, "shortDescription": {"text": title}, "fullDescription": {"text": rule}, "help": {"text": help}})
 }
 
 /// A file that can't be read.
