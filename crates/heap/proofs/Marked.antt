@@ -1,5 +1,5 @@
 -- Marks by address.
-use Rattle.std.proofs.Common.{◌≡◌, ℕ, zero, suc, ◌+◌, ◌<◌, ◌≤◌, Bool, true, false, cond, List, [], ◌∷◌, ◌++◌, length, set, refl, ap, arith}
+use Rattle.std.proofs.Common.{◌≡◌, ℕ, zero, suc, ◌+◌, ◌<◌, ◌≤◌, Bool, true, false, cond, List, [], ◌∷◌, ◌++◌, length, set, ap, arith}
 use Rattle.std.proofs.lemmas.List.{length_push, length-set}
 use Rattle.heap.specs.Marks.{is_kept}
 use Rattle.heap.specs.Marking.{unmarked, HasRoom}

@@ -1,6 +1,6 @@
-use Rattle.std.proofs.Common.{◌≡◌, ℕ, ◌-◌, ◌<◌, ◌≤◌, length}
+use Rattle.std.proofs.Common.{◌-◌, ◌≤◌}
 use Rattle.std.specs.Prelude.{slice_index}
-use Rattle.heap.specs.Values.{AreRedirected, cell_in}
+use Rattle.heap.specs.Values.{AreRedirected}
 use Rattle.heap.proofs.relocating.redirect.Given as goal
 
 abbrev pub invariant-references : goal.invariant-references

@@ -1,4 +1,4 @@
-use Rattle.std.proofs.Common.{ap, length, arith}
+use Rattle.std.proofs.Common.{arith}
 use Rattle.heap.proofs.Marked.{few_unmarked}
 use Rattle.heap.proofs.marking.Marking.new.Goals as goal
 
