@@ -11,9 +11,10 @@ ghost use Rattle.compact.specs.Slices.{FewWait, HasMarked, IsSliced, IsWhole, Ma
 
 use crate::collecting::{lend_marks, lend_table};
 use crate::compacting::compact;
+use crate::marking::SMALL;
 use crate::roots::{Roots, Weak};
 use base::limits::MOST_CELLS;
-use heap::{Addr, ClearMarks, Heap, Marking};
+use heap::{Addr, ClearMarks, Heap, Marking, Value};
 use std::alloc::{AllocError, Global};
 
 /// How many blocks a slice marks, where so many are on the list.
@@ -279,6 +280,29 @@ fn note_references(heap: &Heap, a: Addr, marking: &mut Marking)
     ensures followed { IsFollowed heap.now marking.new.kept a }
     ensures marked { marking.new.marked ≡ marking.old.marked }
 {
+    let len = heap.len_of(a);
+    if len > SMALL {
+        note_many(heap, a, marking);
+        return;
+    }
+    for place in 0..len {
+        if let Value::Block(b) = heap.get(a, place) {
+            marking.note(b);
+        }
+    }
+}
+
+/// The same of a block that may have many values.
+#[inline(never)]
+fn note_many(heap: &Heap, a: Addr, marking: &mut Marking)
+    requires count { length marking.old.kept ≡ heap.now.cells }
+    requires laid_out { IsLaidOut heap.now }
+    requires closed { IsClosed heap.now }
+    requires address { IsAddress heap.now a }
+    ensures adds { Adds (Refers heap.now a) marking.old.kept marking.old.waiting marking.new.kept marking.new.waiting }
+    ensures followed { IsFollowed heap.now marking.new.kept a }
+    ensures marked { marking.new.marked ≡ marking.old.marked }
+{
     let mut place = 0;
     'values: while let Some(next) = heap.next_reference(a, place) {
         marking.note(next.1);
@@ -294,6 +318,11 @@ fn note_pinned(heap: &Heap, marking: &mut Marking)
     ensures marked { marking.new.marked ≡ marking.old.marked }
     ensures laid_out { IsLaidOut heap.now }
 {
+    if !heap.may_be_pinned() {
+        // The proof reads off this call how the heap lies.
+        let _ = heap.count();
+        return;
+    }
     for place in 0..heap.count() {
         let a = heap.address(place);
         if heap.pins(a) > 0 {

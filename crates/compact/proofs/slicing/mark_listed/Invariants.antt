@@ -1,4 +1,4 @@
-use Rattle.std.proofs.Common.{◌≡◌, ◌+◌, ◌-◌, ◌≤◌, ◌<◌, ℕ, true, length}
+use Rattle.std.proofs.Common.{◌≡◌, ◌+◌, ◌-◌, ◌≤◌, ℕ, true, length}
 use Rattle.heap.specs.Marks.{is_kept}
 use Rattle.heap.specs.Marking.{IsUnderWay}
 use Rattle.compact.proofs.slicing.mark_listed.Given as goal

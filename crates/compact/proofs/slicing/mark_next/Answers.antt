@@ -1,5 +1,4 @@
-use Rattle.std.proofs.Common.{◌≡◌, ◌≤◌, ◌+◌, ℕ, suc, true, Bool, List, length, ap, subst, sym, arith}
-use Rattle.heap.specs.Marking.{unmarked}
+use Rattle.std.proofs.Common.{◌≡◌, ℕ, suc, true, Bool, List, length, ap, subst, sym, arith}
 use Rattle.heap.specs.Marks.{is_kept}
 use Rattle.compact.proofs.Going.{UnderWay-next, fewer_unmarked}
 use Rattle.compact.proofs.slicing.mark_next.Goals as goal

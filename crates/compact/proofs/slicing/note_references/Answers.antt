@@ -1,41 +1,34 @@
-use Rattle.std.proofs.Common.{◌≡◌, ◌+◌, ◌-◌, ◌<◌, ◌≤◌, length, Some, ◌∙◌, arith, ⊎_elim}
+use Rattle.std.proofs.Common.{◌≡◌, Some, ap, ◌∙◌, arith}
 use Rattle.std.specs.Prelude.{slice_get}
-use Rattle.std.proofs.lemmas.Bool.{cases_lt}
+use Rattle.heap.specs.declared.value.Value.{Value}
 use Rattle.heap.specs.declared.value.Value.TheVariants.{Block as Reference}
 use Rattle.heap.specs.Heap.{values_at}
 use Rattle.heap.proofs.Places.{IsAddress-within}
 use Rattle.compact.specs.Reach.{Refers}
-use Rattle.compact.proofs.Adding.{Seen-more}
-use Rattle.compact.proofs.Blocks.{value_within, one_reference}
+use Rattle.compact.proofs.Adding.{Seen-more, Seen-none}
+use Rattle.compact.proofs.Blocks.{one_reference, no_reference}
 use Rattle.compact.proofs.Going.{noting}
 use Rattle.compact.proofs.slicing.note_references.Goals as goal
+use Rattle.compact.proofs.slicing.note_references.Goals.{in-Block, in_default}
 
 pub note-requires : goal.note-requires
 note-requires c =
-    let there = c.requires.closed c.args.a c.in-Some.next.1 c.requires.address (record { place = c.in-Some.next.0; value = c.in-Some.ensures.reference.value }) in
-    let within = IsAddress-within c.args.heap.now c.in-Some.next.1 c.requires.laid_out there in
-    omega (arith, within, c.values.invariant.adds.count, c.requires.count)
+    let read : slice_get (values_at c.args.heap.now c.args.a) c.loop-place.place ≡ Some (Reference c.in-Block.b) = c.get.ensures ∙ ap (λ (v : Value). Some v) c.in-Block.is in
+    let there = c.requires.closed c.args.a c.in-Block.b c.requires.address (record { place = c.loop-place.place; value = read }) in
+    let within = IsAddress-within c.args.heap.now c.in-Block.b c.requires.laid_out there in
+    omega (arith, within, c.loop-place.invariant.adds.count, c.requires.count)
 
-pub values-smaller : goal.values-smaller
-values-smaller c =
-    let e = c.in-Some.ensures.reference in
-    let inside = value_within c.args.heap.now c.args.a c.in-Some.next.0 (Reference c.in-Some.next.1) e.value in
-    let from = e.from_on in
-    let smaller : length (values_at c.args.heap.now c.args.a) - (c.in-Some.next.0 + 1) < length (values_at c.args.heap.now c.args.a) - c.values.place = omega arith in
-    smaller
-
-pub values-preserved : goal.values-preserved
-values-preserved c =
-    let e = c.in-Some.ensures.reference in
-    let h = c.values.invariant in
-    let there = c.requires.closed c.args.a c.in-Some.next.1 c.requires.address (record { place = c.in-Some.next.0; value = e.value }) in
-    let low = IsAddress-within c.args.heap.now c.in-Some.next.1 c.requires.laid_out there in
-    let one = noting c.values.marking c.note.new.self c.in-Some.next.1 c.note.ensures (omega (arith, low, h.adds.count, c.requires.count)) in
-    let inside = value_within c.args.heap.now c.args.a c.in-Some.next.0 (Reference c.in-Some.next.1) e.value in
-    let more = Seen-more (Refers c.args.heap.now c.args.a) (λ k x. slice_get (values_at c.args.heap.now c.args.a) k ≡ Some (Reference x)) c.args.marking.now.kept c.args.marking.now.waiting c.values.marking.kept c.values.marking.waiting c.note.new.self.kept c.note.new.self.waiting c.in-Some.next.0 c.in-Some.next.1 h.adds
-    (λ k x l v. ⊎_elim
-    (λ (before : k < c.values.place). h.seen k x before v)
-    (λ (after : c.values.place ≤ k). absurd (e.none_before k x after l v))
-    (cases_lt k c.values.place))
-    (record { place = c.in-Some.next.0; value = e.value }) (λ x v. one_reference x c.in-Some.next.1 (values_at c.args.heap.now c.args.a) c.in-Some.next.0 v e.value) one.adds one.kept in
-    record { within = omega arith; adds = more.adds; seen = more.seen; marked = one.marked ∙ h.marked }
+pub loop-place-preserved : goal.loop-place-preserved
+loop-place-preserved c =
+    elim c.match-get.branch [
+      | in-Block w ↦
+          let read : slice_get (values_at c.args.heap.now c.args.a) c.loop-place.place ≡ Some (Reference w.in-Block.b) = c.get.ensures ∙ ap (λ (v : Value). Some v) w.in-Block.is in
+          let there = c.requires.closed c.args.a w.in-Block.b c.requires.address (record { place = c.loop-place.place; value = read }) in
+          let within = IsAddress-within c.args.heap.now w.in-Block.b c.requires.laid_out there in
+          let one = noting c.loop-place.marking w.note.new.self w.in-Block.b w.note.ensures (omega (arith, within, c.loop-place.invariant.adds.count, c.requires.count)) in
+          let more = Seen-more (Refers c.args.heap.now c.args.a) (λ k x. slice_get (values_at c.args.heap.now c.args.a) k ≡ Some (Reference x)) c.args.marking.now.kept c.args.marking.now.waiting c.loop-place.marking.kept c.loop-place.marking.waiting w.note.new.self.kept w.note.new.self.waiting c.loop-place.place w.in-Block.b c.loop-place.invariant.adds c.loop-place.invariant.seen (record { place = c.loop-place.place; value = read }) (λ x v. one_reference x w.in-Block.b (values_at c.args.heap.now c.args.a) c.loop-place.place v read) one.adds one.kept in
+          rw w.marking-is (record { adds = more.adds; seen = more.seen; marked = one.marked ∙ c.loop-place.invariant.marked })
+      | in_default w ↦
+          let more = Seen-none (Refers c.args.heap.now c.args.a) (λ k x. slice_get (values_at c.args.heap.now c.args.a) k ≡ Some (Reference x)) c.args.marking.now.kept c.args.marking.now.waiting c.loop-place.marking.kept c.loop-place.marking.waiting c.loop-place.place c.loop-place.invariant.adds c.loop-place.invariant.seen (λ x v. w.in_default.not-Block x (no_reference x c.get.result (values_at c.args.heap.now c.args.a) c.loop-place.place c.get.ensures v)) in
+          rw w.marking-is (record { adds = more.adds; seen = more.seen; marked = c.loop-place.invariant.marked })
+    ]

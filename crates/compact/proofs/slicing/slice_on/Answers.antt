@@ -3,7 +3,7 @@ use Rattle.heap.specs.Heap.{Space, bare}
 use Rattle.heap.specs.Marks.{is_kept, Marks}
 use Rattle.heap.specs.Marking.{unmarked}
 use Rattle.compact.specs.Reach.{IsClosed}
-use Rattle.compact.specs.Slices.{AreNoted, GoesOn, HasEnded, HasMarked, IsKeptBy, IsSliced, IsSlicedBy, IsWhole, count_of, slice_size}
+use Rattle.compact.specs.Slices.{AreNoted, GoesOn, HasEnded, IsKeptBy, IsSliced, IsSlicedBy, IsWhole, count_of, slice_size}
 use Rattle.compact.proofs.Going.{closed_of, kept_many, marks_are, of_bare, whole_of}
 use Rattle.compact.proofs.slicing.slice_on.Goals as goal
 
