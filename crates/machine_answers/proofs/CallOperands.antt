@@ -28,7 +28,8 @@ use Rattle.machine_scenes.specs.Statics.{References, held_address, holds_deleted
 use Rattle.machine_scenes.specs.declared.references.Held.{Held}
 use Rattle.machine_scenes.specs.declared.references.Held.TheVariants as held
 use Rattle.class_queries.specs.Kinds.{class_misfits}
-use Rattle.machine_answers.specs.Checked.{gives_deleted, gives_null, misfits, some_misfit, some_missing, may_be_null}
+use Rattle.machine_answers.specs.Sights.{gives_deleted, gives_null}
+use Rattle.machine_answers.specs.Checked.{misfits, some_misfit, some_missing, may_be_null}
 use Rattle.machine_scenes.specs.Given.{operand_at, operand_of, class_there, IsGiven, field_at}
 use Rattle.machine_scenes.specs.HeapAgrees.{ReferenceAgrees, BlocksAgree, IsTable}
 use Rattle.machine_answers.specs.WorkedOut.{count_there, class_object}

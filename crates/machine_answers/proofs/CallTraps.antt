@@ -1,5 +1,5 @@
 -- What is checked of a call whose operands are given is what the source checks, and what is known of it then.
-use Rattle.std.proofs.Common.{zero, suc, length, ◌++◌, replicate, ap, sym, ◌≡◌, ℕ, Bool, true, false, not, List, [], ◌∷◌, Option, Some, None, is_some, refl, ◌∙◌, subst}
+use Rattle.std.proofs.Common.{length, ap, sym, ◌≡◌, ℕ, Bool, true, false, not, List, [], ◌∷◌, Option, Some, None, is_some, refl, ◌∙◌, subst}
 use Rattle.std.specs.Prelude.{◌&&◌, ◌||◌, IsSome}
 use Rattle.std.specs.Option.{option_map}
 use Rattle.std.specs.List.{AllZip, list_any}
@@ -14,10 +14,9 @@ use Rattle.code.specs.declared.instr.Operand.{Operand}
 use Rattle.code.specs.declared.instr.Operand.TheVariants as operand
 use Rattle.heap.specs.Heap.{Block, Space, IsAddress, block_at, name_at}
 use Rattle.jni.specs.JniFunction.{JniFunction, is_allowed_pending, parameters_for, prototype}
-use Rattle.jni.specs.Prototype.{ParameterKind, Passed as PassedKind}
 use Rattle.semantics.specs.Arguments.{Actual}
 use Rattle.semantics.specs.CallStep.{trap_of_call}
-use Rattle.semantics.specs.Checks.{first_trap, frames_after}
+use Rattle.semantics.specs.Checks.{first_trap}
 use Rattle.semantics.specs.Object.{Reference}
 use Rattle.semantics.specs.Task.{Target}
 use Rattle.semantics.specs.Thread.{Shared, Thread}
@@ -28,20 +27,27 @@ use Rattle.code_meaning.specs.Lowered.{Lowered}
 use Rattle.machine_scenes.specs.declared.handle.Handle.{Handle}
 use Rattle.machine_scenes.specs.declared.store.Store.{Store}
 use Rattle.machine_scenes.specs.declared.activation.Activation.{Activation}
-use Rattle.machine_scenes.specs.FieldIds.{FieldAgrees}
+use Rattle.machine_scenes.specs.FieldIds.{FieldAgrees, IsMethod, MethodAgrees}
 use Rattle.machine_scenes.specs.StoreAgrees.{HeldAgrees}
 use Rattle.machine_answers.specs.Asked.{IsAsked, references_of, scene_of}
 use Rattle.machine_scenes.specs.Statics.{References, held_address, held_argument, static_at}
 use Rattle.machine_scenes.specs.declared.references.Held.{Held}
 use Rattle.machine_scenes.specs.Buffers.{Acquired}
-use Rattle.machine_answers.specs.Checked.{element_wanted, fit_together, gives_deleted, gives_null, is_too_deep, may_be_null, misfits, with_depth, some_missing, some_misfit, puts_local, trap_found}
+use Rattle.machine_answers.specs.Checked.{fit_together, some_missing, some_misfit, puts_local, trap_found}
+use Rattle.machine_answers.specs.Sights.{MethodIsThere, element_wanted, gives_deleted, trap_seen}
+use Rattle.machine_answers.proofs.SightsAgree.{same_together, same_trap}
+use Rattle.machine_answers.proofs.TrapsSeen.{deep_is_last, found_seen, is_too_deep, own_misfit, own_missing, together_seen, with_depth}
+use Rattle.machine_scenes.specs.Scenes.{Scene}
+use Rattle.machine_scenes.specs.declared.handle.MethodHandle.{MethodHandle}
+use Rattle.semantics.specs.CallStep.{target_element}
+use Rattle.semantics.specs.Method.{MethodId}
+use Rattle.semantics.specs.CallTable.{go_together}
+use Rattle.semantics.proofs.CallTraps.{together, trap_is}
 use Rattle.machine_scenes.specs.Locals.{locals_after}
 use Rattle.tables.specs.Locals.{has_room}
-use Rattle.machine_scenes.specs.Given.{operand_at, field_at, AreAddresses, AreHandles, IsGiven}
+use Rattle.machine_scenes.specs.Given.{operand_at, field_at, method_at, operand_of, AreAddresses, AreHandles, IsGiven, ReferenceIsThere}
 use Rattle.machine_scenes.specs.HeapAgrees.{ReferenceAgrees}
 use Rattle.machine_answers.proofs.CallChecks as checks
-use Rattle.machine_scenes.proofs.LocalFrames.{frames_left}
-use Rattle.machine_scenes.proofs.LocalFrames.{full_where}
 
 -- ---- operands
 
@@ -56,6 +62,12 @@ is_address space (Some b) (Some n) a h e =
     some_block : (o : Option Block) (n : ℕ) → option_map (λ (c : Block). c.birth) o ≡ Some n → IsSome o
     some_block None n h = absurd (cc)
     some_block (Some c) n h = refl
+
+-- where a method ID is a handle, it is that of a method
+is_method : (unit : SourceUnit) (o : Option MethodHandle) (m : Option MethodId) → MethodAgrees unit o m → MethodIsThere unit o
+is_method unit None m agrees h e = absurd (cc)
+is_method unit (Some g) None agrees h e = absurd agrees
+is_method unit (Some g) (Some m) agrees h e = let same : g ≡ h = cc in (m, subst (λ (x : MethodHandle). IsMethod unit x m) same agrees)
 
 -- where a field ID is a handle, it is that of a field
 is_handle : (classes : Classes) (o : Option FieldHandle) (f : Option FieldId) (h : FieldHandle) → FieldAgrees classes o f → o ≡ Some h → IsSome (field_of classes h)
@@ -155,49 +167,36 @@ module _ (p : Lowered) (w : World) (store : Store) (pending : Option ℕ) (activ
   abbrev pub found_trap : Option Trap
   found_trap = trap_found (scene_of (unit_tree p.unit) w.classes store activation k pending) (has_room (locals_after f activation.locals)) (element_wanted call.target) f call.operands
 
-  -- is the trap of the source's call, of which how deep calls are is checked last
-  pub found_is : with_depth (is_too_deep f (length s.callers)) found_trap ≡ trap_of_call w.classes shared s target f args
-  found_is =
-      checks.found_is (unit_tree p.unit) w.classes store.heap (references_of store activation) activation.slots.fields.items shared.heap h.store_agrees.heap.blocks store.loaded.items activation.stack activation.slots.buffers.items pending store.monitors k (has_room (locals_after f activation.locals)) (element_wanted call.target) f call.operands args shared s target h.wanted refl
-      (same_pending store.heap pending s.pending h.pending_agrees) (full_where store.heap (locals_after f activation.locals) (frames_after f s.frames) (frames_left store.heap f activation.locals s.frames h.frames_agree)) h.fit h.given
+  -- which sees this
+  abbrev scene : Scene
+  scene = scene_of (unit_tree p.unit) w.classes store activation k pending
 
-  -- what a method is given may be NULL, and of any kind
-  missing_own : some_missing (references_of store activation) activation.slots.fields.items (prototype f).parameters call.operands ≡ some_missing (references_of store activation) activation.slots.fields.items (parameters_for f (length args)) call.operands
-  missing_own =
-      let are = checks.parameters_are f (length args) in
-      sym (ap (λ (l : List ParameterKind). some_missing (references_of store activation) activation.slots.fields.items l call.operands) are.1 ∙ without_passed are.0 (prototype f).parameters call.operands)
-    where
-      none : (n : ℕ) (operands : List Operand) → some_missing (references_of store activation) activation.slots.fields.items (replicate n PassedKind) operands ≡ false
-      none zero operands = refl
-      none (suc n) [] = refl
-      none (suc n) (o ∷ operands) = none n operands
+  pub pending_there : ReferenceIsThere store.heap pending
+  pending_there a e = is_address store.heap pending s.pending a h.pending_agrees e
 
-      nothing : (operands : List Operand) → some_missing (references_of store activation) activation.slots.fields.items [] operands ≡ false
-      nothing operands = refl
+  pub method_there : MethodIsThere (unit_tree p.unit) (method_at activation.slots.fields.items (operand_of call.operands 1))
+  method_there = is_method (unit_tree p.unit) _ _ (checks.method_at_place (unit_tree p.unit) w.classes store.heap (references_of store activation) activation.slots.fields.items call.operands args 1 h.given)
 
-      without_passed : (n : ℕ) (own : List ParameterKind) (operands : List Operand) → some_missing (references_of store activation) activation.slots.fields.items (own ++ replicate n PassedKind) operands ≡ some_missing (references_of store activation) activation.slots.fields.items own operands
-      without_passed n [] operands = none n operands ∙ sym (nothing operands)
-      without_passed n (q ∷ own) [] = refl
-      without_passed n (q ∷ own) (o ∷ operands) = ap (λ b. (not (may_be_null q) && gives_null (references_of store activation) activation.slots.fields.items o) || b) (without_passed n own operands)
+  -- of the source's call
+  of_call : IsAsked p w store pending activation call others k owner shared s target call.function args
+  of_call = subst (λ (g : JniFunction). IsAsked p w store pending activation call others k owner shared s target g args) (sym h.same_function) h
 
-  misfit_own : some_misfit w.classes store.heap (references_of store activation) (prototype f).parameters call.operands ≡ some_misfit w.classes store.heap (references_of store activation) (parameters_for f (length args)) call.operands
-  misfit_own =
-      let are = checks.parameters_are f (length args) in
-      sym (ap (λ (l : List ParameterKind). some_misfit w.classes store.heap (references_of store activation) l call.operands) are.1 ∙ without_passed are.0 (prototype f).parameters call.operands)
-    where
-      fits : (o : Option ℕ) → misfits w.classes store.heap PassedKind o ≡ false
-      fits None = refl
-      fits (Some a) = refl
+  -- is what is seen of it
+  pub found_as_seen : found_trap ≡ trap_seen scene activation.locals call
+  found_as_seen =
+      ap (λ (g : JniFunction). trap_found scene (has_room (locals_after g activation.locals)) (element_wanted call.target) g call.operands) (sym h.same_function)
+      ∙ found_seen scene activation.locals call pending_there objects_there method_there
 
-      none : (n : ℕ) (operands : List Operand) → some_misfit w.classes store.heap (references_of store activation) (replicate n PassedKind) operands ≡ false
-      none zero operands = refl
-      none (suc n) [] = refl
-      none (suc n) (o ∷ operands) = let one = fits (operand_at (references_of store activation) o) in let further = none n operands in λ i. one i || further i
+  -- which is the trap of the source's call, of which how deep calls are is checked last
+  pub seen_is : with_depth (is_too_deep f (length s.callers)) (trap_seen scene activation.locals call) ≡ trap_of_call w.classes shared s target f args
+  seen_is =
+      subst (λ (g : JniFunction). with_depth (is_too_deep g (length s.callers)) (trap_seen scene activation.locals call) ≡ trap_of_call w.classes shared s target g args) h.same_function
+      (deep_is_last scene activation.locals (length s.callers) call
+      ∙ same_trap p w store pending activation call others k owner shared s target args of_call
+      ∙ sym (trap_is w.classes shared s (target_element s.variables target) args call.function))
 
-      without_passed : (n : ℕ) (own : List ParameterKind) (operands : List Operand) → some_misfit w.classes store.heap (references_of store activation) (own ++ replicate n PassedKind) operands ≡ some_misfit w.classes store.heap (references_of store activation) own operands
-      without_passed n [] operands = none n operands
-      without_passed n (q ∷ own) [] = refl
-      without_passed n (q ∷ own) (o ∷ operands) = ap (λ b. misfits w.classes store.heap q (operand_at (references_of store activation) o) || b) (without_passed n own operands)
+  found_is : with_depth (is_too_deep f (length s.callers)) found_trap ≡ trap_of_call w.classes shared s target f args
+  found_is = ap (with_depth (is_too_deep f (length s.callers))) found_as_seen ∙ seen_is
 
   module _ (none : found_trap ≡ None) where
     passed : Passed (is_some pending && not (is_allowed_pending f)) (list_any (gives_deleted (references_of store activation)) call.operands) (some_missing (references_of store activation) activation.slots.fields.items (prototype f).parameters call.operands)
@@ -211,26 +210,13 @@ module _ (p : Lowered) (w : World) (store : Store) (pending : Option ℕ) (activ
     pub fits_where_none : fit_together (unit_tree p.unit) w.classes store.heap (references_of store activation) activation.slots.fields.items call.operands (element_wanted call.target) f ≡ true
     fits_where_none = fitting.1
 
-  -- the trap of the source's call is what is found, where something is
-  pub trap_where_found : (t : Trap) → found_trap ≡ Some t → trap_of_call w.classes shared s target f args ≡ Some t
-  trap_where_found t is = sym found_is ∙ ap (with_depth (is_too_deep f (length s.callers))) is
-
-  -- and else that of how deep calls are, where they are too deep
-  pub trap_where_none : found_trap ≡ None → trap_of_call w.classes shared s target f args ≡ with_depth (is_too_deep f (length s.callers)) None
-  trap_where_none is = sym found_is ∙ ap (with_depth (is_too_deep f (length s.callers))) is
-
   module _ (free : trap_of_call w.classes shared s target f args ≡ None) where
-    both_none : (deep : Bool) (o : Option Trap) → with_depth deep o ≡ None → (o ≡ None) × (deep ≡ false)
-    both_none deep (Some t) e = absurd (cc)
-    both_none true None e = absurd (cc)
-    both_none false None e = (refl, refl)
-
-    pub found_none : found_trap ≡ None
-    found_none = (both_none (is_too_deep f (length s.callers)) found_trap (found_is ∙ free)).0
-
-    -- calls are not too deep
-    pub not_too_deep : is_too_deep f (length s.callers) ≡ false
-    not_too_deep = (both_none (is_too_deep f (length s.callers)) found_trap (found_is ∙ free)).1
+    found_none : found_trap ≡ None
+    found_none = none_of found_trap (found_is ∙ free)
+      where
+        none_of : (o : Option Trap) → with_depth (is_too_deep f (length s.callers)) o ≡ None → o ≡ None
+        none_of (Some t) e = absurd (cc)
+        none_of None e = refl
 
     -- the arguments go together
     pub has_passed : fit_together (unit_tree p.unit) w.classes store.heap (references_of store activation) activation.slots.fields.items call.operands (element_wanted call.target) f ≡ true
@@ -242,12 +228,20 @@ module _ (p : Lowered) (w : World) (store : Store) (pending : Option ℕ) (activ
 
     -- no operand gives NULL where that isn't allowed
     pub none_lacking : some_missing (references_of store activation) activation.slots.fields.items (parameters_for f (length args)) call.operands ≡ false
-    none_lacking = sym missing_own ∙ (passed found_none).missing
+    none_lacking = sym (own_missing scene f (length args) call.operands) ∙ (passed found_none).missing
 
     -- none gives an object of another kind
     pub none_unfit : some_misfit w.classes store.heap (references_of store activation) (parameters_for f (length args)) call.operands ≡ false
-    none_unfit = sym misfit_own ∙ (fitting found_none).0
+    none_unfit = sym (own_misfit scene f (length args) call.operands) ∙ (fitting found_none).0
 
     -- a local reference has room
     pub room_left : (puts_local (prototype f).result && not (has_room (locals_after f activation.locals))) ≡ false
     room_left = (passed found_none).room
+
+    -- so do the source's
+    pub goes_together : go_together w.classes shared.heap (target_element s.variables target) args f ≡ true
+    goes_together =
+        subst (λ (g : JniFunction). go_together w.classes shared.heap (target_element s.variables target) args g ≡ true) h.same_function
+        (together w.classes shared s (target_element s.variables target) args call.function
+        ∙ sym (together_seen scene activation.locals (length s.callers) call pending_there objects_there method_there call.function refl ∙ same_together p w store pending activation call others k owner shared s target args of_call)
+        ∙ subst (λ (g : JniFunction). fit_together (unit_tree p.unit) w.classes store.heap (references_of store activation) activation.slots.fields.items call.operands (element_wanted call.target) g ≡ true) (sym h.same_function) has_passed)

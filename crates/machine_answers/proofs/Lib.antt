@@ -25,6 +25,7 @@ pub mod SightArguments
 pub mod SightParts
 pub mod SightPlaces
 pub mod SightsAgree
+pub mod TrapsSeen
 pub mod TwoCalls
 pub mod Unasked
 pub mod Writes

@@ -9,14 +9,12 @@ use Rattle.semantics.specs.CallStep.{target_element, trap_of_call}
 use Rattle.semantics.specs.CallTable.{all_pass, call_effect, go_together, is_int, is_reference_result, is_void}
 use Rattle.semantics.specs.CallTable.{calls_well as source_calls_well}
 use Rattle.semantics.specs.Method.{MethodId}
-use Rattle.base.specs.Element.{ElementType}
 use Rattle.machine_scenes.specs.declared.handle.MethodHandle.{MethodHandle}
 use Rattle.machine_scenes.specs.FieldIds.{IsMethod, MethodAgrees}
 use Rattle.machine_scenes.specs.Given.{method_at, operand_of}
 use Rattle.machine_answers.specs.declared.answer.Answer.{Answer}
-use Rattle.machine_answers.specs.Checked.{fit_together}
-use Rattle.machine_answers.proofs.CallChecks.{method_at_place, together_is}
-use Rattle.machine_answers.proofs.CallTraps.{has_passed}
+use Rattle.machine_answers.proofs.CallChecks.{method_at_place}
+use Rattle.machine_answers.proofs.CallTraps.{goes_together}
 use Rattle.machine_answers.proofs.TwoCalls.{TwoCalls, Asked, Does, Works, fields, in_use, references, unit}
 
 -- both of two hold
@@ -47,10 +45,7 @@ module _ (both : TwoCalls) where
       record { method = m; given = given; handle = h; at = at; is = agrees; passes = last.1; effect = does ∙ ap (λ (o : Option MethodId). method_effect o (map passed_value (drop 2 args))) given }
 
   together : (f : JniFunction) → (h : Asked both f) → trap_of_call w.classes shared s target f args ≡ None → go_together w.classes shared.heap (target_element s.variables target) args f ≡ true
-  together f h free =
-      sym (ap (λ (T : ElementType). fit_together (unit both) w.classes store.heap (references both) (fields both) call.operands T f) h.wanted
-      ∙ together_is (unit both) w.classes store.heap (references both) (fields both) shared.heap h.store_agrees.heap.blocks (target_element s.variables target) call.operands args h.given f h.fit)
-      ∙ has_passed p w store pending activation call others k owner shared s target f args h free
+  together f h free = goes_together p w store pending activation call others k owner shared s target f args h free
 
   agree : (f : JniFunction) → Asked both f → MethodAgrees (unit both) (method_at (fields both) (operand_of call.operands 1)) (method_given args 1)
   agree f h = method_at_place (unit both) w.classes store.heap (references both) (fields both) call.operands args 1 h.given

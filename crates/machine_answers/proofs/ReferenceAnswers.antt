@@ -1,5 +1,5 @@
 -- What calls of functions of classes, references and frames do.
-use Rattle.std.proofs.Common.{◌≡◌, ℕ, pos, negsuc, ◌<◌, Bool, true, false, not, List, [], Option, Some, None, slice_get, refl, sym, ap, ◌∙◌, subst, arith, ℤ}
+use Rattle.std.proofs.Common.{◌≡◌, ℕ, pos, negsuc, ◌<◌, true, false, not, List, [], Option, Some, None, slice_get, refl, sym, ap, ◌∙◌, subst, arith, ℤ}
 use Rattle.std.specs.Prelude.{◌==◌, unwrap_or}
 use Rattle.std.specs.Option.{option_map_or}
 use Rattle.std.proofs.lemmas.Bool.Decides.{nat_tests}
@@ -20,12 +20,10 @@ use Rattle.semantics.specs.Object.{Object, Reference}
 use Rattle.semantics.specs.World.{fresh_object}
 use Rattle.world_values.proofs.LoadedWorlds.{class_within as found_within}
 use Rattle.machine_scenes.proofs.KeyLaws.{OwnKey}
-use Rattle.base.specs.Bytes.{Identifier, lookup}
+use Rattle.base.specs.Bytes.{lookup}
 use Rattle.semantics.specs.Variable.{Variable, StaticReference, Empty, Live, Weakly, Cleared, Deleted}
-use Rattle.semantics.specs.Thread.{Shared}
-use Rattle.heap.specs.Heap.{Space}
 use Rattle.code_meaning.specs.Slots.{static_index}
-use Rattle.machine_scenes.specs.Statics.{References, static_at}
+use Rattle.machine_scenes.specs.Statics.{static_at}
 use Rattle.machine_scenes.specs.StoreAgrees.{HeldAgrees}
 use Rattle.machine_scenes.specs.declared.references.Held.{Held}
 use Rattle.machine_scenes.specs.declared.references.Held.TheVariants as held
@@ -39,20 +37,8 @@ use Rattle.machine_answers.proofs.CallChecks.{class_is, fits_is}
 use Rattle.machine_scenes.proofs.BlocksOfNames.{name_within}
 use Rattle.machine_answers.proofs.CallTraps.{has_passed}
 use Rattle.machine_answers.proofs.CallOperands.{super_known, only_text, only_static, only_weak, own_making}
+use Rattle.machine_answers.proofs.SightsAgree.{HeldStatic, deletes_static}
 use Rattle.machine_answers.proofs.TwoCalls.{TwoCalls, unit, references, fields, brought, Asked, Works, Does, at, agrees, name_of, table_of, object_of, built_in_class, object_given_at, number_of, class_given}
-
--- the static of a name is at this place, where what is held stands for what it holds in the source
-pub record HeldStatic (space : Space) (references : References) (s : Shared) (x : Identifier) (i : ℕ) : Type 0 where
-  pub place : static_index x s.statics ≡ Some i
-  pub reference : StaticReference
-  pub there : lookup x s.statics ≡ Some reference
-  pub agrees : HeldAgrees space (static_at references i) reference
-
--- a function ends the reference of a static
-abbrev pub deletes_static : JniFunction → Bool
-deletes_static DeleteGlobalRef = true
-deletes_static DeleteWeakGlobalRef = true
-deletes_static f = false
 
 module _ (both : TwoCalls) where
   open both use {p, w, store, pending, activation, call, others, k, owner, shared, s, target, sound, args}

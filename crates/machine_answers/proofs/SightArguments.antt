@@ -31,8 +31,7 @@ use Rattle.machine_scenes.specs.HeapAgrees.{HeapAgrees, ReferenceAgrees}
 use Rattle.machine_scenes.specs.Scenes.{Scene}
 use Rattle.machine_scenes.specs.Statics.{held_address, held_argument, holds_deleted, holds_null, static_at}
 use Rattle.machine_scenes.specs.StoreAgrees.{HeldAgrees}
-use Rattle.machine_answers.specs.Checked.{gives_deleted, gives_null}
-use Rattle.machine_answers.specs.Sights.{is_number, is_reference, is_reference_kind, method_seen, mode_seen, null_seen, operand_seen, takes_word}
+use Rattle.machine_answers.specs.Sights.{gives_deleted, gives_null, is_number, is_reference, is_reference_kind, method_seen, mode_seen, null_seen, operand_seen, takes_word}
 use Rattle.machine_answers.proofs.SightParts.{name_seen_is, object_seen_is}
 
 -- ---- field IDs, method IDs and modes

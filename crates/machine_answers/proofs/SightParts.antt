@@ -1,16 +1,18 @@
 -- What is seen in memory of references, values and objects is what they are in the source.
-use Rattle.std.proofs.Common.{◌≡◌, ℕ, List, [], ◌∷◌, Option, Some, None, refl, sym, ap, ◌∙◌}
-use Rattle.std.specs.Prelude.{map, unwrap_or}
+use Rattle.std.proofs.Common.{◌≡◌, ℕ, zero, suc, List, [], ◌∷◌, ◌++◌, Option, Some, None, refl, sym, ap, ◌∙◌}
+use Rattle.std.specs.Prelude.{map, slice_get, unwrap_or}
 use Rattle.std.specs.Int.{w32, cast_signed}
 use Rattle.std.specs.Option.{option_map, option_map_or}
 use Rattle.std.proofs.Math.Facts.{to_z-of_z}
 use Rattle.heap.specs.Heap.{Block, Space, name_at}
 use Rattle.heap.specs.declared.value.Value.{Value}
 use Rattle.heap.specs.declared.value.Value.TheVariants.{Number as Word, Null, Block as Address}
+use Rattle.jni.specs.Prototype.{ParameterKind}
 use Rattle.semantics.specs.Arguments.{name_or_zero}
 use Rattle.semantics.specs.CallSight as source
 use Rattle.semantics.specs.Heap.{Heap, object_at}
 use Rattle.semantics.specs.Object.{Object, ObjectValue, Number, Reference, Refers}
+use Rattle.machine_scenes.specs.Given.{name_there}
 use Rattle.machine_scenes.specs.HeapAgrees.{HeapAgrees, ReferenceAgrees, ValueAgrees, ValuesAgree}
 use Rattle.machine_scenes.proofs.BlocksOfNames.{named}
 use Rattle.machine_answers.specs.Sights.{name_seen, object_seen, value_seen}
@@ -53,3 +55,18 @@ module _ (space : Space) (heap : Heap) (agrees : HeapAgrees space heap) where
   object_seen_is None (Some n) h = absurd h
   object_seen_is (Some a) None h = absurd h
   object_seen_is (Some a) (Some n) h = object_there_is a n h
+
+-- the name of an object, and 0 for NULL
+pub name_is : (space : Space) (o : Option ℕ) → name_there space o ≡ name_or_zero (name_seen space o)
+name_is space None = refl
+name_is space (Some a) = by_name (name_at space a)
+  where
+    by_name : (n : Option ℕ) → unwrap_or n 0 ≡ name_or_zero n
+    by_name None = refl
+    by_name (Some n) = refl
+
+-- a kind among the first parameters is that of the argument
+pub still_kind : (ps more : List ParameterKind) (i : ℕ) (p : ParameterKind) → slice_get ps i ≡ Some p → slice_get (ps ++ more) i ≡ Some p
+still_kind [] more i p h = absurd (cc)
+still_kind (q ∷ ps) more zero p h = h
+still_kind (q ∷ ps) more (suc i) p h = still_kind ps more i p h

@@ -1,9 +1,9 @@
 -- What a call sees in memory is what the source's call sees.
-use Rattle.std.proofs.Common.{inl, inr, ◌≡◌, ℕ, zero, suc, ◌+◌, ◌<◌, ◌≤◌, Bool, true, List, [], ◌∷◌, length, Option, Some, None, refl, sym, ap, ◌∙◌, subst, arith}
-use Rattle.std.specs.Prelude.{◌⊎◌, ◌++◌, is_some, IsSome, if◌then◌else◌, pos, drop, map, slice_get, take, unwrap_or}
+use Rattle.std.proofs.Common.{inl, inr, ◌≡◌, ℕ, zero, suc, ◌+◌, ◌<◌, ◌≤◌, Bool, true, false, List, [], ◌∷◌, length, Option, Some, None, refl, sym, ap, ◌∙◌, subst, arith}
+use Rattle.std.specs.Prelude.{◌⊎◌, is_some, IsSome, if◌then◌else◌, pos, drop, map, slice_get, take}
 use Rattle.std.specs.List.{AllZip}
 use Rattle.std.specs.Option.{option_map}
-use Rattle.base.specs.Bytes.{lookup}
+use Rattle.base.specs.Bytes.{Identifier, lookup}
 use Rattle.base.specs.Element.{ElementType}
 use Rattle.code.specs.Call.{Call}
 use Rattle.code.specs.declared.instr.Operand.{Operand}
@@ -15,6 +15,7 @@ use Rattle.semantics.specs.CallEffects.{local_array}
 use Rattle.semantics.specs.CallSight as source
 use Rattle.semantics.specs.Thread as source_thread
 use Rattle.semantics.specs.CallSight.{ArgumentSight, CallSight}
+use Rattle.semantics.specs.CallTraps.{go_together, trap_of}
 use Rattle.semantics.specs.Heap.{Heap}
 use Rattle.semantics.specs.Variable.{Variable, Variables}
 use Rattle.code_meaning.specs.Does.{ActualFits, OperandFits, texts_given, words_given}
@@ -25,7 +26,7 @@ use Rattle.machine_answers.specs.Sights.{argument_seen, each_seen, elements_seen
 use Rattle.machine_answers.proofs.SightArguments.{sight_is}
 use Rattle.machine_answers.proofs.SightPlaces.{number_is, text_is}
 use Rattle.tables.specs.Locals.{LocalTable, popped}
-use Rattle.heap.specs.Heap.{Space, name_at}
+use Rattle.heap.specs.Heap.{Space}
 use Rattle.monitors.specs.declared.monitors.Monitor.{Monitor}
 use Rattle.machine_monitors.specs.Fit.{MonitorAgrees}
 use Rattle.classes.specs.FieldViews.{field_of}
@@ -35,6 +36,7 @@ use Rattle.syntax.specs.Views.{unit_tree}
 use Rattle.semantics.specs.CallStep.{target_element}
 use Rattle.semantics.specs.Task.{Target}
 use Rattle.semantics.specs.Thread.{Shared, Thread}
+use Rattle.code_meaning.specs.Slots.{static_index}
 use Rattle.semantics.specs.Variable.{StaticReference, Empty, Live, Weakly, Cleared, Deleted}
 use Rattle.semantics.specs.World.{World}
 use Rattle.code_meaning.specs.Lowered.{Lowered}
@@ -46,17 +48,17 @@ use Rattle.machine_scenes.specs.Buffers.{Acquired}
 use Rattle.machine_scenes.specs.FieldIds.{FieldAgrees}
 use Rattle.machine_scenes.specs.Given.{field_at, field_there, name_there, operand_at}
 use Rattle.machine_scenes.specs.StoreAgrees.{HeldAgrees}
-use Rattle.machine_scenes.specs.Statics.{static_at}
+use Rattle.machine_scenes.specs.Statics.{References, static_at}
 use Rattle.machine_scenes.proofs.LocalFrames.{frame_ended, full_where}
 use Rattle.semantics.specs.Object.{Object, Reference}
 use Rattle.monitors.specs.Monitors.{monitor_of}
 use Rattle.machine_scenes.proofs.Handles.{class_of_field, class_within}
 use Rattle.machine_answers.specs.Asked.{IsAsked, references_of, scene_of}
-use Rattle.machine_answers.specs.Sights.{call_seen, class_object_seen, deleted_seen, held_seen, monitor_seen, name_seen, object_seen}
+use Rattle.machine_answers.specs.Sights.{call_seen, class_object_seen, deleted_seen, held_seen, monitor_seen, object_seen}
 use Rattle.machine_answers.specs.WorkedOut.{array_in}
 use Rattle.machine_answers.proofs.LongTables.{classes_loaded}
-use Rattle.machine_answers.proofs.ReferenceAnswers.{HeldStatic, deletes_static}
-use Rattle.machine_answers.proofs.SightParts.{name_seen_is, object_there_is}
+use Rattle.machine_answers.proofs.TrapsSeen.{depth_last, together_without, trap_without}
+use Rattle.machine_answers.proofs.SightParts.{name_is, name_seen_is, object_there_is, still_kind}
 
 -- what stands at a place of a call's arguments, or that none does
 pub data Place (G : Operand → Actual → Type 0) (ps : List ParameterKind) (os : List Operand) (args : List Actual) (i : ℕ) : Type 0 where
@@ -155,15 +157,6 @@ monitor_is (Some x) (Some m) h =
     let put = λ (object owner count : ℕ). let y : source_thread.Monitor = record { object = object; owner = owner; count = count } in Some y in
     ap (λ (n : ℕ). put n x.owner x.count) h.0 ∙ ap (λ (n : ℕ). put m.object n x.count) h.1 ∙ ap (λ (n : ℕ). put m.object m.owner n) h.2
 
--- the name of an object, and 0 for NULL
-name_is : (space : Space) (o : Option ℕ) → name_there space o ≡ name_or_zero (name_seen space o)
-name_is space None = refl
-name_is space (Some a) = by_name (name_at space a)
-  where
-    by_name : (n : Option ℕ) → unwrap_or n 0 ≡ name_or_zero n
-    by_name None = refl
-    by_name (Some n) = refl
-
 -- what a static holds
 held_is : (space : Space) (h : Held) (r : StaticReference) → HeldAgrees space h r → held_seen space h ≡ r
 held_is space held.Empty Empty h = refl
@@ -172,12 +165,6 @@ held_is space (held.Weakly a) (Weakly n) h = ap (λ (o : Option ℕ). Weakly (na
 held_is space held.Cleared Cleared h = refl
 held_is space held.Deleted Deleted h = refl
 held_is space x r h = absurd h
-
--- a kind among the first parameters is that of the argument
-still_kind : (ps more : List ParameterKind) (i : ℕ) (p : ParameterKind) → slice_get ps i ≡ Some p → slice_get (ps ++ more) i ≡ Some p
-still_kind [] more i p h = absurd (cc)
-still_kind (q ∷ ps) more zero p h = h
-still_kind (q ∷ ps) more (suc i) p h = still_kind ps more i p h
 
 -- an array is given where one is asked for
 array_is : (numbers : List ℕ) (vs : Variables) (T : ElementType) (o : Operand) (a : Actual) → OperandFits (ArrayVariable T) o → HasArray numbers vs o a
@@ -240,10 +227,22 @@ no_kind e (inr f) = absurd (cc)
 
 -- ---- the call
 
+-- the static of a name is at this place, where what is held stands for what it holds in the source
+pub record HeldStatic (space : Space) (references : References) (s : Shared) (x : Identifier) (i : ℕ) : Type 0 where
+  pub place : static_index x s.statics ≡ Some i
+  pub reference : StaticReference
+  pub there : lookup x s.statics ≡ Some reference
+  pub agrees : HeldAgrees space (static_at references i) reference
+
+-- a function ends the reference of a static
+abbrev pub deletes_static : JniFunction → Bool
+deletes_static DeleteGlobalRef = true
+deletes_static DeleteWeakGlobalRef = true
+deletes_static f = false
+
 -- Store, frames and pending exception of a thread agree with the source's, and each operand gives what the argument at its place is.
 module _ (p : Lowered) (w : World) (store : Store) (pending : Option ℕ) (activation : Activation) (call : Call) (others : Acquired) (k owner : ℕ) (shared : Shared) (s : Thread) (target : Target) (args : List Actual)
-    (h : IsAsked p w store pending activation call others k owner shared s target call.function args)
-    (deletes : deletes_static call.function ≡ true → (i : ℕ) → operand_of call.operands 0 ≡ operand.Static i → HeldStatic store.heap (references_of store activation) shared (variable_given args 0) i) where
+    (h : IsAsked p w store pending activation call others k owner shared s target call.function args) where
   abbrev scene : Scene
   scene = scene_of (unit_tree p.unit) w.classes store activation k pending
 
@@ -307,39 +306,6 @@ module _ (p : Lowered) (w : World) (store : Store) (pending : Option ℕ) (activ
           by_place T (fourth (ArrayVariable T) e) (place_at (HasArray activation.slots.numbers.items s.variables) 3 (parameters_for call.function (length args)) call.operands args h.kinds h.fit h.arrays)
       by_kind q e = refl
 
-  held_alike : deleted_seen scene call.function (operand_of call.operands 0) ≡ source.held_seen shared.statics call.function (variable_given args 0)
-  held_alike = by_function call.function (by_place (place_at (IsGiven scene.unit scene.classes scene.space scene.references scene.fields) 0 (parameters_for call.function (length args)) call.operands args h.kinds h.fit h.given))
-    where
-      -- the first operand of such a function is a static
-      Is : JniFunction → Type 0
-      Is f = deletes_static f ≡ true → (i : ℕ) × (operand_of call.operands 0 ≡ operand.Static i) × HeldStatic store.heap (references_of store activation) shared (variable_given args 0) i
-
-      first_kind : (f : JniFunction) → deletes_static f ≡ true → (slice_get (parameters_for f (length args)) 0 ≡ Some StaticVariable) ⊎ (slice_get (parameters_for f (length args)) 0 ≡ Some WeakVariable)
-      first_kind DeleteGlobalRef e = inl refl
-      first_kind DeleteWeakGlobalRef e = inr refl
-      first_kind f e = absurd (cc)
-
-      by_operand : (q : ParameterKind) (o : Operand) → OperandFits q o → (q ≡ StaticVariable) ⊎ (q ≡ WeakVariable) → (i : ℕ) × (o ≡ operand.Static i)
-      by_operand q o fits (inl e) = statics_alone StaticVariable o tt (subst (λ (r : ParameterKind). OperandFits r o) e fits)
-      by_operand q o fits (inr e) = statics_alone WeakVariable o tt (subst (λ (r : ParameterKind). OperandFits r o) e fits)
-
-      by_place : Place (IsGiven scene.unit scene.classes scene.space scene.references scene.fields) (parameters_for call.function (length args)) call.operands args 0 → Is call.function
-      by_place (There q o a at_p at_o at_a fits kind given) deletes_one =
-          let of_kind = kind_at q at_p (first_kind call.function deletes_one) in
-          let is = by_operand q o fits of_kind in
-          let at : operand_of call.operands 0 ≡ operand.Static is.0 = ap operand_or_null at_o ∙ is.1 in
-          (is.0, at, deletes deletes_one is.0 at)
-      by_place (Past at_p at_o at_a) deletes_one = absurd (no_kind at_p (first_kind call.function deletes_one))
-
-      by_function : (f : JniFunction) → Is f → deleted_seen scene f (operand_of call.operands 0) ≡ source.held_seen shared.statics f (variable_given args 0)
-      by_function DeleteGlobalRef is =
-          let there = is refl in
-          ap (deleted_seen scene DeleteGlobalRef) there.1 ∙ ap (λ (r : StaticReference). Some r) (held_is store.heap (static_at scene.references there.0) there.2.reference there.2.agrees) ∙ sym there.2.there
-      by_function DeleteWeakGlobalRef is =
-          let there = is refl in
-          ap (deleted_seen scene DeleteWeakGlobalRef) there.1 ∙ ap (λ (r : StaticReference). Some r) (held_is store.heap (static_at scene.references there.0) there.2.reference there.2.agrees) ∙ sym there.2.there
-      by_function f is = refl
-
   monitor_alike : option_map monitor_seen (monitor_of store.monitors (name_there store.heap (operand_at scene.references (operand_of call.operands 0))))
       ≡ source_thread.monitor_of shared.monitors (name_or_zero (reference_in_actual (slice_get args 0)))
   monitor_alike =
@@ -349,9 +315,9 @@ module _ (p : Lowered) (w : World) (store : Store) (pending : Option ℕ) (activ
       ∙ monitor_is (monitor_of store.monitors (name_or_zero (reference_in_actual (slice_get args 0)))) (source_thread.monitor_of shared.monitors (name_or_zero (reference_in_actual (slice_get args 0))))
       (h.store_agrees.monitors.at (name_or_zero (reference_in_actual (slice_get args 0))))
 
-  -- it sees what the source's call sees
-  pub sights_agree : call_seen scene activation.locals (length s.callers) call ≡ source.sight_of_call shared s (target_element s.variables target) call.function args
-  sights_agree =
+  -- beside what the static holds that it deletes, it sees what the source's call sees
+  pub others_agree : {o o' : Option StaticReference} → o ≡ o' → record (call_seen scene activation.locals (length s.callers) call) { held = o } ≡ record (source.sight_of_call shared s (target_element s.variables target) call.function args) { held = o' }
+  others_agree held_alike =
       let declares = declaring_is (field_there w.classes (field_at scene.fields (operand_of call.operands 1))).class class_within_table ∙ ap (λ (a : ArgumentSight). source.object_seen shared.heap a.field.class) (same 1) in
       let all = arguments_are scene activation.locals (length s.callers) call shared.heap args h.store_agrees.heap h.kinds h.fit h.given h.words h.texts in
       let room = full_where store.heap activation.locals s.frames h.frames_agree in
@@ -365,3 +331,63 @@ module _ (p : Lowered) (w : World) (store : Store) (pending : Option ℕ) (activ
       whole : {a a' : List ArgumentSight} {b b' c c' d d' : ArgumentSight} {e e' : Object} {m m' : Option source_thread.Monitor} {n n' : ℕ} {o o' : Option StaticReference} {q q' : Reference} {r r' t t' : Bool} {u u' : ElementType}
           → a ≡ a' → b ≡ b' → c ≡ c' → d ≡ d' → e ≡ e' → m ≡ m' → n ≡ n' → o ≡ o' → q ≡ q' → r ≡ r' → t ≡ t' → u ≡ u' → sight a b c d e m n o q r t u ≡ sight a' b' c' d' e' m' n' o' q' r' t' u'
       whole a b c d e m n o q r t u = cc
+
+  -- so its checks, which don't look at that, find the same
+  abbrev mine : CallSight
+  mine = call_seen scene activation.locals (length s.callers) call
+
+  abbrev theirs : CallSight
+  theirs = source.sight_of_call shared s (target_element s.variables target) call.function args
+
+  pub same_together : go_together w.classes mine call.function ≡ go_together w.classes theirs call.function
+  same_together =
+      sym (together_without w.classes mine mine.monitor None mine.callers call.function)
+      ∙ ap (λ (sight : CallSight). go_together w.classes sight call.function) (others_agree {o = None} {o' = None} refl)
+      ∙ together_without w.classes theirs theirs.monitor None theirs.callers call.function
+
+  pub same_trap : trap_of w.classes mine call.function ≡ trap_of w.classes theirs call.function
+  same_trap =
+      depth_last w.classes mine call.function
+      ∙ sym (trap_without w.classes mine mine.monitor None mine.callers call.function)
+      ∙ ap (λ (sight : CallSight). trap_of w.classes sight call.function) (others_agree {o = None} {o' = None} refl)
+      ∙ trap_without w.classes theirs theirs.monitor None theirs.callers call.function
+      ∙ sym (depth_last w.classes theirs call.function)
+
+  -- what is deleted is there
+  module _ (deletes : deletes_static call.function ≡ true → (i : ℕ) → operand_of call.operands 0 ≡ operand.Static i → HeldStatic store.heap (references_of store activation) shared (variable_given args 0) i) where
+    held_alike : deleted_seen scene call.function (operand_of call.operands 0) ≡ source.held_seen shared.statics call.function (variable_given args 0)
+    held_alike = by_function call.function (by_place (place_at (IsGiven scene.unit scene.classes scene.space scene.references scene.fields) 0 (parameters_for call.function (length args)) call.operands args h.kinds h.fit h.given))
+      where
+        -- the first operand of such a function is a static
+        Is : JniFunction → Type 0
+        Is f = deletes_static f ≡ true → (i : ℕ) × (operand_of call.operands 0 ≡ operand.Static i) × HeldStatic store.heap (references_of store activation) shared (variable_given args 0) i
+
+        first_kind : (f : JniFunction) → deletes_static f ≡ true → (slice_get (parameters_for f (length args)) 0 ≡ Some StaticVariable) ⊎ (slice_get (parameters_for f (length args)) 0 ≡ Some WeakVariable)
+        first_kind DeleteGlobalRef e = inl refl
+        first_kind DeleteWeakGlobalRef e = inr refl
+        first_kind f e = absurd (cc)
+
+        by_operand : (q : ParameterKind) (o : Operand) → OperandFits q o → (q ≡ StaticVariable) ⊎ (q ≡ WeakVariable) → (i : ℕ) × (o ≡ operand.Static i)
+        by_operand q o fits (inl e) = statics_alone StaticVariable o tt (subst (λ (r : ParameterKind). OperandFits r o) e fits)
+        by_operand q o fits (inr e) = statics_alone WeakVariable o tt (subst (λ (r : ParameterKind). OperandFits r o) e fits)
+
+        by_place : Place (IsGiven scene.unit scene.classes scene.space scene.references scene.fields) (parameters_for call.function (length args)) call.operands args 0 → Is call.function
+        by_place (There q o a at_p at_o at_a fits kind given) deletes_one =
+            let of_kind = kind_at q at_p (first_kind call.function deletes_one) in
+            let is = by_operand q o fits of_kind in
+            let at : operand_of call.operands 0 ≡ operand.Static is.0 = ap operand_or_null at_o ∙ is.1 in
+            (is.0, at, deletes deletes_one is.0 at)
+        by_place (Past at_p at_o at_a) deletes_one = absurd (no_kind at_p (first_kind call.function deletes_one))
+
+        by_function : (f : JniFunction) → Is f → deleted_seen scene f (operand_of call.operands 0) ≡ source.held_seen shared.statics f (variable_given args 0)
+        by_function DeleteGlobalRef is =
+            let there = is refl in
+            ap (deleted_seen scene DeleteGlobalRef) there.1 ∙ ap (λ (r : StaticReference). Some r) (held_is store.heap (static_at scene.references there.0) there.2.reference there.2.agrees) ∙ sym there.2.there
+        by_function DeleteWeakGlobalRef is =
+            let there = is refl in
+            ap (deleted_seen scene DeleteWeakGlobalRef) there.1 ∙ ap (λ (r : StaticReference). Some r) (held_is store.heap (static_at scene.references there.0) there.2.reference there.2.agrees) ∙ sym there.2.there
+        by_function f is = refl
+
+    -- it sees what the source's call sees
+    pub sights_agree : call_seen scene activation.locals (length s.callers) call ≡ source.sight_of_call shared s (target_element s.variables target) call.function args
+    sights_agree = others_agree held_alike

@@ -13,7 +13,8 @@ use Rattle.jni.specs.JniFunction.{GetBuffer, JniFunction, AllocObject, GetField,
 use Rattle.jni.specs.Prototype.{ParameterKind, Nullable, LocalVariable}
 use Rattle.semantics.specs.Checks.{first_trap}
 use Rattle.semantics.specs.Value.{Trap}
-use Rattle.machine_answers.specs.Checked.{arguments_asked, fit_together, gives_deleted, gives_null, may_be_null, misfits, some_misfit, some_missing}
+use Rattle.machine_answers.specs.Sights.{gives_deleted, gives_null}
+use Rattle.machine_answers.specs.Checked.{arguments_asked, fit_together, may_be_null, misfits, some_misfit, some_missing}
 use Rattle.machine_scenes.specs.declared.handle.Handle.{Handle}
 use Rattle.machine_scenes.specs.Given.{operand_at}
 use Rattle.machine_scenes.specs.Statics.{References}

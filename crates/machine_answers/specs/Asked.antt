@@ -23,7 +23,7 @@ use Rattle.code_meaning.specs.Lowered.{Lowered}
 use Rattle.machine_scenes.specs.declared.store.Store.{Store}
 use Rattle.machine_scenes.specs.declared.activation.Activation.{Activation}
 use Rattle.machine_scenes.specs.Buffers.{Acquired, HeldBuffers, acquired_by, beside, holding}
-use Rattle.machine_answers.specs.Checked.{element_wanted}
+use Rattle.machine_answers.specs.Sights.{element_wanted}
 use Rattle.machine_scenes.specs.StoreAgrees.{StoreAgrees}
 use Rattle.machine_scenes.specs.Locals.{FramesAgree}
 use Rattle.machine_scenes.specs.Given.{HasArray, HasBuffer, IsGiven}

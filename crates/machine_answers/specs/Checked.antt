@@ -1,8 +1,7 @@
 -- What is checked of a call before it does anything, by what is in memory.
-use Rattle.std.specs.Prelude.{◌≡◌, ℕ, ◌+◌, nat_le, if◌then◌else◌, drop, slice_get, Bool, true, false, not, ◌&&◌, ◌||◌, ◌==◌, List, [], ◌∷◌, ◌++◌, is_none, is_some, Option, Some, None}
+use Rattle.std.specs.Prelude.{◌≡◌, ℕ, if◌then◌else◌, drop, slice_get, Bool, true, false, not, ◌&&◌, ◌||◌, ◌==◌, List, [], ◌∷◌, ◌++◌, is_some, Option, Some, None}
 use Rattle.std.specs.List.{list_any}
-use Rattle.base.specs.Limits.{most_activations}
-use Rattle.base.specs.Element.{ElementType, JInt, element_value}
+use Rattle.base.specs.Element.{ElementType}
 use Rattle.syntax.specs.Tree.{Function, FunctionItem, IntParameter, Item, Parameter, ParameterType, ReferenceParameter, ResultType, SourceUnit}
 use Rattle.class_queries.specs.Kinds.{class_misfits}
 use Rattle.class_rules.specs.BuiltIns.{has_own_making, throwable_class, number_array}
@@ -11,40 +10,20 @@ use Rattle.class_rules.specs.Fields.{FieldId}
 use Rattle.code.specs.Call.{Call}
 use Rattle.code.specs.declared.instr.Operand.{Operand}
 use Rattle.code.specs.declared.instr.Operand.TheVariants as operand
-use Rattle.code.specs.declared.instr.Target.{Target}
-use Rattle.code.specs.declared.instr.Target.TheVariants.{Buffer}
 use Rattle.heap.specs.Heap.{Space}
 use Rattle.jni.specs.Access.{ArrayView}
-use Rattle.jni.specs.JniFunction.{is_allowed_pending, JniFunction, GetBuffer, AllocObject, GetField, SetField, GetStaticField, SetStaticField, GetObjectField, SetObjectField, GetStaticObjectField, SetStaticObjectField, NewObjectArray, Throw, ThrowNew, CallStaticVoidMethod, CallStaticIntMethod, CallStaticObjectMethod, calls_method, prototype}
+use Rattle.jni.specs.JniFunction.{is_allowed_pending, JniFunction, GetBuffer, AllocObject, GetField, SetField, GetStaticField, SetStaticField, GetObjectField, SetObjectField, GetStaticObjectField, SetStaticObjectField, NewObjectArray, Throw, ThrowNew, CallStaticVoidMethod, CallStaticIntMethod, CallStaticObjectMethod, prototype}
 use Rattle.jni.specs.Prototype.{ParameterKind, Nullable, AnyReference, LocalVariable, StaticVariable, WeakVariable, IsCopy, Passed, ResultKind, NewLocal}
 use Rattle.semantics.specs.CallTable.{is_int, is_reference_result, is_void}
 use Rattle.semantics.specs.Checks.{first_trap}
 use Rattle.semantics.specs.Heap.{holds_number, holds_reference}
-use Rattle.semantics.specs.Value.{Trap, NullReference, ExceptionPending, WrongObject, DeletedReference, NoCapacity, CallsTooDeep}
+use Rattle.semantics.specs.Value.{Trap, NullReference, ExceptionPending, WrongObject, DeletedReference, NoCapacity}
 use Rattle.machine_scenes.specs.declared.handle.Handle.{Handle}
 use Rattle.machine_scenes.specs.declared.handle.MethodHandle.{MethodHandle}
 use Rattle.machine_scenes.specs.Given.{operand_at, field_at, method_at, operand_of, class_there, class_of_given, name_there, fits_there, field_there}
 use Rattle.machine_scenes.specs.Scenes.{Scene}
-use Rattle.machine_scenes.specs.Statics.{References, holds_deleted, holds_null, static_at}
-
--- an operand gives NULL
-abbrev pub gives_null : References → List (Option Handle) → Operand → Bool
-gives_null references fields operand.Null = true
-gives_null references fields (operand.Static i) = holds_null (static_at references i)
-gives_null references fields (operand.Local i) = is_none (operand_at references (operand.Local i))
-gives_null references fields (operand.FieldId i) = is_none (field_at fields (operand.FieldId i))
-gives_null references fields (operand.MethodId i) = is_none (method_at fields (operand.MethodId i))
-gives_null references fields operand.Number = false
-gives_null references fields operand.Text = false
-gives_null references fields (operand.Array array) = false
-gives_null references fields (operand.Buffer i) = false
-gives_null references fields (operand.Mode mode) = false
-gives_null references fields (operand.IsCopy i) = false
-
--- an operand gives a static that is marked as deleted
-abbrev pub gives_deleted : References → Operand → Bool
-gives_deleted references (operand.Static i) = holds_deleted (static_at references i)
-gives_deleted references o = false
+use Rattle.machine_scenes.specs.Statics.{References}
+use Rattle.machine_answers.specs.Sights.{element_wanted, gives_deleted, gives_null}
 
 -- a parameter may be NULL
 abbrev pub may_be_null : ParameterKind → Bool
@@ -78,11 +57,6 @@ some_misfit classes space references parameters operands = false
 abbrev pub fits_type_there : Classes → Space → Option ℕ → FieldType → Bool
 fits_type_there classes space r (NumberField T) = false
 fits_type_there classes space r (ReferenceField c) = fits_there classes space r c
-
--- the element type of the buffer that a call is to fill
-abbrev pub element_wanted : Target → ElementType
-element_wanted (Buffer element i) = element_value element
-element_wanted target = JInt
 
 -- ---- calls of methods
 
@@ -207,15 +181,3 @@ trap_found scene has_room wanted f operands =
     ∷ arguments_asked scene.unit scene.classes scene.space scene.references scene.fields wanted f operands
     ++ (puts_local (prototype f).result && not has_room, NoCapacity)
     ∷ [])
-
--- ---- how deep calls are
-
--- a method is called, and as many calls are made from one another as may be
-abbrev pub is_too_deep : JniFunction → (callers : ℕ) → Bool
-is_too_deep f callers = calls_method f && nat_le most_activations (callers + 1)
-
--- the trap of a call whose other checks found this: how deep calls are is checked after all else
-abbrev pub with_depth : (deep : Bool) → Option Trap → Option Trap
-with_depth deep (Some trap) = Some trap
-with_depth true None = Some CallsTooDeep
-with_depth false None = None

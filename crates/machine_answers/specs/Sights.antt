@@ -1,12 +1,15 @@
 -- What a call asks, as it is seen in memory.
-use Rattle.std.specs.Prelude.{ℕ, zero, suc, if◌then◌else◌, Bool, true, false, not, ℤ, pos, List, [], ◌∷◌, drop, length, map, slice_get, take, unwrap_or, Option, Some, None}
+use Rattle.std.specs.Prelude.{◌≡◌, ℕ, zero, suc, if◌then◌else◌, Bool, true, false, not, ℤ, pos, List, [], ◌∷◌, drop, length, map, slice_get, take, unwrap_or, is_none, Option, Some, None}
 use Rattle.std.specs.Int.{w32, cast_signed}
 use Rattle.std.specs.Option.{option_map}
 use Rattle.syntax.specs.Tree.{Function, SourceUnit}
 use Rattle.syntax.specs.Parts.{functions_of}
+use Rattle.base.specs.Element.{ElementType, JInt, element_value}
 use Rattle.code.specs.Call.{Call}
 use Rattle.code.specs.declared.instr.Operand.{Operand}
 use Rattle.code.specs.declared.instr.Operand.TheVariants as operand
+use Rattle.code.specs.declared.instr.Target.{Target}
+use Rattle.code.specs.declared.instr.Target.TheVariants.{Buffer}
 use Rattle.code.specs.declared.instr.ReleaseMode.TheVariants as mode
 use Rattle.heap.specs.Heap.{Space, name_at, values_at}
 use Rattle.heap.specs.declared.value.Value.{Value}
@@ -17,18 +20,21 @@ use Rattle.monitors.specs.declared.monitors.Monitor.{Monitor}
 use Rattle.monitors.specs.Monitors.{monitor_of}
 use Rattle.semantics.specs.Arguments.{ReleaseMode, CopyBackAndFree, CopyBack, FreeUncopied, name_or_zero}
 use Rattle.semantics.specs.CallSight.{ArgumentSight, CallSight}
+use Rattle.semantics.specs.CallTraps.{trap_of}
 use Rattle.semantics.specs.Method.{MethodId}
 use Rattle.semantics.specs.Object.{Object, ObjectValue, Number, Reference, Refers}
 use Rattle.semantics.specs.Thread as source
+use Rattle.semantics.specs.Value.{Trap}
 use Rattle.semantics.specs.Variable.{StaticReference, Empty, Live, Weakly, Cleared, Deleted}
 use Rattle.tables.specs.Locals.{LocalTable, has_room, popped}
+use Rattle.machine_scenes.specs.declared.handle.Handle.{Handle}
 use Rattle.machine_scenes.specs.declared.handle.MethodHandle.{MethodHandle}
 use Rattle.machine_scenes.specs.declared.references.Held.{Held}
 use Rattle.machine_scenes.specs.declared.references.Held.TheVariants as held
+use Rattle.machine_scenes.specs.FieldIds.{IsMethod}
 use Rattle.machine_scenes.specs.Given.{class_of_given, field_at, field_there, method_at, name_there, operand_at, operand_of}
 use Rattle.machine_scenes.specs.Scenes.{Scene}
-use Rattle.machine_scenes.specs.Statics.{static_at}
-use Rattle.machine_answers.specs.Checked.{element_wanted, gives_deleted, gives_null}
+use Rattle.machine_scenes.specs.Statics.{References, holds_deleted, holds_null, static_at}
 use Rattle.machine_answers.specs.WorkedOut.{array_in}
 
 -- ---- objects by their names, which are the birth numbers of their blocks
@@ -115,6 +121,25 @@ text_seen texts p before = []
 
 -- ---- what is checked of an argument
 
+-- an operand gives NULL
+abbrev pub gives_null : References → List (Option Handle) → Operand → Bool
+gives_null references fields operand.Null = true
+gives_null references fields (operand.Static i) = holds_null (static_at references i)
+gives_null references fields (operand.Local i) = is_none (operand_at references (operand.Local i))
+gives_null references fields (operand.FieldId i) = is_none (field_at fields (operand.FieldId i))
+gives_null references fields (operand.MethodId i) = is_none (method_at fields (operand.MethodId i))
+gives_null references fields operand.Number = false
+gives_null references fields operand.Text = false
+gives_null references fields (operand.Array array) = false
+gives_null references fields (operand.Buffer i) = false
+gives_null references fields (operand.Mode mode) = false
+gives_null references fields (operand.IsCopy i) = false
+
+-- an operand gives a static that is marked as deleted
+abbrev pub gives_deleted : References → Operand → Bool
+gives_deleted references (operand.Static i) = holds_deleted (static_at references i)
+gives_deleted references o = false
+
 -- it is NULL for a reference, a field ID or a method ID
 abbrev pub null_seen : Bool → Option ParameterKind → Bool
 null_seen false p = false
@@ -138,6 +163,11 @@ is_reference p operand.Null = is_reference_kind p
 is_reference p o = false
 
 -- ---- a call
+
+-- the element type of the buffer that a call is to fill
+abbrev pub element_wanted : Target → ElementType
+element_wanted (Buffer element i) = element_value element
+element_wanted target = JInt
 
 -- what is seen of as many arguments as there are operands
 abbrev pub each_seen : (ℕ → ArgumentSight) → List Operand → List ArgumentSight
@@ -209,3 +239,11 @@ module _ (scene : Scene) (locals : LocalTable) (callers : ℕ) (call : Call) whe
     callers = callers;
     element = element_wanted call.target;
   }
+
+-- the trap that the checks of a call find, but for that of how deep calls are: as if none waited for it
+abbrev pub trap_seen : Scene → LocalTable → Call → Option Trap
+trap_seen scene locals call = trap_of scene.classes (call_seen scene locals 0 call) call.function
+
+-- a method ID is NULL or a handle of a method of the unit
+abbrev pub MethodIsThere : SourceUnit → Option MethodHandle → Type 0
+MethodIsThere unit method = (h : MethodHandle) → method ≡ Some h → (m : MethodId) × IsMethod unit h m

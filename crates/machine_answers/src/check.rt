@@ -15,7 +15,8 @@ ghost use Rattle.heap.specs.Heap.{IsAddress};
 ghost use Rattle.machine_scenes.specs.Given.{method_at, operand_at, operand_of, AreAddresses, AreHandles, ReferenceIsThere};
 ghost use Rattle.machine_scenes.specs.Locals.{locals_after};
 ghost use Rattle.tables.specs.Locals.{has_room};
-ghost use Rattle.machine_answers.specs.Checked.{arguments_fit, called, calls_well, function_in, returns, takes, takes_all, element_wanted, has_field, has_static, gives_null, gives_deleted, may_be_null, some_missing, misfits, some_misfit, fits_type_there, puts_local, trap_found, ArgumentsPass, ArgumentsTrap};
+ghost use Rattle.machine_answers.specs.Checked.{arguments_fit, called, calls_well, function_in, returns, takes, takes_all, has_field, has_static, may_be_null, some_missing, misfits, some_misfit, fits_type_there, puts_local, ArgumentsPass, ArgumentsTrap};
+ghost use Rattle.machine_answers.specs.Sights.{element_wanted, gives_deleted, gives_null, trap_seen, MethodIsThere};
 ghost use Rattle.machine_answers.specs.WorkedOut.{field};
 ghost use Rattle.machine_scenes.specs.Scenes.{scene_view};
 ghost use Rattle.semantics.specs.EventViews.{trap_view};
@@ -469,11 +470,11 @@ fn lacks_room(locals: &Locals, call: &Call) -> bool
 /// else. It takes no host memory.
 pub fn check(scene: &Scene<'_>, locals: &Locals, call: &Call) -> Option<Trap>
     requires prepared { IsPrepared call.now }
+    requires pending { ReferenceIsThere scene.now.heap.now scene.now.pending }
     requires objects { AreAddresses scene.now.heap.now scene.now.references call.now.operands.items }
     requires handles { AreHandles scene.now.classes.now scene.now.fields.now call.now.operands.items }
-    ensures { option_map trap_view result ≡ trap_found (scene_view scene.now)
-        (has_room (locals_after (function_value call.now.function) locals.now)) (element_wanted call.now.target)
-        (function_value call.now.function) call.now.operands.items }
+    requires method { MethodIsThere (unit_tree scene.now.items.now) (method_at scene.now.fields.now (operand_of call.now.operands.items 1)) }
+    ensures { option_map trap_view result ≡ trap_seen (scene_view scene.now) locals.now (call_view call.now) }
 {
     if is_kept_off(scene.pending, call.function) {
         return Some(Trap::ExceptionPending);

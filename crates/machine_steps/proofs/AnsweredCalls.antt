@@ -23,7 +23,7 @@ use Rattle.semantics.specs.EventViews.{trap_view}
 use Rattle.machine_scenes.specs.declared.store.Store.{Store}
 use Rattle.machine_scenes.specs.declared.activation.Activation.{Activation}
 use Rattle.machine_answers.specs.Answers.{Brought, IsAnswer, is_carried}
-use Rattle.machine_answers.specs.Checked.{with_depth}
+use Rattle.machine_answers.proofs.TrapsSeen.{with_depth}
 use Rattle.machine_answers.specs.Asked.{brought_by, scene_of}
 use Rattle.machine_calls.specs.CarriedOut.{IsPossible}
 use Rattle.machine_calls.specs.Made.{cells_of}

@@ -32,17 +32,17 @@ use Rattle.code_meaning.specs.Slots.{Visible, visible_to}
 use Rattle.machine_scenes.specs.declared.store.Store.{Store}
 use Rattle.machine_scenes.specs.declared.activation.Activation.{Activation}
 use Rattle.machine_scenes.specs.Locals.{FramesAgree}
-use Rattle.machine_answers.proofs.ReferenceAnswers.{HeldStatic, deletes_static}
-use Rattle.machine_answers.specs.Asked.{IsAsked, references_of, scene_of}
+use Rattle.machine_answers.proofs.SightsAgree.{HeldStatic, deletes_static}
+use Rattle.machine_answers.specs.Asked.{IsAsked, references_of}
 use Rattle.machine_scenes.specs.Statics.{all_held}
 use Rattle.machine_calls.specs.CarriedOut.{IsPossible}
-use Rattle.machine_answers.specs.Checked.{is_too_deep, trap_found, with_depth}
+use Rattle.machine_answers.proofs.TrapsSeen.{is_too_deep, with_depth}
 use Rattle.tables.specs.Locals.{has_room}
 use Rattle.machine_scenes.specs.Given.{held_in, key_at, operand_of}
 use Rattle.machine_steps.specs.Invoked.{AtCall, trap_at}
 use Rattle.machine_steps.specs.Received.{HasRoom, HasTarget, HasTold, HasStatic, told_slot}
 use Rattle.machine_steps.proofs.Arguments.{all_given, arrays_held, none_left_after}
-use Rattle.machine_answers.proofs.CallTraps.{found_is, found_trap as checks_find}
+use Rattle.machine_answers.proofs.CallTraps.{found_as_seen, found_trap as checks_find, seen_is}
 use Rattle.machine_steps.proofs.Calls.{Ready, fields_count, ready}
 use Rattle.machine_threads.specs.SlotsHold.{slots_of}
 use Rattle.machine_steps.proofs.Effects.{call_cases}
@@ -98,7 +98,7 @@ use Rattle.semantics.specs.Variable.{Scalar, FieldHandle, MethodHandle, Elements
 use Rattle.semantics_safety.specs.StepSafe.{MayMeetView}
 use Rattle.tables.specs.Elements.{OwnedNumbers}
 use Rattle.machine_scenes.specs.Buffers.{Acquired, holding}
-use Rattle.machine_answers.specs.Checked.{element_wanted}
+use Rattle.machine_answers.specs.Sights.{element_wanted}
 use Rattle.machine_scenes.specs.Given.{HasBuffer}
 use Rattle.machine_steps.proofs.Changes.{buffer_by_kind, field_by_kind, method_by_kind, local_by_kind, scalar_by_kind}
 use Rattle.machine_steps.proofs.OwnedKeys.{called as invoked}
@@ -325,8 +325,7 @@ module _ (p : Lowered) (w : World) (store : Store) (pending : Option ℕ) (call 
   found = checks_find p w store pending call function others k owner shared s called.target called.f called.args called.asked
 
   pub found_same : trap_at p w store pending call k in_memory ≡ found
-  found_same =
-      (λ i. trap_found (scene_of (unit_tree p.unit) w.classes store call k pending) (has_room (locals_after (called.asked.same_function i) call.locals)) (element_wanted function.target) (called.asked.same_function i) in_memory.operands.items)
+  found_same = sym (found_as_seen p w store pending call function others k owner shared s called.target called.f called.args called.asked)
 
   -- how deep calls are is checked after it
   abbrev pub deep : Bool
@@ -334,7 +333,7 @@ module _ (p : Lowered) (w : World) (store : Store) (pending : Option ℕ) (call 
 
   -- so it is the source's
   pub trap_is : with_depth deep (trap_at p w store pending call k in_memory) ≡ trap_of_call w.classes shared s called.target called.f called.args
-  trap_is = ap (with_depth deep) found_same ∙ found_is p w store pending call function others k owner shared s called.target called.f called.args called.asked
+  trap_is = seen_is p w store pending call function others k owner shared s called.target called.f called.args called.asked
 
   -- where it is found
   pub trap_found_is : (trap : SourceTrap) → trap_at p w store pending call k in_memory ≡ Some trap → trap_of_call w.classes shared s called.target called.f called.args ≡ Some trap

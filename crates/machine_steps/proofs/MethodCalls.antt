@@ -8,7 +8,7 @@ use Rattle.jni.specs.JniFunction.{JniFunction, calls_method, prototype}
 use Rattle.machine_answers.proofs.CallAnswers.{answers}
 use Rattle.machine_answers.specs.Answers.{IsAnswer}
 use Rattle.machine_answers.specs.Asked.{brought_by, scene_of}
-use Rattle.machine_answers.specs.Checked.{is_too_deep, with_depth}
+use Rattle.machine_answers.proofs.TrapsSeen.{is_too_deep, with_depth}
 use Rattle.machine_answers.specs.WorkedOut.{IsWorkedOut}
 use Rattle.machine_answers.specs.declared.answer.Answer.TheVariants as answer
 use Rattle.machine_scenes.specs.Buffers.{Acquired}

@@ -1,5 +1,5 @@
 -- What is seen at once of a call is what it answers.
-use Rattle.std.proofs.Common.{◌≡◌, ℕ, Bool, Option, Some, None, subst}
+use Rattle.std.proofs.Common.{◌≡◌, ℕ, Bool, Option, Some, None, sym, ◌∙◌, subst}
 use Rattle.std.specs.Prelude.{IfSome}
 use Rattle.syntax.specs.Views.{unit_tree}
 use Rattle.code.specs.Call.{call_view}
@@ -10,7 +10,8 @@ use Rattle.semantics.specs.World.{World}
 use Rattle.tables.specs.Locals.{has_room}
 use Rattle.world_values.specs.SoundWorlds.{IsSound}
 use Rattle.machine_answers.specs.Asked.{scene_of}
-use Rattle.machine_answers.specs.Checked.{element_wanted, trap_found}
+use Rattle.machine_answers.specs.Checked.{trap_found}
+use Rattle.machine_answers.specs.Sights.{element_wanted, trap_seen}
 use Rattle.machine_answers.specs.WorkedOut.{IsWorkedOut}
 use Rattle.machine_answers.specs.declared.answer.Answer.{Answer}
 use Rattle.machine_scenes.specs.Locals.{locals_after}
@@ -19,7 +20,8 @@ use Rattle.machine_scenes.specs.declared.activation.Activation.{Activation}
 use Rattle.machine_scenes.specs.declared.store.Store.{Store}
 use Rattle.machine_steps.specs.Invoked.{IsAnswered}
 
-module _ (p : Lowered) (w : World) (store : Store) (pending : Option ℕ) (call : Activation) (k : ℕ) (function : Call) (scene : Scene) (same : scene ≡ scene_of (unit_tree p.unit) w.classes store call k pending) (sound : IsSound w) where
+module _ (p : Lowered) (w : World) (store : Store) (pending : Option ℕ) (call : Activation) (k : ℕ) (function : Call) (scene : Scene) (same : scene ≡ scene_of (unit_tree p.unit) w.classes store call k pending) (sound : IsSound w)
+    (as_seen : trap_found scene (has_room (locals_after (function_value function.function) call.locals)) (element_wanted function.target) (function_value function.function) function.operands.items ≡ trap_seen scene call.locals (call_view function)) where
   abbrev pub room : Bool
   room = has_room (locals_after (function_value function.function) call.locals)
 
@@ -30,7 +32,7 @@ module _ (p : Lowered) (w : World) (store : Store) (pending : Option ℕ) (call 
   pub seen : (a : Answer) → IsFree room → IsWorkedOut scene (call_view function) (function_value function.function) a → IsAnswered p w store pending call k function a
   seen a free works = record {
     sound = sound;
-    free = subst (λ (x : Scene). trap_found x room (element_wanted function.target) (function_value function.function) function.operands.items ≡ None) same free;
+    free = subst (λ (x : Scene). trap_seen x call.locals (call_view function) ≡ None) same (sym as_seen ∙ free);
     works = subst (λ (x : Scene). IsWorkedOut x (call_view function) (function_value function.function) a) same works;
   }
 

@@ -25,7 +25,6 @@ use Rattle.semantics.specs.declared.event.Event.TheVariants.{Quiet, Trapped}
 use Rattle.machine_steps.specs.declared.execute.Executed.{Executed}
 use Rattle.machine_steps.specs.declared.execute.Executed.TheVariants.{Did, Refused, Calls}
 use Rattle.machine_steps.specs.declared.fault.StepFault.{StepFault}
-use Rattle.tables.specs.Locals.{has_room}
 use Rattle.machine_answers.specs.declared.answer.Answer.{Answer}
 use Rattle.machine_answers.specs.declared.answer.Answer.TheVariants as answer
 use Rattle.semantics.specs.declared.trap.Trap.{Trap}
@@ -35,8 +34,7 @@ use Rattle.machine_scenes.specs.declared.store.Store.{Store}
 use Rattle.machine_scenes.specs.declared.activation.Activation.{Activation}
 use Rattle.machine_answers.specs.Asked.{scene_of}
 use Rattle.machine_scenes.specs.Buffers.{Acquired, AreViewed, acquired_by, beside}
-use Rattle.machine_answers.specs.Checked.{element_wanted, trap_found}
-use Rattle.machine_scenes.specs.Locals.{locals_after}
+use Rattle.machine_answers.specs.Sights.{trap_seen}
 use Rattle.machine_scenes.specs.StoreAgrees.{StoreAgrees}
 use Rattle.machine_answers.specs.WorkedOut.{IsWorkedOut}
 use Rattle.machine_steps.specs.Executes.{Executes, IsHindered, IsSteady, cells_made, in_use_with}
@@ -66,10 +64,7 @@ pub record AtCall (p : Lowered) (w : World) (store : Store) (pending : Option �
 
 -- the trap of a call of thread k before it does anything
 abbrev pub trap_at : Lowered → World → Store → (pending : Option ℕ) → Activation → (k : ℕ) → InMemory → Option SourceTrap
-trap_at p w store pending activation k call =
-    trap_found (scene_of (unit_tree p.unit) w.classes store activation k pending) (has_room (locals_after
-    (function_value call.function) activation.locals)) (element_wanted call.target)
-    (function_value call.function) call.operands.items
+trap_at p w store pending activation k call = trap_seen (scene_of (unit_tree p.unit) w.classes store activation k pending) activation.locals (call_view call)
 
 -- No check stops a call of thread k, and this is what it answers.
 pub record IsAnswered (p : Lowered) (w : World) (store : Store) (pending : Option ℕ) (activation : Activation) (k : ℕ)

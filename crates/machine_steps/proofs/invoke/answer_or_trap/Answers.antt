@@ -1,7 +1,7 @@
 use Rattle.code_meaning.specs.Lowered.{Lowered}
 use Rattle.syntax.specs.Views.{unit_tree}
 use Rattle.std.specs.Prelude.{IfOk, IfErr}
-use Rattle.std.proofs.Common.{inl, inr, Result, Ok, Err, ◌≡◌, ℕ, Option, None, refl, sym, ap, ◌∙◌, subst}
+use Rattle.std.proofs.Common.{inl, inr, Result, Ok, Err, ◌≡◌, ℕ, Option, None, sym, ap, ◌∙◌, subst}
 use Rattle.std.specs.Option.{option_map}
 use Rattle.jni.specs.Table.{function_value}
 use Rattle.semantics.specs.World.{World}
@@ -14,21 +14,19 @@ use Rattle.machine_scenes.specs.declared.store.Store.{Store}
 use Rattle.machine_scenes.specs.declared.activation.Activation.{Activation}
 use Rattle.machine_answers.specs.Asked.{scene_of}
 use Rattle.machine_scenes.specs.Scenes.{Scene, scene_view}
-use Rattle.machine_answers.specs.Checked.{element_wanted, trap_found}
-use Rattle.machine_scenes.specs.Locals.{locals_after}
-use Rattle.tables.specs.Locals.{has_room}
+use Rattle.machine_answers.specs.Sights.{trap_seen}
 use Rattle.machine_steps.specs.Invoked.{trap_at}
 use Rattle.semantics.specs.EventViews.{trap_view}
 use Rattle.machine_answers.specs.WorkedOut.{IsWorkedOut}
-use Rattle.machine_steps.proofs.SeenCalls.{addresses_seen, handles_seen, loaded_seen, passed_seen, trap_seen}
+use Rattle.machine_steps.proofs.SeenCalls.{all_there, passed_seen}
 use Rattle.machine_steps.proofs.invoke.answer_or_trap.Goals as goal
 
 module _ (p : Lowered) (w : World) (store : Store) (pending : Option ℕ) (call : Activation) (k : ℕ) (function : Call) (scene : Scene) (same : scene ≡ scene_of (unit_tree p.unit) w.classes store call k pending) where
   -- the trap that was found is the call's
-  told : (o found : Option Trap) → option_map trap_view o ≡ trap_found scene (has_room (locals_after (function_value function.function) call.locals)) (element_wanted function.target) (function_value function.function) function.operands.items → o ≡ found
+  told : (o found : Option Trap) → option_map trap_view o ≡ trap_seen scene call.locals (call_view function) → o ≡ found
       → trap_at p w store pending call k function ≡ option_map trap_view found
   told o found checked is =
-      ap (λ (x : Scene). trap_found x (has_room (locals_after (function_value function.function) call.locals)) (element_wanted function.target) (function_value function.function) function.operands.items) (sym same) ∙ sym checked ∙ ap (option_map trap_view) is
+      ap (λ (x : Scene). trap_seen x call.locals (call_view function)) (sym same) ∙ sym checked ∙ ap (option_map trap_view) is
 
   -- and so is what was worked out
   worked : (found answer : Answer) → answer ≡ found → IsWorkedOut scene (call_view function) (function_value function.function) found → IsWorkedOut (scene_of (unit_tree p.unit) w.classes store call k pending) (call_view function) (function_value function.function) answer
@@ -36,46 +34,23 @@ module _ (p : Lowered) (w : World) (store : Store) (pending : Option ℕ) (call 
       subst (λ (x : Answer). IsWorkedOut (scene_of (unit_tree p.unit) w.classes store call k pending) (call_view function) (function_value function.function) x) (sym is)
       (subst (λ (x : Scene). IsWorkedOut x (call_view function) (function_value function.function) found) same works)
 
-pub check-requires-clause-objects : goal.check-requires-clause-objects
-check-requires-clause-objects c =
+pub check-requires : goal.check-requires
+check-requires c =
     let at = c.requires.at_call in
     let a = at.1 in
-    addresses_seen c.args.program.now c.args.world.now c.args.store.now c.args.pending c.args.activation.now c.args.call.now a.0 c.args.thread at.0 a.1 a.2 a.3 a.4 a.5 a.6 c.args.store.now.monitors (unit_tree c.args.program.now.unit) (scene_view c.scene_of-scene.result) c.scene_of-scene.ensures.scene
-
-pub check-requires-clause-handles : goal.check-requires-clause-handles
-check-requires-clause-handles c =
-    let at = c.requires.at_call in
-    let a = at.1 in
-    handles_seen c.args.program.now c.args.world.now c.args.store.now c.args.pending c.args.activation.now c.args.call.now a.0 c.args.thread at.0 a.1 a.2 a.3 a.4 a.5 a.6 c.args.store.now.monitors (unit_tree c.args.program.now.unit) (scene_view c.scene_of-scene.result) c.scene_of-scene.ensures.scene
+    let is = all_there c.args.program.now c.args.world.now c.args.store.now c.args.pending c.args.activation.now c.args.call.now a.0 c.args.thread at.0 a.1 a.2 a.3 a.4 a.5 a.6 c.args.store.now.monitors (scene_view c.scene_of-scene.result) c.scene_of-scene.ensures.scene in
+    record { prepared = c.requires.prepared; pending = is.pending; objects = is.objects; handles = is.handles; method = is.method }
 
 pub returns-in-Some-clause-trap : goal.returns-in-Some-clause-trap
 returns-in-Some-clause-trap c = inl (told c.args.program.now c.args.world.now c.args.store.now c.args.pending c.args.activation.now c.args.thread c.args.call.now (scene_view c.scene_of-scene.result) c.scene_of-scene.ensures.scene c.check.result _ c.check.ensures c.in-Some.is)
 
-pub work_out-requires-clause-loaded : goal.work_out-requires-clause-loaded
-work_out-requires-clause-loaded c =
+pub work_out-requires : goal.work_out-requires
+work_out-requires c =
     let at = c.requires.at_call in
     let a = at.1 in
-    loaded_seen c.args.program.now c.args.world.now c.args.store.now c.args.pending c.args.activation.now c.args.call.now a.0 c.args.thread at.0 a.1 a.2 a.3 a.4 a.5 a.6 c.args.store.now.monitors (unit_tree c.args.program.now.unit) (scene_view c.scene_of-scene.result) c.scene_of-scene.ensures.scene
-
-pub work_out-requires-clause-objects : goal.work_out-requires-clause-objects
-work_out-requires-clause-objects c =
-    let at = c.requires.at_call in
-    let a = at.1 in
-    addresses_seen c.args.program.now c.args.world.now c.args.store.now c.args.pending c.args.activation.now c.args.call.now a.0 c.args.thread at.0 a.1 a.2 a.3 a.4 a.5 a.6 c.args.store.now.monitors (unit_tree c.args.program.now.unit) (scene_view c.scene_of-scene.result) c.scene_of-scene.ensures.scene
-
-pub work_out-requires-clause-handles : goal.work_out-requires-clause-handles
-work_out-requires-clause-handles c =
-    let at = c.requires.at_call in
-    let a = at.1 in
-    handles_seen c.args.program.now c.args.world.now c.args.store.now c.args.pending c.args.activation.now c.args.call.now a.0 c.args.thread at.0 a.1 a.2 a.3 a.4 a.5 a.6 c.args.store.now.monitors (unit_tree c.args.program.now.unit) (scene_view c.scene_of-scene.result) c.scene_of-scene.ensures.scene
-
-pub work_out-requires-clause-passed : goal.work_out-requires-clause-passed
-work_out-requires-clause-passed c =
-    let at = c.requires.at_call in
-    let a = at.1 in
-    let found = trap_seen c.args.program.now c.args.world.now c.args.store.now c.args.pending c.args.activation.now c.args.call.now a.0 c.args.thread at.0 a.1 a.2 a.3 a.4 a.5 a.6 c.args.store.now.monitors (unit_tree c.args.program.now.unit) (scene_view c.scene_of-scene.result) c.scene_of-scene.ensures.scene refl in
-    passed_seen c.args.program.now c.args.world.now c.args.store.now c.args.pending c.args.activation.now c.args.call.now a.0 c.args.thread at.0 a.1 a.2 a.3 a.4 a.5 a.6 c.args.store.now.monitors (unit_tree c.args.program.now.unit) (scene_view c.scene_of-scene.result) c.scene_of-scene.ensures.scene refl
-    (sym found ∙ sym c.check.ensures ∙ ap (option_map trap_view) c.in-None.is)
+    let is = all_there c.args.program.now c.args.world.now c.args.store.now c.args.pending c.args.activation.now c.args.call.now a.0 c.args.thread at.0 a.1 a.2 a.3 a.4 a.5 a.6 c.args.store.now.monitors (scene_view c.scene_of-scene.result) c.scene_of-scene.ensures.scene in
+    let passed = passed_seen c.args.program.now c.args.world.now c.args.store.now c.args.pending c.args.activation.now c.args.call.now a.0 c.args.thread at.0 a.1 a.2 a.3 a.4 a.5 a.6 c.args.store.now.monitors (scene_view c.scene_of-scene.result) c.scene_of-scene.ensures.scene in
+    record { grown = search rules; loaded = is.loaded; objects = is.objects; handles = is.handles; passed = passed (sym c.check.ensures ∙ ap (option_map trap_view) c.in-None.is) }
 
 -- what was worked out is handed on
 handed_on : {A E : Type 0} (P Q : A → Type 0) (r : Result A E) → ((x : A) → P x → Q x) → IfOk r P → IfOk r Q

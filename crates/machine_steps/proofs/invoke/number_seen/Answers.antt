@@ -1,31 +1,22 @@
-use Rattle.syntax.specs.Views.{unit_tree}
 use Rattle.std.proofs.Common.{ℕ}
 use Rattle.machine_answers.specs.declared.answer.Answer.TheVariants as answer
 use Rattle.machine_answers.specs.declared.answer.Given.TheVariants as given
 use Rattle.machine_scenes.specs.Scenes.{scene_view}
 use Rattle.machine_steps.proofs.SeenAnswers.{all_seen}
-use Rattle.machine_steps.proofs.SeenCalls.{addresses_seen, handles_seen, loaded_seen}
+use Rattle.machine_steps.proofs.SeenCalls.{all_there, as_seen}
 use Rattle.machine_steps.proofs.invoke.number_seen.Goals as goal
 
-pub number_at_once-requires-clause-objects : goal.number_at_once-requires-clause-objects
-number_at_once-requires-clause-objects c =
+pub number_at_once-requires : goal.number_at_once-requires
+number_at_once-requires c =
     let at = c.requires.at_call in
     let a = at.1 in
-    addresses_seen c.args.program.now c.args.world.now c.args.store.now c.args.pending c.args.activation.now c.args.call.now a.0 c.args.thread at.0 a.1 a.2 a.3 a.4 a.5 a.6 c.args.store.now.monitors (unit_tree c.args.program.now.unit) (scene_view c.scene_of-scene.result) c.scene_of-scene.ensures.scene
-
-pub number_at_once-requires-clause-handles : goal.number_at_once-requires-clause-handles
-number_at_once-requires-clause-handles c =
-    let at = c.requires.at_call in
-    let a = at.1 in
-    handles_seen c.args.program.now c.args.world.now c.args.store.now c.args.pending c.args.activation.now c.args.call.now a.0 c.args.thread at.0 a.1 a.2 a.3 a.4 a.5 a.6 c.args.store.now.monitors (unit_tree c.args.program.now.unit) (scene_view c.scene_of-scene.result) c.scene_of-scene.ensures.scene
-
-pub number_at_once-requires-clause-loaded : goal.number_at_once-requires-clause-loaded
-number_at_once-requires-clause-loaded c =
-    let at = c.requires.at_call in
-    let a = at.1 in
-    loaded_seen c.args.program.now c.args.world.now c.args.store.now c.args.pending c.args.activation.now c.args.call.now a.0 c.args.thread at.0 a.1 a.2 a.3 a.4 a.5 a.6 c.args.store.now.monitors (unit_tree c.args.program.now.unit) (scene_view c.scene_of-scene.result) c.scene_of-scene.ensures.scene
+    let is = all_there c.args.program.now c.args.world.now c.args.store.now c.args.pending c.args.activation.now c.args.call.now a.0 c.args.thread at.0 a.1 a.2 a.3 a.4 a.5 a.6 c.args.store.now.monitors (scene_view c.scene_of-scene.result) c.scene_of-scene.ensures.scene in
+    record { grown = search rules; loaded = is.loaded; objects = is.objects; handles = is.handles }
 
 pub returns : goal.returns
 returns c =
+    let at = c.requires.at_call in
+    let a = at.1 in
     all_seen c.args.program.now c.args.world.now c.args.store.now c.args.pending c.args.activation.now c.args.thread c.args.call.now (scene_view c.scene_of-scene.result) c.scene_of-scene.ensures.scene c.scene_of-scene.ensures.sound
+    (as_seen c.args.program.now c.args.world.now c.args.store.now c.args.pending c.args.activation.now c.args.call.now a.0 c.args.thread at.0 a.1 a.2 a.3 a.4 a.5 a.6 c.args.store.now.monitors (scene_view c.scene_of-scene.result) c.scene_of-scene.ensures.scene)
     (λ (x : ℕ). answer.Gives (given.Number x)) c.number_at_once.result c.number_at_once.ensures.free c.number_at_once.ensures.works

@@ -1,7 +1,7 @@
 use Rattle.syntax.specs.Views.{unit_tree}
 use Rattle.syntax.specs.Tree.{SourceUnit}
 use Rattle.std.specs.Prelude.{IfSome}
-use Rattle.std.proofs.Common.{◌≡◌, Bool, Option, Some, None, refl}
+use Rattle.std.proofs.Common.{◌≡◌, Bool, Option, Some, None, refl, sym, ◌∙◌}
 use Rattle.base.specs.Element.{ElementType}
 use Rattle.class_rules.specs.Class.{Classes}
 use Rattle.code.specs.Call.{call_view}
@@ -9,10 +9,11 @@ use Rattle.jni.specs.Table.{function_value}
 use Rattle.tables.specs.Locals.{has_room}
 use Rattle.machine_answers.specs.Asked.{scene_of}
 use Rattle.machine_answers.specs.declared.answer.Answer.{Answer}
-use Rattle.machine_answers.specs.Checked.{element_wanted, trap_found}
+use Rattle.machine_answers.specs.Checked.{trap_found}
+use Rattle.machine_answers.specs.Sights.{element_wanted}
 use Rattle.machine_answers.specs.WorkedOut.{IsWorkedOut}
 use Rattle.machine_scenes.specs.Locals.{locals_after}
-use Rattle.machine_steps.proofs.SeenCalls.{addresses_seen}
+use Rattle.machine_steps.proofs.SeenCalls.{all_there, as_seen}
 use Rattle.machine_steps.proofs.invoke.unchecked_answer.Goals as goal
 
 -- what is known of an answer by two clauses
@@ -24,12 +25,15 @@ pub answer_at_once-requires : goal.answer_at_once-requires
 answer_at_once-requires c =
     let at = c.requires.at_call in
     let a = at.1 in
-    record { objects = addresses_seen c.args.program.now c.args.world.now c.args.store.now c.args.pending c.args.activation.now c.args.call.now a.0 c.args.thread at.0 a.1 a.2 a.3 a.4 a.5 a.6 c.args.store.now.monitors (unit_tree c.args.program.now.unit) (scene_of (unit_tree c.args.program.now.unit) c.args.world.now.classes c.args.store.now c.args.activation.now c.args.thread c.args.pending) refl }
+    record { objects = (all_there c.args.program.now c.args.world.now c.args.store.now c.args.pending c.args.activation.now c.args.call.now a.0 c.args.thread at.0 a.1 a.2 a.3 a.4 a.5 a.6 c.args.store.now.monitors (scene_of (unit_tree c.args.program.now.unit) c.args.world.now.classes c.args.store.now c.args.activation.now c.args.thread c.args.pending) refl).objects }
 
 pub returns-clause-answer : goal.returns-clause-answer
 returns-clause-answer c =
+    let at = c.requires.at_call in
+    let a = at.1 in
     let call = c.args.call.now in
     let w = c.args.world.now in
+    let scene = scene_of (unit_tree c.args.program.now.unit) w.classes c.args.store.now c.args.activation.now c.args.thread c.args.pending in
     known
     (λ (x : Answer). (unit : SourceUnit) (classes : Classes) (room : Bool) (wanted : ElementType) → trap_found (scene_of unit classes c.args.store.now c.args.activation.now c.args.thread c.args.pending) room wanted (function_value call.function) call.operands.items ≡ None)
     (λ (x : Answer). (unit : SourceUnit) (classes : Classes) → IsWorkedOut (scene_of unit classes c.args.store.now c.args.activation.now c.args.thread c.args.pending) (call_view call) (function_value call.function) x)
@@ -37,7 +41,9 @@ returns-clause-answer c =
     (λ (x : Answer) free works.
     record {
       sound = c.classes.ensures.sound;
-      free = free (unit_tree c.args.program.now.unit) w.classes (has_room (locals_after (function_value call.function) c.args.activation.now.locals)) (element_wanted call.target);
+      free =
+          sym (as_seen c.args.program.now w c.args.store.now c.args.pending c.args.activation.now call a.0 c.args.thread at.0 a.1 a.2 a.3 a.4 a.5 a.6 c.args.store.now.monitors scene refl)
+          ∙ free (unit_tree c.args.program.now.unit) w.classes (has_room (locals_after (function_value call.function) c.args.activation.now.locals)) (element_wanted call.target);
       works = works (unit_tree c.args.program.now.unit) w.classes;
     })
     c.answer_at_once.ensures.free

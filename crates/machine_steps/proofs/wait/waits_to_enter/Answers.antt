@@ -1,11 +1,10 @@
-use Rattle.syntax.specs.Views.{unit_tree}
-use Rattle.std.proofs.Common.{◌≡◌, Bool, true, false, not, refl, sym, ap, ◌∙◌}
+use Rattle.std.proofs.Common.{◌≡◌, Bool, true, false, not, sym, ap, ◌∙◌}
 use Rattle.std.specs.Prelude.{is_some}
 use Rattle.jni.specs.JniFunction.{calls_method}
 use Rattle.machine_scenes.specs.Scenes.{Scene, scene_view}
 use Rattle.machine_scenes.specs.Given.{operand_at, operand_of}
 use Rattle.machine_steps.specs.Waiting.{store_unowned, unowned}
-use Rattle.machine_steps.proofs.SeenCalls.{addresses_seen, handles_seen, source_trap}
+use Rattle.machine_steps.proofs.SeenCalls.{all_there, source_trap}
 use Rattle.machine_steps.proofs.Waits.{busy, enters_it, no_object, not_busy}
 use Rattle.machine_steps.proofs.wait.waits_to_enter.Goals as goal
 
@@ -17,22 +16,18 @@ flipped false x is = sym (ap not is)
 pub argument-requires : goal.argument-requires
 argument-requires c =
     let a = c.requires.may_wait in
-    addresses_seen c.args.program.now c.args.world.now (store_unowned c.args.store.now) c.args.pending c.args.activation.now c.args.call.now a.0 c.args.thread a.1 a.2 (unowned a.3) a.4 a.5 a.6 a.7.at_call c.args.store.now.monitors (unit_tree c.args.program.now.unit) (scene_view c.scene_of-scene.result) c.scene_of-scene.ensures.scene
+    (all_there c.args.program.now c.args.world.now (store_unowned c.args.store.now) c.args.pending c.args.activation.now c.args.call.now a.0 c.args.thread a.1 a.2 (unowned a.3) a.4 a.5 a.6 a.7.at_call c.args.store.now.monitors (scene_view c.scene_of-scene.result) c.scene_of-scene.ensures.scene).objects
 
-pub check-requires-clause-objects : goal.check-requires-clause-objects
-check-requires-clause-objects c =
+pub check-requires : goal.check-requires
+check-requires c =
     let a = c.requires.may_wait in
-    addresses_seen c.args.program.now c.args.world.now (store_unowned c.args.store.now) c.args.pending c.args.activation.now c.args.call.now a.0 c.args.thread a.1 a.2 (unowned a.3) a.4 a.5 a.6 a.7.at_call c.args.store.now.monitors (unit_tree c.args.program.now.unit) (scene_view c.scene_of-scene.result) c.scene_of-scene.ensures.scene
-
-pub check-requires-clause-handles : goal.check-requires-clause-handles
-check-requires-clause-handles c =
-    let a = c.requires.may_wait in
-    handles_seen c.args.program.now c.args.world.now (store_unowned c.args.store.now) c.args.pending c.args.activation.now c.args.call.now a.0 c.args.thread a.1 a.2 (unowned a.3) a.4 a.5 a.6 a.7.at_call c.args.store.now.monitors (unit_tree c.args.program.now.unit) (scene_view c.scene_of-scene.result) c.scene_of-scene.ensures.scene
+    let is = all_there c.args.program.now c.args.world.now (store_unowned c.args.store.now) c.args.pending c.args.activation.now c.args.call.now a.0 c.args.thread a.1 a.2 (unowned a.3) a.4 a.5 a.6 a.7.at_call c.args.store.now.monitors (scene_view c.scene_of-scene.result) c.scene_of-scene.ensures.scene in
+    record { prepared = c.requires.prepared; pending = is.pending; objects = is.objects; handles = is.handles; method = is.method }
 
 pub returns-then-is_busy : goal.returns-then-is_busy
 returns-then-is_busy c others owner own shared s task rest h =
     let p = c.args.program.now in
-    let source = source_trap p c.args.world.now (store_unowned c.args.store.now) c.args.pending c.args.activation.now c.args.call.now others c.args.thread owner own (unowned shared) s task rest h.at_call c.args.store.now.monitors (unit_tree c.args.program.now.unit) (scene_view c.scene_of-scene.result) c.scene_of-scene.ensures.scene refl (ap calls_method (enters_it p c.args.world.now c.args.store.now c.args.pending c.args.activation.now c.args.call.now others c.args.thread owner own shared s task rest h c.requires.enters)) in
+    let source = source_trap p c.args.world.now (store_unowned c.args.store.now) c.args.pending c.args.activation.now c.args.call.now others c.args.thread owner own (unowned shared) s task rest h.at_call c.args.store.now.monitors (scene_view c.scene_of-scene.result) c.scene_of-scene.ensures.scene (ap calls_method (enters_it p c.args.world.now c.args.store.now c.args.pending c.args.activation.now c.args.call.now others c.args.thread owner own shared s task rest h c.requires.enters)) in
     flipped c.is_none.result (is_some c.check.result) c.is_none.ensures
     ∙ busy p c.args.world.now c.args.store.now c.args.pending c.args.activation.now c.args.call.now others c.args.thread owner own shared s task rest h c.requires.enters c.in-Some.addr c.birth_of.result c.entering.result
     (ap (λ (x : Scene). operand_at x.references (operand_of c.args.call.now.operands.items 0)) (sym c.scene_of-scene.ensures.scene) ∙ sym c.argument.ensures.reference ∙ c.in-Some.is) c.birth_of.ensures c.entering.ensures (sym c.is_busy.ensures ∙ c.if-is_busy.true) c.check.result (source ∙ sym c.check.ensures)
