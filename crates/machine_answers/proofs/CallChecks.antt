@@ -5,22 +5,20 @@ use Rattle.std.specs.List.{AllZip}
 use Rattle.base.specs.Bytes.{Identifier}
 use Rattle.syntax.specs.Tree.{SourceUnit}
 use Rattle.class_rules.specs.Class.{Classes, assignable}
-use Rattle.class_rules.specs.Fields.{FieldId}
-use Rattle.classes.specs.declared.class.FieldHandle.{FieldHandle}
 use Rattle.code.specs.declared.instr.Operand.{Operand}
 use Rattle.code.specs.declared.instr.Operand.TheVariants as operand
 use Rattle.heap.specs.Heap.{Space, name_at}
-use Rattle.semantics.specs.Arguments.{Actual, ReferenceActual, FieldActual, MethodActual, method_given, method_in_actual, NumberActual, TextActual, VariableActual, ModeActual, NothingActual, reference_given, reference_in_actual, name_or_zero, field_given, field_in_actual}
+use Rattle.semantics.specs.Arguments.{Actual, ReferenceActual, FieldActual, MethodActual, method_given, method_in_actual, NumberActual, TextActual, VariableActual, ModeActual, NothingActual, reference_given, reference_in_actual, name_or_zero}
 use Rattle.semantics.specs.Heap.{Heap, class_of, fits_class}
 use Rattle.semantics.specs.Object.{Reference}
 use Rattle.semantics.specs.Variable.{StaticReference, Empty, Live, Deleted, as_static}
 use Rattle.machine_scenes.specs.declared.handle.Handle.{Handle}
-use Rattle.machine_scenes.specs.FieldIds.{FieldAgrees, MethodAgrees}
+use Rattle.machine_scenes.specs.FieldIds.{MethodAgrees}
 use Rattle.machine_scenes.specs.StoreAgrees.{HeldAgrees}
 use Rattle.machine_scenes.specs.Statics.{References, held_address, held_argument, static_at}
 use Rattle.machine_scenes.specs.declared.references.Held.{Held}
 use Rattle.machine_scenes.specs.declared.references.Held.TheVariants as held
-use Rattle.machine_scenes.specs.Given.{IsGiven, ReferenceIsGiven, class_of_given, class_there, field_at, field_there, fits_there, method_at, name_there, no_field, operand_at, operand_of}
+use Rattle.machine_scenes.specs.Given.{IsGiven, ReferenceIsGiven, class_of_given, class_there, fits_there, method_at, name_there, operand_at, operand_of}
 use Rattle.machine_scenes.specs.HeapAgrees.{ReferenceAgrees, BlocksAgree}
 use Rattle.machine_scenes.proofs.ObjectsAtAddresses.{is_object}
 
@@ -76,38 +74,6 @@ module _ (unit : SourceUnit) (classes : Classes) (space : Space) (references : R
   reference_at_place (o ∷ operands) [] i h = absurd h
   reference_at_place (o ∷ operands) (a ∷ args) zero h = reference_is o a h.0
   reference_at_place (o ∷ operands) (a ∷ args) (suc i) h = reference_at_place operands args i h.1
-
-  -- ---- the field of an argument
-
-  field_in : (o : Option FieldHandle) (f : Option FieldId) → FieldAgrees classes o f → field_there classes o ≡ field_in_actual (Some (FieldActual f))
-  field_in None None h = refl
-  field_in None (Some f) h = absurd h
-  field_in (Some h) None e = absurd e
-  field_in (Some h) (Some f) e = ap (λ o. unwrap_or o no_field) e
-
-  field_is : (o : Operand) (a : Actual) → IsGiven unit classes space references fields o a → field_there classes (field_at fields o) ≡ field_in_actual (Some a)
-  field_is operand.Number a h = sym (ap (λ b. field_in_actual (Some b)) h.1)
-  field_is operand.Text a h = sym (ap (λ b. field_in_actual (Some b)) h.1)
-  field_is (operand.Array array) a h = sym (ap (λ b. field_in_actual (Some b)) h.1)
-  field_is (operand.Buffer i) a h = sym (ap (λ b. field_in_actual (Some b)) h.1)
-  field_is (operand.Mode mode) a h = sym (ap (λ b. field_in_actual (Some b)) h.1)
-  field_is (operand.IsCopy i) a h = sym (ap (λ b. field_in_actual (Some b)) h.1)
-  field_is operand.Null a (inl h) = sym (ap (λ b. field_in_actual (Some b)) h.is)
-  field_is operand.Null a (inr (inl h)) = field_in None h.field h.agrees ∙ sym (ap (λ b. field_in_actual (Some b)) h.is)
-  field_is operand.Null a (inr (inr (inl h))) = sym (ap (λ b. field_in_actual (Some b)) h.is)
-  field_is operand.Null a (inr (inr (inr h))) = sym (ap (λ b. field_in_actual (Some b)) h)
-  field_is (operand.Local i) a h = sym (ap (λ b. field_in_actual (Some b)) h.is)
-  field_is (operand.Static i) a h = sym (ap (λ b. field_in_actual (Some b)) h.is)
-  field_is (operand.FieldId i) a h = field_in (field_at fields (operand.FieldId i)) h.field h.agrees ∙ sym (ap (λ b. field_in_actual (Some b)) h.is)
-  field_is (operand.MethodId i) a h = sym (ap (λ b. field_in_actual (Some b)) h.is)
-
-  -- the field at a place
-  pub field_at_place : (operands : List Operand) (args : List Actual) (i : ℕ) → AllZip (IsGiven unit classes space references fields) operands args → field_there classes (field_at fields (operand_of operands i)) ≡ field_given args i
-  field_at_place [] [] i h = refl
-  field_at_place [] (a ∷ args) i h = absurd h
-  field_at_place (o ∷ operands) [] i h = absurd h
-  field_at_place (o ∷ operands) (a ∷ args) zero h = field_is o a h.0
-  field_at_place (o ∷ operands) (a ∷ args) (suc i) h = field_at_place operands args i h.1
 
   -- ---- the method of an argument
 

@@ -14,7 +14,8 @@ use Rattle.code.specs.declared.instr.Operand.{Operand}
 use Rattle.code.specs.declared.instr.Operand.TheVariants as operand
 use Rattle.heap.specs.Heap.{Block, Space, IsAddress, block_at, name_at}
 use Rattle.jni.specs.JniFunction.{JniFunction, is_allowed_pending, parameters_for, prototype}
-use Rattle.semantics.specs.Arguments.{Actual}
+use Rattle.semantics.specs.Arguments.{Actual, field_given}
+use Rattle.semantics.specs.CallSight.{ArgumentSight}
 use Rattle.semantics.specs.CallStep.{trap_of_call}
 use Rattle.semantics.specs.Checks.{first_trap}
 use Rattle.semantics.specs.Object.{Reference}
@@ -35,7 +36,7 @@ use Rattle.machine_scenes.specs.declared.references.Held.{Held}
 use Rattle.machine_scenes.specs.Buffers.{Acquired}
 use Rattle.machine_answers.specs.Checked.{fit_together, some_missing, some_misfit, puts_local, trap_found}
 use Rattle.machine_answers.specs.Sights.{MethodIsThere, element_wanted, gives_deleted, trap_seen}
-use Rattle.machine_answers.proofs.SightsAgree.{same_together, same_trap}
+use Rattle.machine_answers.proofs.SightsAgree.{argument_is, same_together, same_trap}
 use Rattle.machine_answers.proofs.TrapsSeen.{deep_is_last, found_seen, is_too_deep, own_misfit, own_missing, together_seen, with_depth}
 use Rattle.machine_scenes.specs.Scenes.{Scene}
 use Rattle.machine_scenes.specs.declared.handle.MethodHandle.{MethodHandle}
@@ -45,7 +46,7 @@ use Rattle.semantics.specs.CallTable.{go_together}
 use Rattle.semantics.proofs.CallTraps.{together, trap_is}
 use Rattle.machine_scenes.specs.Locals.{locals_after}
 use Rattle.tables.specs.Locals.{has_room}
-use Rattle.machine_scenes.specs.Given.{operand_at, field_at, method_at, operand_of, AreAddresses, AreHandles, IsGiven, ReferenceIsThere}
+use Rattle.machine_scenes.specs.Given.{operand_at, field_at, field_there, method_at, operand_of, AreAddresses, AreHandles, IsGiven, ReferenceIsThere}
 use Rattle.machine_scenes.specs.HeapAgrees.{ReferenceAgrees}
 use Rattle.machine_answers.proofs.CallChecks as checks
 
@@ -83,15 +84,6 @@ is_handle classes (Some g) (Some f) h agrees e =
 
 module _ (unit : SourceUnit) (classes : Classes) (space : Space) (references : References) (fields : List (Option Handle)) where
   one_address : (o : Operand) (a : Actual) → IsGiven unit classes space references fields o a → (b : ℕ) → operand_at references o ≡ Some b → IsAddress space b
-  one_address operand.Number a h b e = absurd (cc)
-  one_address operand.Text a h b e = absurd (cc)
-  one_address (operand.Array array) a h b e = absurd (cc)
-  one_address (operand.Buffer i) a h b e = absurd (cc)
-  one_address (operand.Mode mode) a h b e = absurd (cc)
-  one_address (operand.IsCopy i) a h b e = absurd (cc)
-  one_address (operand.FieldId i) a h b e = absurd (cc)
-  one_address (operand.MethodId i) a h b e = absurd (cc)
-  one_address operand.Null a h b e = absurd (cc)
   one_address (operand.Local i) a h b e = is_address space (operand_at references (operand.Local i)) h.reference b h.agrees e
   one_address (operand.Static i) a h b e = static_address (static_at references i) h.reference b h.agrees e
     where
@@ -100,19 +92,11 @@ module _ (unit : SourceUnit) (classes : Classes) (space : Space) (references : R
           let none : (c : ℕ) → ◌≡◌ {A = Option ℕ} None (Some c) → IsAddress space c = λ c e. absurd (cc) in
           checks.by_argument space (λ x r. (c : ℕ) → held_address x ≡ Some c → IsAddress space c) none (λ a n e c is. is_address space (Some a) (Some n) c e is)
           (λ a n e c is. is_address space (Some a) (Some n) c e is) none none x r h b e
+  one_address o a h b e = absurd (cc)
 
   one_handle : (o : Operand) (a : Actual) → IsGiven unit classes space references fields o a → (g : FieldHandle) → field_at fields o ≡ Some g → IsSome (field_of classes g)
-  one_handle operand.Number a h g e = absurd (cc)
-  one_handle operand.Text a h g e = absurd (cc)
-  one_handle (operand.Array array) a h g e = absurd (cc)
-  one_handle (operand.Buffer i) a h g e = absurd (cc)
-  one_handle (operand.Mode mode) a h g e = absurd (cc)
-  one_handle (operand.IsCopy i) a h g e = absurd (cc)
   one_handle (operand.FieldId i) a h g e = is_handle classes (field_at fields (operand.FieldId i)) h.field g h.agrees e
-  one_handle (operand.MethodId i) a h g e = absurd (cc)
-  one_handle operand.Null a h g e = absurd (cc)
-  one_handle (operand.Local i) a h g e = absurd (cc)
-  one_handle (operand.Static i) a h g e = absurd (cc)
+  one_handle o a h g e = absurd (cc)
 
   all_addresses : (operands : List Operand) (args : List Actual) → AllZip (IsGiven unit classes space references fields) operands args → AreAddresses space references operands
   all_addresses [] [] h = tt
@@ -137,12 +121,8 @@ pub record Passed (p d m w r : Bool) : Type 0 where
   pub room : r ≡ false
 
 pub all_passed : (p d m w r : Bool) → first_trap ((p, ExceptionPending) ∷ (d, DeletedReference) ∷ (m, NullReference) ∷ (w, WrongObject) ∷ (r, NoCapacity) ∷ []) ≡ None → Passed p d m w r
-all_passed true d m w r h = absurd (cc)
-all_passed false true m w r h = absurd (cc)
-all_passed false false true w r h = absurd (cc)
-all_passed false false false true r h = absurd (cc)
-all_passed false false false false true h = absurd (cc)
 all_passed false false false false false h = record { pending = refl; deleted = refl; missing = refl; wrong = refl; room = refl }
+all_passed p d m w r h = absurd (cc)
 
 -- neither of two holds
 pub neither : (a b : Bool) → (a || not b) ≡ false → (a ≡ false) × (b ≡ true)
@@ -180,6 +160,10 @@ module _ (p : Lowered) (w : World) (store : Store) (pending : Option ℕ) (activ
   -- of the source's call
   of_call : IsAsked p w store pending activation call others k owner shared s target call.function args
   of_call = subst (λ (g : JniFunction). IsAsked p w store pending activation call others k owner shared s target g args) (sym h.same_function) h
+
+  -- the field of an argument is that of the source's
+  pub field_is : (i : ℕ) → field_there w.classes (field_at activation.slots.fields.items (operand_of call.operands i)) ≡ field_given args i
+  field_is i = ap (λ (a : ArgumentSight). a.field) (argument_is scene activation.locals (length s.callers) call shared.heap args of_call.store_agrees.heap of_call.kinds of_call.fit of_call.given of_call.words of_call.texts i)
 
   -- is what is seen of it
   pub found_as_seen : found_trap ≡ trap_seen scene activation.locals call

@@ -32,9 +32,9 @@ use Rattle.machine_answers.specs.Checked.{some_missing, may_be_null}
 use Rattle.machine_scenes.specs.Given.{operand_of, class_of_given, name_there, field_at, field_there}
 use Rattle.machine_scenes.specs.HeapAgrees.{ReferenceAgrees}
 use Rattle.machine_answers.specs.WorkedOut.{class_object, IsFoundField, IsFoundMethod, place_there, held_reference, top_word}
-use Rattle.machine_answers.proofs.CallChecks.{class_given_is, field_at_place}
+use Rattle.machine_answers.proofs.CallChecks.{class_given_is}
 use Rattle.machine_scenes.proofs.OperandsThere.{handle_of}
-use Rattle.machine_answers.proofs.CallTraps.{none_lacking, handles_there}
+use Rattle.machine_answers.proofs.CallTraps.{field_is, none_lacking, handles_there}
 use Rattle.machine_answers.proofs.CallOperands.{no_number, no_word, two_texts, second_field}
 use Rattle.machine_answers.proofs.TwoCalls.{TwoCalls, references, fields, brought, Asked, Works, Does, at, agrees, name_of, table_of, built_in_class, method_error, object_given_at, unit, top_of, number_read, reference_read, value_written, held_agrees}
 
@@ -93,7 +93,7 @@ module _ (both : TwoCalls) where
       record {
         handle = found.0;
         at_handle = found.1;
-        is_field = ap (field_there w.classes) (sym found.1) ∙ field_at_place (unit both) w.classes store.heap (references both) (fields both) call.operands args 1 h.given;
+        is_field = ap (field_there w.classes) (sym found.1) ∙ field_is p w store pending activation call others k owner shared s target f args h 1;
       }
 
   -- the place of the field in the object of argument 0
@@ -178,7 +178,7 @@ module _ (both : TwoCalls) where
   holder : (f : JniFunction) → Asked both f → Fielded f → Holder
   holder f h found =
       let there = handle_of w.classes (fields both) call.operands 1 (handles_there p w store pending activation call others k owner shared s target f args h) found.handle found.at_handle in
-      let same : (field_there w.classes (field_at (fields both) (operand_of call.operands 1))).class ≡ (field_given args 1).class = ap (λ (x : FieldId). x.class) (field_at_place (unit both) w.classes store.heap (references both) (fields both) call.operands args 1 h.given) in
+      let same : (field_there w.classes (field_at (fields both) (operand_of call.operands 1))).class ≡ (field_given args 1).class = ap (λ (x : FieldId). x.class) (field_is p w store pending activation call others k owner shared s target f args h 1) in
       let class : (field_given args 1).class ≡ found.handle.class.number = ap (λ (x : FieldId). x.class) (sym found.is_field) ∙ sym (class_of_field w.classes found.handle there) in
       let within = class_within w.classes found.handle there in
       let agrees_so = table_of both f h found.handle.class.number within.0 within.1 in
