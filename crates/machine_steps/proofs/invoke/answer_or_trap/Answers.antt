@@ -1,7 +1,7 @@
 use Rattle.code_meaning.specs.Lowered.{Lowered}
 use Rattle.syntax.specs.Views.{unit_tree}
 use Rattle.std.specs.Prelude.{IfOk, IfErr}
-use Rattle.std.proofs.Common.{inl, inr, Result, Ok, Err, ◌≡◌, ℕ, Option, None, sym, ap, ◌∙◌, subst}
+use Rattle.std.proofs.Common.{inl, inr, Result, Ok, Err, ◌≡◌, ℕ, Option, None, sym, ap, ◌∙◌, subst, rules}
 use Rattle.std.specs.Option.{option_map}
 use Rattle.jni.specs.Table.{function_value}
 use Rattle.semantics.specs.World.{World}

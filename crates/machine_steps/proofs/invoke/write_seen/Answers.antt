@@ -1,3 +1,4 @@
+use Rattle.std.proofs.Common.{rules}
 use Rattle.machine_answers.specs.declared.answer.Answer.TheVariants as answer
 use Rattle.machine_answers.specs.declared.at_once.Write.{Write}
 use Rattle.machine_scenes.specs.Scenes.{scene_view}
