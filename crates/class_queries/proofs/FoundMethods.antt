@@ -1,18 +1,22 @@
 -- Methods that are looked for in a class and then in its superclasses.
 use Rattle.std.proofs.Common.{◌≡◌, ℕ, zero, suc, ◌+◌, ◌<◌, Bool, true, false, List, [], ◌∷◌, ◌++◌, drop, subst, length, flat_map, filter, get_or, drop-cons, nat_eq, Option, Some, None, is_some, refl, sym, ap, ◌∙◌, arith, true≢false}
 use Rattle.std.specs.Prelude.{◌&&◌, ◌==◌, not, slice_get, codes, if◌then◌else◌}
-use Rattle.std.specs.List.{list_all}
-use Rattle.std.specs.Option.{option_map}
+use Rattle.std.specs.List.{list_all, position_from}
+use Rattle.std.specs.Option.{IsSome, option_map, option_map_or, option_and_then}
 use Rattle.std.specs.Str.{bytes_eq}
 use Rattle.std.proofs.lemmas.Bool.Decides.{nat_tests}
+use Rattle.std.proofs.lemmas.Iterator.Adapters.{position_from-zero}
 use Rattle.std.proofs.lemmas.Slice.Eq.{bytes_eq-Decides}
 use Rattle.base.specs.Bytes.{Identifier}
 use Rattle.base.specs.Options.{option_filter}
-use Rattle.class_rules.specs.Class.{Classes, superclass, above, ancestry_within}
+use Rattle.class_rules.specs.ClassIds.{number_of}
+use Rattle.class_rules.specs.declared.class_id.ClassId.{ClassId}
+use Rattle.class_rules.specs.Class.{Class, Classes, class_name, class_named, superclass, above, ancestry_within}
 use Rattle.class_rules.specs.Mangling.{is_class_name, is_simple_name, mangle, escaped_byte, slash, unescaped, after_first, split_last, is_unmangled, unmangle, IsInverse}
 use Rattle.syntax.specs.Parts.{functions_of}
 use Rattle.syntax.specs.Tree.{Function, SourceUnit}
-use Rattle.semantics.specs.Method.{is_method_of}
+use Rattle.semantics.specs.Activation.{class_of_function}
+use Rattle.semantics.specs.Method.{is_method_of, method_signature}
 
 -- ---- names
 
@@ -172,6 +176,52 @@ module _ (unit : SourceUnit) (T : Classes) (c : ℕ) (name : Identifier) (text :
   named-top (suc n) h q =
       first-none own (further n (superclass T c)) h
       ∙ ap (λ o. slice_get (further n o) 0) q
+
+-- ---- the class of a method
+
+-- a class that is there is found by its name
+found_from : (test : Class → Bool) (n : ℕ) (cs : Classes) (i : ℕ) (c : Class) → slice_get cs i ≡ Some c → test c ≡ true → (j : ℕ) × (position_from test n cs ≡ Some j)
+found_from test n [] i c there passes = absurd (cc)
+found_from test n (d ∷ cs) zero c there passes =
+    let same : d ≡ c = cc in
+    (n, ap (λ (b : Bool). if b then Some n else position_from test (n + 1) cs) (ap test same ∙ passes))
+found_from test n (d ∷ cs) (suc i) c there passes = by_test (test d) (found_from test (n + 1) cs i c there passes)
+  where
+    by_test : (b : Bool) → (j : ℕ) × (position_from test (n + 1) cs ≡ Some j) → (j : ℕ) × ((if b then Some n else position_from test (n + 1) cs) ≡ Some j)
+    by_test true later = (n, refl)
+    by_test false later = later
+
+-- a class that has a number is there
+pub numbered : (o : Option ClassId) → IsSome (number_of o) → IsSome o
+numbered None h = h
+numbered (Some c) h = h
+
+-- a class is found by its name
+pub named : (cs : Classes) (d : ℕ) → is_class_name (class_name cs d) ≡ true → IsSome (class_named cs (class_name cs d))
+named cs zero h = absurd (cc)
+named cs (suc i) h = by_place (slice_get cs i) refl h
+  where
+    by_place : (o : Option Class) → slice_get cs i ≡ o → is_class_name (option_map_or (λ (c : Class). c.name) o []) ≡ true
+        → IsSome (class_named cs (option_map_or (λ (c : Class). c.name) (slice_get cs i) []))
+    by_place None e g = absurd (cc)
+    by_place (Some c) e g =
+        let test = λ (d : Class). bytes_eq d.name c.name in
+        let found = found_from test 0 cs i c e ((bytes_eq-Decides c.name c.name).1 refl) in
+        subst (λ (o : Option Class). IsSome (class_named cs (option_map_or (λ (k : Class). k.name) o []))) (sym e)
+        (subst (λ (o : Option ℕ). IsSome (option_map (λ j. j + 1) o)) (sym (position_from-zero test cs ∙ found.1)) refl)
+
+-- a method of a class is a native method of its namesake
+module _ (inverse : IsInverse) (T : Classes) (f : Function) (c : ℕ) (name : Identifier) (text : List ℕ) (is : is_method_of T c name text f ≡ true) where
+  abbrev parts : ((is_class_name (class_name T c) && is_simple_name name) ≡ true) × (bytes_eq (mangle (class_name T c) name) f.name ≡ true)
+  parts = both (is_class_name (class_name T c) && is_simple_name name) (bytes_eq (mangle (class_name T c) name) f.name) (both (is_unmangled f.name (class_name T c, name)) (bytes_eq (method_signature f) text) is).0
+
+  pub is_named : is_class_name (class_name T c) ≡ true
+  is_named = (both (is_class_name (class_name T c)) (is_simple_name name) parts.0).0
+
+  pub of_namesake : (d : ℕ) → class_named T (class_name T c) ≡ Some d → class_of_function T f ≡ Some d
+  of_namesake d found =
+      let unmangled : unmangle f.name ≡ Some (class_name T c, name) = (inverse f.name (class_name T c) name).1 (is_named, (both (is_class_name (class_name T c)) (is_simple_name name) parts.0).1, sym ((bytes_eq-Decides (mangle (class_name T c) name) f.name).0 parts.1)) in
+      ap (λ (o : Option (Identifier × Identifier)). option_and_then (class_named T) (option_map (λ (p : Identifier × Identifier). p.0) o)) unmangled ∙ found
 
 -- nothing was found
 pub none_found : {A B : Type 0} (f : A → B) (o : Option A) (p : Option B) → o ≡ None → option_map f o ≡ p → p ≡ None

@@ -14,5 +14,5 @@ pub use arrays::{array_class_of, element_class};
 pub use field_types::{holds_number, holds_reference};
 pub use first_values::{fresh_values, initial_values};
 pub use kinds::class_misfits;
-pub use methods::{find_method, is_method_of};
+pub use methods::{FoundMethod, find_method, is_method_of};
 pub use native_methods::native_class;

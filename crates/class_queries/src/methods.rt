@@ -1,10 +1,12 @@
 //! Static native methods that a unit implements, found by their names and signatures.
 
-ghost use Rattle.std.specs.Prelude.{◌≡◌, ◌∷◌, ◌++◌, [], List, ℕ, MatchOption, IfSome, Some, false, not, slice_get, filter, ◌==◌};
+ghost use Rattle.std.specs.Prelude.{◌≡◌, ◌∷◌, ◌++◌, [], List, ℕ, MatchOption, IfSome, Some, false, true, not, slice_get, filter, ◌==◌};
 ghost use Rattle.std.specs.Option.{option_map};
 ghost use Rattle.std.specs.List.{list_all};
 ghost use Rattle.std.specs.Str.{bytes_eq};
-ghost use Rattle.class_rules.specs.Mangling.{is_unmangled, unescaped};
+ghost use Rattle.class_rules.specs.Class.{class_name, class_named};
+ghost use Rattle.class_rules.specs.Mangling.{is_class_name, is_unmangled, unescaped};
+ghost use Rattle.semantics.specs.Activation.{class_of_function};
 ghost use Rattle.semantics.specs.Method.{find_method, is_method_of, method_signature, parameter_signature, reference_signature, result_signature};
 ghost use Rattle.syntax.specs.Parts.{functions_of};
 ghost use Rattle.syntax.specs.Views.{function_tree, parameter_type_tree, reference_tree, result_tree, unit_tree};
@@ -175,6 +177,7 @@ fn find_own<'a>(
     ensures function { option_map (λ found. function_tree found.function.now) result
         ≡ slice_get (filter (is_method_of classes.now class.number name.now text.now) (functions_of (unit_tree items.now))) 0 }
     ensures number { IfSome result (λ found. slice_get (functions_of (unit_tree items.now)) found.number ≡ Some (function_tree found.function.now)) }
+    ensures method { IfSome result (λ found. is_method_of classes.now class.number name.now text.now (function_tree found.function.now) ≡ true) }
 {
     let mut number = 0;
     for item in items {
@@ -191,6 +194,22 @@ fn find_own<'a>(
     None
 }
 
+/// The class that is found by the name of a class.
+fn namesake(classes: &ClassTable, class: ClassId) -> ClassId
+    requires { is_class_name (class_name classes.now class.number) ≡ true }
+    ensures { class_named classes.now (class_name classes.now class.number) ≡ Some result.number }
+{
+    classes.find(classes.name(class)).unwrap()
+}
+
+/// A method that was found: its function, with its number among the functions of its unit, and the class that declares it.
+#[derive(Clone, Copy)]
+pub struct FoundMethod<'a> {
+    pub number: usize,
+    pub function: &'a Function,
+    pub declarer: ClassId,
+}
+
 /// The method that GetStaticMethodID finds among these items (JNI Specification, chapter 4, "Calling Static Methods"): the
 /// function that is a native method of this name and signature, of the class itself, or else of the nearest superclass that has
 /// one. It takes no memory. For each class in turn the cost goes by the number of functions.
@@ -200,15 +219,21 @@ pub fn find_method<'a>(
     class: ClassId,
     name: &[u8],
     text: &[u8],
-) -> Option<NumberedFunction<'a>>
+) -> Option<FoundMethod<'a>>
     ensures method { option_map (λ found. record { class = class.number; function = function_tree found.function.now }) result
         ≡ find_method (unit_tree items.now) classes.now class.number name.now text.now }
     ensures number { IfSome result (λ found. slice_get (functions_of (unit_tree items.now)) found.number ≡ Some (function_tree found.function.now)) }
+    ensures declarer { IfSome result (λ found. class_of_function classes.now (function_tree found.function.now) ≡ Some found.declarer.number) }
 {
+    unmangling_inverts_mangling();
     let mut declarer = class;
     for _ in 0..classes.len() {
         if let Some(found) = find_own(items, classes, declarer, name, text) {
-            return Some(found);
+            return Some(FoundMethod {
+                number: found.number,
+                function: found.function,
+                declarer: namesake(classes, declarer),
+            });
         }
         match classes.superclass(declarer) {
             Some(above) => declarer = above,
