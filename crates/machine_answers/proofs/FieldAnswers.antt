@@ -55,7 +55,7 @@ module _ (both : TwoCalls) where
       λ i. find_field w.classes (name_of both GetFieldID h 0 i) (one i) (two i) in
       found_field (find_field w.classes (object_given args 0) (text_given args 1) (text_given args 2)) answer (subst (λ (o : Option FieldId). IsFoundField w.classes o answer) same is)
 
-  found_method : (o : Option MethodId) (answer : Answer) → IsMakeable w.classes no_such_method_error → IsFoundMethod (unit both) o answer → IsAnswer w.classes (brought both) store.heap activation.locals GivesMethod shared s answer (found_method_effect shared s no_such_method_error o)
+  found_method : (o : Option MethodId) (answer : Answer) → IsMakeable w.classes no_such_method_error → IsFoundMethod (unit both) w.classes o answer → IsAnswer w.classes (brought both) store.heap activation.locals GivesMethod shared s answer (found_method_effect shared s no_such_method_error o)
   found_method None answer makeable is = subst (λ (x : Answer). IsAnswer w.classes (brought both) store.heap activation.locals GivesMethod shared s x (found_method_effect shared s no_such_method_error None)) (sym is) (refl, makeable)
   found_method (Some m) answer makeable is = subst (λ (x : Answer). IsAnswer w.classes (brought both) store.heap activation.locals GivesMethod shared s x (found_method_effect shared s no_such_method_error (Some m))) (sym is.1) (refl, refl, is.2)
 
@@ -67,7 +67,7 @@ module _ (both : TwoCalls) where
       let two : unwrap_or (slice_get call.texts 1) [] ≡ text_given args 2 = ap (λ (l : List (List ℕ)). unwrap_or (slice_get l 1) []) h.texts ∙ texts.1 in
       let same : find_method (unit both) w.classes (name_there store.heap (at both 0)) (unwrap_or (slice_get call.texts 0) []) (unwrap_or (slice_get call.texts 1) []) ≡ find_method (unit both) w.classes (object_given args 0) (text_given args 1) (text_given args 2) =
       λ i. find_method (unit both) w.classes (name_of both GetStaticMethodID h 0 i) (one i) (two i) in
-      found_method (find_method (unit both) w.classes (object_given args 0) (text_given args 1) (text_given args 2)) answer (method_error both (h.methods refl)) (subst (λ (o : Option MethodId). IsFoundMethod (unit both) o answer) same is)
+      found_method (find_method (unit both) w.classes (object_given args 0) (text_given args 1) (text_given args 2)) answer (method_error both (h.methods refl)) (subst (λ (o : Option MethodId). IsFoundMethod (unit both) w.classes o answer) same is)
 
   pub answers_static : Asked both GetStaticFieldID → (answer : Answer) → Works both GetStaticFieldID answer → Does both GetStaticFieldID answer
   unfolding call_effect

@@ -31,11 +31,11 @@ module _ (both : TwoCalls) where
     pub given : method_given args 1 ≡ Some method
     pub handle : MethodHandle
     pub at : method_at (fields both) (operand_of call.operands 1) ≡ Some handle
-    pub is : IsMethod (unit both) handle method
+    pub is : IsMethod (unit both) w.classes handle method
     pub passes : all_pass w.classes shared.heap (target_element s.variables target) args method.function.parameters (drop 2 args) ≡ true
     pub effect : call_effect (unit both) w.classes (in_use both) k shared s args f ≡ Enters method.function.name (map passed_value (drop 2 args))
 
-  well_called : (f : JniFunction) (wants : ResultType → Bool) (h : Option MethodHandle) (m : Option MethodId) → method_at (fields both) (operand_of call.operands 1) ≡ h → method_given args 1 ≡ m → MethodAgrees (unit both) h m
+  well_called : (f : JniFunction) (wants : ResultType → Bool) (h : Option MethodHandle) (m : Option MethodId) → method_at (fields both) (operand_of call.operands 1) ≡ h → method_given args 1 ≡ m → MethodAgrees (unit both) w.classes h m
       → source_calls_well w.classes shared.heap (target_element s.variables target) args wants m ≡ true → call_effect (unit both) w.classes (in_use both) k shared s args f ≡ method_effect (method_given args 1) (map passed_value (drop 2 args)) → CalledMethod f
   well_called f wants None None at given agrees well does = absurd (cc)
   well_called f wants None (Some m) at given agrees well does = absurd agrees
@@ -47,7 +47,7 @@ module _ (both : TwoCalls) where
   together : (f : JniFunction) → (h : Asked both f) → trap_of_call w.classes shared s target f args ≡ None → go_together w.classes shared.heap (target_element s.variables target) args f ≡ true
   together f h free = goes_together p w store pending activation call others k owner shared s target f args h free
 
-  agree : (f : JniFunction) → Asked both f → MethodAgrees (unit both) (method_at (fields both) (operand_of call.operands 1)) (method_given args 1)
+  agree : (f : JniFunction) → Asked both f → MethodAgrees (unit both) w.classes (method_at (fields both) (operand_of call.operands 1)) (method_given args 1)
   agree f h = method_at_place (unit both) w.classes store.heap (references both) (fields both) call.operands args 1 h.given
 
   -- a call of a method that has passed its checks

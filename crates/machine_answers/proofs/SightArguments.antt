@@ -48,19 +48,19 @@ no_field_null classes None (Some f) h = absurd h
 no_field_null classes (Some i) None h = absurd h
 no_field_null classes (Some i) (Some f) h = refl
 
-method_is : (unit : SourceUnit) (h : Option MethodHandle) (m : Option MethodId) → MethodAgrees unit h m → method_seen unit h ≡ m
-method_is unit None None h = refl
-method_is unit None (Some m) h = absurd h
-method_is unit (Some i) None h = absurd h
-method_is unit (Some i) (Some m) h =
+method_is : (unit : SourceUnit) (classes : Classes) (h : Option MethodHandle) (m : Option MethodId) → MethodAgrees unit classes h m → method_seen unit h ≡ m
+method_is unit classes None None h = refl
+method_is unit classes None (Some m) h = absurd h
+method_is unit classes (Some i) None h = absurd h
+method_is unit classes (Some i) (Some m) h =
     ap (option_map (λ (f : Function). let n : MethodId = record { class = i.class.number; function = f } in n)) h.function
     ∙ ap (λ (c : ℕ). let n : MethodId = record { class = c; function = m.function } in Some n) h.class
 
-no_method_null : (unit : SourceUnit) (h : Option MethodHandle) (m : Option MethodId) → MethodAgrees unit h m → is_none h ≡ source.is_null_actual (Some (MethodActual m))
-no_method_null unit None None h = refl
-no_method_null unit None (Some m) h = absurd h
-no_method_null unit (Some i) None h = absurd h
-no_method_null unit (Some i) (Some m) h = refl
+no_method_null : (unit : SourceUnit) (classes : Classes) (h : Option MethodHandle) (m : Option MethodId) → MethodAgrees unit classes h m → is_none h ≡ source.is_null_actual (Some (MethodActual m))
+no_method_null unit classes None None h = refl
+no_method_null unit classes None (Some m) h = absurd h
+no_method_null unit classes (Some i) None h = absurd h
+no_method_null unit classes (Some i) (Some m) h = refl
 
 mode_is : (m : ReleaseMode) → mode_seen (operand.Mode (mode_code m)) ≡ m
 mode_is CopyBackAndFree = refl
@@ -164,8 +164,8 @@ module _ (scene : Scene) (heap : Heap) (agrees : HeapAgrees scene.space heap) (p
       field_null false = refl
   sight_is (operand.MethodId i) a fits kind h =
       ap (λ (b : Actual). shown (operand.MethodId i) b) h.is
-      ∙ same_sight refl refl refl (method_is scene.unit (method_at scene.fields (operand.MethodId i)) h.method h.agrees) refl refl
-      (ap (λ (q : ParameterKind). null_seen (is_none (method_at scene.fields (operand.MethodId i))) (Some q)) fits ∙ method_null (is_none (method_at scene.fields (operand.MethodId i))) ∙ no_method_null scene.unit (method_at scene.fields (operand.MethodId i)) h.method h.agrees) refl refl
+      ∙ same_sight refl refl refl (method_is scene.unit scene.classes (method_at scene.fields (operand.MethodId i)) h.method h.agrees) refl refl
+      (ap (λ (q : ParameterKind). null_seen (is_none (method_at scene.fields (operand.MethodId i))) (Some q)) fits ∙ method_null (is_none (method_at scene.fields (operand.MethodId i))) ∙ no_method_null scene.unit scene.classes (method_at scene.fields (operand.MethodId i)) h.method h.agrees) refl refl
       ∙ sym (ap (λ (b : Actual). source.argument_seen heap (Some b)) h.is)
     where
       method_null : (b : Bool) → null_seen b (Some jni.MethodID) ≡ b
@@ -217,7 +217,7 @@ module _ (scene : Scene) (heap : Heap) (agrees : HeapAgrees scene.space heap) (p
       ∙ same_sight refl refl refl refl refl refl (ap (λ (q : ParameterKind). null_seen true (Some q)) of_method) refl (ap (λ (q : ParameterKind). is_reference_kind (Some q)) of_method)
       ∙ sym (ap (λ (b : Actual). source.argument_seen heap (Some b)) is)
     where
-      null_only : (m : Option MethodId) → MethodAgrees scene.unit None m → m ≡ None
+      null_only : (m : Option MethodId) → MethodAgrees scene.unit scene.classes None m → m ≡ None
       null_only None h = refl
       null_only (Some m) h = absurd h
   sight_is operand.Null a fits kind (inr (inr (inr h))) =

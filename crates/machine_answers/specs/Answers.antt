@@ -49,7 +49,7 @@ GivenAgrees unit classes space NewLocal (given.Reference a) (ReferenceResult r) 
 GivenAgrees unit classes space NewLocal (given.Reference a) NullResult = a ≡ None
 GivenAgrees unit classes space GivesField (given.FieldId h) (FieldResult f) = FieldAgrees classes h f
 GivenAgrees unit classes space GivesField (given.FieldId h) NullResult = h ≡ None
-GivenAgrees unit classes space GivesMethod (given.MethodId h) (MethodResult m) = MethodAgrees unit h m
+GivenAgrees unit classes space GivesMethod (given.MethodId h) (MethodResult m) = MethodAgrees unit classes h m
 GivenAgrees unit classes space GivesMethod (given.MethodId h) NullResult = h ≡ None
 GivenAgrees unit classes space kind g c = ⊥
 

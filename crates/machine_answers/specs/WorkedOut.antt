@@ -68,9 +68,9 @@ IsFoundField classes None answer = answer ≡ Throws (class_id no_such_field_err
 IsFoundField classes (Some f) answer = (h : FieldHandle) × (answer ≡ Gives (given.FieldId (Some h))) × (field_of classes h ≡ Some f)
 
 -- a handle of the method that was found, or else an exception
-abbrev pub IsFoundMethod : SourceUnit → Option MethodId → Answer → Type 0
-IsFoundMethod unit None answer = answer ≡ Throws (class_id no_such_method_error)
-IsFoundMethod unit (Some m) answer = (h : MethodHandle) × (answer ≡ Gives (given.MethodId (Some h))) × IsMethod unit h m
+abbrev pub IsFoundMethod : SourceUnit → Classes → Option MethodId → Answer → Type 0
+IsFoundMethod unit classes None answer = answer ≡ Throws (class_id no_such_method_error)
+IsFoundMethod unit classes (Some m) answer = (h : MethodHandle) × (answer ≡ Gives (given.MethodId (Some h))) × IsMethod unit classes h m
 
 -- room for this number of references more, which is refused for a negative number
 abbrev pub room_for : ℤ → Answer
@@ -361,5 +361,5 @@ module _ (scene : Scene) (call : Call) where
   IsWorkedOut GetFieldID answer = IsFoundField scene.classes (find_field scene.classes (name_there scene.space (reference 0)) (text 0) (text 1)) answer
   IsWorkedOut GetStaticFieldID answer = IsFoundField scene.classes (find_static scene.classes (name_there scene.space (reference 0)) (text 0) (text 1)) answer
   IsWorkedOut GetStaticMethodID answer =
-      IsFoundMethod scene.unit (find_method scene.unit scene.classes (name_there scene.space (reference 0)) (text 0) (text 1)) answer
+      IsFoundMethod scene.unit scene.classes (find_method scene.unit scene.classes (name_there scene.space (reference 0)) (text 0) (text 1)) answer
   IsWorkedOut f answer = answer ≡ worked_out f

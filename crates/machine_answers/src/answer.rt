@@ -445,13 +445,14 @@ fn find_field(classes: &ClassTable, class: ClassId, texts: &[Vec<u8>], is_static
 
 /// A handle of the method with the name and the signature of a call's texts, or else an exception.
 fn method_found(items: &[Item], classes: &ClassTable, class: ClassId, texts: &[Vec<u8>]) -> Answer
-    ensures { IsFoundMethod (unit_tree items.now) (find_method (unit_tree items.now) classes.now class.number (unwrap_or
+    ensures { IsFoundMethod (unit_tree items.now) classes.now (find_method (unit_tree items.now) classes.now class.number (unwrap_or
         (slice_get (map (λ text. text.items) texts.now) 0) []) (unwrap_or
         (slice_get (map (λ text. text.items) texts.now) 1) [])) result }
 {
     match find_method(items, classes, class, text_at(texts, 0), text_at(texts, 1)) {
         Some(found) => Answer::Gives(Given::MethodId(Some(MethodHandle {
             class,
+            declarer: found.declarer,
             function: found.number,
             item: item_of(items, found.number),
         }))),

@@ -1,6 +1,6 @@
 //! What a call of a method passes to it.
 
-ghost use Rattle.std.specs.Prelude.{◌≡◌, ◌∷◌, List, IfOk, drop, reverse};
+ghost use Rattle.std.specs.Prelude.{◌≡◌, ◌≤◌, ◌∷◌, [], List, drop, length, reverse, vec_capacity};
 ghost use Rattle.code.specs.declared.instr.Operand.{Operand};
 ghost use Rattle.machine_answers.specs.Passed.{passed_in};
 
@@ -10,7 +10,6 @@ use code::stack::Stack;
 use heap::Value;
 use machine_scenes::operands::reference_in;
 use machine_scenes::references::References;
-use std::alloc::{AllocError, Global};
 
 /// The operands of what is passed: those after the class and the method ID.
 pub(crate) fn passed_operands(operands: &[Operand]) -> &[Operand]
@@ -40,35 +39,36 @@ fn value_of<'a>(
     }
 }
 
-/// What operands give, of which numbers take these words in order.
-fn values_of(
-    alloc: Global,
+/// Adds what operands give, of which numbers take these words in order, to an empty vector that has room for it.
+fn push_values(
+    values: &mut Vec<Value>,
     references: &References<'_>,
     operands: &[Operand],
     words: &[u32],
-) -> Result<Vec<Value>, AllocError>
-    ensures { IfOk result (λ values. values.items ≡ passed_in references.now operands.now words.now) }
+)
+    requires none { values.old.items ≡ [] }
+    requires room { length operands.now ≤ vec_capacity values.old }
+    ensures { values.new.items ≡ passed_in references.now operands.now words.now }
 {
-    let mut values = Vec::with_capacity(alloc, operands.len())?;
     let mut left = words;
     for operand in operands {
         let (value, rest) = value_of(references, *operand, left);
-        values.push(value)?;
+        values.push_reserved(value);
         left = rest;
     }
-    Ok(values)
 }
 
-/// What a call of a method with these operands passes to it, in order: a number by its word, which is on the stack, NULL, or
-/// the address of an object.
-pub fn passed(
-    alloc: Global,
+/// Lists what a call of a method with these operands passes to it, in order: a number by its word, which is on the stack, NULL, or
+/// the address of an object. The vector has room for it, and what it held is gone. It takes no host memory.
+pub fn pass(
+    values: &mut Vec<Value>,
     references: &References<'_>,
     operands: &[Operand],
     stack: &Stack,
-) -> Result<Vec<Value>, AllocError>
-    ensures { IfOk result (λ values. values.items
-        ≡ passed_in references.now (drop 2 operands.now) (reverse stack.now)) }
+)
+    requires room { length operands.now ≤ vec_capacity values.old }
+    ensures { values.new.items ≡ passed_in references.now (drop 2 operands.now) (reverse stack.now) }
 {
-    values_of(alloc, references, passed_operands(operands), stack.words())
+    values.clear();
+    push_values(values, references, passed_operands(operands), stack.words());
 }

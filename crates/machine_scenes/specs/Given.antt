@@ -73,10 +73,10 @@ pub record FieldIsGiven (classes : Classes) (fields : List (Option Handle)) (ope
   pub agrees : FieldAgrees classes (field_at fields operand) field
 
 -- an operand gives the method ID that the source's argument is
-pub record MethodIsGiven (unit : SourceUnit) (fields : List (Option Handle)) (operand : Operand) (actual : Actual) : Type 0 where
+pub record MethodIsGiven (unit : SourceUnit) (classes : Classes) (fields : List (Option Handle)) (operand : Operand) (actual : Actual) : Type 0 where
   pub method : Option MethodId
   pub is : actual ≡ MethodActual method
-  pub agrees : MethodAgrees unit (method_at fields operand) method
+  pub agrees : MethodAgrees unit classes (method_at fields operand) method
 
 -- an operand gives what the source's argument is; a number is on the stack, a text among the call's, and a variable itself
 -- in its slots
@@ -84,9 +84,9 @@ abbrev pub IsGiven : SourceUnit → Classes → Space → (references : Referenc
 IsGiven unit classes space references fields operand.Number actual = (z : ℤ) × (actual ≡ NumberActual z) × FitsSigned w32 z
 IsGiven unit classes space references fields operand.Text actual = (bytes : List ℕ) × (actual ≡ TextActual bytes)
 IsGiven unit classes space references fields (operand.FieldId i) actual = FieldIsGiven classes fields (operand.FieldId i) actual
-IsGiven unit classes space references fields (operand.MethodId i) actual = MethodIsGiven unit fields (operand.MethodId i) actual
+IsGiven unit classes space references fields (operand.MethodId i) actual = MethodIsGiven unit classes fields (operand.MethodId i) actual
 IsGiven unit classes space references fields operand.Null actual = ReferenceIsGiven space references operand.Null actual
-    ⊎ FieldIsGiven classes fields operand.Null actual ⊎ MethodIsGiven unit fields operand.Null actual ⊎ (actual ≡ NothingActual)
+    ⊎ FieldIsGiven classes fields operand.Null actual ⊎ MethodIsGiven unit classes fields operand.Null actual ⊎ (actual ≡ NothingActual)
 IsGiven unit classes space references fields (operand.Local i) actual = ReferenceIsGiven space references (operand.Local i) actual
 IsGiven unit classes space references fields (operand.Static i) actual = StaticIsGiven space references i actual
 IsGiven unit classes space references fields (operand.Array array) actual = (x : Identifier) × (actual ≡ VariableActual x)

@@ -6,11 +6,12 @@ ghost use Rattle.machine_scenes.specs.FieldIds.{field_held, method_held};
 use class_rules::ClassId;
 use classes::class::FieldHandle;
 
-/// A method ID: the class that it was got from, and the method's function, by its number among the unit's functions and by
-/// its item's place in the unit, each counted from 0.
+/// A method ID: the class that it was got from, the class that declares the method, and the method's function, by its number
+/// among the unit's functions and by its item's place in the unit, each counted from 0.
 #[derive(Clone, Copy)]
 pub struct MethodHandle {
     pub class: ClassId,
+    pub declarer: ClassId,
     pub function: usize,
     pub item: usize,
 }

@@ -2,7 +2,7 @@
 use Rattle.std.proofs.Common.{◌≡◌, ℕ, zero, suc, ◌+◌, ◌-◌, ◌<◌, ◌≤◌, true, List, [], ◌∷◌, ◌++◌, length, map, filter_map, replicate, take, Option, Some, None, inl, inr, refl, sym, ap, ◌∙◌, arith, length-append}
 use Rattle.std.specs.Prelude.{slice_get}
 use Rattle.std.proofs.lemmas.Bool.Decides.{nat_tests}
-use Rattle.std.proofs.lemmas.List.{length-map}
+use Rattle.std.proofs.lemmas.List.{length-map, take_all}
 use Rattle.heap.specs.declared.value.Value.{Value}
 use Rattle.heap.specs.declared.value.Value.TheVariants.{Number as Word, Null, Block as Address}
 use Rattle.tables.specs.Locals.{LocalTable, has_room, IsMade}
@@ -149,3 +149,10 @@ given_few count loaded class ws slots h few =
 
     ap_few : {a b : ℕ} → a ≡ b → b ≤ 257 → a ≤ 257
     ap_few e l = omega (arith, e, l)
+
+-- this number of equal slots
+pub resized : {A : Type 0} (x : A) (items : List A) (n m len : ℕ) → items ≡ [] → len ≡ 0 → m ≡ n → take m items ++ replicate (m - len) x ≡ replicate n x
+resized {A = A} x items n m len none short same =
+    let few : length items ≤ m = omega (arith, ap length none) in
+    let count : m - len ≡ n = omega (arith, short, same) in
+    ap (λ (l : List A). l ++ replicate (m - len) x) (take_all m items few ∙ none) ∙ ap (λ (k : ℕ). replicate k x) count

@@ -1,5 +1,5 @@
 -- What the slots of a call hold at its entry.
-use Rattle.std.specs.Prelude.{◌≡◌, ℕ, ◌+◌, ◌-◌, ◌<◌, ◌≤◌, List, [], ◌∷◌, ◌++◌, length, map, filter_map, replicate, slice_get, suc, Option, Some, None}
+use Rattle.std.specs.Prelude.{◌≡◌, ℕ, ◌+◌, ◌-◌, ◌<◌, ◌≤◌, List, [], ◌∷◌, ◌++◌, length, map, filter_map, replicate, slice_get, suc, vec_capacity, Option, Some, None}
 use Rattle.base.specs.Limits.{most_names}
 use Rattle.heap.specs.declared.value.Value.{Value}
 use Rattle.heap.specs.declared.value.Value.TheVariants.{Number as Word, Null, Block as Address}
@@ -32,6 +32,14 @@ given_address (Address a) = Some (Some a)
 pub record HasRoomFor (code : Listing) (arguments : List Value) : Type 0 where
   pub numbers : length (filter_map given_word arguments) ≤ code.slots.numbers
   pub references : length (filter_map given_address arguments) < code.slots.references
+
+-- the vectors of a call can hold the slots of this code without more memory, and its table has a frame
+pub record HasMemoryFor (code : Listing) (call : Activation) : Type 0 where
+  pub numbers : code.slots.numbers ≤ vec_capacity call.slots.numbers
+  pub references : code.slots.references ≤ vec_capacity call.slots.references
+  pub fields : code.slots.field_ids ≤ vec_capacity call.slots.fields
+  pub buffers : code.slots.buffers ≤ vec_capacity call.slots.buffers
+  pub frames : 0 < length call.locals.frames
 
 -- a call of a world as it is entered: the same function and class, and each argument as a cell would hold it
 pub record IsEnteringOf (loaded : List ℕ) (next : PendingCall) (entering : Entering) : Type 0 where

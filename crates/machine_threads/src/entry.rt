@@ -1,13 +1,13 @@
 //! What a call is given, and its slots at its entry.
 
-ghost use Rattle.std.specs.Prelude.{◌≡◌, ℕ, ◌-◌, ◌<◌, ◌≤◌, [], length, map, filter_map, slice_get, IfOk, OnOk, OnErr, IsTrue, ◌+◌, vec_capacity};
+ghost use Rattle.std.specs.Prelude.{◌≡◌, ℕ, true, ◌-◌, ◌<◌, ◌≤◌, [], length, map, filter_map, slice_get, IfOk, OnOk, OnErr, IsTrue, ◌+◌, vec_capacity};
 ghost use Rattle.std.specs.List.{list_all};
 ghost use Rattle.base.specs.Limits.{most_names, most_references};
 ghost use Rattle.world_values.specs.Views.{object_value_view};
 ghost use Rattle.world_values.specs.CallArguments.{is_argument};
 ghost use Rattle.tables.specs.Locals.{pushed};
 ghost use Rattle.tables.specs.References.{references_in};
-ghost use Rattle.machine_threads.specs.Entry.{first_frame, given_address, given_word, AreEntryReferences, BeginsIn, HasRoomFor, IsEnteringOf, IsNumbersOf};
+ghost use Rattle.machine_threads.specs.Entry.{first_frame, given_address, given_word, AreEntryReferences, BeginsIn, HasMemoryFor, HasRoomFor, IsEnteringOf, IsNumbersOf};
 ghost use Rattle.machine_threads.specs.Held.{held_value};
 
 use crate::objects::held;
@@ -102,6 +102,59 @@ pub fn begin(
         },
         locals,
     })
+}
+
+/// Whether what an ended call takes serves for one with this code.
+pub fn serves(ended: &Activation, code: &Code) -> bool
+    ensures { result ≡ true → HasMemoryFor code.now ended.now }
+{
+    let slots = code.slots();
+    ended.slots.numbers.capacity() >= slots.numbers as usize
+        && ended.slots.references.capacity() >= slots.references as usize
+        && ended.slots.fields.capacity() >= slots.field_ids as usize
+        && ended.slots.buffers.capacity() >= slots.buffers as usize
+        && ended.locals.frames() > 0
+}
+
+/// A call before its first instruction, in the place of one that has ended. It takes no host memory.
+pub fn begin_again(ended: &mut Activation, code: &Code, loaded: &[Addr], next: &Entering)
+    requires class { (0 < next.now.class.number) × (next.now.class.number ≤ length loaded.now) }
+    requires room { HasRoomFor code.now next.now.arguments.items }
+    requires few { length next.now.arguments.items ≤ most_names }
+    requires memory { HasMemoryFor code.now ended.old }
+    ensures { BeginsIn code.now loaded.now next.now ended.new }
+{
+    let slots = code.slots();
+    ended.function = next.function;
+    ended.place = 0;
+    ended.stack.clear();
+    fill_numbers(
+        &mut ended.slots.numbers,
+        &next.arguments,
+        slots.numbers as usize,
+    );
+    ended.slots.fields.clear();
+    ended
+        .slots
+        .fields
+        .resize(slots.field_ids as usize, None)
+        .unwrap();
+    ended.slots.buffers.clear();
+    ended
+        .slots
+        .buffers
+        .resize(slots.buffers as usize, Buffer::Null)
+        .unwrap();
+    let given = 1 + count_references(&next.arguments);
+    ended.locals.restart(given + MORE_LOCALS);
+    fill_references(
+        &mut ended.locals,
+        &mut ended.slots.references,
+        loaded,
+        next.class,
+        &next.arguments,
+        slots.references as usize,
+    );
 }
 
 /// `count` number slots, of which the first hold the numbers that the call is given.

@@ -97,6 +97,8 @@ fn load_thread(
         entering: None,
         call: None,
         callers: Vec::new(alloc),
+        spare: None,
+        spare_arguments: Vec::new(alloc),
         pending: None,
         ending: Ending::Unfinished,
     })

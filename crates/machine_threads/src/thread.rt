@@ -7,7 +7,8 @@ use semantics::Ending;
 use std::collections::VecDeque;
 use world_values::ObjectValue;
 
-/// A thread: the calls that it has still to make, the call in progress, and those from which it was made.
+/// A thread: the calls that it has still to make, the call in progress, and those from which it was made. Beside them it keeps the memory of
+/// a call that has ended, and of what a call was given, for the next call: what is in it is of no meaning.
 pub struct Thread {
     pub calls: VecDeque<PendingCall>,
     /// The call that the last caller has made, before its entry.
@@ -15,6 +16,10 @@ pub struct Thread {
     pub call: Option<Activation>,
     /// The calls from which the one in progress, or the one before its entry, was made, the last one last. They are 63 at most.
     pub callers: Vec<Activation>,
+    /// A call that has ended, if one is kept.
+    pub spare: Option<Activation>,
+    /// What a call was given.
+    pub spare_arguments: Vec<Value>,
     /// The pending exception.
     pub pending: Option<Addr>,
     pub ending: Ending,
@@ -28,6 +33,8 @@ impl Drop for Thread {
             entering,
             call,
             callers,
+            spare,
+            spare_arguments,
             pending: _,
             ending: _,
         } = self;
@@ -35,6 +42,8 @@ impl Drop for Thread {
         drop(entering);
         drop(call);
         drop(callers);
+        drop(spare);
+        drop(spare_arguments);
     }
 }
 

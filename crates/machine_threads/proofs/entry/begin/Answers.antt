@@ -1,12 +1,12 @@
-use Rattle.std.proofs.Common.{◌≡◌, ◌<◌, ◌≤◌, ◌+◌, ◌-◌, ℕ, List, [], ◌++◌, None, length, filter_map, take, replicate, refl, sym, ap, ◌∙◌, arith}
+use Rattle.std.proofs.Common.{◌≡◌, ◌<◌, ◌+◌, List, None, length, filter_map, refl, sym, ap, ◌∙◌, arith}
 use Rattle.std.specs.Prelude.{vec_len}
-use Rattle.std.proofs.lemmas.List.{take_all}
 use Rattle.code.specs.declared.slots.SlotCounts.{SlotCounts}
 use Rattle.heap.specs.declared.value.Value.{Value}
 use Rattle.machine_scenes.specs.declared.buffer.Buffer.TheVariants as buffer
 use Rattle.tables.specs.Locals.{LocalTable, pushed}
 use Rattle.tables.specs.References.{references_in}
 use Rattle.machine_threads.specs.Entry.{first_frame, given_address}
+use Rattle.machine_threads.proofs.EntryTables.{resized}
 use Rattle.machine_threads.proofs.entry.begin.Goals as goal
 
 pub fill_references-requires-clause-given : goal.fill_references-requires-clause-given
@@ -21,13 +21,6 @@ fill_references-requires-clause-frame c =
     let same : length (references_in (filter_map given_address c.deref-3.result.now)) ≡ length (references_in (filter_map given_address given)) = ap (λ (l : List Value). length (references_in (filter_map given_address l))) c.deref-3.ensures.value in
     let capacity : (1 + c.count_references-given.result) + 16 ≡ length (references_in (filter_map given_address c.deref-3.result.now)) + 17 = omega (arith, count, same) in
     c.in_ok-push_first.ensures.pushed ∙ ap (λ (t : LocalTable). pushed t ((1 + c.count_references-given.result) + 16)) c.in_ok-locals.ensures ∙ ap first_frame capacity
-
--- this number of equal slots
-resized : {A : Type 0} (x : A) (items : List A) (n m len : ℕ) → items ≡ [] → len ≡ 0 → m ≡ n → take m items ++ replicate (m - len) x ≡ replicate n x
-resized {A = A} x items n m len none short same =
-    let few : length items ≤ m = omega (arith, ap length none) in
-    let count : m - len ≡ n = omega (arith, short, same) in
-    ap (λ (l : List A). l ++ replicate (m - len) x) (take_all m items few ∙ none) ∙ ap (λ (k : ℕ). replicate k x) count
 
 pub returns : goal.returns
 returns c = record {

@@ -1,0 +1,41 @@
+use Rattle.std.proofs.Common.{◌≡◌, ◌<◌, ◌+◌, ◌-◌, ◌++◌, List, None, length, filter_map, take, replicate, refl, sym, ap, ◌∙◌, arith}
+use Rattle.std.specs.Prelude.{vec_len}
+use Rattle.std.proofs.lemmas.Grind.{common_steps}
+use Rattle.code.specs.declared.slots.SlotCounts.{SlotCounts}
+use Rattle.heap.specs.declared.value.Value.{Value}
+use Rattle.machine_scenes.specs.declared.buffer.Buffer.TheVariants as buffer
+use Rattle.tables.specs.References.{references_in}
+use Rattle.machine_threads.specs.Entry.{first_frame, given_address}
+use Rattle.machine_threads.proofs.EntryTables.{resized}
+use Rattle.machine_threads.proofs.entry.begin_again.Goals as goal
+
+pub fill_references-requires-clause-given : goal.fill_references-requires-clause-given
+fill_references-requires-clause-given c =
+    let room : length (filter_map given_address c.args.next.now.arguments.items) < c.args.code.now.slots.references = c.requires.room.references in
+    rw (c.deref-3.ensures.value, c.slots-slots.ensures.counts) room
+
+pub fill_references-requires-clause-frame : goal.fill_references-requires-clause-frame
+fill_references-requires-clause-frame c =
+    let given = c.args.next.now.arguments.items in
+    let count : c.count_references-given.result ≡ length (references_in (filter_map given_address given)) = c.count_references-given.ensures.count ∙ ap (λ (l : List Value). length (references_in (filter_map given_address l))) c.deref-2.ensures.value in
+    let same : length (references_in (filter_map given_address c.deref-3.result.now)) ≡ length (references_in (filter_map given_address given)) = ap (λ (l : List Value). length (references_in (filter_map given_address l))) c.deref-3.ensures.value in
+    let capacity : (1 + c.count_references-given.result) + 16 ≡ length (references_in (filter_map given_address c.deref-3.result.now)) + 17 = omega (arith, count, same) in
+    c.restart.ensures ∙ ap first_frame capacity
+
+pub returns : goal.returns
+returns c =
+    let counts = c.slots-slots.result in
+    let fields : c.resize.new.self.items ≡ take counts.field_ids c.clear-2.new.self.items ++ replicate (counts.field_ids - vec_len c.clear-2.new.self) None = grind (arith, common_steps) in
+    let buffers : c.resize-2.new.self.items ≡ take counts.buffers c.clear-3.new.self.items ++ replicate (counts.buffers - vec_len c.clear-3.new.self) buffer.Null = grind (arith, common_steps) in
+    record {
+      function = refl;
+      place = refl;
+      stack = c.clear.ensures;
+      numbers = rw (sym c.slots-slots.ensures.counts, sym c.deref.ensures.value) c.fill_numbers.ensures;
+      addresses = c.fill_references.ensures.addresses;
+      given = rw (sym c.slots-slots.ensures.counts, sym c.deref-3.ensures.value) c.fill_references.ensures.given;
+      locals = c.fill_references.ensures.made;
+      references = c.fill_references.ensures.held;
+      fields = fields ∙ resized None c.clear-2.new.self.items c.args.code.now.slots.field_ids counts.field_ids (vec_len c.clear-2.new.self) c.clear-2.ensures.items c.clear-2.ensures.len (ap (λ (s : SlotCounts). s.field_ids) c.slots-slots.ensures.counts);
+      buffers = buffers ∙ resized buffer.Null c.clear-3.new.self.items c.args.code.now.slots.buffers counts.buffers (vec_len c.clear-3.new.self) c.clear-3.ensures.items c.clear-3.ensures.len (ap (λ (s : SlotCounts). s.buffers) c.slots-slots.ensures.counts);
+    }
