@@ -15,6 +15,11 @@ changes_monitor (answer.Enters o) = true
 changes_monitor (answer.Exits n) = true
 changes_monitor a = false
 
+-- a monitor that is left is its thread's
+abbrev pub OwnsWhatItLeaves : (thread : ℕ) → Answer → List Monitor → Type 0
+OwnsWhatItLeaves thread (answer.Exits n) monitors = leaving thread (monitor_of monitors n) ≡ Left
+OwnsWhatItLeaves thread a monitors = Unit {0}
+
 -- what doing it leaves of the monitors
 abbrev pub Changes : (thread : ℕ) → Answer → (before after : List Monitor) → Type 0
 Changes thread (answer.Enters o) before after =

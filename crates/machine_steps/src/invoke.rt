@@ -12,7 +12,7 @@ ghost use Rattle.machine_answers.specs.Answers.{is_carried};
 ghost use Rattle.semantics.specs.World.{World as SourceWorld};
 ghost use Rattle.machine_steps.specs.Executes.{IsAsBefore};
 ghost use Rattle.machine_steps.specs.Received.{told_slot};
-ghost use Rattle.machine_steps.specs.MonitorCalls.{changes_monitor};
+ghost use Rattle.machine_steps.specs.MonitorCalls.{OwnsWhatItLeaves, changes_monitor};
 ghost use Rattle.machine_threads.specs.Callers.{owner_at};
 ghost use Rattle.machine_steps.specs.Invoked.{called_from, is_halt, DoesCall, IsAnswered, IsHinderedAtCall, IsStopped, StandsAtCall, done_or_refused};
 
@@ -83,8 +83,13 @@ pub fn invoke(
 {
     match unchecked_answer(program, world, store, *pending, activation, call, thread) {
         Some(answer) => {
-            finish_monitor(store, activation, call, thread, answer)?;
-            Ok(Invoked::Done)
+            if finish_monitor(store, activation, call, thread, answer)? {
+                Ok(Invoked::Done)
+            } else {
+                invoke_apart(
+                    program, world, store, pending, activation, call, thread, owner, may_refuse,
+                )
+            }
         }
         None => invoke_apart(
             program, world, store, pending, activation, call, thread, owner, may_refuse,
@@ -261,7 +266,8 @@ fn deleted_seen(
     deleted_at_once(&scene, call)
 }
 
-/// What a call answers, where it is seen at once that it enters or leaves a monitor and that no check stops it.
+/// What a call answers, where it is seen at once that it enters or leaves a monitor and that no check stops it. Whether its
+/// thread owns the monitor that it leaves isn't asked yet.
 /// It is made by the thread of this number. None says nothing of the call.
 #[inline(always)]
 fn unchecked_answer(
@@ -274,7 +280,8 @@ fn unchecked_answer(
     thread: u8,
 ) -> Option<Answer>
     requires at_call { (owner : ℕ) × StandsAtCall program.now world.now store.now pending activation.now call.now thread owner }
-    ensures answer { IfSome result (IsAnswered program.now world.now store.now pending activation.now thread call.now) }
+    ensures answer { IfSome result (λ answer. OwnsWhatItLeaves thread answer store.now.monitors
+        → IsAnswered program.now world.now store.now pending activation.now thread call.now answer) }
     ensures changes { IfSome result (λ answer. changes_monitor answer ≡ true) }
 {
     // Here the proof takes up what is known of a world.
@@ -496,7 +503,8 @@ fn finish_seen(
     )?)
 }
 
-/// Enters or leaves a monitor, as a call answers, and puts 0 where it goes.
+/// Enters or leaves a monitor, as a call answers, puts 0 where it goes, and answers whether it did so: a monitor that the thread
+/// doesn't own isn't left, and all is as it was.
 #[inline(always)]
 fn finish_monitor(
     store: &mut Store,
@@ -504,23 +512,28 @@ fn finish_monitor(
     call: &Call,
     thread: u8,
     answer: Answer,
-) -> Result<(), AllocError>
+) -> Result<bool, AllocError>
     requires at_call { (p : Lowered) × (w : SourceWorld) × (pending : Option ℕ) × (owner : ℕ)
         × StandsAtCall p w store.old pending activation.old call.now thread owner }
     requires place { activation.old.place + 1 < 2 ^ 64 }
     requires changes { changes_monitor answer ≡ true }
-    ensures done { OnOk result ((p : Lowered) (w : SourceWorld) (pending : Option ℕ) (owner : ℕ)
-        → IsAnswered p w store.old pending activation.old thread call.now answer
+    ensures done { IfOk result (λ done. done ≡ true → (p : Lowered) (w : SourceWorld) (pending : Option ℕ) (owner : ℕ)
+        → (OwnsWhatItLeaves thread answer store.old.monitors
+        → IsAnswered p w store.old pending activation.old thread call.now answer)
         → DoesCall p w store.old store.new pending pending activation.old activation.new call.now thread owner
         Invoked.Done) }
+    ensures kept { IfOk result (λ done. done ≡ false → (store.new ≡ store.old) × (activation.new ≡ activation.old)) }
+    ensures enters { OnErr result (OwnsWhatItLeaves thread answer store.old.monitors) }
     ensures store { OnErr result (store.new ≡ store.old) }
     ensures activation { OnErr result (activation.new ≡ activation.old) }
 {
-    change_monitor(&mut store.monitors, thread, answer)?;
+    if !change_monitor(&mut store.monitors, thread, answer)? {
+        return Ok(false);
+    }
     // Here the proof takes up what is known of a table.
     let _ = activation.locals.frames();
     receive_number(activation, call.target, 0);
-    Ok(())
+    Ok(true)
 }
 
 /// The slot of the flag that is given for `isCopy`, if there is one.

@@ -1,6 +1,6 @@
 //! Functions of monitors that no check stops (JNI Specification, chapter 4, "Monitor Operations").
 
-ghost use Rattle.std.specs.Prelude.{◌≡◌, ℕ, Bool, true, [], ◌∷◌, None, Some, slice_get, IfSome, OnOk, OnErr};
+ghost use Rattle.std.specs.Prelude.{◌≡◌, ℕ, Bool, true, false, [], ◌∷◌, None, Some, slice_get, IfOk, IfSome, OnErr};
 ghost use Rattle.base.specs.Element.{ElementType};
 ghost use Rattle.syntax.specs.Tree.{SourceUnit};
 ghost use Rattle.class_rules.specs.Class.{Classes};
@@ -12,7 +12,7 @@ ghost use Rattle.machine_answers.specs.Checked.{trap_found};
 ghost use Rattle.machine_answers.specs.WorkedOut.{IsWorkedOut};
 ghost use Rattle.machine_scenes.specs.Given.{AreAddresses, held_in, operand_at};
 ghost use Rattle.machine_scenes.specs.Locals.{address_of};
-ghost use Rattle.machine_steps.specs.MonitorCalls.{Changes, changes_monitor};
+ghost use Rattle.machine_steps.specs.MonitorCalls.{Changes, OwnsWhatItLeaves, changes_monitor};
 
 use code::instr::{Call, Operand};
 use heap::Addr;
@@ -25,7 +25,8 @@ use monitors::{Enter, Exit, Monitors, Object};
 use std::alloc::AllocError;
 use tables::{Local, Locals};
 
-/// What a call answers, where it is seen at once that it enters or leaves a monitor and that no check stops it.
+/// What a call answers, where it is seen at once that it enters or leaves a monitor and that no check stops it. Whether its
+/// thread owns the monitor that it leaves isn't asked yet.
 /// It is made by the thread of this number, no exception is pending, and its argument is a local reference to an
 /// object. None says nothing of the call.
 #[inline(always)]
@@ -40,7 +41,8 @@ pub(crate) fn answer_at_once(
     ensures free { IfSome result (λ answer. (unit : SourceUnit) (classes : Classes) (room : Bool) (wanted : ElementType)
         → trap_found (scene_of unit classes store.now activation.now thread pending) room wanted
         (function_value call.now.function) call.now.operands.items ≡ None) }
-    ensures works { IfSome result (λ answer. (unit : SourceUnit) (classes : Classes)
+    ensures works { IfSome result (λ answer. OwnsWhatItLeaves thread answer store.now.monitors
+        → (unit : SourceUnit) (classes : Classes)
         → IsWorkedOut (scene_of unit classes store.now activation.now thread pending) (call_view call.now)
         (function_value call.now.function) answer) }
     ensures changes { IfSome result (λ answer. changes_monitor answer ≡ true) }
@@ -54,10 +56,7 @@ pub(crate) fn answer_at_once(
             None => None,
         },
         JniFunction::MonitorExit => match object_at_once(store, pending, activation, call) {
-            Some(object) => match store.monitors.leaving(object.name, thread) {
-                Exit::Left => Some(Answer::Exits(object.name)),
-                Exit::NotOwner => None,
-            },
+            Some(object) => Some(Answer::Exits(object.name)),
             None => None,
         },
         _ => None,
@@ -106,7 +105,8 @@ fn only_local(keys: &[Option<Local>], locals: &Locals, operands: &[Operand]) -> 
     }
 }
 
-/// Enters or leaves a monitor, as an answer says.
+/// Enters or leaves a monitor, as an answer says, and answers whether it did so: a monitor that the thread doesn't own isn't
+/// left, and all is as before.
 ///
 /// An error says that host memory for it was refused; then all is as before.
 #[inline(always)]
@@ -114,20 +114,23 @@ pub(crate) fn change_monitor(
     monitors: &mut Monitors,
     thread: u8,
     answer: Answer,
-) -> Result<(), AllocError>
+) -> Result<bool, AllocError>
     requires changes { changes_monitor answer ≡ true }
-    ensures changed { OnOk result (Changes thread answer monitors.old monitors.new) }
+    ensures owns { IfOk result (λ done. done ≡ true → OwnsWhatItLeaves thread answer monitors.old) }
+    ensures changed { IfOk result (λ done. done ≡ true → Changes thread answer monitors.old monitors.new) }
+    ensures kept { IfOk result (λ done. done ≡ false → monitors.new ≡ monitors.old) }
+    ensures enters { OnErr result (OwnsWhatItLeaves thread answer monitors.old) }
     ensures err { OnErr result (monitors.new ≡ monitors.old) }
 {
     match answer {
         Answer::Enters(object) => {
             monitors.enter(object, thread)?;
-            Ok(())
+            Ok(true)
         }
-        Answer::Exits(name) => {
-            monitors.exit(name, thread);
-            Ok(())
-        }
+        Answer::Exits(name) => match monitors.exit(name, thread) {
+            Exit::Left => Ok(true),
+            Exit::NotOwner => Ok(false),
+        },
         _ => unreachable!(),
     }
 }

@@ -13,6 +13,7 @@ use Rattle.machine_answers.specs.Checked.{trap_found}
 use Rattle.machine_answers.specs.Sights.{element_wanted}
 use Rattle.machine_answers.specs.WorkedOut.{IsWorkedOut}
 use Rattle.machine_scenes.specs.Locals.{locals_after}
+use Rattle.machine_steps.specs.MonitorCalls.{OwnsWhatItLeaves}
 use Rattle.machine_steps.proofs.SeenCalls.{all_there, as_seen}
 use Rattle.machine_steps.proofs.invoke.unchecked_answer.Goals as goal
 
@@ -36,15 +37,15 @@ returns-clause-answer c =
     let scene = scene_of (unit_tree c.args.program.now.unit) w.classes c.args.store.now c.args.activation.now c.args.thread c.args.pending in
     known
     (λ (x : Answer). (unit : SourceUnit) (classes : Classes) (room : Bool) (wanted : ElementType) → trap_found (scene_of unit classes c.args.store.now c.args.activation.now c.args.thread c.args.pending) room wanted (function_value call.function) call.operands.items ≡ None)
-    (λ (x : Answer). (unit : SourceUnit) (classes : Classes) → IsWorkedOut (scene_of unit classes c.args.store.now c.args.activation.now c.args.thread c.args.pending) (call_view call) (function_value call.function) x)
+    (λ (x : Answer). OwnsWhatItLeaves c.args.thread x c.args.store.now.monitors → (unit : SourceUnit) (classes : Classes) → IsWorkedOut (scene_of unit classes c.args.store.now c.args.activation.now c.args.thread c.args.pending) (call_view call) (function_value call.function) x)
     _ c.answer_at_once.result
-    (λ (x : Answer) free works.
+    (λ (x : Answer) free works owns.
     record {
       sound = c.classes.ensures.sound;
       free =
           sym (as_seen c.args.program.now w c.args.store.now c.args.pending c.args.activation.now call a.0 c.args.thread at.0 a.1 a.2 a.3 a.4 a.5 a.6 c.args.store.now.monitors scene refl)
           ∙ free (unit_tree c.args.program.now.unit) w.classes (has_room (locals_after (function_value call.function) c.args.activation.now.locals)) (element_wanted call.target);
-      works = works (unit_tree c.args.program.now.unit) w.classes;
+      works = works owns (unit_tree c.args.program.now.unit) w.classes;
     })
     c.answer_at_once.ensures.free
     c.answer_at_once.ensures.works
