@@ -77,27 +77,27 @@ module _ (unit : SourceUnit) (classes : Classes) (space : Space) (references : R
 
   -- ---- the method of an argument
 
-  no_method : (a b : Actual) → a ≡ b → MethodAgrees unit None (method_in_actual (Some b)) → MethodAgrees unit None (method_in_actual (Some a))
-  no_method a b is h = subst (λ (c : Actual). MethodAgrees unit None (method_in_actual (Some c))) (sym is) h
+  no_method : (a b : Actual) → a ≡ b → MethodAgrees unit classes None (method_in_actual (Some b)) → MethodAgrees unit classes None (method_in_actual (Some a))
+  no_method a b is h = subst (λ (c : Actual). MethodAgrees unit classes None (method_in_actual (Some c))) (sym is) h
 
-  method_is : (o : Operand) (a : Actual) → IsGiven unit classes space references fields o a → MethodAgrees unit (method_at fields o) (method_in_actual (Some a))
+  method_is : (o : Operand) (a : Actual) → IsGiven unit classes space references fields o a → MethodAgrees unit classes (method_at fields o) (method_in_actual (Some a))
   method_is operand.Number a h = no_method a (NumberActual h.0) h.1 tt
   method_is operand.Text a h = no_method a (TextActual h.0) h.1 tt
   method_is operand.Null a (inl h) = no_method a (ReferenceActual h.name (as_static h.reference)) h.is tt
   method_is operand.Null a (inr (inl h)) = no_method a (FieldActual h.field) h.is tt
-  method_is operand.Null a (inr (inr (inl h))) = subst (λ (c : Actual). MethodAgrees unit None (method_in_actual (Some c))) (sym h.is) h.agrees
+  method_is operand.Null a (inr (inr (inl h))) = subst (λ (c : Actual). MethodAgrees unit classes None (method_in_actual (Some c))) (sym h.is) h.agrees
   method_is operand.Null a (inr (inr (inr h))) = no_method a NothingActual h tt
   method_is (operand.Local i) a h = no_method a (ReferenceActual h.name (as_static h.reference)) h.is tt
   method_is (operand.Static i) a h = no_method a (ReferenceActual h.name h.reference) h.is tt
   method_is (operand.FieldId i) a h = no_method a (FieldActual h.field) h.is tt
-  method_is (operand.MethodId i) a h = subst (λ (c : Actual). MethodAgrees unit (method_at fields (operand.MethodId i)) (method_in_actual (Some c))) (sym h.is) h.agrees
+  method_is (operand.MethodId i) a h = subst (λ (c : Actual). MethodAgrees unit classes (method_at fields (operand.MethodId i)) (method_in_actual (Some c))) (sym h.is) h.agrees
   method_is (operand.Array array) a h = no_method a (VariableActual h.0) h.1 tt
   method_is (operand.Buffer i) a h = no_method a (VariableActual h.0) h.1 tt
   method_is (operand.Mode mode) a h = no_method a (ModeActual h.0) h.1 tt
   method_is (operand.IsCopy i) a h = no_method a (VariableActual h.0) h.1 tt
 
   -- the method at a place
-  pub method_at_place : (operands : List Operand) (args : List Actual) (i : ℕ) → AllZip (IsGiven unit classes space references fields) operands args → MethodAgrees unit (method_at fields (operand_of operands i)) (method_given args i)
+  pub method_at_place : (operands : List Operand) (args : List Actual) (i : ℕ) → AllZip (IsGiven unit classes space references fields) operands args → MethodAgrees unit classes (method_at fields (operand_of operands i)) (method_given args i)
   method_at_place [] [] i h = tt
   method_at_place [] (a ∷ args) i h = absurd h
   method_at_place (o ∷ operands) [] i h = absurd h

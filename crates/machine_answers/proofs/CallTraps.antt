@@ -65,10 +65,10 @@ is_address space (Some b) (Some n) a h e =
     some_block (Some c) n h = refl
 
 -- where a method ID is a handle, it is that of a method
-is_method : (unit : SourceUnit) (o : Option MethodHandle) (m : Option MethodId) → MethodAgrees unit o m → MethodIsThere unit o
-is_method unit None m agrees h e = absurd (cc)
-is_method unit (Some g) None agrees h e = absurd agrees
-is_method unit (Some g) (Some m) agrees h e = let same : g ≡ h = cc in (m, subst (λ (x : MethodHandle). IsMethod unit x m) same agrees)
+is_method : (unit : SourceUnit) (classes : Classes) (o : Option MethodHandle) (m : Option MethodId) → MethodAgrees unit classes o m → MethodIsThere unit classes o
+is_method unit classes None m agrees h e = absurd (cc)
+is_method unit classes (Some g) None agrees h e = absurd agrees
+is_method unit classes (Some g) (Some m) agrees h e = let same : g ≡ h = cc in (m, subst (λ (x : MethodHandle). IsMethod unit classes x m) same agrees)
 
 -- where a field ID is a handle, it is that of a field
 is_handle : (classes : Classes) (o : Option FieldHandle) (f : Option FieldId) (h : FieldHandle) → FieldAgrees classes o f → o ≡ Some h → IsSome (field_of classes h)
@@ -154,8 +154,8 @@ module _ (p : Lowered) (w : World) (store : Store) (pending : Option ℕ) (activ
   pub pending_there : ReferenceIsThere store.heap pending
   pending_there a e = is_address store.heap pending s.pending a h.pending_agrees e
 
-  pub method_there : MethodIsThere (unit_tree p.unit) (method_at activation.slots.fields.items (operand_of call.operands 1))
-  method_there = is_method (unit_tree p.unit) _ _ (checks.method_at_place (unit_tree p.unit) w.classes store.heap (references_of store activation) activation.slots.fields.items call.operands args 1 h.given)
+  pub method_there : MethodIsThere (unit_tree p.unit) w.classes (method_at activation.slots.fields.items (operand_of call.operands 1))
+  method_there = is_method (unit_tree p.unit) w.classes _ _ (checks.method_at_place (unit_tree p.unit) w.classes store.heap (references_of store activation) activation.slots.fields.items call.operands args 1 h.given)
 
   -- of the source's call
   of_call : IsAsked p w store pending activation call others k owner shared s target call.function args

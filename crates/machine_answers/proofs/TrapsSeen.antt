@@ -292,7 +292,7 @@ all_passed (suc n) (x ∷ os) (suc i) o count e = all_passed n os i o (omega (ar
 
 -- a call that sees this, whose references are there
 module _ (scene : Scene) (locals : LocalTable) (callers : ℕ) (call : Call) (pending : ReferenceIsThere scene.space scene.pending)
-    (there : AreAddresses scene.space scene.references call.operands) (method : MethodIsThere scene.unit (method_at scene.fields (operand_of call.operands 1))) where
+    (there : AreAddresses scene.space scene.references call.operands) (method : MethodIsThere scene.unit scene.classes (method_at scene.fields (operand_of call.operands 1))) where
   abbrev sight : CallSight
   sight = call_seen scene locals callers call
 
@@ -347,7 +347,7 @@ module _ (scene : Scene) (locals : LocalTable) (callers : ℕ) (call : Call) (pe
               let count : length operands ≡ suc (suc (length os)) = ap length same in
               ap (λ (ps : List ParameterKind). slice_get ps (suc (suc i))) of_method ∙ all_passed (length operands - 2) os i y (omega (arith, count)) e
 
-  called_seen : CallsMethod → (f : JniFunction) (wants : ResultType → Bool) → ((r : ResultType) → returns f r ≡ wants r) → (h : Option MethodHandle) → MethodIsThere scene.unit h
+  called_seen : CallsMethod → (f : JniFunction) (wants : ResultType → Bool) → ((r : ResultType) → returns f r ≡ wants r) → (h : Option MethodHandle) → MethodIsThere scene.unit scene.classes h
       → calls_well scene.unit scene.classes scene.space scene.references scene.fields operands f (called scene.unit scene.classes scene.space scene.references scene.fields operands h) ≡ source.calls_well scene.classes sight wants (method_seen scene.unit h)
   called_seen of_method f wants same None is = refl
   called_seen of_method f wants same (Some h) is =
@@ -355,7 +355,7 @@ module _ (scene : Scene) (locals : LocalTable) (callers : ℕ) (call : Call) (pe
       ∙ by_class (h.class.number == name_of_first sight)
       ∙ sym (ap (λ (o : Option Function). source.calls_well scene.classes sight wants (option_map (λ (g : Function). let m : MethodId = record { class = h.class.number; function = g } in m) o)) it.1.function)
     where
-      it : (m : MethodId) × IsMethod scene.unit h m
+      it : (m : MethodId) × IsMethod scene.unit scene.classes h m
       it = is h refl
 
       by_class : (b : Bool) → calls_well scene.unit scene.classes scene.space scene.references scene.fields operands f (if b then Some it.0.function else None) ≡ (b && wants it.0.function.result && source.all_pass it.0.function.parameters (drop 2 sight.arguments))
@@ -419,7 +419,7 @@ module _ (scene : Scene) (locals : LocalTable) (callers : ℕ) (call : Call) (pe
       ∙ sym (depth_last scene.classes sight call.function)
 
 -- what is found is the trap of a call for which none waits
-pub found_seen : (scene : Scene) (locals : LocalTable) (call : Call) → ReferenceIsThere scene.space scene.pending → AreAddresses scene.space scene.references call.operands → MethodIsThere scene.unit (method_at scene.fields (operand_of call.operands 1))
+pub found_seen : (scene : Scene) (locals : LocalTable) (call : Call) → ReferenceIsThere scene.space scene.pending → AreAddresses scene.space scene.references call.operands → MethodIsThere scene.unit scene.classes (method_at scene.fields (operand_of call.operands 1))
     → trap_found scene (has_room (locals_after call.function locals)) (element_wanted call.target) call.function call.operands ≡ trap_seen scene locals call
 found_seen scene locals call pending there method =
     sym (undeep (is_too_deep call.function 0) _ (not_alone call.function)) ∙ trap_is_seen scene locals 0 call pending there method

@@ -5,6 +5,7 @@ use Rattle.std.specs.Option.{option_map}
 use Rattle.syntax.specs.Tree.{Function, SourceUnit}
 use Rattle.syntax.specs.Parts.{functions_of}
 use Rattle.base.specs.Element.{ElementType, JInt, element_value}
+use Rattle.class_rules.specs.Class.{Classes}
 use Rattle.code.specs.Call.{Call}
 use Rattle.code.specs.declared.instr.Operand.{Operand}
 use Rattle.code.specs.declared.instr.Operand.TheVariants as operand
@@ -245,5 +246,5 @@ abbrev pub trap_seen : Scene → LocalTable → Call → Option Trap
 trap_seen scene locals call = trap_of scene.classes (call_seen scene locals 0 call) call.function
 
 -- a method ID is NULL or a handle of a method of the unit
-abbrev pub MethodIsThere : SourceUnit → Option MethodHandle → Type 0
-MethodIsThere unit method = (h : MethodHandle) → method ≡ Some h → (m : MethodId) × IsMethod unit h m
+abbrev pub MethodIsThere : SourceUnit → Classes → Option MethodHandle → Type 0
+MethodIsThere unit classes method = (h : MethodHandle) → method ≡ Some h → (m : MethodId) × IsMethod unit classes h m

@@ -473,7 +473,7 @@ pub fn check(scene: &Scene<'_>, locals: &Locals, call: &Call) -> Option<Trap>
     requires pending { ReferenceIsThere scene.now.heap.now scene.now.pending }
     requires objects { AreAddresses scene.now.heap.now scene.now.references call.now.operands.items }
     requires handles { AreHandles scene.now.classes.now scene.now.fields.now call.now.operands.items }
-    requires method { MethodIsThere (unit_tree scene.now.items.now) (method_at scene.now.fields.now (operand_of call.now.operands.items 1)) }
+    requires method { MethodIsThere (unit_tree scene.now.items.now) scene.now.classes.now (method_at scene.now.fields.now (operand_of call.now.operands.items 1)) }
     ensures { option_map trap_view result ≡ trap_seen (scene_view scene.now) locals.now (call_view call.now) }
 {
     if is_kept_off(scene.pending, call.function) {

@@ -43,7 +43,7 @@ pub record IsThere (scene : Scene) (operands : List Operand) : Type 0 where
   pub pending : ReferenceIsThere scene.space scene.pending
   pub objects : AreAddresses scene.space scene.references operands
   pub handles : AreHandles scene.classes scene.fields operands
-  pub method : MethodIsThere scene.unit (method_at scene.fields (operand_of operands 1))
+  pub method : MethodIsThere scene.unit scene.classes (method_at scene.fields (operand_of operands 1))
   pub loaded : (i a : ℕ) → slice_get scene.loaded i ≡ Some a → IsAddress scene.space a
 
 module _ (p : Lowered) (w : World) (store : Store) (pending : Option ℕ) (call : Activation) (in_memory : InMemory) (others : Acquired) (k owner : ℕ) (own : Owners) (shared : Shared) (s : Thread) (task : Task) (rest : List Task) (h : AtCall p w store pending call in_memory others k owner own shared s task rest)
