@@ -1,3 +1,4 @@
 mod Refusals
 mod Acceptances
 pub mod CheckLemmas
+pub mod AllFaultsLemmas

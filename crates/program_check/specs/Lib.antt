@@ -2,3 +2,4 @@ pub mod Errors
 pub mod Programs
 pub mod Passes
 pub mod Checks
+pub mod AllFaults

@@ -13,7 +13,7 @@ use syntax::Unit;
 use types::{TypeError, TypeFault, type_unit};
 
 /// The function that is too long.
-fn detail_of_length(checked: &Checked) -> Detail {
+pub(crate) fn detail_of_length(checked: &Checked) -> Detail {
     match long_function(checked) {
         Some(function) => Detail::of(function.name.as_bytes())
             .words(b", at line ")

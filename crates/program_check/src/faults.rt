@@ -1,0 +1,177 @@
+//! All faults of a program text.
+
+ghost use Rattle.std.specs.Prelude.{◌≡◌, ℕ, List, [], ◌∷◌, ◌++◌, IfOk, OnOk, Some, map, slice_get};
+ghost use Rattle.std.specs.List.{All};
+ghost use Rattle.program_check.specs.AllFaults.{AreFaults, BreaksAt, IsAlone, of_sort, of_region, entry_of, ToldFault as Told};
+ghost use Rattle.program_check.specs.Checks.{PassesCheck, FailsCheck};
+ghost use Rattle.code_meaning.specs.Length.{IsTooLong};
+ghost use Rattle.parse.specs.Spelling.{SpellsUnit};
+ghost use Rattle.region_rules.specs.Regions.{HasRegions};
+ghost use Rattle.syntax.specs.Views.{unit_tree};
+ghost use Rattle.type_rules.specs.SortRules.{IsSorted};
+ghost use Rattle.types.specs.Faults.{fault_of as sort_of};
+ghost use Rattle.regions.specs.Findings.{fault_of as region_of};
+
+use crate::detail::detail_of_length;
+use crate::fault::{RunError, too_long};
+use crate::meant::{asked, asks_for_names};
+use details::Detail;
+use parse::parse;
+use places::{Place, Text};
+use region_rules::Checked;
+use regions::{RegionFault, region_faults};
+use scan::scan;
+use std::alloc::{AllocError, Global};
+use step_counts::has_long_function;
+use syntax::Unit;
+use types::{TypeFault, Typed, type_faults};
+
+/// The most faults of a text of which it is sought which name may be meant, since each is sought in its whole function.
+const MOST_ASKED: usize = 64;
+
+/// A fault of a program text: its number, its place, and what was found there, in words that no contract fixes.
+#[derive(Drop)]
+pub struct ToldFault {
+    pub number: u32,
+    pub place: Place,
+    pub detail: Detail,
+}
+
+/// The fault of this error, alone.
+fn alone(alloc: Global, error: RunError, detail: Detail) -> Result<Vec<ToldFault>, AllocError>
+    ensures { IfOk result (λ faults. IsAlone error (map entry_of faults.items)) }
+{
+    match error {
+        RunError::Fault(number, place) => {
+            let mut faults = Vec::new(alloc);
+            faults.push(ToldFault {
+                number,
+                place,
+                detail,
+            })?;
+            Ok(faults)
+        }
+        RunError::Memory | RunError::Writer => Err(AllocError),
+    }
+}
+
+/// A fault of a unit's names and sorts, before which there are so many. Of the first ones it is asked which name may be meant.
+fn told_sort(alloc: Global, unit: &Unit, fault: TypeFault, before: usize) -> ToldFault
+    ensures { entry_of result ≡ of_sort (sort_of fault) }
+{
+    let rule = fault.rule;
+    let line = fault.line.number();
+    let found = fault.line.into_detail();
+    let detail = if before < MOST_ASKED && asks_for_names(rule) {
+        asked(alloc, unit, rule, line, &found)
+    } else {
+        found
+    };
+    ToldFault {
+        number: rule.number(),
+        place: Place::Line(Text::Program, line),
+        detail,
+    }
+}
+
+/// The faults of a unit's names and sorts, as those of its text.
+fn told_sorts(
+    alloc: Global,
+    unit: &Unit,
+    found: Vec<TypeFault>,
+) -> Result<Vec<ToldFault>, AllocError>
+    ensures { IfOk result (λ faults. map entry_of faults.items ≡ map of_sort (map sort_of found.items)) }
+{
+    let mut faults: Vec<ToldFault> = Vec::new(alloc);
+    let mut left = found.into_iter();
+    while let Some(fault) = left.next() {
+        let told = told_sort(alloc, unit, fault, faults.len());
+        faults.push(told)?;
+    }
+    Ok(faults)
+}
+
+/// A fault of a unit's ways.
+fn told_region(fault: RegionFault) -> ToldFault
+    ensures { entry_of result ≡ of_region (region_of fault) }
+{
+    ToldFault {
+        number: fault.rule.number(),
+        place: Place::Line(Text::Program, fault.line.number()),
+        detail: fault.line.into_detail(),
+    }
+}
+
+/// The faults of a unit's ways, as those of its text.
+fn told_regions(alloc: Global, found: Vec<RegionFault>) -> Result<Vec<ToldFault>, AllocError>
+    ensures { IfOk result (λ faults. map entry_of faults.items ≡ map of_region (map region_of found.items)) }
+{
+    let mut faults: Vec<ToldFault> = Vec::new(alloc);
+    let mut left = found.into_iter();
+    while let Some(fault) = left.next() {
+        faults.push(told_region(fault))?;
+    }
+    Ok(faults)
+}
+
+/// The faults of a unit that a text spells.
+fn faults_of_unit(alloc: Global, unit: Unit) -> Result<Vec<ToldFault>, AllocError>
+    ensures all { (text : List ℕ) → SpellsUnit text (unit_tree unit) → IfOk result (λ faults. AreFaults text (map entry_of faults.items)) }
+    ensures none { IsSorted (unit_tree unit) → HasRegions (unit_tree unit) → (IsTooLong (unit_tree unit) → ⊥)
+        → IfOk result (λ faults. faults.items ≡ []) }
+{
+    let sorts = type_faults(alloc, &unit)?;
+    if !sorts.is_empty() {
+        return told_sorts(alloc, &unit, sorts);
+    }
+    let typed = Typed::of(unit);
+    let ways = region_faults(alloc, &typed)?;
+    if !ways.is_empty() {
+        return told_regions(alloc, ways);
+    }
+    let checked = Checked::of(typed);
+    if has_long_function(&checked) {
+        let detail = detail_of_length(&checked);
+        return alone(alloc, too_long(), detail);
+    }
+    Ok(Vec::new(alloc))
+}
+
+/// The faults of a text.
+fn gathered(alloc: Global, text: &[u8]) -> Result<Vec<ToldFault>, AllocError>
+    ensures all { IfOk result (λ faults. AreFaults text.now (map entry_of faults.items)) }
+    ensures none { PassesCheck text.now → IfOk result (λ faults. faults.items ≡ []) }
+{
+    let tokens = match scan(alloc, text) {
+        Ok(tokens) => tokens,
+        Err(error) => {
+            let detail = error.detail(text);
+            return alone(alloc, RunError::from(error), detail);
+        }
+    };
+    match parse(alloc, text, &tokens) {
+        Ok(unit) => faults_of_unit(alloc, unit),
+        Err(error) => {
+            let detail = error.detail(text, &tokens);
+            alone(alloc, RunError::from(error), detail)
+        }
+    }
+}
+
+/// The faults of a text in text order, and none where it is that of an accepted program.
+///
+/// Of tokens and of the grammar the first fault is told. Where there is none, of each static, each function's head and each
+/// statement that breaks a rule of names and sorts the one of the least number; where these are kept, of each function the
+/// first on buffers, references, frames and returns; and where these are kept too, that a function is too long, once.
+pub fn all_faults(alloc: Global, text: &[u8]) -> Result<Vec<ToldFault>, AllocError>
+    ensures all { IfOk result (λ faults. AreFaults text.now (map entry_of faults.items)) }
+    // There are none where the check passes the text, and only there.
+    ensures none { PassesCheck text.now → IfOk result (λ faults. faults.items ≡ []) }
+    ensures passes { IfOk result (λ faults. faults.items ≡ [] → PassesCheck text.now) }
+    // The first is the one that `check_text` answers.
+    ensures first { IfOk result (λ faults. (f : Told) → slice_get faults.items 0 ≡ Some f → FailsCheck text.now f.number f.place) }
+    // The rule of each is broken at its place.
+    ensures broken { IfOk result (λ faults. All (λ f. BreaksAt text.now f.number f.place) faults.items) }
+{
+    gathered(alloc, text)
+}
