@@ -1,5 +1,5 @@
 -- What the program answers, by what its words ask for.
-use Rattle.std.specs.Prelude.{◌≡◌, ℕ, Bool, true, false, List, map, Option, Some, None, codes, string_bytes}
+use Rattle.std.specs.Prelude.{◌≡◌, ℕ, Bool, true, false, List, length, map, nat_lt, Option, Some, None, codes, string_bytes}
 use Rattle.sinks.specs.Sink.{Written}
 use Rattle.jnirun.specs.Runs.{AppendsRun, StopsRun}
 use Rattle.cli_commands.specs.declared.command.Command.{Command}
@@ -8,10 +8,11 @@ use Rattle.cli_commands.specs.Saying.{Tells}
 use Rattle.jnirun.specs.Serve.{Serves}
 use Rattle.jnirun.specs.ServeEach.{ServesEach}
 use Rattle.jnirun.specs.Traces.{ServesTraced}
+use Rattle.cli_logs.specs.Lists.{ListsAll}
 use Rattle.cli_logs.specs.Logs.{PassAll}
 use Rattle.cli_explanations.specs.declared.Explanation.{Explanation}
 use Rattle.cli_words.specs.declared.request.Request.{Request}
-use Rattle.cli_words.specs.declared.request.Request.TheVariants.{Serve, Trace, CheckEach, WriteLog, Explain, Show, Misuse, LacksOrder, LacksMemory}
+use Rattle.cli_words.specs.declared.request.Request.TheVariants.{Serve, Trace, CheckEach, CheckAll, WriteLog, Explain, Show, Misuse, LacksOrder, LacksMemory}
 
 -- ---- texts for a reader
 
@@ -54,12 +55,14 @@ abbrev pub asks_for_trace : Request → Bool
 asks_for_trace (Trace command trace) = true
 asks_for_trace request = false
 
--- what the program answers; of a log its status alone is said here
+-- what the program answers; of a log its status alone is said here, and of a check that tells all faults what it writes on standard output, and its status
 abbrev pub Answers : (gives : List ℕ → List ℕ → Type 0) → (lacks : List ℕ → Type 0) → Request → (out out_after err err_after : Written) → (status : ℕ) → Type 0
 Answers gives lacks (Serve command) out out_after err err_after status = Serves gives lacks command out out_after err err_after status
 Answers gives lacks (CheckEach programs) out out_after err err_after status =
     ServesEach gives lacks (map (λ p. p.now) programs.items) out out_after err err_after status
 Answers gives lacks (Trace command trace) out out_after err err_after status = ServesTraced gives lacks command out out_after err err_after status
+Answers gives lacks (CheckAll programs) out out_after err err_after status =
+    ListsAll gives lacks (nat_lt 1 (length programs.items)) (map (λ p. p.now) programs.items) out out_after status
 Answers gives lacks (WriteLog programs) out out_after err err_after status = PassAll gives (map (λ p. p.now) programs.items) status
 Answers gives lacks (Explain explanation) out out_after err err_after status = Shows (IsTextOf explanation) out out_after err err_after status
 Answers gives lacks (Show text) out out_after err err_after status = Shows (λ t. t ≡ string_bytes text) out out_after err err_after status

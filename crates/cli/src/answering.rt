@@ -6,7 +6,7 @@ ghost use Rattle.cli_commands.specs.Saying.{Tells};
 ghost use Rattle.cli.specs.Answers.{IsTextOf, Shows, Declines, IsAskedFor, asks_for_trace, asks_for_workers, Answers};
 
 use cli_explanations::Explanation;
-use cli_logs::write_log;
+use cli_logs::{list_all, write_log};
 use cli_words::Request;
 use jnirun::{COMMAND_LINE, Command, DONE, Files, Trace, check_each, fail, say, serve_sequential};
 use sinks::Sink;
@@ -82,6 +82,7 @@ pub fn run_by_workers<'a>(request: &Request<'a>) -> Option<Command<'a>>
             }
         }
         Request::CheckEach(_)
+        | Request::CheckAll(_)
         | Request::WriteLog(_)
         | Request::Explain(_)
         | Request::Show(_)
@@ -100,6 +101,7 @@ pub fn traced<'a>(request: &Request<'a>) -> Option<(Command<'a>, Trace)>
         Request::Trace(command, which) => Some((*command, *which)),
         Request::Serve(_)
         | Request::CheckEach(_)
+        | Request::CheckAll(_)
         | Request::WriteLog(_)
         | Request::Explain(_)
         | Request::Show(_)
@@ -131,6 +133,7 @@ pub fn answer<F: Files, O: Sink, E: Sink>(
         Request::Serve(command) => serve_sequential(alloc, *command, files, out, err),
         Request::Trace(_, _) => unreachable!(),
         Request::CheckEach(programs) => check_each(alloc, programs, files, out, err),
+        Request::CheckAll(programs) => list_all(alloc, programs, files, out, err),
         Request::WriteLog(programs) => write_log(alloc, programs, files, out, err),
         Request::Explain(explanation) => explain(*explanation, out, err),
         Request::Show(text) => show(text.as_bytes(), out, err),

@@ -1,1 +1,2 @@
 mod PassLemmas
+mod ListLemmas

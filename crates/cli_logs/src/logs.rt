@@ -1,15 +1,15 @@
 //! Logs of the faults of several programs.
 
-ghost use Rattle.std.specs.Prelude.{◌≡◌, ℕ, List, IfOk, map};
+ghost use Rattle.std.specs.Prelude.{◌≡◌, ℕ, List, [], IfOk, map};
 ghost use Rattle.sinks.specs.Sink.{CanFail};
 ghost use Rattle.cli_logs.specs.Logs.{MayPass, PassAll};
 
 use cli_commands::{DONE, FAILED, FileFault, Files, REFUSED, fail};
 use cli_sarif::Log;
 use places::Place;
-use program_check::{RunError, check_text, detail_of};
+use program_check::{ToldFault, all_faults};
 use sinks::{Sink, SinkFailed, put_pieces};
-use std::alloc::Global;
+use std::alloc::{AllocError, Global};
 
 /// The line of a place, or 0.
 fn line_of(place: Place) -> usize {
@@ -19,60 +19,63 @@ fn line_of(place: Place) -> usize {
     }
 }
 
-/// Puts a fault of a program into a log, and answers its status.
-fn put_fault(
+/// Puts the faults of a program into a log, and answers its status.
+fn put_faults(
     alloc: Global,
     log: &mut Log,
     name: &str,
-    program: &[u8],
-    number: u32,
-    place: Place,
-) -> Result<u8, RunError>
-    ensures { IfOk result (λ status. status ≡ 1) }
+    faults: &[ToldFault],
+) -> Result<u8, AllocError>
+    ensures { IfOk result (λ status. status ≡ 0 → faults.now ≡ []) }
 {
-    let detail = detail_of(alloc, program);
-    match log.put_fault(alloc, name, number, line_of(place), detail.as_bytes()) {
-        Ok(()) => Ok(REFUSED),
-        Err(_) => Err(RunError::Memory),
+    for fault in faults {
+        log.put_fault(
+            alloc,
+            name,
+            fault.number,
+            line_of(fault.place),
+            fault.detail.as_bytes(),
+        )?;
+    }
+    match faults {
+        [] => Ok(DONE),
+        [_, ..] => Ok(REFUSED),
     }
 }
 
 /// Puts a file that can't be read into a log, and answers its status.
-fn put_unread(alloc: Global, log: &mut Log, name: &str) -> Result<u8, RunError>
+fn put_unread(alloc: Global, log: &mut Log, name: &str) -> Result<u8, AllocError>
     ensures { IfOk result (λ status. status ≡ 3) }
 {
-    match log.put_unread(alloc, name) {
-        Ok(()) => Ok(FAILED),
-        Err(_) => Err(RunError::Memory),
-    }
+    log.put_unread(alloc, name)?;
+    Ok(FAILED)
 }
 
-/// Checks a program, puts its fault into a log, and answers its status.
+/// Checks a program, puts its faults into a log, and answers its status.
 fn put_program<F: Files>(
     alloc: Global,
     log: &mut Log,
     name: &str,
     files: &mut F,
-) -> Result<u8, RunError>
+) -> Result<u8, AllocError>
     ensures passes { IfOk result (λ status. status ≡ 0 → MayPass (F.gives files.old) name.now) }
     ensures kept { (other bytes : List ℕ) → F.gives files.new other bytes → F.gives files.old other bytes }
 {
     let program = match files.read(alloc, name) {
         Ok(program) => program,
-        Err(FileFault::Memory) => return Err(RunError::Memory),
+        Err(FileFault::Memory) => return Err(AllocError),
         Err(FileFault::File) => return put_unread(alloc, log, name),
     };
-    match check_text(alloc, &program) {
-        Ok(()) => Ok(DONE),
-        Err(RunError::Fault(number, place)) => {
-            put_fault(alloc, log, name, &program, number, place)
-        }
-        Err(error) => Err(error),
-    }
+    let faults = all_faults(alloc, &program)?;
+    put_faults(alloc, log, name, &faults)
 }
 
 /// The text of the log of programs, and the greatest of their statuses.
-fn log_of<F: Files>(alloc: Global, names: &[&str], files: &mut F) -> Result<(String, u8), RunError>
+fn log_of<F: Files>(
+    alloc: Global,
+    names: &[&str],
+    files: &mut F,
+) -> Result<(String, u8), AllocError>
     ensures { IfOk result (λ log. PassAll (F.gives files.old) (map (λ name. name.now) names.now) log.1) }
 {
     let mut log = Log::new(alloc);
@@ -81,10 +84,8 @@ fn log_of<F: Files>(alloc: Global, names: &[&str], files: &mut F) -> Result<(Str
         let one = put_program(alloc, &mut log, name, files)?;
         status = status.max(one);
     }
-    match log.into_text(alloc) {
-        Ok(text) => Ok((text, status)),
-        Err(_) => Err(RunError::Memory),
-    }
+    let text = log.into_text(alloc)?;
+    Ok((text, status))
 }
 
 /// Writes a line, and sends on all that waits.
@@ -95,7 +96,7 @@ fn say_line<O: Sink>(out: &mut O, line: &[u8]) -> Result<(), SinkFailed>
     out.flush()
 }
 
-/// Checks programs one after the other, writes one log of the first fault of each, and answers the greatest of their
+/// Checks programs one after the other, writes one log of all faults of each, and answers the greatest of their
 /// statuses: 0 where all pass, 1 where one is refused, 3 where a file can't be read.
 ///
 /// Nothing is written before all are checked. Where memory is refused nothing is written on standard output, and the status

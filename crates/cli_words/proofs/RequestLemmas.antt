@@ -16,7 +16,7 @@ use Rattle.cli_commands.specs.declared.command.Command.TheVariants.{Check, Run, 
 use Rattle.cli_words.specs.CommandLine.{command_line}
 use Rattle.cli_words.specs.Requests.{Found, Names, AreNamed, AsksFor, IsTold, IsRead, AreRead}
 use Rattle.cli_words.specs.declared.request.Request.{Request}
-use Rattle.cli_words.specs.declared.request.Request.TheVariants.{Serve, Trace, CheckEach, WriteLog, Explain, Show, Misuse, LacksOrder, LacksMemory}
+use Rattle.cli_words.specs.declared.request.Request.TheVariants.{Serve, Trace, CheckEach, CheckAll, WriteLog, Explain, Show, Misuse, LacksOrder, LacksMemory}
 
 -- the value of a word, as it is read
 pub value_is : (f : Entries) (id name : List ℕ) (value : Option (Bor (List ℕ))) → option_map (λ s. s.now) value ≡ first_value f id → id ≡ name → option_map (λ s. s.now) value ≡ first_of name (rows_of f)
@@ -40,7 +40,7 @@ none_named name rows None other missing none = no_command name rows other missin
 
 -- and without one no check
 pub none_checked : (rows : List Row) → all_of (codes "PROG") rows ≡ None → AsksFor (Some (codes "check", rows)) LacksOrder
-none_checked rows missing = (λ e. absurd (cc e), named, λ programs. (λ h. absurd (cc (missing, h.1)), λ h. absurd (cc (missing, h.1))))
+none_checked rows missing = (λ e. absurd (cc e), named, λ programs. (λ h. absurd (cc (missing, h.1)), λ h. absurd (cc (missing, h.1)), λ h. absurd (cc (missing, h.1))))
   where
     named : (command : Command) → Names (codes "check") rows command → ⊥
     named (Check p) h = absurd (cc (missing, h.1))
@@ -53,6 +53,7 @@ pub read_told : (words : List (List ℕ)) (error : Error) (r : Request) → IsTo
 read_told words error (Serve command) h kind = absurd h
 read_told words error (Explain explanation) h kind = absurd h
 read_told words error (CheckEach programs) h kind = absurd h
+read_told words error (CheckAll programs) h kind = absurd h
 read_told words error (WriteLog programs) h kind = absurd h
 read_told words error (Trace command trace) h kind = absurd h
 read_told words error LacksOrder h kind = absurd h
@@ -70,6 +71,7 @@ read_taken words r none asked = go (subcommand_of command_line words) r asked
     go : (found : Found) (r : Request) → AsksFor found r → IsRead (fault_of command_line words) found r
     go found (Serve command) h = (none, h)
     go found (CheckEach programs) h = (none, h)
+    go found (CheckAll programs) h = (none, h)
     go found (WriteLog programs) h = (none, h)
     go found (Trace command trace) h = (none, h)
     go found (Explain explanation) h = (none, h)

@@ -34,9 +34,9 @@ after option name = record (new_rule name) { long = Some option }
 abbrev pub words_of : (name : List ℕ) → List Rule → Shape
 words_of name rules = record (new_shape name) { rules = rules }
 
--- `check PROG`, of one program or of more, of which a log may be written
+-- `check PROG`, of one program or of more, of which all faults may be told, or a log be written
 abbrev pub check_words : Shape
-check_words = words_of (codes "check") (several (codes "PROG") ∷ flag (codes "sarif") (codes "SARIF") ∷ [])
+check_words = words_of (codes "check") (several (codes "PROG") ∷ flag (codes "all") (codes "ALL") ∷ flag (codes "sarif") (codes "SARIF") ∷ [])
 
 -- the files of a program and of a world
 abbrev pub files : List Rule

@@ -17,7 +17,7 @@ use Rattle.cli_explanations.specs.Titles.{fault_title, trap_title}
 use Rattle.cli_explanations.specs.declared.Explanation.{Explanation}
 use Rattle.cli_words.specs.CommandLine.{command_line}
 use Rattle.cli_words.specs.declared.request.Request.{Request}
-use Rattle.cli_words.specs.declared.request.Request.TheVariants.{Serve, Trace, CheckEach, WriteLog, Explain, Show, Misuse, LacksOrder, LacksMemory}
+use Rattle.cli_words.specs.declared.request.Request.TheVariants.{Serve, Trace, CheckEach, CheckAll, WriteLog, Explain, Show, Misuse, LacksOrder, LacksMemory}
 
 -- ---- words that `clap` takes
 
@@ -40,7 +40,7 @@ IsGiven rows name = HasValue rows name (codes "true")
 -- the command on files that the words name, each file by the word of its name; a run goes by a schedule or by workers, and not by both
 abbrev pub Names : (command : List ℕ) → List Row → Command → Type 0
 Names name rows (Check program) =
-    (name ≡ codes "check") × HasValues rows (codes "PROG") (program.now ∷ []) × (IsGiven rows (codes "SARIF") → ⊥)
+    (name ≡ codes "check") × HasValues rows (codes "PROG") (program.now ∷ []) × (IsGiven rows (codes "ALL") → ⊥) × (IsGiven rows (codes "SARIF") → ⊥)
 Names name rows (Run program world schedule) =
     (name ≡ codes "run") × HasValue rows (codes "PROG") program.now × HasValue rows (codes "WORLD") world.now × HasValue rows (codes "FILE") schedule.now
     × (IsGiven rows (codes "WORKERS") → ⊥)
@@ -58,7 +58,14 @@ AreNamed name rows None = (command : Command) → Names name rows command → �
 -- the words name programs to check, two or more
 abbrev pub NamesSeveral : (command : List ℕ) → List Row → (programs : List (List ℕ)) → Type 0
 NamesSeveral name rows programs =
-    (name ≡ codes "check") × HasValues rows (codes "PROG") programs × (1 < length programs) × (IsGiven rows (codes "SARIF") → ⊥)
+    (name ≡ codes "check") × HasValues rows (codes "PROG") programs × (1 < length programs) × (IsGiven rows (codes "ALL") → ⊥)
+    × (IsGiven rows (codes "SARIF") → ⊥)
+
+-- the words name programs of which all faults are told; of words for both a log is written
+abbrev pub NamesAll : (command : List ℕ) → List Row → (programs : List (List ℕ)) → Type 0
+NamesAll name rows programs =
+    (name ≡ codes "check") × HasValues rows (codes "PROG") programs × (0 < length programs) × IsGiven rows (codes "ALL")
+    × (IsGiven rows (codes "SARIF") → ⊥)
 
 -- the words name programs of whose faults a log is written
 abbrev pub NamesLog : (command : List ℕ) → List Row → (programs : List (List ℕ)) → Type 0
@@ -101,13 +108,15 @@ IsSaid rows None = (number : ℕ) → (AsksFault rows number → fault_title num
 
 -- the words name no programs to check but one
 abbrev pub NoneChecked : (command : List ℕ) → List Row → Type 0
-NoneChecked name rows = (programs : List (List ℕ)) → (NamesSeveral name rows programs → ⊥) × (NamesLog name rows programs → ⊥)
+NoneChecked name rows =
+    (programs : List (List ℕ)) → (NamesSeveral name rows programs → ⊥) × (NamesAll name rows programs → ⊥) × (NamesLog name rows programs → ⊥)
 
 -- what is asked for: something with the files that are named, an explanation, or something of which a file isn't named, or that goes by no order or by two
 abbrev pub AsksFor : Found → Request → Type 0
 AsksFor (Some (name, rows)) (Serve command) = Names name rows command × (name ≢ codes "check" → IsUntraced rows)
 AsksFor (Some (name, rows)) (Trace command trace) = Names name rows command × (name ≢ codes "check") × IsTraced rows trace
 AsksFor (Some (name, rows)) (CheckEach programs) = NamesSeveral name rows (map (λ p. p.now) programs.items)
+AsksFor (Some (name, rows)) (CheckAll programs) = NamesAll name rows (map (λ p. p.now) programs.items)
 AsksFor (Some (name, rows)) (WriteLog programs) = NamesLog name rows (map (λ p. p.now) programs.items)
 AsksFor (Some (name, rows)) (Explain explanation) = (name ≡ codes "explain") × IsSaid rows explanation
 AsksFor (Some (name, rows)) LacksOrder = (name ≢ codes "explain") × AreNamed name rows None × NoneChecked name rows
@@ -127,6 +136,7 @@ IsTold error (Misuse text) = (IsHelp (kind_of error) → ⊥) × (kind_of error 
 IsTold error LacksMemory = Unit {0}
 IsTold error (Serve command) = ⊥
 IsTold error (CheckEach programs) = ⊥
+IsTold error (CheckAll programs) = ⊥
 IsTold error (WriteLog programs) = ⊥
 IsTold error (Trace command trace) = ⊥
 IsTold error (Explain explanation) = ⊥

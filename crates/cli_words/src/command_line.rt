@@ -118,7 +118,20 @@ fn sarif<'a>(alloc: Global) -> Arg<'a>
         alloc,
         "sarif",
         "SARIF",
-        "Prints a log of the faults in SARIF 2.1.0",
+        "Prints a log of all faults in SARIF 2.1.0",
+    )
+}
+
+/// That all faults are told.
+fn all<'a>(alloc: Global) -> Arg<'a>
+    ensures rule { rule_of result ≡ flag (codes "all") (codes "ALL") }
+    ensures local { result.global ≡ false }
+{
+    flag(
+        alloc,
+        "all",
+        "ALL",
+        "Prints all faults that can be told, in text order, and not only the first",
     )
 }
 
@@ -133,6 +146,7 @@ fn check_command<'a>(alloc: Global) -> Result<Command<'a>, AllocError>
             "PROG",
             "The text of the native methods; of several, each line begins with the name",
         ))?
+        .arg(all(alloc))?
         .arg(sarif(alloc))
 }
 

@@ -43,21 +43,24 @@ fn run_of<'a>(
     }
 }
 
-/// The check of these programs, of one or of more, or the log of their faults.
+/// The check of these programs, of one or of more, with all their faults or the first of each, or the log of their faults.
 fn check_of<'a>(
     alloc: Global,
     programs: &[&'a str],
+    all: Option<&'a str>,
     sarif: Option<&'a str>,
 ) -> Result<Request<'a>, AllocError>
     ensures { (rows : List Row) → HasValues rows (codes "PROG") (map (λ p. p.now) programs.now)
+        → option_map (λ w. w.now) all.entry ≡ first_of (codes "ALL") rows
         → option_map (λ w. w.now) sarif.entry ≡ first_of (codes "SARIF") rows
         → IfOk result (AsksFor (Some (codes "check", rows))) }
 {
-    match (programs, sarif) {
-        ([], _) => Ok(Request::LacksOrder),
-        ([_, ..], Some("true")) => Ok(Request::WriteLog(programs.to_vec(alloc)?)),
-        ([program], _) => Ok(Request::Serve(Command::Check { program: *program })),
-        ([_, _, ..], _) => Ok(Request::CheckEach(programs.to_vec(alloc)?)),
+    match (programs, all, sarif) {
+        ([], _, _) => Ok(Request::LacksOrder),
+        ([_, ..], _, Some("true")) => Ok(Request::WriteLog(programs.to_vec(alloc)?)),
+        ([_, ..], Some("true"), _) => Ok(Request::CheckAll(programs.to_vec(alloc)?)),
+        ([program], _, _) => Ok(Request::Serve(Command::Check { program: *program })),
+        ([_, _, ..], _, _) => Ok(Request::CheckEach(programs.to_vec(alloc)?)),
     }
 }
 
@@ -66,7 +69,12 @@ fn checked<'a>(alloc: Global, given: &ArgMatches<'a>) -> Result<Request<'a>, All
     ensures { IfOk result (AsksFor (Some (codes "check", rows_of (found_of given.now)))) }
 {
     match given.get_raw("PROG") {
-        Some(programs) => check_of(alloc, programs, given.get_str("SARIF")),
+        Some(programs) => check_of(
+            alloc,
+            programs,
+            given.get_str("ALL"),
+            given.get_str("SARIF"),
+        ),
         None => Ok(Request::LacksOrder),
     }
 }

@@ -10,7 +10,9 @@ pub enum Request<'a> {
     Serve(Command<'a>),
     /// The programs of these names are checked, two or more.
     CheckEach(Vec<&'a str>),
-    /// A log is written of the faults of the programs of these names, one or more.
+    /// All faults of the programs of these names are told, one or more.
+    CheckAll(Vec<&'a str>),
+    /// A log is written of all faults of the programs of these names, one or more.
     WriteLog(Vec<&'a str>),
     /// A run or a replay is traced.
     Trace(Command<'a>, Trace),

@@ -7,6 +7,9 @@ returns-in-Serve g c = rw c.in-Serve.is c.serve_sequential.ensures
 pub returns-in-WriteLog : goal.returns-in-WriteLog
 returns-in-WriteLog g c = rw c.in-WriteLog.is (rw c.deref-in-WriteLog.ensures.value at c.write_log.ensures)
 
+pub returns-in-CheckAll : goal.returns-in-CheckAll
+returns-in-CheckAll g c = rw c.in-CheckAll.is (rw c.deref-in-CheckAll.ensures.value at c.list_all.ensures)
+
 pub returns-in-Explain : goal.returns-in-Explain
 returns-in-Explain g c = rw c.in-Explain.is c.explain.ensures
 

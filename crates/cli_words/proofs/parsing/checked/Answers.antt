@@ -8,7 +8,8 @@ pub returns-in-Some : goal.returns-in-Some
 returns-in-Some c =
     c.check_of.ensures (rows_of (found_of c.args.given.now))
     (sym (values_are (found_of c.args.given.now) _ (codes "PROG") c.get_raw.result c.get_raw.ensures (search rules)) ∙ (search rules))
-    (value_is (found_of c.args.given.now) _ (codes "SARIF") c.get_str.result c.get_str.ensures (search rules))
+    (value_is (found_of c.args.given.now) _ (codes "ALL") c.get_str.result c.get_str.ensures (search rules))
+    (value_is (found_of c.args.given.now) _ (codes "SARIF") c.get_str-in-Some.result c.get_str-in-Some.ensures (search rules))
 
 pub returns-in-None : goal.returns-in-None
 returns-in-None c =
