@@ -73,7 +73,7 @@ field_there unit classes (a ∷ handles) (f ∷ fields) zero q h e =
 field_there unit classes (a ∷ handles) (f ∷ fields) (suc i) q h e = field_there unit classes handles fields i q h.1 e
 
 -- what the slot of a method ID holds
-method_agrees : (unit : SourceUnit) (classes : Classes) (h : Option Handle) (q : Option MethodId) → HandleAgrees unit classes h (option_map OfMethod q) → MethodAgrees unit (method_held h) q
+method_agrees : (unit : SourceUnit) (classes : Classes) (h : Option Handle) (q : Option MethodId) → HandleAgrees unit classes h (option_map OfMethod q) → MethodAgrees unit classes (method_held h) q
 method_agrees unit classes None None a = a
 method_agrees unit classes None (Some f) a = absurd a
 method_agrees unit classes (Some (handle.Field h)) None a = absurd a
@@ -81,7 +81,7 @@ method_agrees unit classes (Some (handle.Method h)) None a = absurd a
 method_agrees unit classes (Some (handle.Field h)) (Some f) a = absurd a
 method_agrees unit classes (Some (handle.Method h)) (Some f) a = a
 
-method_there : (unit : SourceUnit) (classes : Classes) (handles : List (Option Handle)) (fields : List (Option meant.Handle)) (i : ℕ) (q : Option MethodId) → HandlesAgree unit classes handles fields → slice_get fields i ≡ Some (option_map OfMethod q) → MethodAgrees unit (method_held (held_in (slice_get handles i))) q
+method_there : (unit : SourceUnit) (classes : Classes) (handles : List (Option Handle)) (fields : List (Option meant.Handle)) (i : ℕ) (q : Option MethodId) → HandlesAgree unit classes handles fields → slice_get fields i ≡ Some (option_map OfMethod q) → MethodAgrees unit classes (method_held (held_in (slice_get handles i))) q
 method_there unit classes [] [] i q h e = absurd (cc)
 method_there unit classes [] (f ∷ fields) i q h e = absurd h
 method_there unit classes (a ∷ handles) [] i q h e = absurd h

@@ -62,11 +62,11 @@ pub record IsField (classes : Classes) (g : Given) (c : CallResult) : Type 0 whe
   pub fills : (old : Option FieldId) → filled (FieldHandle old) c ≡ FieldHandle field
 
 -- a method ID
-pub record IsMethodId (unit : SourceUnit) (g : Given) (c : CallResult) : Type 0 where
+pub record IsMethodId (unit : SourceUnit) (classes : Classes) (g : Given) (c : CallResult) : Type 0 where
   pub handle : Option MethodIn
   pub method : Option MethodId
   pub same : g ≡ given.MethodId handle
-  pub agrees : MethodAgrees unit handle method
+  pub agrees : MethodAgrees unit classes handle method
   pub fills : (old : Option MethodId) → filled (MethodHandle old) c ≡ MethodHandle method
 
 pub number_given : (unit : SourceUnit) (classes : Classes) (space : Space) (kind : ResultKind) (g : Given) (c : CallResult) (of : Sort) → GivenAgrees unit classes space kind g c → number_sort kind ≡ Some of → IsNumber g c of
@@ -138,10 +138,10 @@ field_given unit classes space (given.Reference a) c h = absurd h
 field_given unit classes space (given.Global s) c h = absurd h
 field_given unit classes space (given.Buffer b) c h = absurd h
 
-pub method_given : (unit : SourceUnit) (classes : Classes) (space : Space) (g : Given) (c : CallResult) → GivenAgrees unit classes space GivesMethod g c → IsMethodId unit g c
+pub method_given : (unit : SourceUnit) (classes : Classes) (space : Space) (g : Given) (c : CallResult) → GivenAgrees unit classes space GivesMethod g c → IsMethodId unit classes g c
 method_given unit classes space (given.MethodId a) (WeakResult r) h = absurd h
 method_given unit classes space (given.MethodId a) (MethodResult f) h = record { handle = a; method = f; same = refl; agrees = h; fills = λ old. refl }
-method_given unit classes space (given.MethodId a) NullResult h = record { handle = a; method = None; same = refl; agrees = subst (λ (o : Option MethodIn). MethodAgrees unit o None) (sym h) tt; fills = λ old. refl }
+method_given unit classes space (given.MethodId a) NullResult h = record { handle = a; method = None; same = refl; agrees = subst (λ (o : Option MethodIn). MethodAgrees unit classes o None) (sym h) tt; fills = λ old. refl }
 method_given unit classes space (given.MethodId a) NoResult h = absurd h
 method_given unit classes space (given.MethodId a) (ScalarResult v) h = absurd h
 method_given unit classes space (given.MethodId a) (ReferenceResult r) h = absurd h

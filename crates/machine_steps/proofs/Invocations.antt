@@ -450,7 +450,7 @@ module _ (p : Lowered) (w : World) (old : Space) (old_copies : List (Option Owne
 
   -- ---- a method ID
 
-  module _ (no_word : HasNoWord) (i : ℕ) (receives : Receives (destination.MethodId i) kind None g carried after) (x : Identifier) (takes : TakesMethod code r.known call.place call.stack held (visible_to own shared s) i x rest) (n : IsMethodId (unit_tree p.unit) g c) where
+  module _ (no_word : HasNoWord) (i : ℕ) (receives : Receives (destination.MethodId i) kind None g carried after) (x : Identifier) (takes : TakesMethod code r.known call.place call.stack held (visible_to own shared s) i x rest) (n : IsMethodId (unit_tree p.unit) w.classes g c) where
     method_stands : CallStands p w.classes space store.elements k after (visible_to own next (resuming (assign x (MethodHandle n.method) s.variables))) (frames_received kind c left) rest
     method_stands =
         let vs = assign x (MethodHandle n.method) s.variables in
@@ -466,7 +466,7 @@ module _ (p : Lowered) (w : World) (old : Space) (old_copies : List (Option Owne
         (shown takes.names (visible_to own shared (resuming vs)) meant receives.numbers
         (takes.shows n.method (visible_to own shared (resuming vs)) (is_method_set own own shared s (resuming vs) x (λ y other. refl) n.method refl)))
 
-  method_finishes : IsNoBuffer c → SameStatics → HasNoWord → (i : ℕ) (target : Target) → IsFree target → Receives (destination.MethodId i) kind None g carried after → IsMethodId (unit_tree p.unit) g c → GoesInto code r.known call.place call.stack held (visible_to own shared s) MethodKind target (λ x. TakesMethod code r.known call.place call.stack held (visible_to own shared s) i x rest) → Ends target
+  method_finishes : IsNoBuffer c → SameStatics → HasNoWord → (i : ℕ) (target : Target) → IsFree target → Receives (destination.MethodId i) kind None g carried after → IsMethodId (unit_tree p.unit) w.classes g c → GoesInto code r.known call.place call.stack held (visible_to own shared s) MethodKind target (λ x. TakesMethod code r.known call.place call.stack held (visible_to own shared s) i x rest) → Ends target
   method_finishes plain same_statics no_word i (Declared declared x) free receives n goes = record {
     now = next;
     tasks = rest;

@@ -101,9 +101,9 @@ none_field : (classes : Classes) (o : Option FieldId) (a : Answer) → IsFoundFi
 none_field classes None a h = ap ends_none h
 none_field classes (Some f) a h = ap ends_none h.1
 
-none_method : (unit : SourceUnit) (o : Option MethodId) (a : Answer) → IsFoundMethod unit o a → ends_none a ≡ true
-none_method unit None a h = ap ends_none h
-none_method unit (Some m) a h = ap ends_none h.1
+none_method : (unit : SourceUnit) (classes : Classes) (o : Option MethodId) (a : Answer) → IsFoundMethod unit classes o a → ends_none a ≡ true
+none_method unit classes None a h = ap ends_none h
+none_method unit classes (Some m) a h = ap ends_none h.1
 
 none_copied_out : (exception : ℕ) (array : LocalArray) (r : Option ArrayRegion) → ends_none (copies_out exception array r) ≡ true
 none_copied_out exception array None = refl
@@ -176,7 +176,7 @@ module _ (scene : Scene) (call : Call) where
   others_end_none MonitorExit a m is = ap ends_none is ∙ none_exited scene.space scene.monitors scene.thread _
   others_end_none GetFieldID a m is = none_field scene.classes _ a is
   others_end_none GetStaticFieldID a m is = none_field scene.classes _ a is
-  others_end_none GetStaticMethodID a m is = none_method scene.unit _ a is
+  others_end_none GetStaticMethodID a m is = none_method scene.unit scene.classes _ a is
   others_end_none DeleteLocalRef a m is = absurd (cc)
   others_end_none PopLocalFrame a m is = absurd (cc)
   others_end_none f a m is = ap ends_none is

@@ -132,8 +132,9 @@ pub as_pushed : (p : Lowered) (w : World) (store : Store) (activation : Activati
 as_pushed p w store activation t after call pending same d = record {
   entering = d.entering;
   callers = d.callers;
+  spare = d.spare;
   last = d.last;
-  pushed = d.pushed ∙ ap (λ (x : Option ℕ). let u : Thread = record t { entering = Some d.entering; call = None; callers = d.callers; pending = x } in u) same;
+  pushed = d.pushed ∙ ap (λ (x : Option ℕ). let u : Thread = record t { entering = Some d.entering; call = None; callers = d.callers; spare_arguments = d.spare; pending = x } in u) same;
   called = d.called;
 }
 
@@ -208,7 +209,7 @@ module _ (p : Lowered) (w : World) (store : Store) (others : Acquired) (k : ℕ)
 
   module _ (after : Thread) (d : Pushes p w store call t after) where
     abbrev pushed : Thread
-    pushed = record t { entering = Some d.entering; call = None; callers = d.callers }
+    pushed = record t { entering = Some d.entering; call = None; callers = d.callers; spare_arguments = d.spare }
 
     agrees_now : ThreadAgrees p w.classes store.heap store.elements (length (loaded_objects w)) k now shared pushed next
     agrees_now = record {

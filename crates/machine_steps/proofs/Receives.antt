@@ -217,7 +217,7 @@ field_handle unit classes None (Some f) a = absurd a
 field_handle unit classes (Some h) None a = absurd a
 field_handle unit classes (Some h) (Some f) a = a
 
-pub method_handle : (unit : SourceUnit) (classes : Classes) (h : Option MethodHandle) (m : Option MethodId) → MethodAgrees unit h m → HandleAgrees unit classes (option_map handle.Method h) (option_map OfMethod m)
+pub method_handle : (unit : SourceUnit) (classes : Classes) (h : Option MethodHandle) (m : Option MethodId) → MethodAgrees unit classes h m → HandleAgrees unit classes (option_map handle.Method h) (option_map OfMethod m)
 method_handle unit classes None None a = a
 method_handle unit classes None (Some m) a = absurd a
 method_handle unit classes (Some h) None a = absurd a

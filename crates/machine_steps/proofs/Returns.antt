@@ -331,7 +331,7 @@ module _ (p : Lowered) (w : World) (old : Store) (others : Acquired) (k : ℕ) (
       final = record old { statics = d.statics }
 
       abbrev resumed : Thread
-      resumed = record t { call = Some d.call; callers = d.callers; pending = pending }
+      resumed = record t { call = Some d.call; callers = d.callers; spare = d.spare; pending = pending }
 
       none : t.entering ≡ None
       none = none_due t.entering s.tasks s.callers (task ∷ rest) h.due tasks

@@ -2,6 +2,7 @@
 use Rattle.std.specs.Prelude.{◌≡◌, ℕ, List, [], ◌∷◌, ◌++◌, drop, length, map, Option, Some, None}
 use Rattle.std.specs.Global.{Vec}
 use Rattle.code_meaning.specs.Lowered.{Lowered}
+use Rattle.heap.specs.declared.value.Value.{Value}
 use Rattle.machine_scenes.specs.Buffers.{Acquired}
 use Rattle.machine_scenes.specs.declared.activation.Activation.{Activation}
 use Rattle.machine_scenes.specs.declared.store.Store.{Store}
@@ -61,10 +62,11 @@ IsCalled p w store activation e =
     → EnteringAgrees p w.classes store.heap (length (loaded_objects w)) e
     (record { line = c.line; function = m.function.name; arguments = map passed_value (drop 2 c.args) })
 
--- the call in progress is the last of the callers, and what it calls is to be entered
+-- the call in progress is the last of the callers, and what it calls is to be entered; what memory is kept doesn't matter
 pub record Pushes (p : Lowered) (w : World) (store : Store) (activation : Activation) (t after : Thread) : Type 0 where
   pub entering : Entering
   pub callers : Vec Activation
+  pub spare : Vec Value
   pub last : callers.items ≡ t.callers.items ++ activation ∷ []
-  pub pushed : after ≡ record t { entering = Some entering; call = None; callers = callers }
+  pub pushed : after ≡ record t { entering = Some entering; call = None; callers = callers; spare_arguments = spare }
   pub called : IsCalled p w store activation entering

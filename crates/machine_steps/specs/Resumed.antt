@@ -1,5 +1,5 @@
 -- How a call goes on after the one that it made.
-use Rattle.std.specs.Prelude.{◌≡◌, ℕ, ◌≤◌, List, slice_get, Some, None}
+use Rattle.std.specs.Prelude.{◌≡◌, ℕ, ◌≤◌, List, slice_get, Option, Some, None}
 use Rattle.std.specs.Global.{Vec}
 use Rattle.code.specs.Call.{Call}
 use Rattle.code.specs.Depth.{Listing}
@@ -34,12 +34,14 @@ pub record HasCalled (p : Lowered) (store : Store) (caller : Activation) : Type 
   pub agrees : CallerAgrees p world.classes store.heap store.elements owner caller own shared source
   pub resumable : IsResumable source
 
--- a thread goes on with a caller, above these, at the instruction after its call, where what the other call gave is where it belongs
+-- a thread goes on with a caller, above these, at the instruction after its call, where what the other call gave is where it belongs; what
+-- memory is kept doesn't matter
 pub record Resumes (p : Lowered) (v : ReturnValue) (caller : Activation) (below : List Activation) (old store : Store) (t after : Thread) : Type 0 where
   pub call : Activation
   pub callers : Vec Activation
+  pub spare : Option Activation
   pub left : callers.items ≡ below
-  pub resumed : after ≡ record t { call = Some call; callers = callers }
+  pub resumed : after ≡ record t { call = Some call; callers = callers; spare = spare }
   pub code : Listing
   pub of_function : slice_get p.codes caller.function ≡ Some code
   pub function : Call

@@ -32,6 +32,7 @@ use machine_scenes::operands::class_there;
 use machine_scenes::store::Store;
 use machine_threads::thread::Thread;
 use semantics::{Ending, Event};
+use std::mem;
 use world_values::World;
 
 /// What a step of a thread was.
@@ -157,7 +158,8 @@ pub fn advance_plainly(program: &Program<'_>, store: &Store, thread: &mut Thread
     }
 }
 
-/// Goes on with the last caller of a thread, where the call that it made gives this. It takes no host memory.
+/// Goes on with the last caller of a thread, where the call that it made gives this. The call that has ended is kept, for its memory. It
+/// takes no host memory.
 #[inline(never)]
 fn resume(program: &Program<'_>, store: &mut Store, thread: &mut Thread, value: ReturnValue)
     requires lowered { IsLowered program.now }
@@ -167,28 +169,32 @@ fn resume(program: &Program<'_>, store: &mut Store, thread: &mut Thread, value: 
     ensures { (below : List Activation) (caller : Activation) → thread.old.callers.items ≡ below ++ caller ∷ []
         → Resumes program.now value caller below store.old store.new thread.old thread.new }
 {
-    let caller = thread.callers.pop().unwrap();
     // The proof reads off this call that no object has as many elements as a `jint` can say.
     let _ = store.heap.cells();
-    // Here the proof takes up what is known of a table.
-    let _ = caller.locals.frames();
-    let code = program.code_at(caller.function);
-    match code.instr_at(caller.place) {
-        Instr::Call(boxed) => {
-            let call = boxed.call();
-            let given = given_back(thread.pending, call.result, value);
-            let mut resumed = caller;
-            receive(
-                &mut resumed,
-                &mut store.statics,
-                call.target,
-                call.result,
-                None,
-                &given,
-            );
-            thread.call = Some(resumed);
+    mem::swap(&mut thread.call, &mut thread.spare);
+    thread.call = thread.callers.pop();
+    match &mut thread.call {
+        Some(caller) => {
+            // Here the proof takes up what is known of a table.
+            let _ = caller.locals.frames();
+            let code = program.code_at(caller.function);
+            match code.instr_at(caller.place) {
+                Instr::Call(boxed) => {
+                    let call = boxed.call();
+                    let given = given_back(thread.pending, call.result, value);
+                    receive(
+                        caller,
+                        &mut store.statics,
+                        call.target,
+                        call.result,
+                        None,
+                        &given,
+                    );
+                }
+                _ => unreachable!(),
+            }
         }
-        _ => unreachable!(),
+        None => unreachable!(),
     }
 }
 

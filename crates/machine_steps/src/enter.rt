@@ -1,6 +1,6 @@
 //! The entry of a thread into its next call.
 
-ghost use Rattle.std.specs.Prelude.{◌≡◌, ◌<◌, ◌∷◌, List, length, map, None, IfOk, OnOk, OnErr, IsTrue};
+ghost use Rattle.std.specs.Prelude.{◌≡◌, ◌<◌, ◌∷◌, true, false, List, length, map, None, Some, IfOk, OnOk, OnErr, IsTrue};
 ghost use Rattle.std.specs.List.{list_all};
 ghost use Rattle.machine_steps.specs.Pushed.{Enters, IsNext};
 ghost use Rattle.machine_threads.specs.Entry.{Begins, IsReady};
@@ -8,13 +8,15 @@ ghost use Rattle.world_values.specs.CallArguments.{is_argument};
 ghost use Rattle.world_values.specs.Views.{object_value_view};
 
 use code_meaning::Program;
-use heap::Addr;
+use heap::{Addr, Value};
 use machine_scenes::activation::Activation;
-use machine_threads::entry::{begin, entering_of};
+use machine_threads::entry::{begin, begin_again, entering_of, serves};
 use machine_threads::thread::{Entering, PendingCall, Thread};
 use std::alloc::{AllocError, Global};
+use std::mem;
 
-/// The entry into the next call: the one that the last caller has made, or else the first of the world's.
+/// The entry into the next call: the one that the last caller has made, or else the first of the world's. It takes the memory of
+/// a call that has ended where that serves, and else memory of the host.
 #[inline(never)]
 pub(crate) fn enter(
     program: &Program<'_>,
@@ -36,8 +38,13 @@ pub(crate) fn enter(
     let alloc = *thread.calls.allocator();
     match &thread.entering {
         Some(entering) => {
+            if begin_in_spare(program, loaded, &mut thread.spare, entering) {
+                keep_arguments(&mut thread.entering, &mut thread.spare_arguments);
+                mem::swap(&mut thread.call, &mut thread.spare);
+                return Ok(());
+            }
             let activation = begin_call(alloc, program, loaded, entering)?;
-            thread.entering = None;
+            keep_arguments(&mut thread.entering, &mut thread.spare_arguments);
             thread.call = Some(activation);
             Ok(())
         }
@@ -49,6 +56,47 @@ pub(crate) fn enter(
             thread.call = Some(activation);
             Ok(())
         }
+    }
+}
+
+/// No call is to be entered any more. What it was given is kept, for its memory.
+fn keep_arguments(entering: &mut Option<Entering>, spare: &mut Vec<Value>)
+    ensures { entering.new ≡ None }
+{
+    if let Some(
+        Entering {
+            function: _,
+            class: _,
+            arguments,
+        },
+    ) = entering.take()
+    {
+        *spare = arguments;
+    }
+}
+
+/// Makes the call that has ended one before its first instruction, if there is one whose memory serves.
+fn begin_in_spare(
+    program: &Program<'_>,
+    loaded: &[Addr],
+    spare: &mut Option<Activation>,
+    entering: &Entering,
+) -> bool
+    requires { IsReady program.now (length loaded.now) entering.now }
+    ensures begins { result ≡ true → (activation : Activation) × (spare.new ≡ Some activation)
+        × Begins program.now loaded.now entering.now activation }
+    ensures others { result ≡ false → spare.new ≡ spare.old }
+{
+    let code = program.code_at(entering.function);
+    match spare {
+        Some(ended) => {
+            if !serves(ended, code) {
+                return false;
+            }
+            begin_again(ended, code, loaded, entering);
+            true
+        }
+        None => false,
     }
 }
 

@@ -1,26 +1,21 @@
 //! A call of a method, which leaves the call in progress to the callers (JNI Specification, chapter 4, "Calling Static
 //! Methods").
 
-ghost use Rattle.std.specs.Prelude.{◌≡◌, ℕ, ◌<◌, Some, length, slice_get, IfOk, OnOk, OnErr, vec_len, vec_capacity};
+ghost use Rattle.std.specs.Prelude.{◌≡◌, ℕ, ◌<◌, ◌≤◌, Some, length, IfOk, OnOk, OnErr, vec_len, vec_capacity};
 ghost use Rattle.code_meaning.specs.Lowered.{IsLowered};
 ghost use Rattle.machine_steps.specs.Pushed.{IsCalled, MakesCall, Pushes};
-ghost use Rattle.semantics.specs.Activation.{class_of_function};
-ghost use Rattle.syntax.specs.Tree.{Function, FunctionItem};
-ghost use Rattle.syntax.specs.Views.{unit_tree};
 
-use class_queries::native_class;
-use class_rules::ClassId;
-use classes::table::ClassTable;
 use code::instr::Instr;
 use code_meaning::Program;
-use machine_answers::passed::passed;
+use heap::Value;
+use machine_answers::passed::pass;
 use machine_scenes::activation::Activation;
 use machine_scenes::operands::{method_in, operand_of};
 use machine_scenes::references::References;
 use machine_scenes::store::Store;
 use machine_threads::thread::{Entering, Thread};
 use std::alloc::{AllocError, Global};
-use syntax::Item;
+use std::mem;
 use world_values::World;
 
 /// Leaves the call in progress to the callers, and has the method that it calls as the one to be entered next. What it is given is
@@ -41,10 +36,17 @@ pub(crate) fn push(
 {
     let alloc = *thread.calls.allocator();
     let entering = match &thread.call {
-        Some(activation) => method_called(alloc, program, world, store, activation)?,
+        Some(activation) => method_called(
+            alloc,
+            program,
+            world,
+            store,
+            activation,
+            &mut thread.spare_arguments,
+            &mut thread.callers,
+        )?,
         None => unreachable!(),
     };
-    make_room(alloc, &mut thread.callers)?;
     match thread.call.take() {
         Some(caller) => {
             thread.callers.push_reserved(caller);
@@ -55,22 +57,29 @@ pub(crate) fn push(
     }
 }
 
-/// The method that a call in progress calls, before its entry.
+/// The method that a call in progress calls, before its entry, and room for one caller more.
 fn method_called(
     alloc: Global,
     program: &Program<'_>,
     world: &World,
     store: &Store,
     activation: &Activation,
+    spare: &mut Vec<Value>,
+    callers: &mut Vec<Activation>,
 ) -> Result<Entering, AllocError>
     requires lowered { IsLowered program.now }
     requires calling { MakesCall program.now world.now store.now activation.now }
-    ensures { IfOk result (IsCalled program.now world.now store.now activation.now) }
+    requires few { length callers.old.items < 63 }
+    ensures called { IfOk result (IsCalled program.now world.now store.now activation.now) }
+    ensures items { callers.new.items ≡ callers.old.items }
+    ensures room { OnOk result (vec_len callers.new < vec_capacity callers.new) }
+    ensures callers { OnErr result (callers.new ≡ callers.old) }
+    ensures spare { OnErr result (spare.new ≡ spare.old) }
 {
     // The proof reads off this call that no object has as many elements as a `jint` can say.
     let _ = store.heap.cells();
     // Here the proof takes up what is known of a world.
-    let classes = world.classes();
+    let _ = world.classes();
     let code = program.code_at(activation.function);
     match code.instr_at(activation.place) {
         Instr::Call(boxed) => {
@@ -79,7 +88,7 @@ fn method_called(
                 &activation.slots.fields,
                 operand_of(&call.operands, 1),
             ).unwrap();
-            let class = class_of_item(alloc, program.items(), classes, method.item)?;
+            let mut arguments = memory_for(alloc, call.operands.len(), spare, callers)?;
             let references = References::new(
                 &activation.slots.references,
                 &activation.locals,
@@ -87,35 +96,43 @@ fn method_called(
                 &store.globals,
                 &store.weaks,
             );
+            pass(
+                &mut arguments,
+                &references,
+                &call.operands,
+                &activation.stack,
+            );
             Ok(Entering {
                 function: method.function,
-                class,
-                arguments: passed(alloc, &references, &call.operands, &activation.stack)?,
+                class: method.declarer,
+                arguments,
             })
         }
         _ => unreachable!(),
     }
 }
 
-/// The class whose native method the function is whose item is at this place.
-fn class_of_item(
+/// A vector with room for this many arguments, which is the spare one where that has it, and room for one caller more.
+fn memory_for(
     alloc: Global,
-    items: &[Item],
-    classes: &ClassTable,
-    place: usize,
-) -> Result<ClassId, AllocError>
-    requires { (f : Function) × (slice_get (unit_tree items.now).items place ≡ Some (FunctionItem f)) × ((class : ℕ) × (class_of_function classes.now f ≡ Some class)) }
-    ensures { IfOk result (λ class. (f : Function) → slice_get (unit_tree items.now).items place ≡ Some (FunctionItem f)
-        → class_of_function classes.now f ≡ Some class.number) }
+    count: usize,
+    spare: &mut Vec<Value>,
+    callers: &mut Vec<Activation>,
+) -> Result<Vec<Value>, AllocError>
+    requires few { length callers.old.items < 63 }
+    ensures arguments { IfOk result (λ arguments. count ≤ vec_capacity arguments) }
+    ensures items { callers.new.items ≡ callers.old.items }
+    ensures room { OnOk result (vec_len callers.new < vec_capacity callers.new) }
+    ensures callers { OnErr result (callers.new ≡ callers.old) }
+    ensures spare { OnErr result (spare.new ≡ spare.old) }
 {
-    let item = &items[place];
-    match item {
-        Item::Function(function) => {
-            let class = native_class(alloc, classes, function.name.as_bytes())?;
-            Ok(class.unwrap())
-        }
-        Item::Static(_) => unreachable!(),
+    if count <= spare.capacity() {
+        make_room(alloc, callers)?;
+        return Ok(mem::replace(spare, Vec::new(alloc)));
     }
+    let arguments = Vec::with_capacity(alloc, count)?;
+    make_room(alloc, callers)?;
+    Ok(arguments)
 }
 
 /// Room for one caller more. Where there is none, the callers move to where there is; an error leaves them where they are.

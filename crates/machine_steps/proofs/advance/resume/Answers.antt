@@ -22,7 +22,6 @@ use Rattle.machine_steps.specs.Resumed.{HasCalled, Resumes}
 use Rattle.machine_steps.specs.Returned.{given_back}
 use Rattle.machine_steps.proofs.Returns.{calls_it, has_room, has_static, has_target}
 use Rattle.machine_steps.proofs.advance.resume.Goals as goal
-use Rattle.machine_steps.proofs.advance.resume.Goals.{After-unwrap-caller}
 
 -- the last of a list
 ends_same : {A : Type 0} (xs ys : List A) (x y : A) → xs ++ x ∷ [] ≡ ys ++ y ∷ [] → (xs ≡ ys) × (x ≡ y)
@@ -43,11 +42,8 @@ ends_same {A} (a ∷ xs) (b ∷ ys) x y e =
     (ap (λ (z : A). z ∷ xs) first ∙ ap (λ (l : List A). b ∷ l) r.0, r.1)
 
 -- the caller
-last : (c : After-unwrap-caller) → c.args.thread.now.callers.items ≡ c.pop.new.self.items ++ c.unwrap-caller.result ∷ []
-last c = c.pop.ensures.items ∙ ap (λ (o : Option Activation). c.pop.new.self.items ++ option_to_list o) c.unwrap-caller.ensures
-
-called : (c : After-unwrap-caller) → HasCalled c.args.program.now c.args.store.now c.unwrap-caller.result
-called c = c.requires.called c.pop.new.self.items c.unwrap-caller.result (last c)
+last : (items left : List Activation) (o : Option Activation) (caller : Activation) → items ≡ left ++ option_to_list o → o ≡ Some caller → items ≡ left ++ caller ∷ []
+last items left o caller e is = e ∙ ap (λ (x : Option Activation). left ++ option_to_list x) is
 
 -- the instruction at its place
 module _ (p : Lowered) (lowered : IsLowered p) (store : Store) (caller : Activation) (h : HasCalled p store caller) (few : store.heap.cells ≤ 1048576) (code : Listing) (of_function : slice_get p.codes caller.function ≡ Some code) where
@@ -79,45 +75,44 @@ module _ (p : Lowered) (lowered : IsLowered p) (store : Store) (caller : Activat
       (subst (λ (f : _). HasRoom (prototype f).result caller.locals) (sym it_called.4) (has_room p h.world.classes store h.world h.all h.owner caller h.own h.shared h.source lowered h.shares h.agrees few h.resumable))
 
 pub code_at-code-requires : goal.code_at-code-requires
-code_at-code-requires c = let h = (called (goal.at.code_at-code-requires c).After-unwrap-caller).agrees.stands in slice_get_within c.args.program.now.codes c.unwrap-caller.result.function h.code h.of_function
+code_at-code-requires c = let h = (c.requires.called c.pop.new.self.items c.in-Some.caller (last c.args.thread.now.callers.items c.pop.new.self.items c.pop.result c.in-Some.caller c.pop.ensures.items c.in-Some.is)).agrees.stands in slice_get_within c.args.program.now.codes c.in-Some.caller.function h.code h.of_function
 
 pub instr_at-requires : goal.instr_at-requires
 instr_at-requires c =
     let few : c.args.store.now.heap.cells ≤ 1048576 = omega (arith, c.cells.ensures.cells, c.cells.ensures.limit) in
-    slice_get_within c.code_at-code.result.now.instrs c.unwrap-caller.result.place _
-    (call_there c.args.program.now c.requires.lowered c.args.store.now c.unwrap-caller.result (called (goal.at.instr_at-requires c).After-unwrap-caller) few c.code_at-code.result.now c.code_at-code.ensures.code)
+    slice_get_within c.code_at-code.result.now.instrs c.in-Some.caller.place _
+    (call_there c.args.program.now c.requires.lowered c.args.store.now c.in-Some.caller (c.requires.called c.pop.new.self.items c.in-Some.caller (last c.args.thread.now.callers.items c.pop.new.self.items c.pop.result c.in-Some.caller c.pop.ensures.items c.in-Some.is)) few c.code_at-code.result.now c.code_at-code.ensures.code)
 
 pub unreachable-requires : goal.unreachable-requires
 unreachable-requires c =
     let few : c.args.store.now.heap.cells ≤ 1048576 = omega (arith, c.cells.ensures.cells, c.cells.ensures.limit) in
-    let h = called (goal.at.unreachable-requires c).After-unwrap-caller in
-    let found = it_called c.args.program.now c.requires.lowered c.args.store.now c.unwrap-caller.result h few c.code_at-code.result.now c.code_at-code.ensures.code in
-    let there : slice_get c.code_at-code.result.now.instrs c.unwrap-caller.result.place ≡ Some (instr.Call found.0) = call_there c.args.program.now c.requires.lowered c.args.store.now c.unwrap-caller.result h few c.code_at-code.result.now c.code_at-code.ensures.code in
+    let h = c.requires.called c.pop.new.self.items c.in-Some.caller (last c.args.thread.now.callers.items c.pop.new.self.items c.pop.result c.in-Some.caller c.pop.ensures.items c.in-Some.is) in
+    let found = it_called c.args.program.now c.requires.lowered c.args.store.now c.in-Some.caller h few c.code_at-code.result.now c.code_at-code.ensures.code in
+    let there : slice_get c.code_at-code.result.now.instrs c.in-Some.caller.place ≡ Some (instr.Call found.0) = call_there c.args.program.now c.requires.lowered c.args.store.now c.in-Some.caller h few c.code_at-code.result.now c.code_at-code.ensures.code in
     c.in_default.not-Call found.0 (let both : Some c.instr_at.result.now ≡ Some (instr.Call found.0) = sym c.instr_at.ensures.instr ∙ there in cc)
 
 pub receive-requires-clause-target : goal.receive-requires-clause-target
 receive-requires-clause-target c =
     let few : c.args.store.now.heap.cells ≤ 1048576 = omega (arith, c.cells.ensures.cells, c.cells.ensures.limit) in
-    target_of c.args.program.now c.requires.lowered c.args.store.now c.unwrap-caller.result (called (goal.at.receive-requires-clause-target c).After-unwrap-caller) few c.code_at-code.result.now c.code_at-code.ensures.code (call_view c.call-call.result.now)
+    target_of c.args.program.now c.requires.lowered c.args.store.now c.in-Some.caller (c.requires.called c.pop.new.self.items c.in-Some.caller (last c.args.thread.now.callers.items c.pop.new.self.items c.pop.result c.in-Some.caller c.pop.ensures.items c.in-Some.is)) few c.code_at-code.result.now c.code_at-code.ensures.code (call_view c.call-call.result.now)
     (c.instr_at.ensures.instr ∙ ap (λ (i : Instr). Some i) (c.in-Call.is ∙ ap (λ (x : Call). instr.Call x) (sym c.call-call.ensures.view)))
 
 pub receive-requires-clause-static_target : goal.receive-requires-clause-static_target
 receive-requires-clause-static_target c =
     let few : c.args.store.now.heap.cells ≤ 1048576 = omega (arith, c.cells.ensures.cells, c.cells.ensures.limit) in
-    static_of c.args.program.now c.requires.lowered c.args.store.now c.unwrap-caller.result (called (goal.at.receive-requires-clause-static_target c).After-unwrap-caller) few c.code_at-code.result.now c.code_at-code.ensures.code (call_view c.call-call.result.now)
+    static_of c.args.program.now c.requires.lowered c.args.store.now c.in-Some.caller (c.requires.called c.pop.new.self.items c.in-Some.caller (last c.args.thread.now.callers.items c.pop.new.self.items c.pop.result c.in-Some.caller c.pop.ensures.items c.in-Some.is)) few c.code_at-code.result.now c.code_at-code.ensures.code (call_view c.call-call.result.now)
     (c.instr_at.ensures.instr ∙ ap (λ (i : Instr). Some i) (c.in-Call.is ∙ ap (λ (x : Call). instr.Call x) (sym c.call-call.ensures.view))) _
 
 pub receive-requires-clause-room : goal.receive-requires-clause-room
 receive-requires-clause-room c =
     let few : c.args.store.now.heap.cells ≤ 1048576 = omega (arith, c.cells.ensures.cells, c.cells.ensures.limit) in
-    subst (λ (kind : ResultKind). HasRoom kind c.unwrap-caller.result.locals) (sym c.call-call.ensures.prepared.result)
-    (room_of c.args.program.now c.requires.lowered c.args.store.now c.unwrap-caller.result (called (goal.at.receive-requires-clause-room c).After-unwrap-caller) few c.code_at-code.result.now c.code_at-code.ensures.code (call_view c.call-call.result.now)
+    subst (λ (kind : ResultKind). HasRoom kind c.in-Some.caller.locals) (sym c.call-call.ensures.prepared.result)
+    (room_of c.args.program.now c.requires.lowered c.args.store.now c.in-Some.caller (c.requires.called c.pop.new.self.items c.in-Some.caller (last c.args.thread.now.callers.items c.pop.new.self.items c.pop.result c.in-Some.caller c.pop.ensures.items c.in-Some.is)) few c.code_at-code.result.now c.code_at-code.ensures.code (call_view c.call-call.result.now)
     (c.instr_at.ensures.instr ∙ ap (λ (i : Instr). Some i) (c.in-Call.is ∙ ap (λ (x : Call). instr.Call x) (sym c.call-call.ensures.view))))
 
 pub returns : goal.returns
 returns c below caller is =
-    let a = (goal.at.returns c).After-unwrap-caller in
-    let same = ends_same c.pop.new.self.items below c.unwrap-caller.result caller (sym (last a) ∙ is) in
+    let same = ends_same c.pop.new.self.items below c.in-Some.caller caller (sym (last c.args.thread.now.callers.items c.pop.new.self.items c.pop.result c.in-Some.caller c.pop.ensures.items c.in-Some.is) ∙ is) in
     let p = c.args.program.now in
     let old = c.args.store.now in
     let t = c.args.thread.now in
@@ -127,11 +122,12 @@ returns c below caller is =
     let statics = with_items old.statics c.receive.new.statics in
     let put = with_items_is old.statics c.receive.new.statics (search (rules, places)) ∙ c.receive.ensures.statics ∙ ap (λ (l : List StaticReference). statics_with call.target c.given_back-given.result l) c.deref_mut.ensures.value in
     let store : Store = record old { statics = statics } in
-    let after : Thread = record t { call = Some c.receive.new.activation; callers = c.pop.new.self } in
+    let after : Thread = record t { call = Some c.receive.new.activation; callers = c.pop.new.self; spare = c.swap.new.y } in
     subst (λ (x : Activation). Resumes p v x below old store t after) same.1
-    (subst (λ (l : List Activation). Resumes p v c.unwrap-caller.result l old store t after) same.0 (record {
+    (subst (λ (l : List Activation). Resumes p v c.in-Some.caller l old store t after) same.0 (record {
       call = c.receive.new.activation;
       callers = c.pop.new.self;
+      spare = c.swap.new.y;
       left = refl;
       resumed = refl;
       code = c.code_at-code.result.now;
@@ -139,8 +135,8 @@ returns c below caller is =
       function = call_view call;
       at = c.instr_at.ensures.instr ∙ ap (λ (i : Instr). Some i) (c.in-Call.is ∙ ap (λ (x : Call). instr.Call x) (sym c.call-call.ensures.view));
       receives =
-          subst (λ (kind : ResultKind). Receives call.target kind None (given_back t.pending kind v) c.unwrap-caller.result c.receive.new.activation) c.call-call.ensures.prepared.result
-          (subst (λ (g : Given). Receives call.target kind None g c.unwrap-caller.result c.receive.new.activation) c.given_back-given.ensures c.receive.ensures.activation);
+          subst (λ (kind : ResultKind). Receives call.target kind None (given_back t.pending kind v) c.in-Some.caller c.receive.new.activation) c.call-call.ensures.prepared.result
+          (subst (λ (g : Given). Receives call.target kind None g c.in-Some.caller c.receive.new.activation) c.given_back-given.ensures c.receive.ensures.activation);
       statics = statics;
       store_is = refl;
       put =

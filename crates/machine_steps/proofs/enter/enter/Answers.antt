@@ -31,6 +31,20 @@ is_there items (Some x) some h = refl
 pub begin_call-requires : goal.begin_call-requires
 begin_call-requires c = c.requires.ready c.args.thread.now.calls.items c.in-Some.entering (of_caller c.args.loaded.now c.args.thread.now.entering c.in-Some.entering c.args.thread.now.calls.items c.in-Some.is)
 
+pub begin_in_spare-requires : goal.begin_in_spare-requires
+begin_in_spare-requires c = c.requires.ready c.args.thread.now.calls.items c.in-Some.entering (of_caller c.args.loaded.now c.args.thread.now.entering c.in-Some.entering c.args.thread.now.calls.items c.in-Some.is)
+
+pub returns-then-begin_in_spare-clause-calls : goal.returns-then-begin_in_spare-clause-calls
+returns-then-begin_in_spare-clause-calls c =
+    let made = c.begin_in_spare.ensures.begins c.if-begin_in_spare.true in
+    record {
+      entering = c.in-Some.entering;
+      next = of_caller c.args.loaded.now c.args.thread.now.entering c.in-Some.entering c.args.thread.now.calls.items c.in-Some.is;
+      activation = made.0;
+      active = c.swap.ensures.x_after ∙ made.1;
+      begins = made.2;
+    }
+
 pub returns-in_ok-activation-in-Some-clause-calls : goal.returns-in_ok-activation-in-Some-clause-calls
 returns-in_ok-activation-in-Some-clause-calls c = record {
   entering = c.in-Some.entering;

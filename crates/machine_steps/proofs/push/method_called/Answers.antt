@@ -63,40 +63,24 @@ pub unwrap-method-requires : goal.unwrap-method-requires
 unwrap-method-requires c =
     let o = (goal.at.unwrap-method-requires c).After-call-call in
     let m = c.requires.calling in
-    let it = the_method c.args.program.now c.args.world.now c.args.store.now c.args.activation.now c.call-call.result.now c.instr_at.result.now (fetched o) (call_there o) c.classes-classes.ensures.sound m.pending m.others m.k m.owner m.own m.shared m.thread m.task m.rest m.executing m.calling in
+    let it = the_method c.args.program.now c.args.world.now c.args.store.now c.args.activation.now c.call-call.result.now c.instr_at.result.now (fetched o) (call_there o) c.classes.ensures.sound m.pending m.others m.k m.owner m.own m.shared m.thread m.task m.rest m.executing m.calling in
     let given = method_is c.deref.result.now c.args.activation.now.slots.fields.items c.operand_of.result c.deref-in-Call.result.now c.call-call.result.now.operands.items c.method_in.result c.method_in.ensures c.deref.ensures.value c.operand_of.ensures c.deref-in-Call.ensures.value in
     subst IsSome (sym (given ∙ it.at)) refl
 
-pub class_of_item-requires : goal.class_of_item-requires
-class_of_item-requires c =
-    let o = (goal.at.class_of_item-requires c).After-call-call in
-    let p = c.args.program.now in
-    let w = c.args.world.now in
-    let m = c.requires.calling in
-    let it = the_method p w c.args.store.now c.args.activation.now c.call-call.result.now c.instr_at.result.now (fetched o) (call_there o) c.classes-classes.ensures.sound m.pending m.others m.k m.owner m.own m.shared m.thread m.task m.rest m.executing m.calling in
-    let may = callable p w c.args.store.now c.args.activation.now c.call-call.result.now c.instr_at.result.now (fetched o) (call_there o) c.classes-classes.ensures.sound m.pending m.others m.k m.owner m.own m.shared m.thread m.task m.rest m.executing m.calling in
-    let given = method_is c.deref.result.now c.args.activation.now.slots.fields.items c.operand_of.result c.deref-in-Call.result.now c.call-call.result.now.operands.items c.method_in.result c.method_in.ensures c.deref.ensures.value c.operand_of.ensures c.deref-in-Call.ensures.value in
-    let same : it.handle ≡ c.unwrap-method.result = let both : Some it.handle ≡ Some c.unwrap-method.result = sym it.at ∙ sym given ∙ c.unwrap-method.ensures in cc in (
-      it.method.function,
-      ap (λ l. slice_get (unit_tree l).items c.unwrap-method.result.item) c.items.ensures.items ∙ ap (λ (h : MethodHandle). slice_get (unit_tree c.args.program.now.unit).items h.item) (sym same) ∙ it.is.item,
-      (may.class, ap (λ (t : Classes). class_of_function t it.method.function) c.classes-classes.ensures.classes ∙ may.of_class),
-    )
-
-pub returns : goal.returns
-returns c pending others k owner own shared s task rest e calling m given =
-    let o = (goal.at.returns c).After-call-call in
+pub returns-clause-called : goal.returns-clause-called
+returns-clause-called c pending others k owner own shared s task rest e calling m given =
+    let o = (goal.at.returns-clause-called c).After-call-call in
     let p = c.args.program.now in
     let w = c.args.world.now in
     let store = c.args.store.now in
     let activation = c.args.activation.now in
     let call = c.call-call.result.now in
-    let it = the_method p w store activation call c.instr_at.result.now (fetched o) (call_there o) c.classes-classes.ensures.sound pending others k owner own shared s task rest e calling in
+    let it = the_method p w store activation call c.instr_at.result.now (fetched o) (call_there o) c.classes.ensures.sound pending others k owner own shared s task rest e calling in
     let found = method_is c.deref.result.now c.args.activation.now.slots.fields.items c.operand_of.result c.deref-in-Call.result.now c.call-call.result.now.operands.items c.method_in.result c.method_in.ensures c.deref.ensures.value c.operand_of.ensures c.deref-in-Call.ensures.value in
     let same : it.handle ≡ c.unwrap-method.result = let both : Some it.handle ≡ Some c.unwrap-method.result = sym it.at ∙ sym found ∙ c.unwrap-method.ensures in cc in
-    let item : slice_get (unit_tree c.items.result.now).items c.unwrap-method.result.item ≡ Some (FunctionItem it.method.function) = ap (λ l. slice_get (unit_tree l).items c.unwrap-method.result.item) c.items.ensures.items ∙ ap (λ (h : MethodHandle). slice_get (unit_tree c.args.program.now.unit).items h.item) (sym same) ∙ it.is.item in
-    let class = ap (λ (t : Classes). class_of_function t it.method.function) (sym c.classes-classes.ensures.classes) ∙ c.in_ok-class-in-Call.ensures it.method.function item in
+    let class = it.is.declarer ∙ ap (λ (h : MethodHandle). Some h.declarer.number) same in
     let held : c.new-references.result ≡ references_of store activation =
     c.new-references.ensures ∙ (λ j. let r : References = record { keys = c.deref-in-Call-2.ensures.value j; locals = activation.locals; statics = all_held store.globals store.weaks (c.deref-in-Call-3.ensures.value j) } in r) in
-    let values = c.in_ok-passed-in-Call.ensures ∙ (λ j. passed_in (held j) (drop 2 (c.deref-in-Call-4.ensures.value j)) (reverse activation.stack)) in
-    let x : Entering = record { function = c.unwrap-method.result.function; class = c.in_ok-class-in-Call.class; arguments = c.in_ok-passed-in-Call.field-0 } in
-    method_agrees p w store activation call c.instr_at.result.now (fetched o) (call_there o) c.classes-classes.ensures.sound pending others k owner own shared s task rest e calling x (ap (λ (h : MethodHandle). h.function) (sym same)) class values m given
+    let values = c.pass.ensures ∙ (λ j. passed_in (held j) (drop 2 (c.deref-in-Call-4.ensures.value j)) (reverse activation.stack)) in
+    let x : Entering = record { function = c.unwrap-method.result.function; class = c.unwrap-method.result.declarer; arguments = c.pass.new.values } in
+    method_agrees p w store activation call c.instr_at.result.now (fetched o) (call_there o) c.classes.ensures.sound pending others k owner own shared s task rest e calling x (ap (λ (h : MethodHandle). h.function) (sym same)) class values m given

@@ -29,10 +29,11 @@ returns-clause-pushes c activation is =
     record {
       entering = c.in_ok-entering-in-Some.entering;
       callers = c.push_reserved.new.self;
+      spare = c.method_called.new.spare;
       last =
           c.push_reserved.ensures.items
-          ∙ ap (λ (l : List Activation). l ++ caller ∷ []) c.in_ok-make_room.ensures.items
+          ∙ ap (λ (l : List Activation). l ++ caller ∷ []) c.method_called.ensures.items
           ∙ ap (λ (x : Activation). t.callers.items ++ x ∷ []) same;
-      pushed = ap (λ (o : Option Activation). let u : Thread = record t { entering = Some c.in_ok-entering-in-Some.entering; call = o; callers = c.push_reserved.new.self } in u) c.take.ensures.after;
-      called = subst (λ (x : Activation). IsCalled p w store x c.in_ok-entering-in-Some.entering) first c.in_ok-entering-in-Some.ensures;
+      pushed = ap (λ (o : Option Activation). let u : Thread = record t { entering = Some c.in_ok-entering-in-Some.entering; call = o; callers = c.push_reserved.new.self; spare_arguments = c.method_called.new.spare } in u) c.take.ensures.after;
+      called = subst (λ (x : Activation). IsCalled p w store x c.in_ok-entering-in-Some.entering) first c.in_ok-entering-in-Some.ensures.called;
     }
