@@ -92,14 +92,16 @@ fn repetition_of(bytes: &[u8]) -> Option<Repetition>
     }
 }
 
-/// The turn of the thread of this digit, a collection, or a slice.
+/// The turn of the thread of this digit, a collection, or a slice. Turns are tried first, as most words are.
 fn word_of(name: u8) -> Option<ScheduleWord>
     ensures { result ≡ named_word name }
 {
+    if name >= b'1' && name <= b'8' {
+        return Some(ScheduleWord::Turn(name - b'0'));
+    }
     match name {
         b'c' => Some(ScheduleWord::Collect),
         b's' => Some(ScheduleWord::Slice),
-        b'1'..=b'8' => Some(ScheduleWord::Turn(name - b'0')),
         _ => None,
     }
 }
