@@ -1,5 +1,5 @@
 -- Steps of one thread that are known not to wait, one after another.
-use Rattle.std.proofs.Common.{◌≡◌, ℕ, zero, suc, false, inl, arith, ◌+◌, ◌<◌, ◌≤◌, List, [], ◌∷◌, ◌++◌, replicate, Some, None, refl, sym, ap, subst}
+use Rattle.std.proofs.Common.{◌≡◌, ℕ, zero, suc, false, inl, arith, ◌+◌, ◌<◌, ◌≤◌, List, [], ◌∷◌, ◌++◌, replicate, Option, Some, None, refl, sym, ap, subst}
 use Rattle.std.specs.Prelude.{slice_get, slice_set}
 use Rattle.std.proofs.lemmas.Option.{slice_get_within}
 use Rattle.semantics.specs.declared.event.Ending.TheVariants.{Unfinished}
@@ -22,9 +22,10 @@ use Rattle.code_meaning.specs.Lowered.{Lowered}
 use Rattle.code_meaning.proofs.BufferLaws.{set_same}
 use Rattle.machine_answers.proofs.SetPlaces.{get_set_same}
 use Rattle.machine_scenes.specs.Buffers.{Acquired}
+use Rattle.machine_scenes.specs.declared.activation.Activation.{Activation}
 use Rattle.machine_scenes.specs.declared.store.Store.{Store}
 use Rattle.machine_threads.specs.declared.thread.Thread.{Thread}
-use Rattle.machine_steps.specs.Advances.{Stands}
+use Rattle.machine_steps.specs.Advances.{Stands, with_call}
 use Rattle.machine_steps.specs.Moved.{IsSilent}
 use Rattle.machine.specs.declared.turn.Turn.TheVariants as turn
 use Rattle.machine.specs.Run.{Run, CanGoOn, Corresponds, RunsAlong, WentOn, seen, stepped, slices_of}
@@ -37,6 +38,10 @@ set_twice : {A : Type 0} (xs : List A) (i : ℕ) (a b : A) → slice_set (slice_
 set_twice [] i a b = refl
 set_twice (x ∷ xs) zero a b = refl
 set_twice (x ∷ xs) (suc i) a b = ap (λ l. x ∷ l) (set_twice xs i a b)
+
+-- a thread with the call that it has is itself
+pub same_call : (t : Thread) (call : Activation) → t.call ≡ Some call → with_call call t ≡ t
+same_call t call is = ap (λ (o : Option Activation). let it : Thread = record t { call = o } in it) (sym is)
 
 module _ (p : Lowered) (w : World) (store : Store) (ts : List Thread) (index : ℕ) (printed : List Printed) (before : List Entry) (k : ℕ) (first : Thread) (h : CanGoOn p w store ts index printed before k first) where
   -- nothing was done yet

@@ -129,6 +129,16 @@ can_parts classes s k h = parts s.stop (is_live_thread (thread_at s k)) (is_bloc
     parts None false b h = absurd (false≢true h)
     parts (Some x) a b h = absurd (false≢true h)
 
+-- a thread that isn't at rest and doesn't wait can step
+pub can_awake : (classes : Classes) (s : State) (k : ℕ) → s.stop ≡ None → is_live_thread (thread_at s k) ≡ true → is_blocked classes s k ≡ false → can_step classes s k ≡ true
+can_awake classes s k running live free = all s.stop (is_live_thread (thread_at s k)) (is_blocked classes s k) running live free
+  where
+    all : (o : Option state.Stop) (a b : Bool) → o ≡ None → a ≡ true → b ≡ false → (is_none o && a && not b) ≡ true
+    all None true false e f g = refl
+    all None true true e f g = absurd (cc)
+    all None false b e f g = absurd (cc)
+    all (Some x) a b e f g = absurd (cc)
+
 pub none_held : (stopped unfinished : Bool) → turn_at_rest stopped unfinished ≡ None → (stopped ≡ false) × (unfinished ≡ true)
 none_held true unfinished h = absurd (cc)
 none_held false false h = absurd (cc)
@@ -260,6 +270,10 @@ module _ (p : Lowered) (world : World) (store : Store) (ts : List Thread) (print
 
   pub has_ended : stop ≡ None → (t.ending ≡ Unfinished → ⊥) → HasEnded c.state k
   has_ended goes ended = record { running = running goes; thread = the_thread.source; is = there; ended = ap is_unfinished the_thread.agrees.ending ∙ is_over t.ending ended }
+
+  -- that it isn't at rest, by the state
+  pub awake_here : stop ≡ None → t.ending ≡ Unfinished → (c.state.stop ≡ None) × (is_live_thread (thread_at c.state k) ≡ true)
+  awake_here goes live = (running goes, ap is_live_thread there ∙ ap is_unfinished (the_thread.agrees.ending ∙ ap ending_view live))
 
   -- what is asked of the entry
   fits_entry : (refused : Bool) (next : State) → sizes (drop (length c.state.shared.heap) next.shared.heap) ≤ left_of store.heap → turn_step (unit_tree p.unit) classes c.state k refused ≡ Some next → FitsUnmarked (unit_tree p.unit) world c.state (Step k refused)

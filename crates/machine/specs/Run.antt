@@ -30,11 +30,12 @@ use Rattle.semantics.specs.Reachable.{live_size, Reachable}
 use Rattle.semantics.specs.Run.{replay, made, Follows, MarkedAreFair, UnmarkedFit}
 use Rattle.semantics.specs.State.{State, copied, thread_at, views}
 use Rattle.semantics.specs.ThreadStep.{thread_step}
-use Rattle.semantics.specs.Step.{can_step, is_blocked, is_unfinished}
+use Rattle.semantics.specs.Step.{can_step, is_blocked, is_live, is_unfinished}
 use Rattle.semantics.specs.Thread.{Thread as SourceThread}
 use Rattle.semantics_safety.specs.Owners.{owners_after}
 use Rattle.semantics_safety.specs.StepSafe.{IsSafe}
 use Rattle.semantics_typing.specs.Law.{RunsTyped}
+use Rattle.code.specs.Depth.{Listing}
 use Rattle.code_meaning.specs.Lowered.{Lowered, IsLowered}
 use Rattle.machine_threads.specs.declared.thread.Thread.{Thread}
 use Rattle.semantics.specs.declared.event.Ending.TheVariants.{Unfinished}
@@ -50,6 +51,7 @@ use Rattle.machine.specs.declared.turn.Turn.{Turn as Answer}
 use Rattle.machine.specs.declared.turn.Turn.TheVariants as turn
 use Rattle.machine.specs.Writing.{Writing}
 use Rattle.semantics.specs.declared.event.Stop.{Stop}
+use Rattle.machine_scenes.specs.declared.activation.Activation.{Activation}
 use Rattle.machine_scenes.specs.declared.store.Store.{Store}
 use Rattle.machine_scenes.specs.Buffers.{Acquired}
 use Rattle.machine_scenes.specs.StoreAgrees.{StoreAgrees}
@@ -250,6 +252,10 @@ refused r k = record r { journal = r.journal ++ refused_entry_of k ∷ [] }
 abbrev pub CouldStep : Run → ℕ → Type 0
 CouldStep r k = (steps_in r.journal < most_entries) × InState r (λ s. can_turn r s k ≡ true)
 
+-- thread k has not ended, no trap has stopped the machine, and the journal has room for a step: it can step where it doesn't wait
+abbrev pub IsReady : Run → ℕ → Type 0
+IsReady r k = (steps_in r.journal < most_entries) × InState r (λ s. (s.stop ≡ None) × (is_live (thread_at s k) ≡ true))
+
 -- the turn that was this step
 abbrev pub turn_after : Advanced → Answer
 turn_after (advanced.Did e) = turn.Stepped
@@ -419,6 +425,13 @@ pub record CanGoOn (p : Lowered) (w : World) (store : Store) (threads : List Thr
   pub number : k ≡ suc index
   pub at : slice_get threads index ≡ Some thread
   pub lives : thread.ending ≡ Unfinished
+
+-- and this call of it is in progress, in a function of this code
+pub record CanGoOnIn (p : Lowered) (w : World) (store : Store) (threads : List Thread) (index : ℕ) (printed : List Printed)
+    (journal : List Entry) (k : ℕ) (thread : Thread) (code : Listing) (call : Activation) : Type 0 where
+  pub goes_on : CanGoOn p w store threads index printed journal k thread
+  pub in_progress : thread.call ≡ Some call
+  pub of_function : slice_get p.codes call.function ≡ Some code
 
 -- it took so many turns, each with a step that changed no other thread, nor the store, and printed nothing
 pub record WentOn (p : Lowered) (w : World) (store : Store) (threads : List Thread) (index : ℕ) (printed : List Printed)

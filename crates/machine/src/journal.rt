@@ -1,6 +1,6 @@
 //! The journal of a machine.
 
-ghost use Rattle.std.specs.Prelude.{◌≡◌, ℕ, ◌+◌, ◌<◌, ◌≤◌, [], ◌∷◌, ◌++◌, length, nat_le, OnOk};
+ghost use Rattle.std.specs.Prelude.{◌≡◌, ℕ, ◌+◌, ◌-◌, ◌<◌, ◌≤◌, [], ◌∷◌, ◌++◌, length, nat_le, OnOk};
 ghost use Rattle.base.specs.Limits.{most_entries};
 ghost use Rattle.semantics.specs.Journal.{Step, steps_in};
 ghost use Rattle.semantics.specs.Views.{names_of};
@@ -34,6 +34,17 @@ fn note_of_step(thread: u8, refused: bool) -> Note
     } else {
         Note::Step { thread }
     }
+}
+
+/// For how many steps a journal of so many notes, and of so many clearings among them, has room and memory, where that is more
+/// memory than steps take. It stands apart, since most journals have less.
+#[inline(never)]
+fn room_left(capacity: usize, notes: usize, clearings: usize) -> usize
+    ensures memory { result ≤ capacity - notes }
+    ensures room { result ≤ most_entries + clearings - notes }
+{
+    let room = capacity.min(MOST_ENTRIES.saturating_add(clearings));
+    room.saturating_sub(notes)
 }
 
 /// What a machine did, seen as its entries, and as the numbers of further ones for which it has memory.
@@ -118,12 +129,14 @@ impl Journal {
         ensures room { 0 < result → steps_in self.now.entries + result ≤ most_entries }
         ensures memory { result ≤ self.now.room }
     {
-        let room = self
-            .notes
-            .capacity()
-            .min(MOST_ENTRIES.saturating_add(self.cleared.len()));
-        let left = room.saturating_sub(self.notes.len());
-        most.min(left as u32)
+        let notes = self.notes.len();
+        let capacity = self.notes.capacity();
+        if capacity <= MOST_ENTRIES {
+            let left = capacity - notes;
+            return most.min(left as u32);
+        }
+        let room = room_left(capacity, notes, self.cleared.len());
+        most.min(room as u32)
     }
 
     /// Takes memory for a step, where there is none yet.

@@ -17,25 +17,28 @@ ghost use Rattle.semantics.specs.Views.{names_of};
 ghost use Rattle.semantics.specs.Thread.{Shared, Thread as SourceThread};
 ghost use Rattle.semantics.specs.World.{World as SourceWorld, loaded_objects};
 ghost use Rattle.semantics_safety.specs.Owners.{Owners};
-ghost use Rattle.code_meaning.specs.Lowered.{IsLowered};
+ghost use Rattle.code_meaning.specs.Lowered.{IsLowered, Lowered};
 ghost use Rattle.machine_scenes.specs.Layouts.{laid_from};
 ghost use Rattle.machine_scenes.specs.StoreAgrees.{StoreAgrees};
+ghost use Rattle.machine_steps.specs.Advances.{with_call};
 ghost use Rattle.machine_steps.specs.Executes.{IsSteady};
 ghost use Rattle.machine_threads.specs.Loading.{IsLoadFault};
 ghost use Rattle.machine_threads.specs.ThreadAgrees.{ThreadAgrees};
 ghost use Rattle.semantics.specs.Journal.{Step, steps_in};
-ghost use Rattle.machine.specs.Run.{replay_of, AdvancesAndNotes, CanAdvance, CanGoOn, WentOn, CollectionsHaveOneOutcome, Corresponds, EndsAt, IsCollected, IsOrderly, IsSliced, IsUnstarted, CouldStep, TurnHolds, RunsAlong, RunsInto, PrintedBy, IsFinished, AllRest, Waits, ReportsRun, AreShown, ShowsObjects, ShowsStandings, GivesNoStep, LacksRoom, StoppedBy, cells_left, event_of, is_refused, turn_after, turn_at_rest};
+ghost use Rattle.machine.specs.Run.{replay_of, AdvancesAndNotes, CanAdvance, CanGoOn, CanGoOnIn, IsReady, WentOn, CollectionsHaveOneOutcome, Corresponds, EndsAt, IsCollected, IsOrderly, IsSliced, IsUnstarted, CouldStep, TurnHolds, RunsAlong, RunsInto, PrintedBy, IsFinished, AllRest, Waits, ReportsRun, AreShown, ShowsObjects, ShowsStandings, GivesNoStep, LacksRoom, StoppedBy, cells_left, event_of, is_refused, turn_after, turn_at_rest};
 
 use crate::fault::{ReportFault, RunFault};
 use crate::journal::Journal;
 use crate::rows::{NamedBlocks, named_blocks};
 use crate::turn::Turn;
 use arrayvec::ArrayVec;
+use code::code::Code;
 use code_meaning::Program;
 use compact::SLICE;
 use machine_collections::collecting::collect_blocks;
 use machine_collections::roots::{gather, push_viewed, root_names};
 use machine_collections::slicing::slice_blocks;
+use machine_scenes::activation::Activation;
 use machine_scenes::store::Store;
 use machine_steps::advance::{Advanced, advance, advance_plainly};
 use machine_steps::fault::StepFault;
@@ -264,9 +267,41 @@ impl<'a> Machine<'a> {
         ensures err { OnErr result ((self.new ≡ self.old) × CouldStep self.old k) }
         ensures runs { IsSome (replay_of self.new) }
     {
+        // Here the proof takes up the machine's invariant.
+        let _ = &self.world;
         if let Some(turn) = self.turn_without_step(k) {
             return Ok(turn);
         }
+        self.step_now(k)
+    }
+
+    /// The same of a thread that isn't at rest, where the journal isn't full: a trap hasn't stopped the machine, and the thread
+    /// hasn't ended.
+    #[inline(always)]
+    fn step_ready(&mut self, k: u8) -> Result<Turn, AllocError>
+        requires counted { 0 < k }
+        requires is_thread { k ≤ length self.old.world.threads }
+        requires ready { IsReady self.old k }
+        ensures turn { IfOk result (TurnHolds self.old k self.new) }
+        ensures err { OnErr result ((self.new ≡ self.old) × CouldStep self.old k) }
+        ensures runs { IsSome (replay_of self.new) }
+    {
+        if self.waits(k) {
+            return Ok(Turn::Blocked(self.finished()));
+        }
+        self.step_now(k)
+    }
+
+    /// The step of thread `k`, which can take one.
+    #[inline(always)]
+    fn step_now(&mut self, k: u8) -> Result<Turn, AllocError>
+        requires counted { 0 < k }
+        requires is_thread { k ≤ length self.old.world.threads }
+        requires could { CouldStep self.old k }
+        ensures turn { IfOk result (TurnHolds self.old k self.new) }
+        ensures err { OnErr result ((self.new ≡ self.old) × CouldStep self.old k) }
+        ensures runs { IsSome (replay_of self.new) }
+    {
         make_room(&mut self.printed, &mut self.journal)?;
         let advanced = advance_or_collect(
             self.alloc,
@@ -297,7 +332,8 @@ impl<'a> Machine<'a> {
         k > 0 && usize::from(k) <= self.threads.len()
     }
 
-    /// Lets thread `k` take a turn of a schedule.
+    /// Lets thread `k` take a turn of a schedule. It stands apart, since few turns are taken so.
+    #[inline(never)]
     fn take_turn(&mut self, k: u8) -> Result<(), RunFault>
         requires counted { 0 < k }
         requires is_thread { k ≤ length self.old.world.threads }
@@ -309,6 +345,20 @@ impl<'a> Machine<'a> {
             Turn::Full => Err(RunFault::Full),
             _ => Ok(()),
         }
+    }
+
+    /// The same of a thread that isn't at rest, where the journal isn't full.
+    #[inline(always)]
+    fn take_ready(&mut self, k: u8) -> Result<(), RunFault>
+        requires counted { 0 < k }
+        requires is_thread { k ≤ length self.old.world.threads }
+        requires ready { IsReady self.old k }
+        ensures ok { OnOk result (RunsAlong self.old self.new (ScheduleWord.Turn k ∷ [])) }
+        ensures err { IfErr result (λ fault. (self.new ≡ self.old) × EndsAt self.old fault (ScheduleWord.Turn k)) }
+        ensures runs { IsSome (replay_of self.new) }
+    {
+        self.step_ready(k)?;
+        Ok(())
     }
 
     /// Takes the word for a collection this many times.
@@ -355,7 +405,13 @@ impl<'a> Machine<'a> {
         }
         let mut left = times;
         while left > 0 {
-            left -= self.run_plainly(k, left);
+            let ran = self.run_plainly(k, left);
+            left -= ran.taken;
+            if ran.ready {
+                self.take_ready(k)?;
+                left -= 1;
+                continue;
+            }
             if left == 0 {
                 return Ok(());
             }
@@ -378,21 +434,26 @@ impl<'a> Machine<'a> {
         }
     }
 
-    /// Lets thread `k` take steps one after another, no more than this many, and answers how many it took.
+    /// Lets thread `k` take steps one after another, no more than this many, and answers how many it took, and whether it goes on
+    /// with an instruction of another kind.
     /// They go on as long as its next instruction works on the stack and the number slots alone, or reads beside them whether
     /// a variable is NULL or an element of a buffer, and the journal has memory for its entry.
     #[inline(always)]
-    fn run_plainly(&mut self, k: u8, most: u32) -> u32
+    fn run_plainly(&mut self, k: u8, most: u32) -> Ran
         requires counted { 0 < k }
         requires is_thread { k ≤ length self.old.world.threads }
-        ensures most { result ≤ most }
-        ensures along { RunsAlong self.old self.new (replicate result (ScheduleWord.Turn k)) }
+        ensures most { result.taken ≤ most }
+        ensures along { RunsAlong self.old self.new (replicate result.taken (ScheduleWord.Turn k)) }
+        ensures ready { result.ready ≡ true → (result.taken < most) × IsReady self.new k }
         ensures runs { IsSome (replay_of self.new) }
     {
         let index = usize::from(k) - 1;
         let thread = &mut self.threads[index];
         if turn_at_rest(&self.stop, thread).is_some() {
-            return 0;
+            return Ran {
+                taken: 0,
+                ready: false,
+            };
         }
         let most = self.journal.most_steps(most);
         take_plainly(
@@ -572,6 +633,14 @@ fn turn_at_rest(stop: &Option<Stop>, thread: &Thread) -> Option<Turn>
     }
 }
 
+/// How many steps a thread took one after another, and whether it is at an instruction of another kind then, with room for
+/// another step.
+#[derive(Clone, Copy)]
+struct Ran {
+    taken: u32,
+    ready: bool,
+}
+
 /// Takes steps of a thread as long as its next instruction works on the stack and the number slots alone, or reads beside
 /// them whether a variable is NULL or an element of a buffer.
 /// It is thread `k`, has not ended, and is of a machine that no trap has stopped. It takes this many at most, for which
@@ -585,21 +654,60 @@ fn take_plainly(
     journal: &mut Journal,
     k: u8,
     most: u32,
-) -> u32
+) -> Ran
     requires stands { (w : SourceWorld) × (threads : List Thread) × (index : ℕ) × (printed : List Printed)
         × CanGoOn program.now w store.now threads index printed journal.old.entries k thread.old }
     requires goes { stop.old ≡ None }
     requires room { 0 < most → steps_in journal.old.entries + most ≤ most_entries }
     requires memory { most ≤ journal.old.room }
-    ensures most { result ≤ most }
+    ensures most { result.taken ≤ most }
     ensures went { (w : SourceWorld) (threads : List Thread) (index : ℕ) (printed : List Printed)
         → CanGoOn program.now w store.now threads index printed journal.old.entries k thread.old
-        → WentOn program.now w store.now threads index printed journal.old.entries k result thread.new stop.new
+        → WentOn program.now w store.now threads index printed journal.old.entries k result.taken thread.new stop.new
         journal.new.entries }
+    ensures ready { result.ready ≡ true → (result.taken < most) × (stop.new ≡ None) × (thread.new.ending ≡ thread.old.ending)
+        × (steps_in journal.new.entries < most_entries) }
+{
+    match &mut thread.call {
+        None => Ran {
+            taken: 0,
+            ready: false,
+        },
+        Some(activation) => {
+            let code = program.code_at(activation.function);
+            take_in_code(code, store, activation, stop, journal, k, most)
+        }
+    }
+}
+
+/// The same of the call in progress of the thread, whose function has this code: none of these steps enters a call or leaves
+/// one, so the code is fetched once for all of them.
+#[inline(always)]
+fn take_in_code(
+    code: &Code,
+    store: &Store,
+    activation: &mut Activation,
+    stop: &mut Option<Stop>,
+    journal: &mut Journal,
+    k: u8,
+    most: u32,
+) -> Ran
+    requires stands { (p : Lowered) × (w : SourceWorld) × (threads : List Thread) × (index : ℕ) × (printed : List Printed)
+        × (thread : Thread) × CanGoOnIn p w store.now threads index printed journal.old.entries k thread code.now activation.old }
+    requires goes { stop.old ≡ None }
+    requires room { 0 < most → steps_in journal.old.entries + most ≤ most_entries }
+    requires memory { most ≤ journal.old.room }
+    ensures most { result.taken ≤ most }
+    ensures went { (p : Lowered) (w : SourceWorld) (threads : List Thread) (index : ℕ) (printed : List Printed)
+        (thread : Thread)
+        → CanGoOnIn p w store.now threads index printed journal.old.entries k thread code.now activation.old
+        → WentOn p w store.now threads index printed journal.old.entries k result.taken (with_call activation.new thread) stop.new
+        journal.new.entries }
+    ensures ready { result.ready ≡ true → (result.taken < most) × (stop.new ≡ None) × (steps_in journal.new.entries < most_entries) }
 {
     for taken in 0..most {
-        match advance_plainly(program, store, thread) {
-            None => return taken,
+        match advance_plainly(code, store, activation) {
+            None => return Ran { taken, ready: true },
             Some(Event::Quiet) => journal.push_step(k, false),
             Some(Event::Trapped { trap, line }) => {
                 journal.push_step(k, false);
@@ -608,12 +716,18 @@ fn take_plainly(
                     trap,
                     line,
                 });
-                return taken + 1;
+                return Ran {
+                    taken: taken + 1,
+                    ready: false,
+                };
             }
             Some(Event::Printed(_)) => unreachable!(),
         }
     }
-    most
+    Ran {
+        taken: most,
+        ready: false,
+    }
 }
 
 /// Makes room for a number and an entry more.

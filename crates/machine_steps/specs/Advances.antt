@@ -1,5 +1,5 @@
 -- What a step of a thread is.
-use Rattle.std.specs.Prelude.{◌≡◌, ℕ, Bool, true, false, List, [], ◌∷◌, length, Option, Some, None}
+use Rattle.std.specs.Prelude.{◌≡◌, ℕ, Bool, true, false, List, [], ◌∷◌, length, slice_get, Option, Some, None}
 use Rattle.class_rules.specs.ClassIds.{class_id}
 use Rattle.heap.specs.Heap.{left_of}
 use Rattle.syntax.specs.Views.{unit_tree}
@@ -8,7 +8,8 @@ use Rattle.semantics_safety.specs.Owners.{ThreadOwners, after_advance}
 use Rattle.semantics.specs.Thread as source
 use Rattle.semantics.specs.Thread.{Shared}
 use Rattle.semantics.specs.ThreadStep.{thread_step, waits}
-use Rattle.code_meaning.specs.Lowered.{Lowered}
+use Rattle.code.specs.Depth.{Listing}
+use Rattle.code_meaning.specs.Lowered.{Lowered, IsLowered}
 use Rattle.semantics.specs.declared.event.Ending.{Ending}
 use Rattle.semantics.specs.declared.event.Ending.TheVariants.{Ended, Uncaught, Unfinished}
 use Rattle.semantics.specs.declared.event.Event.{Event}
@@ -17,6 +18,7 @@ use Rattle.machine_steps.specs.declared.advance.Advanced.{Advanced}
 use Rattle.machine_steps.specs.declared.advance.Advanced.TheVariants as advanced
 use Rattle.machine_threads.specs.declared.thread.Thread.{Thread}
 use Rattle.machine_threads.specs.declared.thread.PendingCall.{PendingCall}
+use Rattle.machine_scenes.specs.declared.activation.Activation.{Activation}
 use Rattle.machine_scenes.specs.declared.store.Store.{Store}
 use Rattle.monitors.specs.Monitors.{kept_from, monitor_of, without_owner}
 use Rattle.machine_scenes.specs.Buffers.{Acquired, KeepsCopies, acquired_by, beside}
@@ -36,6 +38,18 @@ Stands p w store others k own shared s t =
     StoreAgrees p w store shared (beside (beside_callers others s) (acquired_by s))
     × ThreadAgrees p w.classes store.heap store.elements (length (loaded_objects w)) k own shared t s
     × IsSteady (unit_tree p.unit) w.classes own.current shared s
+
+-- the same of a thread of which this call is in progress, in a function of this code
+pub record StandsInCode (p : Lowered) (w : World) (store : Store) (others : Acquired) (k : ℕ) (own : ThreadOwners)
+    (shared : Shared) (s : source.Thread) (t : Thread) (code : Listing) (call : Activation) : Type 0 where
+  pub lowered : IsLowered p
+  pub stands : Stands p w store others k own shared s t
+  pub in_progress : t.call ≡ Some call
+  pub of_function : slice_get p.codes call.function ≡ Some code
+
+-- the thread with this call in progress
+abbrev pub with_call : Activation → Thread → Thread
+with_call call t = record t { call = Some call }
 
 -- Thread k took the step that the source's thread takes, or the same with its allocation refused, where too few cells were left. The
 -- buffers of the other threads, which take this, are as they were, and so are the copies of all other calls.

@@ -7,9 +7,9 @@ ghost use Rattle.semantics.specs.Thread.{Shared, Thread as SourceThread};
 ghost use Rattle.semantics.specs.ThreadStep.{waits};
 ghost use Rattle.semantics.specs.World.{World as SourceWorld};
 ghost use Rattle.semantics_safety.specs.Owners.{ThreadOwners};
-ghost use Rattle.code_meaning.specs.Lowered.{IsLowered};
+ghost use Rattle.code_meaning.specs.Lowered.{IsLowered, Lowered};
 ghost use Rattle.machine_scenes.specs.Buffers.{Acquired};
-ghost use Rattle.machine_steps.specs.Advances.{Advances, AdvancesAlways, IsHinderedAlways, LeavesMonitors, Stands, StandsReady, calls_after, ending_after, ends_with};
+ghost use Rattle.machine_steps.specs.Advances.{Advances, AdvancesAlways, IsHinderedAlways, LeavesMonitors, StandsInCode, StandsReady, calls_after, ending_after, ends_with, with_call};
 ghost use Rattle.machine_threads.specs.Callers.{owner_at};
 ghost use Rattle.machine_steps.specs.Moved.{IsSilent};
 ghost use Rattle.machine_steps.specs.Resumed.{HasCalled, Resumes};
@@ -22,6 +22,7 @@ use crate::execute::{Executed, ReturnValue, execute, run_plain, test_null};
 use crate::fault::StepFault;
 use crate::push::push;
 use crate::receive::receive;
+use code::code::Code;
 use code::instr::Instr;
 use code_meaning::Program;
 use heap::{Addr, Heap};
@@ -114,47 +115,40 @@ fn owner_at(thread: u8, below: usize) -> u16
     thread as u16 + 8 * below as u16
 }
 
-/// Takes one step of a thread, if its next instruction works on the stack and the number slots alone, or reads beside them
-/// whether a variable is NULL, or an element of a buffer.
+/// Takes one step of a call in progress, whose function has this code, if its next instruction works on the stack and the
+/// number slots alone, or reads beside them whether a variable is NULL, or an element of a buffer.
 /// It answers what is seen of it. None leaves all as it was. It takes no host memory.
 #[inline(always)]
-pub fn advance_plainly(program: &Program<'_>, store: &Store, thread: &mut Thread) -> Option<Event>
-    requires lowered { IsLowered program.now }
-    requires stands { (w : SourceWorld) × (others : Acquired) × (k : ℕ) × (own : ThreadOwners) × (shared : Shared)
-        × (s : SourceThread) × Stands program.now w store.now others k own shared s thread.old }
-    ensures advances { IfSome result (λ event. (w : SourceWorld) (others : Acquired) (k : ℕ) (own : ThreadOwners)
-        (shared : Shared) (s : SourceThread) → Stands program.now w store.now others k own shared s thread.old
+pub fn advance_plainly(code: &Code, store: &Store, activation: &mut Activation) -> Option<Event>
+    requires stands { (p : Lowered) × (w : SourceWorld) × (others : Acquired) × (k : ℕ) × (own : ThreadOwners)
+        × (shared : Shared) × (s : SourceThread) × (t : Thread)
+        × StandsInCode p w store.now others k own shared s t code.now activation.old }
+    ensures advances { IfSome result (λ event. (p : Lowered) (w : SourceWorld) (others : Acquired) (k : ℕ)
+        (own : ThreadOwners) (shared : Shared) (s : SourceThread) (t : Thread)
+        → StandsInCode p w store.now others k own shared s t code.now activation.old
         → (waits w.classes k shared s ≡ false)
-        × Advances program.now w store.now store.now others k own shared s thread.new false event) }
+        × Advances p w store.now store.now others k own shared s (with_call activation.new t) false event) }
     ensures silent { IfSome result IsSilent }
-    ensures none { IfNone result (thread.new ≡ thread.old) }
-    ensures ending { thread.new.ending ≡ thread.old.ending }
+    ensures none { IfNone result (activation.new ≡ activation.old) }
+    ensures function { activation.new.function ≡ activation.old.function }
 {
     // The proof reads off this call that no object has as many elements as a `jint` can say.
     let _ = store.heap.cells();
-    match &mut thread.call {
-        None => None,
-        Some(activation) => {
-            let code = program.code_at(activation.function);
-            let instr = code.instr_at(activation.place);
-            match instr {
-                Instr::TestNull { variable, equal } => {
-                    test_null(store, activation, *variable, *equal);
-                    Some(Event::Quiet)
-                }
-                Instr::LoadBuffer { slot, line } => {
-                    Some(load_element(store, activation, *slot, *line))
-                }
-                Instr::StoreNull(_)
-                | Instr::StoreBuffer { .. }
-                | Instr::PutJint
-                | Instr::Call(_)
-                | Instr::Return
-                | Instr::ReturnJint
-                | Instr::ReturnReference(_) => None,
-                _ => Some(run_plain(instr, activation)),
-            }
+    let instr = code.instr_at(activation.place);
+    match instr {
+        Instr::TestNull { variable, equal } => {
+            test_null(store, activation, *variable, *equal);
+            Some(Event::Quiet)
         }
+        Instr::LoadBuffer { slot, line } => Some(load_element(store, activation, *slot, *line)),
+        Instr::StoreNull(_)
+        | Instr::StoreBuffer { .. }
+        | Instr::PutJint
+        | Instr::Call(_)
+        | Instr::Return
+        | Instr::ReturnJint
+        | Instr::ReturnReference(_) => None,
+        _ => Some(run_plain(instr, activation)),
     }
 }
 

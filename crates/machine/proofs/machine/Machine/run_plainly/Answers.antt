@@ -1,13 +1,15 @@
-use Rattle.std.proofs.Common.{◌≡◌, suc, ◌-◌, true, false, Option, Some, None, [], replicate, refl, sym, ◌∙◌, subst, IsSome}
+use Rattle.std.proofs.Common.{◌≡◌, suc, ◌-◌, true, false, Option, Some, None, [], replicate, refl, sym, ◌∙◌, subst, arith, IsSome}
 use Rattle.std.specs.Prelude.{slice_get, is_some}
 use Rattle.semantics.specs.declared.schedule.ScheduleWord.TheVariants.{Turn as Word}
 use Rattle.semantics.specs.EventViews.{ending_view}
 use Rattle.semantics.specs.Step.{is_unfinished}
+use Rattle.std.proofs.lemmas.Option.{slice_get_within}
+use Rattle.machine_answers.proofs.SetPlaces.{get_set_same}
 use Rattle.machine.specs.declared.turn.Turn.{Turn}
 use Rattle.semantics.specs.declared.event.Stop.{Stop}
 use Rattle.machine.specs.Run.{CanGoOn, Corresponds, Run, RunsAlong, WentOn, replay_of, seen}
 use Rattle.machine.proofs.Runs.{none_yet}
-use Rattle.machine.proofs.Steps.{counted_from, is_live, none_held, not_stopped, thread_there, threads_of}
+use Rattle.machine.proofs.Steps.{awake_here, counted_from, is_live, none_held, not_stopped, thread_there, threads_of}
 use Rattle.machine.proofs.machine.Machine.run_plainly.Goals as goal
 use Rattle.machine.proofs.machine.Machine.run_plainly.Goals.{After-index_mut-thread, After-is_some, After-take_plainly}
 
@@ -53,7 +55,7 @@ pub take_plainly-requires-clause-goes : goal.take_plainly-requires-clause-goes
 take_plainly-requires-clause-goes c = not_stopped c.self.inside.stop (free (goal.at.take_plainly-requires-clause-goes c).After-is_some (sym c.is_some.ensures ∙ c.if-is_some.false)).0
 
 -- what it came to
-went : (c : After-take_plainly) → WentOn c.self.inside.program c.self.inside.world c.self.inside.store c.self.inside.threads.items (c.from-index.result - 1) c.self.inside.printed.items c.self.inside.journal.entries c.args.k c.take_plainly.result c.take_plainly.new.thread c.take_plainly.new.stop c.take_plainly.new.journal.entries
+went : (c : After-take_plainly) → WentOn c.self.inside.program c.self.inside.world c.self.inside.store c.self.inside.threads.items (c.from-index.result - 1) c.self.inside.printed.items c.self.inside.journal.entries c.args.k c.take_plainly.result.taken c.take_plainly.new.thread c.take_plainly.new.stop c.take_plainly.new.journal.entries
 went c =
     let i = c.self.inside in
     c.take_plainly.ensures.went i.world i.threads.items (c.from-index.result - 1) i.printed.items (can_go_on (goal.at.After-take_plainly c).After-is_some (sym c.is_some.ensures ∙ c.if-is_some.false))
@@ -63,7 +65,27 @@ invariant_of-self-2 c = (went (goal.at.invariant_of-self-2 c).After-take_plainly
 
 pub returns-clause-along : goal.returns-clause-along
 returns-clause-along c =
-    subst (λ (r : Run). RunsAlong r (seen c.self.inside.program c.self.inside.world c.self.inside.store c.take_plainly.new.journal.entries) (replicate c.take_plainly.result (Word c.args.k))) c.self.view_is (went (goal.at.returns-clause-along c).After-take_plainly).along
+    subst (λ (r : Run). RunsAlong r (seen c.self.inside.program c.self.inside.world c.self.inside.store c.take_plainly.new.journal.entries) (replicate c.take_plainly.result.taken (Word c.args.k))) c.self.view_is (went (goal.at.returns-clause-along c).After-take_plainly).along
+
+pub returns-clause-ready : goal.returns-clause-ready
+returns-clause-ready c is =
+    let a = (goal.at.returns-clause-ready c).After-take_plainly in
+    let at = (goal.at.After-take_plainly a).After-is_some in
+    let t = (goal.at.After-is_some at).After-index_mut-thread in
+    let w = went a in
+    let h = c.take_plainly.ensures.ready is in
+    let lives = is_live c.index_mut-thread.result.now.ending (free at (sym c.is_some.ensures ∙ c.if-is_some.false)).1 in (
+      omega (arith, h.0, c.most_steps-most.ensures.most),
+      (
+        h.3,
+        (
+          w.stands.state,
+          w.stands.replays,
+          awake_here _ _ _ _ _ _ _ w.stands c.args.k (c.from-index.result - 1) c.take_plainly.new.thread (number t)
+              (get_set_same c.self.inside.threads.items (c.from-index.result - 1) c.take_plainly.new.thread (slice_get_within c.self.inside.threads.items (c.from-index.result - 1) c.index_mut-thread.result.now (there t))) h.1 (h.2 ∙ lives),
+        ),
+      ),
+    )
 
 pub returns-clause-runs : goal.returns-clause-runs
 returns-clause-runs c = rw (went (goal.at.returns-clause-runs c).After-take_plainly).stands.replays refl
