@@ -19,7 +19,7 @@ pub begin_again-requires-clause-few : goal.begin_again-requires-clause-few
 begin_again-requires-clause-few c = c.requires.few
 
 pub returns-else-not-serves-clause-begins : goal.returns-else-not-serves-clause-begins
-returns-else-not-serves-clause-begins c yes = (
+returns-else-not-serves-clause-begins c h = (
   c.begin_again.new.ended,
   refl,
   record { code = c.code_at-code.result.now; of_function = c.code_at-code.ensures.code; begins = c.begin_again.ensures },

@@ -1,8 +1,7 @@
 use Rattle.std.proofs.Common.{◌≡◌, ◌≤◌, List, Option, Some, refl, sym, ap, ◌∙◌, subst, arith}
-use Rattle.std.specs.Prelude.{slice_get, reverse, drop}
+use Rattle.std.specs.Prelude.{reverse, drop}
 use Rattle.std.specs.Option.{IsSome}
 use Rattle.std.proofs.lemmas.Option.{slice_get_within}
-use Rattle.class_rules.specs.Class.{Classes}
 use Rattle.code.specs.Call.{Call, call_view}
 use Rattle.code.specs.declared.instr.Instr.TheVariants as instr
 use Rattle.code.specs.declared.instr.Operand.{Operand}
@@ -13,10 +12,7 @@ use Rattle.machine_scenes.specs.Statics.{References, all_held}
 use Rattle.machine_scenes.specs.declared.handle.Handle.{Handle}
 use Rattle.machine_scenes.specs.declared.handle.MethodHandle.{MethodHandle}
 use Rattle.machine_threads.specs.declared.thread.Entering.{Entering}
-use Rattle.semantics.specs.Activation.{class_of_function}
-use Rattle.syntax.specs.Tree.{FunctionItem}
-use Rattle.syntax.specs.Views.{unit_tree}
-use Rattle.machine_steps.proofs.CalledMethods.{callable, calls_it, function_there, instr_there, method_agrees, the_method}
+use Rattle.machine_steps.proofs.CalledMethods.{calls_it, function_there, instr_there, method_agrees, the_method}
 use Rattle.machine_steps.proofs.Fetched.{Fetched}
 use Rattle.machine_steps.proofs.push.method_called.Goals as goal
 use Rattle.machine_steps.proofs.push.method_called.Goals.{After-call-call}
