@@ -2,7 +2,7 @@
 use Rattle.jni.specs.Access.{Access}
 use Rattle.jni.specs.JniFunction.{JniFunction, GetBuffer, ReleaseBuffer, DeleteLocalRef, PopLocalFrame}
 
--- the functions that the rules on ways know apart
+-- the functions that the rules on paths know apart
 pub data StateEffect : Type 0 where
   Gets Releases : Access → StateEffect
   Deletes Pops Other : StateEffect

@@ -58,7 +58,7 @@ abbrev pub print_effect : Value → Effect
 print_effect (Int z) = Prints z
 print_effect v = NoEffect
 
--- the way that an `if` takes, and then its end
+-- the branch that an `if` takes, and then its end
 abbrev pub branch_effect : Block → Block → Value → Effect
 branch_effect then' else' (Truth true) = Becomes (tasks_of then' ++ EndIf ∷ [])
 branch_effect then' else' (Truth false) = Becomes (tasks_of else' ++ EndIf ∷ [])

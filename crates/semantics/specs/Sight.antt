@@ -1,4 +1,4 @@
--- What the expressions and calls of a thread can see of its variables, the statics and the heap.
+-- A view of the environment: what the expressions and calls of a thread can see of its variables, the statics and the heap.
 use Rattle.std.specs.Prelude.{ℕ, Bool, true, false, ℤ, List, slice_get, is_none, Option, Some, None}
 use Rattle.base.specs.Bytes.{Identifier, lookup}
 use Rattle.class_rules.specs.Fields.{FieldId}
@@ -7,7 +7,7 @@ use Rattle.semantics.specs.Method.{MethodId}
 use Rattle.semantics.specs.Value.{Value, Outcome, Gives, Traps, Stuck, OutOfRange, outcome_then}
 use Rattle.semantics.specs.Variable.{Variable, Scalar, LocalRef, FieldHandle, MethodHandle, Elements, LocalArray, NoBuffer, Copy, View, StaticReference, Empty, Variables, Statics, as_static, as_argument}
 
--- answers about a name, each where the name is of that sort
+-- answers about a name, each where the name is of that kind
 pub record Sight : Type 0 where
   -- the value of a number variable
   pub number : Identifier → Outcome Value

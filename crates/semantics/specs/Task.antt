@@ -21,7 +21,7 @@ pub data Target : Type 0 where
   Tested : (then' else' : Block) → Target
   Dropped : Target
 
--- an argument of a call: a number on the way to its value, one that is looked up in the call's own step, or the bare name of
+-- an argument of a call: a number whose value is being reckoned, one that is looked up in the call's own step, or the bare name of
 -- either kind that a method is given
 pub data Operand : Type 0 where
   NumberOperand : Term → Operand
@@ -84,7 +84,7 @@ abbrev pub right_side_task : ℕ → Target → Identifier → RightSide → Tas
 right_side_task line target x (FromExpr e) = set_task line target x e
 right_side_task line target x (FromCall call) = call_task line target call
 
--- an `if`, with its two ways
+-- an `if`, with its two branches
 abbrev pub if_task : ℕ → Test → Block → Block → Task
 if_task line (TestExpr e) then' else' = Branch line (term_of e) then' else'
 if_task line (TestCall call) then' else' = call_task line (Tested then' else') call

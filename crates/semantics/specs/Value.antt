@@ -6,7 +6,7 @@ use Rattle.std.specs.Bool.{beq}
 use Rattle.base.specs.Element.{ElementType, JInt, JShort, JByte, JChar}
 use Rattle.syntax.specs.Tree.{PrefixOp, LogicalNot, Complement, ToWord, ToInt, BinaryOp, LogicalOr, LogicalAnd, BitOr, BitXor, BitAnd, Equal, NotEqual, Less, LessEqual, Greater, GreaterEqual, ShiftLeft, ShiftRight, Add, Subtract, Multiply, Divide, Remainder}
 
--- a number or a truth, with its sort: `uint32_t`, `jint`, `jboolean`, or what a comparison gives; each in its range
+-- a number or a truth, with its type: `uint32_t`, `jint`, `jboolean`, or what a comparison gives; each in its range
 pub data Value : Type 0 where
   Word : ℕ → Value
   Int : ℤ → Value

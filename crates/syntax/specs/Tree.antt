@@ -3,7 +3,7 @@ use Rattle.std.specs.Prelude.{ℕ, Bool, List}
 use Rattle.base.specs.Bytes.{Identifier}
 use Rattle.base.specs.Element.{ElementType}
 
--- the reference types of the JNI, each a word of its own, all of one sort
+-- the reference types of the JNI, each a word of its own, all of one type
 pub data ReferenceType : Type 0 where
   JObject JClass JString JArray JThrowable JIntArray JShortArray JByteArray JCharArray JObjectArray : ReferenceType
 

@@ -1,5 +1,5 @@
 -- Texts of words. A kind of word is given by what it spells, whether it is known, and how many words it stands for; those of a second
--- sort, as a journal's clearings are, are counted apart.
+-- kind, as a journal's clearings are, are counted apart.
 use Rattle.std.specs.Prelude.{ℕ, ◌+◌, List, [], ◌∷◌, ◌++◌, Bool, ◌&&◌, Option, Some, None, Result, Ok, option_and_then, nat_le, sum_by, if◌then◌else◌}
 use Rattle.std.specs.Option.{option_map}
 use Rattle.std.specs.List.{list_all}
