@@ -7,8 +7,8 @@ ghost use Rattle.classes.specs.Views.{field_type_view};
 ghost use Rattle.semantics.specs.World.{initial};
 ghost use Rattle.world_values.specs.Views.{object_value_view};
 
-use class_layouts::LayoutFields;
 use class_rules::ClassId;
+use classes::LayoutFields;
 use classes::class::FieldType;
 use classes::own_fields::OwnFields;
 use classes::table::ClassTable;

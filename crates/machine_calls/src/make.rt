@@ -9,8 +9,8 @@ ghost use Rattle.machine_answers.specs.declared.answer.Answer.TheVariants as ans
 ghost use Rattle.machine_calls.specs.Made.{cells_of, noted_of_new, Allocates, Makes, Raises, RefersThere};
 ghost use Rattle.machine_scenes.specs.NewObjects.{class_of_new, initial_value, initial_values, texts_in, units, values_of_exception, values_of_new, AreBytes, IsOfBytes};
 
-use class_layouts::LayoutFields;
 use class_rules::ClassId;
+use classes::LayoutFields;
 use classes::built_ins::STRING;
 use classes::class::FieldType;
 use classes::table::ClassTable;

@@ -8,8 +8,8 @@ ghost use Rattle.class_rules.specs.Grown.{IsGrown};
 ghost use Rattle.semantics.specs.Heap.{place_in};
 ghost use Rattle.replay_arguments.specs.Actuals.{given_field};
 
-use class_layouts::LayoutFields;
 use class_rules::{ClassId, NO_CLASS};
+use classes::LayoutFields;
 use classes::class::{ElementType, FieldHandle, FieldType};
 use classes::fields::FieldId;
 use classes::table::ClassTable;

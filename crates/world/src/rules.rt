@@ -21,8 +21,8 @@ ghost use Rattle.world_values.specs.WorldRules.{part_of, is_class_allowed, layou
 use crate::builder::WorldBuilder;
 use crate::names::ObjectNames;
 use base::limits::{MOST_CALLS, MOST_OBJECTS, MOST_THREADS};
-use class_layouts::LayoutFields;
 use class_rules::{ClassId, NO_CLASS};
+use classes::LayoutFields;
 use classes::built_ins::CLASS;
 use classes::class::FieldType;
 use classes::fault::ClassRule;

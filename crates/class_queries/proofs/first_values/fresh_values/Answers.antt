@@ -1,7 +1,7 @@
 use Rattle.std.proofs.Common.{◌++◌, map, ap, ◌∙◌}
 use Rattle.class_rules.specs.Fields.{FieldId, layout}
 use Rattle.classes.specs.FieldViews.{field_id_view}
-use Rattle.class_layouts.proofs.Walks.{made_more, made_all}
+use Rattle.classes.proofs.Walks.{made_more, made_all}
 use Rattle.semantics.specs.World.{initial}
 use Rattle.world_values.specs.Views.{object_value_view}
 use Rattle.class_queries.proofs.first_values.fresh_values.Goals as goal

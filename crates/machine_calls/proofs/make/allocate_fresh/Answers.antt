@@ -7,7 +7,7 @@ use Rattle.class_rules.specs.Class.{Classes, FieldType, NumberField, ReferenceFi
 use Rattle.class_rules.specs.Fields.{FieldId, layout}
 use Rattle.classes.specs.FieldViews.{field_id_view}
 use Rattle.classes.specs.Views.{field_type_view}
-use Rattle.class_layouts.proofs.Walks.{comes, comes_next}
+use Rattle.classes.proofs.Walks.{comes, comes_next}
 use Rattle.heap.specs.declared.value.Value.{Value}
 use Rattle.heap.specs.declared.value.Value.TheVariants.{Null, Block as Refers}
 use Rattle.heap.specs.Marks.{Marks, noted_in}

@@ -1,7 +1,7 @@
 use Rattle.std.proofs.Common.{length, sym, ap, ◌∙◌, arith}
 use Rattle.class_rules.specs.Fields.{layout, same_field}
 use Rattle.classes.specs.FieldViews.{field_id_view}
-use Rattle.class_layouts.proofs.Walks.{comes, comes_next}
+use Rattle.classes.proofs.Walks.{comes, comes_next}
 use Rattle.replay_arguments.specs.Actuals.{given_field}
 use Rattle.replay_arguments.proofs.FieldLemmas.{none_more, place_found, place_missing}
 use Rattle.replay_arguments.proofs.field.searched_field_place.Goals as goal

@@ -3,16 +3,16 @@
 ghost use Rattle.std.specs.Prelude.{◌≡◌, ◌≤◌, ◌∷◌, [], flat_map, length, reverse, slice_get, IfSome, MatchOption, ◌*◌};
 ghost use Rattle.std.specs.Option.{option_map};
 ghost use Rattle.base.specs.Limits.{most_classes, most_fields};
-ghost use Rattle.class_layouts.specs.Rest.{rest_from};
+ghost use Rattle.classes.specs.Rest.{rest_from};
 ghost use Rattle.class_rules.specs.Fields.{layout, own_fields};
 ghost use Rattle.classes.specs.FieldViews.{field_id_view};
 
+use crate::class::FieldHandle;
+use crate::fields::FieldId;
 use crate::path::Path;
+use crate::table::ClassTable;
 use base::limits::MOST_CLASSES;
 use class_rules::{ClassId, NO_CLASS};
-use classes::class::FieldHandle;
-use classes::fields::FieldId;
-use classes::table::ClassTable;
 use std::marker::Model;
 
 /// A place in a layout: the class whose own fields come next, how many of these have come, and the classes below it,
@@ -39,7 +39,7 @@ impl<'t> Model for LayoutFields<'t> {
     ghost use Rattle.std.specs.Prelude.{List, ◌≡◌, ◌+◌, ◌*◌, ◌≤◌, length};
     ghost use Rattle.class_rules.specs.Fields.{FieldId};
     ghost use Rattle.base.specs.Limits.{most_classes, most_fields};
-    ghost use Rattle.class_layouts.specs.Rest.{rest_from};
+    ghost use Rattle.classes.specs.Rest.{rest_from};
 
     ghost Value = { List FieldId };
 

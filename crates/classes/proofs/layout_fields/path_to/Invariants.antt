@@ -1,6 +1,6 @@
 use Rattle.std.proofs.Common.{◌≡◌, ◌++◌, ◌-◌, length}
 use Rattle.class_rules.specs.Class.{ancestry, ancestry_within}
-use Rattle.class_layouts.proofs.layout_fields.path_to.Given as goal
+use Rattle.classes.proofs.layout_fields.path_to.Given as goal
 
 abbrev pub invariant-loop : goal.invariant-loop
 invariant-loop l = record {

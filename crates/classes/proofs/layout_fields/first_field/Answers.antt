@@ -1,7 +1,7 @@
 use Rattle.std.proofs.Common.{[], ◌∷◌, ◌++◌, sym, ap, ◌∙◌, arith}
 use Rattle.class_rules.specs.Fields.{own_fields}
-use Rattle.class_layouts.proofs.Walks.{not_there, next_class}
-use Rattle.class_layouts.proofs.layout_fields.first_field.Goals as goal
+use Rattle.classes.proofs.Walks.{not_there, next_class}
+use Rattle.classes.proofs.layout_fields.first_field.Goals as goal
 
 pub loop-field-preserved : goal.loop-field-preserved
 loop-field-preserved c =

@@ -1,7 +1,7 @@
 use Rattle.std.proofs.Common.{◌≡◌, ◌+◌, ◌-◌, [], ◌∷◌, length, ap, ◌∙◌, arith, length-append}
 use Rattle.class_rules.specs.Class.{ancestry, ancestry_within}
-use Rattle.class_layouts.proofs.Walks.{front_alone, one_more, past_all}
-use Rattle.class_layouts.proofs.layout_fields.path_to.Goals as goal
+use Rattle.classes.proofs.Walks.{front_alone, one_more, past_all}
+use Rattle.classes.proofs.layout_fields.path_to.Goals as goal
 
 pub loop-preserved : goal.loop-preserved
 loop-preserved c =

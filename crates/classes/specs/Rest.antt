@@ -1,6 +1,6 @@
 -- What is left of a walk along a layout.
 use Rattle.std.specs.Prelude.{List, ◌++◌, drop, flat_map, reverse}
-use Rattle.class_layouts.specs.declared.layout_fields.Position.{Position}
+use Rattle.classes.specs.declared.layout_fields.Position.{Position}
 use Rattle.class_rules.specs.Class.{Classes}
 use Rattle.class_rules.specs.Fields.{FieldId, own_fields}
 

@@ -1,8 +1,8 @@
 use Rattle.std.proofs.Common.{sym, ap, length, ◌∙◌, arith}
-use Rattle.class_layouts.specs.Rest.{rest_from}
-use Rattle.class_layouts.proofs.Walks.{none_first, next_own}
+use Rattle.classes.specs.Rest.{rest_from}
+use Rattle.classes.proofs.Walks.{none_first, next_own}
 use Rattle.classes.specs.FieldViews.{field_id_view}
-use Rattle.class_layouts.proofs.layout_fields.LayoutFields.next.Goals as goal
+use Rattle.classes.proofs.layout_fields.LayoutFields.next.Goals as goal
 
 pub returns-in_err-field : goal.returns-in_err-field
 returns-in_err-field c =

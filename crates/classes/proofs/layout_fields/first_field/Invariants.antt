@@ -1,6 +1,6 @@
 use Rattle.std.proofs.Common.{◌≡◌, ◌≤◌, length}
-use Rattle.class_layouts.specs.Rest.{rest_from}
-use Rattle.class_layouts.proofs.layout_fields.first_field.Given as goal
+use Rattle.classes.specs.Rest.{rest_from}
+use Rattle.classes.proofs.layout_fields.first_field.Given as goal
 
 abbrev pub invariant-loop-field : goal.invariant-loop-field
 invariant-loop-field l = record {
