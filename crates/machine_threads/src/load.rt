@@ -19,13 +19,12 @@ ghost use Rattle.machine_threads.specs.Loading.{AreWaiting, IsCallOf, IsFirstOf,
 
 use crate::fault::LoadFault;
 use crate::thread::{PendingCall, Thread};
-use class_queries::native_class;
+use class_queries::{arguments_fit, methods_load, native_class};
 use code_meaning::Program;
 use functions::{Functions, NumberedFunction};
 use semantics::Ending;
 use std::alloc::{AllocError, Global};
 use std::collections::VecDeque;
-use world_calls::{arguments_fit, methods_load};
 use world_values::{Call, World};
 
 /// The world's threads before their first calls.

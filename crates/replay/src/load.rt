@@ -12,6 +12,7 @@ ghost use Rattle.replay.specs.Loading.{first_line, AddsWaiting, AreWaiting, IsWa
 ghost use Rattle.replay.specs.Replays.{IsLoadFault};
 
 use crate::fault::ReplayError;
+use class_queries::{arguments_fit, methods_load};
 use functions::Functions;
 use replay_arguments::Shared;
 use replay_objects::{Monitors, Names, loaded_store};
@@ -20,7 +21,6 @@ use replay_threads::{State, Thread, class_of};
 use semantics::Ending;
 use std::alloc::{AllocError, Global};
 use syntax::{Function, Item};
-use world_calls::{arguments_fit, methods_load};
 use world_values::{Call, ObjectValue, World};
 
 /// Whether the function can be called with these arguments: its class is there, and they fit.

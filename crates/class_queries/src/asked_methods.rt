@@ -5,7 +5,7 @@ ghost use Rattle.std.specs.List.{list_any};
 ghost use Rattle.syntax.specs.Parts.{statements_of, statements_within};
 ghost use Rattle.syntax.specs.Views.{call_tree, form_tree, block_tree, function_tree, unit_tree};
 ghost use Rattle.semantics.specs.Load.{asks_methods, methods_load};
-ghost use Rattle.world_calls.specs.Asking.{is_asking, asks_itself};
+ghost use Rattle.class_queries.specs.Asking.{is_asking, asks_itself};
 
 use jni::JniFunction;
 use syntax::{Block, Call, Form, Function, Item};

@@ -4,8 +4,8 @@ use Rattle.syntax.specs.declared.stmt.Block.{out-Block}
 use Rattle.syntax.specs.Parts.{statements_of}
 use Rattle.syntax.specs.Views.{block_tree}
 use Rattle.syntax.proofs.Blocks.{statements_tree}
-use Rattle.world_calls.specs.Asking.{asks_itself}
-use Rattle.world_calls.proofs.methods.+statements.Given as goal
+use Rattle.class_queries.specs.Asking.{asks_itself}
+use Rattle.class_queries.proofs.asked_methods.+statements.Given as goal
 
 abbrev pub invariant-block_asks-loop-stmt : goal.invariant-block_asks-loop-stmt
 invariant-block_asks-loop-stmt l =

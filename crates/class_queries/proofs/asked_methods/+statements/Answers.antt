@@ -9,8 +9,8 @@ use Rattle.syntax.specs.Views.{stmt_tree}
 use Rattle.syntax.specs.declared.stmt.Stmt.{Stmt as StmtInMemory}
 use Rattle.syntax.specs.declared.stmt.Block.{out-Block}
 use Rattle.syntax.proofs.Blocks.{block_is, statements_tree}
-use Rattle.world_calls.specs.Asking.{asks_itself}
-use Rattle.world_calls.proofs.methods.+statements.Goals as goal
+use Rattle.class_queries.specs.Asking.{asks_itself}
+use Rattle.class_queries.proofs.asked_methods.+statements.Goals as goal
 
 -- a statement and those after it
 asks_next : (items : List StmtInMemory) (i : ℕ) (s : StmtInMemory) (end : ℕ) → i < length items → s ≡ get_or items i s
