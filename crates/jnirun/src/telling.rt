@@ -2,10 +2,9 @@
 
 use crate::run::thread_count;
 use cli_commands::Texts;
-use details::Detail;
 use machine::RunFault;
 use nearest::Nearest;
-use places::{Place, Text};
+use places::{Detail, Place, Text};
 use program_check::{detail_of, read_program};
 use region_rules::Checked;
 use semantics::ObjectValue;

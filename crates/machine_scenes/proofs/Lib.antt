@@ -1,5 +1,7 @@
 pub mod BlocksOfNames
 pub mod FilledBlocks
+pub mod FitLaws
+pub mod Foretold
 pub mod GlobalLaws
 pub mod Handles
 pub mod HeapLaws
@@ -9,9 +11,11 @@ pub mod KeyLaws
 pub mod Loaded
 pub mod LocalFrames
 pub mod LookUps
+pub mod Moves
 pub mod Noted
 pub mod ObjectExtents
 pub mod ObjectsAtAddresses
 pub mod OperandsThere
+pub mod Places
 pub mod Taken
 pub mod WeakLaws

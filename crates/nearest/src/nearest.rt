@@ -3,7 +3,7 @@
 ghost use Rattle.std.specs.Prelude.{◌≡◌, ◌≢◌, ◌≤◌, length};
 ghost use Rattle.std.specs.Option.{ForSome};
 
-use details::Detail;
+use places::Detail;
 use std::alloc::Global;
 use strsim::generic_damerau_levenshtein;
 

@@ -1,6 +1,6 @@
 -- Faults of tokens, and the numbers of the rules.
 use Rattle.std.specs.Prelude.{ℕ}
-use Rattle.details.specs.declared.fault.Fault.{Fault as FaultAt}
+use Rattle.places.specs.declared.fault.Fault.{Fault as FaultAt}
 use Rattle.parse_lexemes.specs.declared.fault.ParseRule.{ParseRule}
 use Rattle.parse_lexemes.specs.declared.fault.ParseRule.TheVariants.{NoForm, TooHigh, TooMany}
 use Rattle.parse_lexemes.specs.declared.fault.ParseError.{ParseError}

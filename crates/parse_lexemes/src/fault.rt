@@ -3,7 +3,7 @@
 ghost use Rattle.std.specs.Prelude.{◌≡◌};
 ghost use Rattle.parse_lexemes.specs.declared.fault.ParseError.TheVariants.{Memory};
 
-use details::{Fault, Spot};
+use places::{Fault, Spot};
 use std::alloc::{AllocError, AllocFailed};
 use thiserror::Error;
 

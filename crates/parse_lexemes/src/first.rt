@@ -13,7 +13,7 @@ ghost use Rattle.parse_lexemes.specs.Reading.{rest_of, starts_with, starts_name,
 use crate::cursor::{Cursor, Source};
 use crate::fault::{ParseError, ParseRule};
 use crate::telling::fixed_words;
-use details::{Fault, Spot};
+use places::{Fault, Spot};
 use scan::{Kind, Mark, Token, Word};
 
 /// A lexeme that stands for itself.

@@ -3,7 +3,7 @@
 
 use crate::fault::{ParseError, ParseRule};
 use crate::first::Fixed;
-use details::{Detail, Spot};
+use places::{Detail, Spot};
 use scan::{Kind, Mark, Token, Word};
 
 /// A word of C, and what to write instead.

@@ -3,8 +3,8 @@
 ghost use Rattle.scan.specs.Spelling.{Spells};
 
 use crate::meant::{asked, asks_for_names};
-use details::Detail;
 use parse::parse;
+use places::Detail;
 use regions::{CheckError, Checked, check};
 use scan::{Token, scan};
 use std::alloc::Global;

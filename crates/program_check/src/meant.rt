@@ -1,8 +1,8 @@
 //! The known name that may be meant where a name or a function of the JNI isn't known.
 
-use details::Detail;
 use jni::functions_of_length;
 use nearest::Nearest;
+use places::Detail;
 use std::alloc::Global;
 use syntax::{Block, Form, Function, Item, Name, Unit};
 use types::SortRule;

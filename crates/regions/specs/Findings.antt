@@ -4,7 +4,7 @@ use Rattle.std.specs.Option.{option_or}
 use Rattle.syntax.specs.Tree.{Block, End, Next, Function, Item, StaticItem, FunctionItem}
 use Rattle.regions.specs.declared.fault.RegionRule.{RegionRule as RuleInMemory}
 use Rattle.regions.specs.declared.fault.RegionRule.TheVariants as rules
-use Rattle.details.specs.declared.fault.Fault.{Fault as FaultAt}
+use Rattle.places.specs.declared.fault.Fault.{Fault as FaultAt}
 use Rattle.regions.specs.declared.fault.CheckError.{CheckError}
 use Rattle.regions.specs.declared.fault.CheckError.TheVariants.{Memory, Fault}
 use Rattle.region_rules.specs.RegionRules.{RegionRule, CallWhileCritical, ReturnWithBuffer, HeldBuffer, UntestedBuffer, WrongBuffer, ReturnInFrame, PopLastFrame, DeadReference, ArrayInUse, WaysDiffer, WrongLevel, NoReturn}

@@ -5,7 +5,7 @@ ghost use Rattle.regions.specs.declared.fault.CheckError.TheVariants.{Memory};
 ghost use Rattle.region_rules.specs.RegionRules.{region_rule_number};
 ghost use Rattle.regions.specs.Findings.{rule_of};
 
-use details::{Fault, Line};
+use places::{Fault, Line};
 use std::alloc::{AllocError, AllocFailed};
 use thiserror::Error;
 

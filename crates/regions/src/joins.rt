@@ -13,7 +13,7 @@ ghost use Rattle.regions.specs.Walks.{WayOrFault, way_value, Goes, Branches, Awa
 
 use crate::fault::{CheckError, RegionRule};
 use crate::telling::ways_detail;
-use details::{Detail, Fault, Line};
+use places::{Detail, Fault, Line};
 use region_states::states::{Facts, FlowState};
 use std::alloc::Global;
 use syntax::Test;

@@ -2,13 +2,14 @@
 
 use crate::fault::RegionRule;
 use crate::rules::{assigned_name, gets_elsewhere, level_after, mismatches};
-use details::{Detail, Question, first_name};
 use jni::JniFunction;
+use places::Detail;
 use region_states::calls::{MadeCall, called, deleted, got, released};
 use region_states::found::Sought;
 use region_states::states::{Condition, Facts, FlowState, VariableState};
 use semantics::CALL_LEVEL;
 use syntax::{Form, Name};
+use type_rules::{Question, first_name};
 
 /// Whether a variable meets a condition; an untested buffer only where an element of it is read or written.
 #[derive(Clone, Copy)]

@@ -18,7 +18,7 @@ use crate::fault::{CheckError, RegionFault, RegionRule};
 use crate::joins::{Branch, Way, join, no_turn, one_way, refuse, take_else, take_then};
 use crate::rules::{first_broken, is_return};
 use crate::telling::{end_detail, held_detail, statement_detail, unreached_detail};
-use details::{Fault, Line};
+use places::{Fault, Line};
 use region_states::states::{FlowState, VariableState};
 use semantics::CALL_LEVEL;
 use std::alloc::{AllocError, Global};

@@ -1,7 +1,7 @@
 -- The faults of a text: where and why it has no tokens, and the numbers of the rules.
 use Rattle.std.specs.Prelude.{◌≡◌, ◌≢◌, ℕ, ◌+◌, false, IsTrue, List, ◌∷◌, ◌++◌, drop, Bool}
 use Rattle.base.specs.Bytes.{is_from_to}
-use Rattle.details.specs.declared.fault.Fault.{Fault as FaultAt}
+use Rattle.places.specs.declared.fault.Fault.{Fault as FaultAt}
 use Rattle.scan.specs.declared.token.Kind.{Kind}
 use Rattle.scan.specs.declared.token.Kind.TheVariants.{Number, Text}
 use Rattle.scan.specs.declared.token.Token.{Token}

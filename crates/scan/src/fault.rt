@@ -3,7 +3,7 @@
 ghost use Rattle.std.specs.Prelude.{◌≡◌};
 ghost use Rattle.scan.specs.declared.fault.ScanError.TheVariants.{Memory};
 
-use details::{Fault, Spot};
+use places::{Fault, Spot};
 use std::alloc::AllocFailed;
 use thiserror::Error;
 

@@ -2,7 +2,7 @@
 
 use crate::fault::{ScanError, ScanRule};
 use crate::pieces::word_len;
-use details::Detail;
+use places::Detail;
 
 /// The text from a place on.
 fn from(text: &[u8], place: usize) -> &[u8] {

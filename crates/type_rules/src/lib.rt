@@ -3,10 +3,12 @@
 
 mod calls;
 mod known;
+mod names;
 mod sort;
 mod typed;
 
 pub use calls::own_call;
 pub use known::Known;
+pub use names::{Question, first_name};
 pub use sort::{Sort, parameter_sort, static_sort, variable_sort};
 pub use typed::Typed;

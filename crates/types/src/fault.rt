@@ -5,7 +5,7 @@ ghost use Rattle.types.specs.declared.fault.TypeError.TheVariants.{Memory};
 ghost use Rattle.type_rules.specs.SortRules.{sort_rule_number};
 ghost use Rattle.types.specs.Faults.{Faults, Refuses, rule_of, Finds, Tells, broken_if};
 
-use details::{Detail, Fault, Line};
+use places::{Detail, Fault, Line};
 use std::alloc::{AllocError, AllocFailed};
 use syntax::Name;
 use thiserror::Error;

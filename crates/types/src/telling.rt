@@ -7,13 +7,13 @@ use crate::scope::{has_name, is_unknown, sort_in};
 use crate::sort::{has_elements, is_index};
 use crate::statements::{declared, function_called, statement_fits};
 use base::limits::MOST_FURTHER;
-use details::{Detail, Question, first_name};
 use jni::{Access, JniFunction, ParameterKind, ResultKind};
+use places::Detail;
 use syntax::{
     Argument, BinaryOp, Call, Constant, ElementType, Expr, Form, Function, Name, PrefixOp,
     ResultType, RightSide, Test,
 };
-use type_rules::{Known, Sort, own_call, variable_sort};
+use type_rules::{Known, Question, Sort, first_name, own_call, variable_sort};
 
 /// An element type in C's words.
 fn element_words(element: ElementType) -> &'static [u8] {

@@ -6,8 +6,8 @@ use crate::text::begun;
 use base::limits::{LEAST_CELLS, MOST_CELLS};
 use class_rules::ClassId;
 use classes::table::ClassTable;
-use details::Detail;
 use nearest::Nearest;
+use places::Detail;
 use std::alloc::Global;
 use world_lines::{
     FieldWords, Line, ObjectWords, Value, cells_added, heap_of_line, is_class_allowed, name_given,

@@ -1,6 +1,6 @@
 //! What is told of the first fault of a schedule's or a journal's text, for its reader; no contract says which words these are.
 
-use details::Detail;
+use places::Detail;
 use std::alloc::{AllocError, Global};
 use world_schedules::{ReadError, Rule, Split, read_journal, read_schedule};
 

@@ -21,7 +21,7 @@ use Rattle.semantics_safety.specs.Owners.{AllOwners, owners_after}
 use Rattle.heap.specs.Heap.{Space}
 use Rattle.tables.specs.Keys.{value_at}
 use Rattle.machine_scenes.specs.Statics.{HaveKeys, HaveWeakKeys, all_held}
-use Rattle.machine_monitors.specs.Fit.{AreThere, MonitorsAgree}
+use Rattle.machine_scenes.specs.Fit.{AreThere, MonitorsAgree}
 use Rattle.monitors.specs.declared.monitors.Monitor.{Monitor}
 use Rattle.machine_scenes.specs.Statics.{StaticReference}
 use Rattle.semantics.specs.declared.static_reference.StaticReference.TheVariants.{Empty}

@@ -11,7 +11,7 @@ use Rattle.monitors.specs.declared.monitors.Object.{Object}
 use Rattle.monitors.specs.declared.monitors.Enter.TheVariants.{Entered, Limit, Busy}
 use Rattle.monitors.specs.declared.monitors.Exit.TheVariants.{Left, NotOwner}
 use Rattle.monitors.specs.Monitors.{ChangesAt, entered, entering, kept_from, leaving, left, monitor_of}
-use Rattle.machine_monitors.specs.Fit.{AreDifferent, MonitorAgrees, MonitorsAgree}
+use Rattle.machine_scenes.specs.Fit.{AreDifferent, MonitorAgrees, MonitorsAgree}
 
 module _ {P : Type 0} (n m : ℕ) where
   by_equal : (eqb n m ≡ true → n ≡ m → P) → (eqb n m ≡ false → n ≢ m → P) → P

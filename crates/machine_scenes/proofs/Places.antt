@@ -8,7 +8,7 @@ use Rattle.monitors.specs.declared.monitors.Monitor.{Monitor}
 use Rattle.monitors.specs.declared.monitors.Object.{Object}
 use Rattle.monitors.specs.Monitors.{AreOf, object_of, without_owner}
 use Rattle.monitors.proofs.MonitorLaws.{IsOf}
-use Rattle.machine_monitors.specs.Fit.{AreThere}
+use Rattle.machine_scenes.specs.Fit.{AreThere}
 
 -- where each address keeps its name
 pub there_stays : (space space' : Space) → ((a n : ℕ) → name_at space a ≡ Some n → name_at space' a ≡ Some n) → (ms : List Monitor) → AreThere space ms → AreThere space' ms

@@ -7,7 +7,7 @@ use Rattle.semantics.specs.Thread as source
 use Rattle.monitors.specs.declared.monitors.Monitor.{Monitor}
 use Rattle.monitors.specs.Monitors.{addresses, held, monitor_of}
 use Rattle.monitors.proofs.MonitorLaws.{held_alike}
-use Rattle.machine_monitors.specs.Fit.{AreThere, MonitorAgrees, MonitorsAgree}
+use Rattle.machine_scenes.specs.Fit.{AreThere, MonitorAgrees, MonitorsAgree}
 
 -- which monitor it is shows without its address
 agrees_alike : (o o' : Option Monitor) (q : Option source.Monitor) → option_map held o' ≡ option_map held o → MonitorAgrees o q → MonitorAgrees o' q

@@ -7,7 +7,7 @@ use Rattle.monitors.specs.declared.monitors.Enter.TheVariants.{Entered, Limit, B
 use Rattle.monitors.specs.declared.monitors.Exit.TheVariants.{Left, NotOwner}
 use Rattle.monitors.specs.Monitors.{entering, leaving, monitor_of}
 use Rattle.monitors.proofs.MonitorLaws.{enters_more, leaves_own}
-use Rattle.machine_monitors.specs.Fit.{MonitorAgrees, MonitorsAgree}
+use Rattle.machine_scenes.specs.Fit.{MonitorAgrees, MonitorsAgree}
 
 -- thread k may enter: no other thread owns the monitor, and thread k has entered it fewer times than it may
 pub record MayEnter (k : ℕ) (o : Option source.Monitor) : Type 0 where
